@@ -1,0 +1,5 @@
+pub mod Codes
+pub mod InMemory
+pub mod Outside
+pub mod Statuses
+pub mod Streams

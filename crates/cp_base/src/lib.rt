@@ -1,0 +1,20 @@
+// What every layer stands on: places in a text, the codes of refusals, statuses, and the outside world as a
+// source of bytes and a sink for bytes, both in memory and over real streams.
+#![tactic(auto)]
+
+mod memory;
+mod place;
+mod real;
+mod sink;
+mod source;
+mod status;
+
+pub use memory::{MemSink, MemSource};
+pub use place::{Code, Place, Refusal};
+pub use real::{StdSink, StdSource};
+pub use sink::Sink;
+pub use source::Source;
+pub use status::{Failed, Status};
+
+#[cfg(test)]
+mod tests;

@@ -1,0 +1,243 @@
+// A source and a sink in memory, which fail at the calls that they are told to fail at.
+ghost use Rattle.std.specs.Prelude.{◌≡◌, ◌≤◌, ◌<◌, ◌+◌, ◌-◌, ◌⊎◌, ◌++◌, ◌↔◌, ℕ, List, [], length, min, take, drop, Option, Some, None, IfOk, OnOk, OnErr, IsErr, IsTrue};
+ghost use Rattle.cp_base.specs.InMemory.{IsNamed, IsFull, call_after, one_more};
+ghost use Rattle.cp_base.specs.Outside.{Rose, Takes, Puts};
+
+use crate::sink::Sink;
+use crate::source::Source;
+use crate::status::Failed;
+use std::alloc::{AllocError, Global};
+use std::marker::Model;
+
+// The calls of an object: which of them fail, the number of the next, and how often a call has failed.
+#[derive(Drop)]
+struct Calls {
+    failing: Vec<u64>,
+    next: Option<u64>,
+    faults: u64,
+}
+
+impl Calls {
+    fn new(failing: Vec<u64>) -> Calls
+        ensures { result ≡ record { failing = failing; next = Some 0; faults = 0 } }
+    {
+        Calls {
+            failing,
+            next: Some(0),
+            faults: 0,
+        }
+    }
+
+    // Goes on to the next call, and answers whether this one is named to fail.
+    fn begin(&mut self) -> bool
+        ensures named { IsTrue result ↔ IsNamed self.old.next self.old.failing.items }
+        ensures next { self.new ≡ record self.old { next = call_after self.old.next } }
+    {
+        let named = is_named(&self.failing, self.next);
+        self.next = number_after(self.next);
+        named
+    }
+
+    // Counts a fault.
+    fn fail(&mut self) -> Failed
+        ensures counted { self.new ≡ record self.old { faults = one_more self.old.faults } }
+        ensures rose { Rose self.old.faults self.new.faults }
+        ensures never_falls { self.old.faults ≤ self.new.faults }
+    {
+        self.faults = self.faults.saturating_add(1);
+        Failed
+    }
+}
+
+fn is_named(failing: &[u64], call: Option<u64>) -> bool
+    ensures { IsTrue result ↔ IsNamed call failing.now }
+{
+    match call {
+        Some(number) => failing.contains(&number),
+        None => false,
+    }
+}
+
+fn number_after(call: Option<u64>) -> Option<u64>
+    ensures { result ≡ call_after call }
+{
+    match call {
+        Some(number) => number.checked_add(1),
+        None => None,
+    }
+}
+
+// Copies as many bytes from the front of the one to the front of the other as both have.
+fn copy_front(from: &[u8], to: &mut [u8]) -> usize
+    ensures count { result ≡ min (length from.now) (length to.old) }
+    ensures copied { to.new ≡ take result from.now ++ drop result to.old }
+{
+    let count = from.len().min(to.len());
+    to[..count].copy_from_slice(&from[..count]);
+    count
+}
+
+/// A source over bytes in memory. It fails at the calls of [`Source::take`] whose numbers it was given, from 0,
+/// and in every other call gives all that fits.
+#[derive(Drop)]
+pub struct MemSource {
+    bytes: Vec<u8>,
+    at: usize,
+    calls: Calls,
+}
+
+impl Model for MemSource {
+    ghost use Rattle.std.specs.Prelude.{◌≤◌, drop, vec_len};
+    ghost use Rattle.cp_base.specs.InMemory.{MemSourceState};
+
+    ghost Value = { MemSourceState };
+
+    ghost view = { λ s. record {
+      left = drop s.at s.bytes.items;
+      failing = s.calls.failing.items;
+      next = s.calls.next;
+      faults = s.calls.faults;
+    } };
+
+    ghost invariant = { λ s. s.at ≤ vec_len s.bytes };
+}
+
+impl MemSource {
+    /// A source that has these bytes left and fails at the calls with these numbers.
+    pub fn new(bytes: Vec<u8>, failing: Vec<u64>) -> MemSource
+        ensures { result ≡ record {
+          left = bytes.items;
+          failing = failing.items;
+          next = Some 0;
+          faults = 0;
+        } }
+    {
+        MemSource {
+            bytes,
+            at: 0,
+            calls: Calls::new(failing),
+        }
+    }
+}
+
+impl Source for MemSource {
+    ghost left = { λ source. Some source.left };
+
+    ghost faults = { λ source. source.faults };
+
+    fn take(&mut self, buf: &mut [u8]) -> Result<usize, Failed>
+        ensures count { IfOk result (λ n. n ≤ length buf.old) }
+        ensures failed { OnErr result (Rose self.old.faults self.new.faults) }
+        ensures never_falls { self.old.faults ≤ self.new.faults }
+        ensures moved { Takes (Some self.old.left) (Some self.new.left) buf.old buf.new result }
+
+        // It fails exactly at the named calls, and else gives all that fits.
+        ensures fails { IsErr result ↔ IsNamed self.old.next self.old.failing }
+        ensures all { IfOk result (λ n. n ≡ min (length self.old.left) (length buf.old)) }
+        ensures buffer { OnErr result (buf.new ≡ buf.old) }
+
+        // The names stay, each call has the next number, and each fault is counted.
+        ensures failing { self.new.failing ≡ self.old.failing }
+        ensures next { self.new.next ≡ call_after self.old.next }
+        ensures no_fault { OnOk result (self.new.faults ≡ self.old.faults) }
+        ensures fault { OnErr result (self.new.faults ≡ one_more self.old.faults) }
+    {
+        if self.calls.begin() {
+            return Err(self.calls.fail());
+        }
+        let count = copy_front(&self.bytes[self.at..], buf);
+        self.at += count;
+        Ok(count)
+    }
+}
+
+/// A sink that keeps bytes in memory, up to its room. It fails at the calls of [`Sink::put`] whose numbers it was
+/// given, from 0, and where its room is full and the piece is not empty; every other call takes all that fits.
+#[derive(Drop)]
+pub struct MemSink {
+    bytes: Vec<u8>,
+    room: usize,
+    calls: Calls,
+}
+
+impl Model for MemSink {
+    ghost use Rattle.std.specs.Prelude.{◌≤◌, vec_len, vec_capacity};
+    ghost use Rattle.cp_base.specs.InMemory.{MemSinkState};
+
+    ghost Value = { MemSinkState };
+
+    ghost view = { λ s. record {
+      held = s.bytes.items;
+      room = s.room;
+      failing = s.calls.failing.items;
+      next = s.calls.next;
+      faults = s.calls.faults;
+    } };
+
+    ghost invariant = { λ s. (vec_len s.bytes ≤ s.room) × (s.room ≤ vec_capacity s.bytes) };
+}
+
+impl MemSink {
+    /// An empty sink with room for so many bytes, which fails at the calls with these numbers. It reserves its
+    /// room here, or answers the error, and takes no memory later.
+    pub fn new(alloc: Global, room: usize, failing: Vec<u64>) -> Result<MemSink, AllocError>
+        ensures { IfOk result (λ sink. sink ≡ record {
+          held = [];
+          room = room;
+          failing = failing.items;
+          next = Some 0;
+          faults = 0;
+        }) }
+    {
+        let bytes = Vec::with_capacity(alloc, room)?;
+        Ok(MemSink {
+            bytes,
+            room,
+            calls: Calls::new(failing),
+        })
+    }
+
+    /// The bytes that the sink holds.
+    pub fn bytes(&self) -> &[u8]
+        ensures { result.now ≡ self.now.held }
+    {
+        &self.bytes
+    }
+}
+
+impl Sink for MemSink {
+    ghost held = { λ sink. Some sink.held };
+
+    ghost faults = { λ sink. sink.faults };
+
+    fn put(&mut self, bytes: &[u8]) -> Result<usize, Failed>
+        ensures count { IfOk result (λ n. n ≤ length bytes.now) }
+        ensures progress { IfOk result (λ n. 0 < length bytes.now → 0 < n) }
+        ensures failed { OnErr result (Rose self.old.faults self.new.faults) }
+        ensures never_falls { self.old.faults ≤ self.new.faults }
+        ensures moved { Puts (Some self.old.held) (Some self.new.held) bytes.now result }
+
+        // It fails exactly at the named calls and where its room is full, and else takes all that fits.
+        ensures fails { IsErr result ↔
+            (IsNamed self.old.next self.old.failing ⊎ IsFull self.old bytes.now) }
+        ensures all { IfOk result (λ n. n ≡ min (length bytes.now) (self.old.room - length self.old.held)) }
+        ensures fits { length self.new.held ≤ self.new.room }
+
+        // The room and the names stay, each call has the next number, and each fault is counted.
+        ensures room { self.new.room ≡ self.old.room }
+        ensures failing { self.new.failing ≡ self.old.failing }
+        ensures next { self.new.next ≡ call_after self.old.next }
+        ensures no_fault { OnOk result (self.new.faults ≡ self.old.faults) }
+        ensures fault { OnErr result (self.new.faults ≡ one_more self.old.faults) }
+    {
+        if self.calls.begin() {
+            return Err(self.calls.fail());
+        }
+        let count = bytes.len().min(self.room - self.bytes.len());
+        if count == 0 && !bytes.is_empty() {
+            return Err(self.calls.fail());
+        }
+        self.bytes.extend_from_slice(&bytes[..count]).unwrap();
+        Ok(count)
+    }
+}

@@ -1,0 +1,137 @@
+// A source and a sink over real streams, such as standard input, output and error. They count the faults of the
+// streams, and pass on what a stream tells of its bytes; the standard streams tell nothing.
+ghost use Rattle.std.specs.Prelude.{◌≡◌, ◌≤◌, ◌<◌, ℕ, List, Option, None, length, take, IfOk, OnOk, OnErr};
+ghost use Rattle.std.specs.Io.KnownBytes.{ReadConsumes, Appends};
+ghost use Rattle.cp_base.specs.InMemory.{one_more};
+ghost use Rattle.cp_base.specs.Outside.{Rose, Takes, Puts};
+
+use crate::sink::Sink;
+use crate::source::Source;
+use crate::status::Failed;
+use std::io::{Read, Write};
+use std::marker::Model;
+
+/// A source over a reader.
+#[derive(Drop)]
+pub struct StdSource<R> {
+    reader: R,
+    faults: u64,
+}
+
+impl<R> Model for StdSource<R> {
+    ghost use Rattle.cp_base.specs.Streams.{StreamState};
+
+    ghost Value = { StreamState R };
+
+    ghost view = { λ s. record { stream = s.reader; faults = s.faults } };
+}
+
+impl<R> StdSource<R> {
+    /// A source over this reader, such as `rt.stdin()`, with no fault counted yet.
+    pub fn new(reader: R) -> StdSource<R>
+        ensures { result ≡ record { stream = reader; faults = 0 } }
+    {
+        StdSource { reader, faults: 0 }
+    }
+}
+
+impl<R: Read> Source for StdSource<R> {
+    ghost left = { λ _. None };
+
+    ghost faults = { λ source. source.faults };
+
+    fn take(&mut self, buf: &mut [u8]) -> Result<usize, Failed>
+        ensures count { IfOk result (λ n. n ≤ length buf.old) }
+        ensures failed { OnErr result (Rose self.old.faults self.new.faults) }
+        ensures never_falls { self.old.faults ≤ self.new.faults }
+        ensures moved { Takes None None buf.old buf.new result }
+
+        // What is taken is what the reader gives, where it tells that.
+        ensures bytes { ReadConsumes (R.remaining self.old.stream) (R.remaining self.new.stream)
+            result buf.new }
+
+        // Each fault is counted, and nothing else is.
+        ensures no_fault { OnOk result (self.new.faults ≡ self.old.faults) }
+        ensures fault { OnErr result (self.new.faults ≡ one_more self.old.faults) }
+    {
+        match self.reader.read(buf) {
+            Ok(count) => Ok(count),
+            Err(_) => {
+                self.faults = self.faults.saturating_add(1);
+                Err(Failed)
+            }
+        }
+    }
+}
+
+/// A sink over a writer.
+#[derive(Drop)]
+pub struct StdSink<W> {
+    writer: W,
+    faults: u64,
+}
+
+impl<W> Model for StdSink<W> {
+    ghost use Rattle.cp_base.specs.Streams.{StreamState};
+
+    ghost Value = { StreamState W };
+
+    ghost view = { λ s. record { stream = s.writer; faults = s.faults } };
+}
+
+impl<W> StdSink<W> {
+    /// A sink over this writer, such as `rt.stdout()`, with no fault counted yet.
+    pub fn new(writer: W) -> StdSink<W>
+        ensures { result ≡ record { stream = writer; faults = 0 } }
+    {
+        StdSink { writer, faults: 0 }
+    }
+}
+
+// Writes some of the bytes and flushes; a writer that takes none of a piece that is not empty has failed.
+fn write_through<W: Write>(writer: &mut W, bytes: &[u8]) -> Result<usize, Failed>
+    ensures count { IfOk result (λ n. n ≤ length bytes.now) }
+    ensures progress { IfOk result (λ n. 0 < length bytes.now → 0 < n) }
+    ensures bytes { IfOk result (λ n. Appends (W.contents writer.old) (W.contents writer.new)
+        (take n bytes.now)) }
+{
+    let Ok(count) = writer.write(bytes) else {
+        return Err(Failed);
+    };
+    if count == 0 && !bytes.is_empty() {
+        return Err(Failed);
+    }
+    match writer.flush() {
+        Ok(()) => Ok(count),
+        Err(_) => Err(Failed),
+    }
+}
+
+impl<W: Write> Sink for StdSink<W> {
+    ghost held = { λ _. None };
+
+    ghost faults = { λ sink. sink.faults };
+
+    /// Writes, and flushes what it wrote. A flush that fails is a fault, though the bytes may have gone.
+    fn put(&mut self, bytes: &[u8]) -> Result<usize, Failed>
+        ensures count { IfOk result (λ n. n ≤ length bytes.now) }
+        ensures progress { IfOk result (λ n. 0 < length bytes.now → 0 < n) }
+        ensures failed { OnErr result (Rose self.old.faults self.new.faults) }
+        ensures never_falls { self.old.faults ≤ self.new.faults }
+        ensures moved { Puts None None bytes.now result }
+
+        // What is put is what the writer takes, where it tells that.
+        ensures bytes { IfOk result (λ n. Appends (W.contents self.old.stream) (W.contents self.new.stream)
+            (take n bytes.now)) }
+
+        // Each fault is counted, and nothing else is.
+        ensures no_fault { OnOk result (self.new.faults ≡ self.old.faults) }
+        ensures fault { OnErr result (self.new.faults ≡ one_more self.old.faults) }
+    {
+        let result = write_through(&mut self.writer, bytes);
+        if result.is_err() {
+            self.faults = self.faults.saturating_add(1);
+        }
+        result
+    }
+}
