@@ -1,0 +1,13 @@
+pub mod LawLists
+pub mod LawTerms
+pub mod LawStandings
+pub mod LawEmbeddings
+pub mod LawMessages
+pub mod LawOrigins
+pub mod LawRuns
+pub mod SingleValues
+pub mod SingleTraces
+pub mod SingleBundle
+pub mod SingleRealised
+pub mod SingleMaps
+pub mod SingleExample

@@ -1,0 +1,15 @@
+pub mod Lists
+pub mod Message
+pub mod Term
+pub mod Strand
+pub mod Bundle
+pub mod Run
+pub mod Skeleton
+pub mod Standing
+pub mod Homomorphism
+pub mod Problem
+pub mod Single
+pub mod Composition
+pub mod Example
+pub mod Derivable
+pub mod Tree

@@ -1,0 +1,130 @@
+-- Derivation trees, and what has to be true of one that is printed for a problem.
+use Rattle.std.specs.Prelude.{◌≡◌, ◌≢◌, ℕ, ◌+◌, ◌<◌, ◌≤◌, List, [], ◌∷◌, length, Option, Some, None}
+use Rattle.cp_model.specs.Lists.{item_at, IsIn}
+use Rattle.cp_model.specs.Term.{Variable, Term}
+use Rattle.cp_model.specs.Strand.{Declaration, Protocol}
+use Rattle.cp_model.specs.Bundle.{Node}
+use Rattle.cp_model.specs.Skeleton.{Skeleton, IsSkeleton}
+use Rattle.cp_model.specs.Derivable.{IsUnrealised}
+use Rattle.cp_model.specs.Standing.{IsRealised}
+use Rattle.cp_model.specs.Homomorphism.{CarriesHomomorphism, Embeds, IsCompleteList}
+
+-- How a label was made: from the problem itself, by a collapse (each strand's lowest equal), by one of the steps
+-- that an authentication test allows, or by generalising.
+pub data Operation : Type 0 where
+  by_problem : Operation
+  by_collapse : List ℕ → Operation
+  by_contraction : Node → Operation
+  by_displacement : Node → Operation
+  by_added_strand : ℕ → Operation
+  by_added_listener : ℕ → Operation
+  by_generalising : Operation
+
+-- What a leaf is.
+pub data Mark : Type 0 where
+  shape : Mark
+  dead : Mark
+  seen : ℕ → Mark
+  instance_of : ℕ → Mark
+  limit_steps : Mark
+  limit_strands : Mark
+
+pub data Outcome : Type 0 where
+  complete : Outcome
+  at_step_limit : Outcome
+  at_strand_limit : Outcome
+
+-- An encryption whose local variables stand for any atom of their sort.
+pub record Pattern : Type 0 where
+  pub term : Term
+  pub locals : List Variable
+
+-- An authentication test: a reception, and the component of its message that cannot be derived.
+pub record Test : Type 0 where
+  pub node : Node
+  pub critical : Term
+
+-- One label of a tree. Its variables are numbered in the order in which they were made; the list has for each
+-- the identifier that it is named after, and its sort.
+pub record Label : Type 0 where
+  pub parent : Option ℕ
+  pub operation : Operation
+  pub variables : List Declaration
+  pub skeleton : Skeleton
+  pub unrealised : List Node
+  pub test : Option Test
+  pub escape : List Pattern
+  pub children : List ℕ
+  pub mark : Option Mark
+
+pub record Tree : Type 0 where
+  pub labels : List Label
+  pub outcome : Outcome
+
+-- The step limit, and the bound on the number of strands.
+pub record Limits : Type 0 where
+  pub steps : ℕ
+  pub strands : ℕ
+
+abbrev pub is_expanded : Option Test → ℕ
+is_expanded None = 0
+is_expanded (Some t) = 1
+
+abbrev pub is_shape : Option Mark → ℕ
+is_shape (Some shape) = 1
+is_shape _ = 0
+
+-- How many labels were expanded: those with a test.
+abbrev pub expanded_count : List Label → ℕ
+expanded_count [] = 0
+expanded_count (l ∷ ls) = is_expanded l.test + expanded_count ls
+
+-- How many labels are shapes.
+abbrev pub shape_count : List Label → ℕ
+shape_count [] = 0
+shape_count (l ∷ ls) = is_shape l.mark + shape_count ls
+
+-- The skeletons of the labels that are shapes.
+abbrev pub if_shape : Option Mark → Skeleton → List Skeleton → List Skeleton
+if_shape (Some shape) k ks = k ∷ ks
+if_shape _ k ks = ks
+
+abbrev pub shapes_of : List Label → List Skeleton
+shapes_of [] = []
+shapes_of (l ∷ ls) = if_shape l.mark l.skeleton (shapes_of ls)
+
+-- A label that is unrealised and neither seen nor dead.
+pub record IsOpen (tree : Tree) (label : Label) : Type 0 where
+  pub listed : IsIn label tree.labels
+  pub unrealised : IsUnrealised label.skeleton
+  pub not_seen : (n : ℕ) → label.mark ≢ Some (seen n)
+  pub not_dead : label.mark ≢ Some dead
+
+-- The step limit was reached: as many labels were expanded as it says, and a label that is open and within the
+-- strand bound was not.
+pub record ReachedSteps (limits : Limits) (tree : Tree) : Type 0 where
+  pub expanded : expanded_count tree.labels ≡ limits.steps
+  pub label : Label
+  pub left : IsOpen tree label
+  pub unexpanded : label.test ≡ None
+  pub within : length label.skeleton.strands ≤ limits.strands
+
+-- The strand bound was reached: no label was left at the step limit, and an open one has more strands.
+pub record ReachedStrands (limits : Limits) (tree : Tree) : Type 0 where
+  pub no_step_limit : (l : Label) → IsIn l tree.labels → l.mark ≢ Some limit_steps
+  pub label : Label
+  pub left : IsOpen tree label
+  pub above : limits.strands < length label.skeleton.strands
+
+-- What is true of the tree that is printed for a problem. Each label denotes a skeleton over the protocol. Each shape
+-- is realised, and carries a homomorphism from the problem; no shape embeds in another; where the outcome is complete,
+-- every bundle in which the problem stands contains a shape through which that standing factors; and a limit is the
+-- outcome only where its stated bound was reached.
+pub record IsTrueOf (protocol : Protocol) (problem : Skeleton) (limits : Limits) (tree : Tree) : Type 0 where
+  pub skeletons : (i : ℕ) (l : Label) → item_at tree.labels i ≡ Some l → IsSkeleton protocol l.skeleton
+  pub realised : (i : ℕ) (l : Label) → item_at tree.labels i ≡ Some l → l.mark ≡ Some shape → IsRealised protocol l.skeleton
+  pub from_problem : (i : ℕ) (l : Label) → item_at tree.labels i ≡ Some l → l.mark ≡ Some shape → CarriesHomomorphism problem l.skeleton
+  pub none_embeds : (i j : ℕ) (l m : Label) → item_at tree.labels i ≡ Some l → item_at tree.labels j ≡ Some m → l.mark ≡ Some shape → m.mark ≡ Some shape → i ≢ j → Embeds l.skeleton m.skeleton → ⊥
+  pub nothing_missed : tree.outcome ≡ complete → IsCompleteList protocol problem (shapes_of tree.labels)
+  pub steps_reached : tree.outcome ≡ at_step_limit → ReachedSteps limits tree
+  pub strands_reached : tree.outcome ≡ at_strand_limit → ReachedStrands limits tree

@@ -1,0 +1,49 @@
+//! Laws of the definitions: each stands as the contract of a function that does nothing.
+ghost use Rattle.std.specs.Prelude.{◌≡◌, ◌⊎◌, Some};
+ghost use Rattle.cp_model.specs.Message.{Message, IsCarriedBy};
+ghost use Rattle.cp_model.specs.Term.{Term, Assignment, value_of, Substitution, apply_to, after, composed};
+ghost use Rattle.cp_model.specs.Strand.{Event, payload, Protocol};
+ghost use Rattle.cp_model.specs.Bundle.{AreOfProtocol, Node, event_at, OriginatesAt, Bundle, Precedes, IsBundle};
+ghost use Rattle.cp_model.specs.Run.{Run, IsRun, IsBundleOf};
+ghost use Rattle.cp_model.specs.Skeleton.{Skeleton, IsSkeleton};
+ghost use Rattle.cp_model.specs.Standing.{Standing, StandsIn};
+ghost use Rattle.cp_model.specs.Homomorphism.{SkeletonMap, IsHomomorphism, Embeds};
+ghost use Rattle.cp_model.specs.Composition.{through};
+
+/// The value of a term under a substituted assignment is the value of the substituted term; and a term under two
+/// substitutions one after the other is the term under their composition.
+#[tactic(auto, using(crate::proofs::LawTerms::value_after, crate::proofs::LawTerms::term_composed))]
+pub fn value_after_substitution()
+    ensures value { (g : Assignment) (s : Substitution) (t : Term) → value_of (after g s) t ≡ value_of g (apply_to s t) }
+    ensures composition { (s t : Substitution) (u : Term) → apply_to (composed s t) u ≡ apply_to t (apply_to s u) }
+{}
+
+/// A homomorphism between skeletons over a protocol, followed by a standing of the second in a bundle, is a standing
+/// of the first in it.
+#[tactic(auto, using(crate::proofs::LawStandings::standing_through))]
+pub fn homomorphism_then_standing()
+    ensures { (protocol : Protocol) (a b : Skeleton) (f : SkeletonMap) (bundle : Bundle) (h : Standing) → IsSkeleton protocol a → IsSkeleton protocol b → IsHomomorphism a b f → StandsIn b bundle h → StandsIn a bundle (through f h) }
+{}
+
+/// A skeleton embeds in itself.
+#[tactic(auto, using(crate::proofs::LawEmbeddings::embeds_same))]
+pub fn embeds_in_itself()
+    ensures { (k : Skeleton) → Embeds k k }
+{}
+
+/// A skeleton that embeds in a second embeds in all in which the second does.
+pub fn embeddings_compose()
+    ensures { (a b c : Skeleton) → Embeds a b → Embeds b c → Embeds a c }
+{}
+
+/// What a node of a bundle carries originates there, or at a node that precedes it.
+#[tactic(auto, using(crate::proofs::LawOrigins::origin_of))]
+pub fn origin_at_or_before()
+    ensures { (protocol : Protocol) (b : Bundle) → IsBundle protocol b → (n : Node) (e : Event Message) (v : Message) → event_at b.strands n ≡ Some e → IsCarriedBy v (payload e) → (o : Node) × OriginatesAt b.strands v o × ((o ≡ n) ⊎ Precedes b o n) }
+{}
+
+/// The bundle that a run over a protocol makes is a bundle over it.
+#[tactic(auto, using(crate::proofs::LawRuns::bundle_of_run))]
+pub fn run_makes_a_bundle()
+    ensures { (protocol : Protocol) (r : Run) (b : Bundle) → IsRun r → IsBundleOf r b → AreOfProtocol protocol r.strands → IsBundle protocol b }
+{}
