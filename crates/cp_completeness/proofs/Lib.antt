@@ -1,0 +1,11 @@
+pub mod Values
+pub mod Images
+pub mod Origins
+pub mod Pairs
+pub mod Heard
+pub mod Under
+pub mod Losing
+pub mod Weaker
+pub mod Skeletons
+pub mod Mapped
+pub mod Spoken

@@ -1,0 +1,240 @@
+-- A skeleton under a substitution stands where the skeleton does, under an assignment that solves it.
+use Rattle.std.proofs.Common.{◌≡◌, ◌≢◌, ℕ, zero, suc, Bool, List, [], ◌∷◌, ◌++◌, Some, map, refl, sym, ap, ap₂, ◌∙◌, subst, subst₂, ⊎_elim}
+use Rattle.cp_model.specs.Lists.{item_at, IsIn, here, there, one_step, more_steps}
+use Rattle.cp_model.specs.Message.{Atom, Message, atom}
+use Rattle.cp_model.specs.Term.{Variable, SymmetricTerm, skey_variable, ltk_term, PairTerm, akey_variable, pubk_term, KeyTerm, symmetric_term, asymmetric_term, AtomTerm, text_variable, datum_variable, name_variable, key_term, atom_of_variable, Term, tag_term, atom_term, pair_term, enc_term, name_sort, variables_of_symmetric, variables_of_pair, variables_of_key, variables_of_atom, variables_of, Assignment, value_of, value_of_atom, Substitution, apply_to_key, apply_to_atom, apply_to, after, composed, AgreeOn}
+use Rattle.cp_model.specs.Strand.{Event, send, recv, payload, event_map, Role, prefix_of, variables_of_trace}
+use Rattle.cp_model.specs.Bundle.{Node, node_at, event_at, KeepsNon, KeepsPenetratorNon, KeepsUnique, Bundle, Precedes}
+use Rattle.cp_model.specs.Skeleton.{SkeletonStrand, instance, listener, skeleton_trace, skeleton_trace_or_none, term_event_at, UniqueAt, Skeleton, OrderStep, along_strand_of, along_pair, Before}
+use Rattle.cp_model.specs.Standing.{Standing, image_on, image_of, StandsOnRegular, StandsIn, StandsApart}
+use Rattle.cp_model.specs.Homomorphism.{FactorsThrough}
+use Rattle.cp_model.specs.Problem.{variables_of_strands, variables_of_atoms, variables_of_uniques, variables_of_assumptions}
+use Rattle.cp_model.proofs.LawLists.{in_append, in_append_left, in_append_right, item_of_map}
+use Rattle.cp_model.proofs.LawTerms.{atom_after, value_after, atom_composed, term_composed}
+use Rattle.cp_completeness.specs.Normal.{strand_under, unique_under, skeleton_under, variables_of_terms, IsSolution}
+use Rattle.cp_completeness.proofs.Values.{agree_atom, agree_term}
+
+-- The variables of the terms of a term's variables occur in the term under the substitution.
+in_symmetric : (s : Substitution) (k : SymmetricTerm) (x y : Variable) → IsIn x (variables_of_symmetric k) → IsIn y (variables_of_atom (apply_to_atom s (atom_of_variable x))) → IsIn y (variables_of_key (apply_to_key s (symmetric_term k)))
+in_symmetric s (skey_variable n) x y here q = q
+in_symmetric s (skey_variable n) x y (there p) q = elim p [ ]
+in_symmetric s (ltk_term a b) x y here q = in_append_left (record { sort = name_sort; number = s.names b } ∷ []) q
+in_symmetric s (ltk_term a b) x y (there here) q = there q
+in_symmetric s (ltk_term a b) x y (there (there p)) q = elim p [ ]
+
+in_pair : (s : Substitution) (flag : Bool) (k : PairTerm) (x y : Variable) → IsIn x (variables_of_pair k) → IsIn y (variables_of_atom (apply_to_atom s (atom_of_variable x))) → IsIn y (variables_of_key (apply_to_key s (asymmetric_term flag k)))
+in_pair s flag (akey_variable n) x y here q = q
+in_pair s flag (akey_variable n) x y (there p) q = elim p [ ]
+in_pair s flag (pubk_term purpose a) x y here q = q
+in_pair s flag (pubk_term purpose a) x y (there p) q = elim p [ ]
+
+in_key : (s : Substitution) (k : KeyTerm) (x y : Variable) → IsIn x (variables_of_key k) → IsIn y (variables_of_atom (apply_to_atom s (atom_of_variable x))) → IsIn y (variables_of_key (apply_to_key s k))
+in_key s (symmetric_term k) x y p q = in_symmetric s k x y p q
+in_key s (asymmetric_term flag k) x y p q = in_pair s flag k x y p q
+
+in_atom : (s : Substitution) (v : AtomTerm) (x y : Variable) → IsIn x (variables_of_atom v) → IsIn y (variables_of_atom (apply_to_atom s (atom_of_variable x))) → IsIn y (variables_of_atom (apply_to_atom s v))
+in_atom s (text_variable n) x y here q = q
+in_atom s (text_variable n) x y (there p) q = elim p [ ]
+in_atom s (datum_variable n) x y here q = q
+in_atom s (datum_variable n) x y (there p) q = elim p [ ]
+in_atom s (name_variable n) x y here q = q
+in_atom s (name_variable n) x y (there p) q = elim p [ ]
+in_atom s (key_term k) x y p q = in_key s k x y p q
+
+in_term : (s : Substitution) (t : Term) (x y : Variable) → IsIn x (variables_of t) → IsIn y (variables_of_atom (apply_to_atom s (atom_of_variable x))) → IsIn y (variables_of (apply_to s t))
+in_term s (tag_term bytes) x y p q = elim p [ ]
+in_term s (atom_term v) x y p q = in_atom s v x y p q
+in_term s (pair_term t u) x y p q =
+    ⊎_elim (λ l. in_append_left (variables_of (apply_to s u)) (in_term s t x y l q)) (λ r. in_append_right (variables_of (apply_to s t)) (in_term s u x y r q)) (in_append (variables_of t) (variables_of u) p)
+in_term s (enc_term t k) x y p q =
+    ⊎_elim (λ l. in_append_left (variables_of_key (apply_to_key s k)) (in_term s t x y l q)) (λ r. in_append_right (variables_of (apply_to s t)) (in_key s k x y r q)) (in_append (variables_of t) (variables_of_key k) p)
+
+in_event : (s : Substitution) (e : Event Term) (x y : Variable) → IsIn x (variables_of (payload e)) → IsIn y (variables_of_atom (apply_to_atom s (atom_of_variable x))) → IsIn y (variables_of (payload (event_map (apply_to s) e)))
+in_event s (send t) x y p q = in_term s t x y p q
+in_event s (recv t) x y p q = in_term s t x y p q
+
+pub in_trace_under : (s : Substitution) (es : List (Event Term)) (x y : Variable) → IsIn x (variables_of_trace es) → IsIn y (variables_of_atom (apply_to_atom s (atom_of_variable x))) → IsIn y (variables_of_trace (map (event_map (apply_to s)) es))
+in_trace_under s [] x y p q = elim p [ ]
+in_trace_under s (e ∷ es) x y p q =
+    ⊎_elim (λ l. in_append_left (variables_of_trace (map (event_map (apply_to s)) es)) (in_event s e x y l q)) (λ r. in_append_right (variables_of (payload (event_map (apply_to s) e))) (in_trace_under s es x y r q))
+    (in_append (variables_of (payload e)) (variables_of_trace es) p)
+
+-- Of items of lists: their variables occur in the lists'.
+pub in_strands : (ss : List SkeletonStrand) (i : ℕ) (st : SkeletonStrand) (x : Variable) → item_at ss i ≡ Some st → IsIn x (variables_of_trace (skeleton_trace st)) → IsIn x (variables_of_strands ss)
+in_strands [] i st x at p = absurd (cc)
+in_strands (s ∷ ss) zero st x at p = let same : st ≡ s = cc in in_append_left (variables_of_strands ss) (subst (λ (d : SkeletonStrand). IsIn x (variables_of_trace (skeleton_trace d))) same p)
+in_strands (s ∷ ss) (suc i) st x at p = in_append_right (variables_of_trace (skeleton_trace s)) (in_strands ss i st x at p)
+
+pub in_atoms : (vs : List AtomTerm) (v : AtomTerm) (x : Variable) → IsIn v vs → IsIn x (variables_of_atom v) → IsIn x (variables_of_atoms vs)
+in_atoms (w ∷ vs) v x here p = in_append_left (variables_of_atoms vs) p
+in_atoms (w ∷ vs) v x (there q) p = in_append_right (variables_of_atom w) (in_atoms vs v x q p)
+in_atoms [] v x q p = elim q [ ]
+
+pub in_uniques : (us : List UniqueAt) (u : UniqueAt) (x : Variable) → IsIn u us → IsIn x (variables_of_atom u.value) → IsIn x (variables_of_uniques us)
+in_uniques (w ∷ us) u x here p = in_append_left (variables_of_uniques us) p
+in_uniques (w ∷ us) u x (there q) p = in_append_right (variables_of_atom w.value) (in_uniques us u x q p)
+in_uniques [] u x q p = elim q [ ]
+
+pub in_map : {A B : Type 0} (f : A → B) (xs : List A) (y : B) → IsIn y (map f xs) → (x : A) × IsIn x xs × (f x ≡ y)
+in_map f [] y p = elim p [ ]
+in_map f (x ∷ xs) y here = (x, here, refl)
+in_map f (x ∷ xs) y (there p) = let r = in_map f xs y p in (r.0, there r.1, r.2)
+
+-- Traces and images under a substitution.
+event_under : (s t : Substitution) (e : Event Term) → event_map (apply_to (composed t s)) e ≡ event_map (apply_to s) (event_map (apply_to t) e)
+event_under s t (send u) = ap send (term_composed t s u)
+event_under s t (recv u) = ap recv (term_composed t s u)
+
+events_under : (s t : Substitution) (es : List (Event Term)) → map (event_map (apply_to (composed t s))) es ≡ map (event_map (apply_to s)) (map (event_map (apply_to t)) es)
+events_under s t [] = refl
+events_under s t (e ∷ es) = ap₂ ◌∷◌ (event_under s t e) (events_under s t es)
+
+strand_trace_under : (s : Substitution) (st : SkeletonStrand) → skeleton_trace (strand_under s st) ≡ map (event_map (apply_to s)) (skeleton_trace st)
+strand_trace_under s (instance role height terms) = events_under s terms (prefix_of role height)
+strand_trace_under s (listener t) = refl
+
+pub trace_under : (s : Substitution) (ss : List SkeletonStrand) (i : ℕ) → skeleton_trace_or_none (item_at (map (strand_under s) ss) i) ≡ map (event_map (apply_to s)) (skeleton_trace_or_none (item_at ss i))
+trace_under s [] i = refl
+trace_under s (st ∷ ss) zero = strand_trace_under s st
+trace_under s (st ∷ ss) (suc i) = trace_under s ss i
+
+image_strand : (s : Substitution) (st : SkeletonStrand) (start : Node) (i : ℕ) → image_on (Some (strand_under s st)) start i ≡ image_on (Some st) start i
+image_strand s (instance role height terms) start i = refl
+image_strand s (listener t) start i = refl
+
+image_under : (s : Substitution) (ss : List SkeletonStrand) (j : ℕ) (start : Node) (i : ℕ) → image_on (item_at (map (strand_under s) ss) j) start i ≡ image_on (item_at ss j) start i
+image_under s [] j start i = refl
+image_under s (st ∷ ss) zero start i = image_strand s st start i
+image_under s (st ∷ ss) (suc j) start i = image_under s ss j start i
+
+pub same_image : (s : Substitution) (k : Skeleton) (h : Standing) (n : Node) → image_of (skeleton_under s k) h n ≡ image_of k h n
+same_image s k h n = image_under s k.strands n.strand (h.nodes n.strand) n.index
+
+-- The order is the same.
+event_of_under : (s : Substitution) (k : Skeleton) (n : Node) (e : Event Term) → term_event_at (skeleton_under s k).strands n ≡ Some e → (f : Event Term) × (term_event_at k.strands n ≡ Some f) × (event_map (apply_to s) f ≡ e)
+event_of_under s k n e ev =
+    item_of_map (event_map (apply_to s)) (skeleton_trace_or_none (item_at k.strands n.strand)) n.index e (subst (λ (tr : List (Event Term)). item_at tr n.index ≡ Some e) (trace_under s k.strands n.strand) ev)
+
+step_of_under : (s : Substitution) (k : Skeleton) {x y : Node} → OrderStep (skeleton_under s k) x y → OrderStep k x y
+step_of_under s k (along_strand_of {s = a} {i = i} {e = e} ev) = along_strand_of (event_of_under s k (node_at a (suc i)) e ev).1
+step_of_under s k (along_pair inp) = along_pair inp
+
+pub before_of_under : (s : Substitution) (k : Skeleton) {x y : Node} → Before (skeleton_under s k) x y → Before k x y
+before_of_under s k (one_step p) = one_step (step_of_under s k p)
+before_of_under s k (more_steps p q) = more_steps (step_of_under s k p) (before_of_under s k q)
+
+module _ (s : Substitution) (k : Skeleton) (b : Bundle) (h : Standing) (solution : IsSolution h.values s k) where
+  abbrev g : Assignment
+  g = h.values
+
+  -- Values under the substitution are the values.
+  agree_strands : (x : Variable) → IsIn x (variables_of_strands k.strands) → value_of_atom (after g s) (atom_of_variable x) ≡ value_of_atom g (atom_of_variable x)
+  agree_strands x p = solution.inside x (in_append_left (variables_of_assumptions k.assumptions) p)
+
+  agree_assumptions : (x : Variable) → IsIn x (variables_of_assumptions k.assumptions) → value_of_atom (after g s) (atom_of_variable x) ≡ value_of_atom g (atom_of_variable x)
+  agree_assumptions x p = solution.inside x (in_append_right (variables_of_strands k.strands) p)
+
+  same_atom : (v : AtomTerm) → AgreeOn (variables_of_atom v) (after g s) g → value_of_atom g (apply_to_atom s v) ≡ value_of_atom g v
+  same_atom v a = sym (atom_after g s v) ∙ agree_atom (after g s) g v a
+
+  same_term : (t : Term) → AgreeOn (variables_of t) (after g s) g → value_of g (apply_to s t) ≡ value_of g t
+  same_term t a = sym (value_after g s t) ∙ agree_term (after g s) g t a
+
+  -- Strands.
+  abbrev StrandStands : ℕ → SkeletonStrand → Type 0
+  StrandStands a (instance role height terms) = StandsOnRegular b h a role height terms
+  StrandStands a (listener t) = event_at b.strands (h.nodes a) ≡ Some (recv (value_of g t))
+
+  instance_under : (a : ℕ) (role : Role) (height : ℕ) (terms : Substitution) → item_at k.strands a ≡ Some (instance role height terms) → StandsOnRegular b h a role height terms → StandsOnRegular b h a role height (composed terms s)
+  instance_under a role height terms at st = record {
+    at_start = st.at_start;
+    to_height = st.to_height;
+    to_values = st.to_values;
+    on_regular = st.on_regular;
+    at_least = st.at_least;
+    equal_values = λ x inx.
+        atom_after g (composed terms s) (atom_of_variable x)
+        ∙ ap (value_of_atom g) (atom_composed terms s (atom_of_variable x))
+        ∙ same_atom (apply_to_atom terms (atom_of_variable x)) (λ y iny. agree_strands y (in_strands k.strands a (instance role height terms) y at (in_trace_under terms (prefix_of role height) x y inx iny)))
+        ∙ sym (atom_after g terms (atom_of_variable x))
+        ∙ st.equal_values x inx;
+  }
+
+  strand_stands : StandsIn k b h → (a : ℕ) (st : SkeletonStrand) → item_at k.strands a ≡ Some st → StrandStands a (strand_under s st)
+  strand_stands stands a (instance role height terms) at = instance_under a role height terms at (stands.instances a role height terms at)
+  strand_stands stands a (listener t) at =
+      stands.listeners a t at ∙ ap (λ (m : Message). Some (recv m)) (sym (same_term t (λ x p. agree_strands x (in_strands k.strands a (listener t) x at (in_append_left (variables_of t ++ []) p)))))
+
+  strand_stands_under : StandsIn k b h → (a : ℕ) (st : SkeletonStrand) → item_at (skeleton_under s k).strands a ≡ Some st → StrandStands a st
+  strand_stands_under stands a st at =
+      let m = item_of_map (strand_under s) k.strands a st at in
+      subst (StrandStands a) m.2 (strand_stands stands a m.0 m.1)
+
+  ordered_under : StandsIn k b h → (x y : Node) → Before (skeleton_under s k) x y → x.strand ≢ y.strand → Precedes b (image_of (skeleton_under s k) h x) (image_of (skeleton_under s k) h y)
+  ordered_under stands x y before ne = subst₂ (Precedes b) (sym (same_image s k h x)) (sym (same_image s k h y)) (stands.ordered x y (before_of_under s k before) ne)
+
+  non_under : StandsIn k b h → (v : AtomTerm) → IsIn v (skeleton_under s k).assumptions.non_originating → KeepsNon b.strands (atom (value_of_atom g v))
+  non_under stands v inv =
+      let m = in_map (apply_to_atom s) k.assumptions.non_originating v inv in
+      let same : value_of_atom g m.0 ≡ value_of_atom g v =
+      sym (same_atom m.0 (λ x p. agree_assumptions x (in_append_left (variables_of_uniques k.assumptions.uniquely_originating) (in_append_left (variables_of_atoms k.assumptions.penetrator_non_originating) (in_atoms k.assumptions.non_originating m.0 x m.1 p)))))
+      ∙ ap (value_of_atom g) m.2 in
+      subst (λ (w : Atom). KeepsNon b.strands (atom w)) same (stands.non m.0 m.1)
+
+  penetrator_non_under : StandsIn k b h → (v : AtomTerm) → IsIn v (skeleton_under s k).assumptions.penetrator_non_originating → KeepsPenetratorNon b.strands (atom (value_of_atom g v))
+  penetrator_non_under stands v inv =
+      let m = in_map (apply_to_atom s) k.assumptions.penetrator_non_originating v inv in
+      let same : value_of_atom g m.0 ≡ value_of_atom g v =
+      sym (same_atom m.0 (λ x p. agree_assumptions x (in_append_left (variables_of_uniques k.assumptions.uniquely_originating) (in_append_right (variables_of_atoms k.assumptions.non_originating) (in_atoms k.assumptions.penetrator_non_originating m.0 x m.1 p)))))
+      ∙ ap (value_of_atom g) m.2 in
+      subst (λ (w : Atom). KeepsPenetratorNon b.strands (atom w)) same (stands.penetrator_non m.0 m.1)
+
+  unique_value_under : StandsIn k b h → (u : UniqueAt) → IsIn u k.assumptions.uniquely_originating → KeepsUnique b.strands (atom (value_of_atom g (apply_to_atom s u.value))) (image_of (skeleton_under s k) h u.origin)
+  unique_value_under stands u inu =
+      let same : value_of_atom g (apply_to_atom s u.value) ≡ value_of_atom g u.value =
+      same_atom u.value (λ x p. agree_assumptions x (in_append_right (variables_of_atoms k.assumptions.non_originating ++ variables_of_atoms k.assumptions.penetrator_non_originating) (in_uniques k.assumptions.uniquely_originating u x inu p))) in
+      subst₂ (λ (w : Atom) (n : Node). KeepsUnique b.strands (atom w) n) (sym same) (sym (same_image s k h u.origin)) (stands.unique u inu)
+
+  unique_stands_under : StandsIn k b h → (u : UniqueAt) → IsIn u (skeleton_under s k).assumptions.uniquely_originating → KeepsUnique b.strands (atom (value_of_atom g u.value)) (image_of (skeleton_under s k) h u.origin)
+  unique_stands_under stands u inu =
+      let m = in_map (unique_under s) k.assumptions.uniquely_originating u inu in
+      subst (λ (w : UniqueAt). KeepsUnique b.strands (atom (value_of_atom g w.value)) (image_of (skeleton_under s k) h w.origin)) m.2 (unique_value_under stands m.0 m.1)
+
+  pub stands_under : StandsIn k b h → StandsIn (skeleton_under s k) b h
+  stands_under stands = record {
+    instances = λ a role height terms at. strand_stands_under stands a (instance role height terms) at;
+    listeners = λ a t at. strand_stands_under stands a (listener t) at;
+    ordered = ordered_under stands;
+    non = non_under stands;
+    penetrator_non = penetrator_non_under stands;
+    unique = unique_stands_under stands;
+  }
+
+instance_of_strand : (s : Substitution) (st : SkeletonStrand) (role : Role) (height : ℕ) (terms : Substitution) → strand_under s st ≡ instance role height terms → (t : Substitution) × (st ≡ instance role height t) × (composed t s ≡ terms)
+instance_of_strand s (instance role' height' terms') role height terms e = let p : role' ≡ role = cc in let q : height' ≡ height = cc in let r : composed terms' s ≡ terms = cc in (terms', cc, r)
+instance_of_strand s (listener t) role height terms e = absurd (cc)
+
+pub instance_of_under : (s : Substitution) (k : Skeleton) (a : ℕ) (role : Role) (height : ℕ) (terms : Substitution) → item_at (skeleton_under s k).strands a ≡ Some (instance role height terms) →
+    (t : Substitution) × (item_at k.strands a ≡ Some (instance role height t)) × (composed t s ≡ terms)
+instance_of_under s k a role height terms at =
+    let m = item_of_map (strand_under s) k.strands a (instance role height terms) at in
+    let i = instance_of_strand s m.0 role height terms m.2 in
+    (i.0, m.1 ∙ ap Some i.1, i.2)
+
+pub apart_under : (s : Substitution) (k : Skeleton) (h : Standing) → StandsApart k h → StandsApart (skeleton_under s k) h
+apart_under s k h apart x y role height terms role' height' terms' at au e =
+    let i = instance_of_under s k x role height terms at in
+    let j = instance_of_under s k y role' height' terms' au in
+    apart x y role height i.0 role' height' j.0 i.1 j.1 e
+
+values_under : (s : Substitution) (g : Assignment) (ts : List Term) → AgreeOn (variables_of_terms ts) (after g s) g → map (value_of g) ts ≡ map (value_of g) (map (apply_to s) ts)
+values_under s g [] a = refl
+values_under s g (t ∷ ts) a =
+    ap₂ ◌∷◌ (sym (agree_term (after g s) g t (λ x p. a x (in_append_left (variables_of_terms ts) p))) ∙ value_after g s t)
+    (values_under s g ts (λ x p. a x (in_append_right (variables_of t) p)))
+
+pub factors_under : (s : Substitution) (k : Skeleton) (h : Standing) → IsSolution h.values s k → FactorsThrough k h (skeleton_under s k) h
+factors_under s k h solution = record { strands = refl; values = values_under s h.values k.from_problem.values solution.of_problem }
+
+pub factors_then : (problem k l : Skeleton) (f h g : Standing) → FactorsThrough problem f k h → FactorsThrough k h l g → FactorsThrough problem f l g
+factors_then problem k l f h g first second = record { strands = first.strands ∙ second.strands; values = first.values ∙ second.values }

@@ -1,0 +1,5 @@
+use Rattle.cp_completeness.proofs.Losing.{pairs_lose_none}
+use Rattle.cp_completeness.proofs.steps.origin_pairs_lose_no_standing.Goals as goal
+
+pub returns : goal.returns
+returns c = pairs_lose_none

@@ -1,0 +1,12 @@
+pub mod Lists
+pub mod Sorted
+pub mod Histories
+pub mod States
+pub mod Strands
+pub mod Deriving
+pub mod Weaving
+pub mod Placing
+pub mod Kept
+pub mod Bundles
+pub mod Realised
+pub mod Example
