@@ -1,0 +1,7 @@
+pub mod Behind
+pub mod CarriedTerms
+pub mod Depths
+pub mod Listed
+pub mod PositionLaws
+pub mod SameTerms
+pub mod TableEntries

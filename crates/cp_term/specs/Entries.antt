@@ -1,0 +1,7 @@
+-- Entries of the table of variables.
+use Rattle.cp_term.specs.Table.{Declared}
+use Rattle.cp_term.specs.declared.variable.Entry.{Entry}
+
+-- What an entry is seen as.
+abbrev pub declared_by : Entry → Declared
+declared_by e = record { root = e.root; sort = e.sort }

@@ -1,0 +1,14 @@
+pub mod Code
+pub mod Entries
+pub mod Keys
+pub mod Layer
+pub mod LayerFalls
+pub mod Leaves
+pub mod Patterns
+pub mod Positions
+pub mod Preorder
+pub mod Same
+pub mod Shapes
+pub mod Size
+pub mod Table
+pub mod Variables

@@ -1,0 +1,29 @@
+//! Laws of the definitions: each stands as the contract of a function that does nothing.
+ghost use Rattle.std.specs.Prelude.{◌≡◌, ◌↔◌, Bool, true, List, Some, IsTrue};
+ghost use Rattle.cp_model.specs.Lists.{IsIn};
+ghost use Rattle.cp_model.specs.Term.{Term, IsCarriedByTerm};
+ghost use Rattle.cp_term.specs.Positions.{term_at, positions_where};
+ghost use Rattle.cp_term.specs.Preorder.{AreInPreorder};
+ghost use Rattle.cp_term.specs.Same.{is_same};
+ghost use Rattle.cp_term.specs.declared.path.Step.{Step};
+
+/// What a term carries stands at a position of it, and what stands at a position it carries.
+#[tactic(auto, using(crate::proofs::PositionLaws::carried_position))]
+pub fn carried_at_a_position()
+    ensures { (whole part : Term) → IsCarriedByTerm part whole ↔ ((path : List Step) × (term_at whole path ≡ Some part)) }
+{}
+
+/// The positions of the terms that pass a test are those at which a term stands that passes it, each once and in
+/// preorder.
+#[tactic(auto, using(crate::proofs::PositionLaws::positions_found, crate::proofs::PositionLaws::positions_ordered))]
+pub fn positions_are_those_found()
+    ensures found { (test : Term → Bool) (whole : Term) (path : List Step)
+        → IsIn path (positions_where test whole) ↔ ((t : Term) × (term_at whole path ≡ Some t) × (test t ≡ true)) }
+    ensures in_preorder { (test : Term → Bool) (whole : Term) → AreInPreorder (positions_where test whole) }
+{}
+
+/// The test of equality passes exactly for equal terms.
+#[tactic(auto, using(crate::proofs::SameTerms::same_Decides))]
+pub fn test_of_equality()
+    ensures { (a b : Term) → IsTrue (is_same a b) ↔ (a ≡ b) }
+{}

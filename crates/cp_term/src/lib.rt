@@ -1,0 +1,24 @@
+//! Variables and terms: sharing handles, which contracts see as plain terms.
+#![tactic(auto)]
+
+mod laws;
+mod making;
+mod path;
+mod pattern;
+mod position;
+mod same;
+mod shape;
+mod term;
+#[cfg(test)]
+mod tests;
+mod text;
+mod variable;
+
+pub use laws::{carried_at_a_position, positions_are_those_found, test_of_equality};
+pub use making::{enc, invert, ltk, pair, pubk, tag, var};
+pub use path::{Path, Step};
+pub use pattern::{Locals, Pattern};
+pub use position::{at, carries, depth, paths_of};
+pub use shape::Shape;
+pub use term::Term;
+pub use variable::{Sort, VarId, VarTable};

@@ -1,0 +1,95 @@
+// Paths to the parts of a term.
+ghost use Rattle.std.specs.Prelude.{◌≡◌, [], ◌∷◌, ◌++◌, length, take, IfOk, OnOk, OnErr};
+
+use smallvec::SmallVec;
+use std::alloc::{AllocError, Global};
+use std::marker::Model;
+
+/// One step of a path: to a part of a pair, or to the plaintext of an encryption.
+#[derive(Clone, Copy, Debug, Default, PartialEq, Eq)]
+pub enum Step {
+    #[default]
+    Left,
+    Right,
+    Plaintext,
+}
+
+/// A path into a term. Contracts see its steps, the first one first.
+pub struct Path {
+    steps: SmallVec<Step, 8>,
+}
+
+impl Model for Path {
+    ghost use Rattle.std.specs.Prelude.{List};
+    ghost use Rattle.cp_term.specs.declared.path.Step.{Step as StepData};
+
+    ghost Value = { List StepData };
+
+    ghost view = { λ p. p.steps.items };
+}
+
+// A function of its own, so that what drops a path is short.
+impl Drop for Path {
+    #[inline(never)]
+    fn drop(self) {
+        let Path { steps } = self;
+        drop(steps);
+    }
+}
+
+impl Path {
+    /// The path of no step.
+    pub fn new(alloc: Global) -> Path
+        ensures { result ≡ [] }
+    {
+        Path {
+            steps: SmallVec::new(alloc),
+        }
+    }
+
+    /// The path of these steps.
+    pub fn from_slice(alloc: Global, steps: &[Step]) -> Result<Path, AllocError>
+        ensures { IfOk result (λ p. p ≡ steps.now) }
+    {
+        let steps = SmallVec::from_slice(alloc, steps)?;
+        Ok(Path { steps })
+    }
+
+    /// The steps.
+    pub fn as_slice(&self) -> &[Step]
+        ensures { result.now ≡ self.now }
+    {
+        self.steps.as_slice()
+    }
+
+    /// How many steps there are.
+    pub fn len(&self) -> usize
+        ensures { result ≡ length self.now }
+    {
+        self.steps.len()
+    }
+
+    /// Adds a step at the end. Where memory runs out the path stays as it was.
+    pub fn push(&mut self, step: Step) -> Result<(), AllocError>
+        ensures ok { OnOk result (self.new ≡ self.old ++ step ∷ []) }
+        ensures err { OnErr result (self.new ≡ self.old) }
+    {
+        self.steps.push(step)?;
+        Ok(())
+    }
+
+    /// Keeps the first steps, as many as this.
+    pub fn truncate(&mut self, len: usize)
+        ensures { self.new ≡ take len self.old }
+    {
+        self.steps.truncate(len);
+    }
+
+    /// The same path again.
+    pub fn copy(&self) -> Result<Path, AllocError>
+        ensures { IfOk result (λ p. p ≡ self.now) }
+    {
+        let steps = SmallVec::from_slice(*self.steps.allocator(), self.steps.as_slice())?;
+        Ok(Path { steps })
+    }
+}

@@ -1,0 +1,138 @@
+// Carried positions in a term.
+ghost use Rattle.std.specs.Prelude.{◌≡◌, ◌↔◌, ◌++◌, min, List, Some, IsTrue, IfOk, OnOk};
+ghost use Rattle.std.specs.Option.{option_copied};
+ghost use Rattle.cp_model.specs.Term.{IsCarriedByTerm};
+ghost use Rattle.cp_model.specs.Lists.{IsIn};
+ghost use Rattle.cp_term.specs.declared.path.Step.{Step as StepData};
+ghost use Rattle.cp_term.specs.Preorder.{AreInPreorder};
+ghost use Rattle.cp_term.specs.Positions.{depth_of, term_at, here_if, behind, positions_where};
+ghost use Rattle.cp_term.specs.Same.{is_same};
+
+use crate::path::{Path, Step};
+use crate::term::{Node, Term};
+use std::alloc::{AllocError, Global};
+
+/// Whether the whole carries the part: is it, or has a part of its pair or a plaintext that carries it.
+pub fn carries(whole: &Term, part: &Term) -> bool
+    ensures { IsTrue result ↔ IsCarriedByTerm part.now whole.now }
+{
+    let mut rest = whole;
+    loop {
+        if rest.same(part) {
+            return true;
+        }
+        match rest.node() {
+            Node::Pair(left, right) => {
+                if carries(left, part) {
+                    return true;
+                }
+                rest = right;
+            }
+            Node::Encryption(body, _) => rest = body,
+            _ => return false,
+        }
+    }
+}
+
+/// The term at a path, or none where the path is no carried position.
+pub fn at<'a>(whole: &'a Term, path: &Path) -> Option<&'a Term>
+    ensures { option_copied result ≡ term_at whole.now path.now }
+{
+    let mut rest = whole;
+    for step in path.as_slice() {
+        rest = match (*step, rest.node()) {
+            (Step::Left, Node::Pair(left, _)) => left,
+            (Step::Right, Node::Pair(_, right)) => right,
+            (Step::Plaintext, Node::Encryption(body, _)) => body,
+            _ => return None,
+        };
+    }
+    Some(rest)
+}
+
+/// Adds this path, where the term is the part.
+fn add_here(term: &Term, part: &Term, here: &Path, found: &mut Vec<Path>) -> Result<(), AllocError>
+    ensures { OnOk result (found.new.items
+        ≡ found.old.items ++ behind here.now (here_if (is_same part.now term.now))) }
+{
+    if part.same(term) {
+        let path = here.copy()?;
+        found.push(path)?;
+    }
+    Ok(())
+}
+
+/// Adds the paths, behind the steps to here, at which the whole carries the part.
+fn add_paths(
+    whole: &Term,
+    part: &Term,
+    here: &mut Path,
+    found: &mut Vec<Path>,
+) -> Result<(), AllocError>
+    ensures added { OnOk result (found.new.items
+        ≡ found.old.items ++ behind here.old (positions_where (is_same part.now) whole.now)) }
+    ensures back { OnOk result (here.new ≡ here.old) }
+{
+    let start = here.len();
+    let mut rest = whole;
+    loop {
+        add_here(rest, part, here, found)?;
+        let level = here.len();
+        match rest.node() {
+            Node::Pair(left, right) => {
+                here.push(Step::Left)?;
+                add_paths(left, part, here, found)?;
+                here.truncate(level);
+                here.push(Step::Right)?;
+                rest = right;
+            }
+            Node::Encryption(body, _) => {
+                here.push(Step::Plaintext)?;
+                rest = body;
+            }
+            _ => {
+                here.truncate(start);
+                return Ok(());
+            }
+        }
+    }
+}
+
+/// The positions at which the whole carries the part, in preorder, left before right.
+pub fn paths_of(alloc: Global, whole: &Term, part: &Term) -> Result<Vec<Path>, AllocError>
+    ensures paths { IfOk result (λ v. v.items ≡ positions_where (is_same part.now) whole.now) }
+    ensures found { IfOk result (λ v. (path : List StepData)
+        → IsIn path v.items ↔ (term_at whole.now path ≡ Some part.now)) }
+    ensures in_preorder { IfOk result (λ v. AreInPreorder v.items) }
+{
+    let mut found = Vec::new(alloc);
+    let mut here = Path::new(alloc);
+    add_paths(whole, part, &mut here, &mut found)?;
+    Ok(found)
+}
+
+/// The depth: 1 of a tag and of an atom, else one more than the greatest depth of the parts, but at most the
+/// greatest number of the type.
+#[tactic(auto, using(crate::proofs::Depths::depth_positive))]
+pub fn depth(term: &Term) -> u32
+    ensures { result ≡ min (depth_of term.now) u32.MAX }
+{
+    let mut rest = term;
+    // How many nodes lie above the rest, and the greatest depth that their left parts give.
+    let mut above = 0u32;
+    let mut greatest = 0u32;
+    loop {
+        match rest.node() {
+            Node::Pair(left, right) => {
+                above = above.saturating_add(1);
+                greatest = greatest.max(depth(left).saturating_add(above));
+                rest = right;
+            }
+            Node::Encryption(body, _) => {
+                above = above.saturating_add(1);
+                rest = body;
+            }
+            _ => return greatest.max(above.saturating_add(1)),
+        }
+    }
+}

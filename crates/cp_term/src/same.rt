@@ -1,0 +1,71 @@
+// Equality of terms.
+ghost use Rattle.std.specs.Prelude.{◌≡◌, ◌↔◌, IsTrue};
+ghost use Rattle.cp_term.specs.Layer.{term_of_node};
+ghost use Rattle.cp_term.specs.Leaves.{IsLeaf};
+
+use crate::term::{Node, Term};
+use crate::text::Text;
+
+fn same_text(a: &Text, b: &Text) -> bool
+    ensures { IsTrue result ↔ (a.now ≡ b.now) }
+{
+    a.as_str() == b.as_str()
+}
+
+fn same_purpose(a: &Option<Text>, b: &Option<Text>) -> bool
+    ensures { IsTrue result ↔ (a.now ≡ b.now) }
+{
+    match (a, b) {
+        (None, None) => true,
+        (Some(x), Some(y)) => same_text(x, y),
+        _ => false,
+    }
+}
+
+/// Whether a node without parts is the same as another node.
+fn same_leaf(leaf: &Node, other: &Node) -> bool
+    requires { IsLeaf leaf.now }
+    ensures { IsTrue result ↔ (term_of_node leaf.now ≡ term_of_node other.now) }
+{
+    match (leaf, other) {
+        (Node::Tag(a), Node::Tag(b)) => same_text(a, b),
+        (Node::TextVariable(x), Node::TextVariable(y)) => x == y,
+        (Node::DatumVariable(x), Node::DatumVariable(y)) => x == y,
+        (Node::NameVariable(x), Node::NameVariable(y)) => x == y,
+        (Node::SkeyVariable(x), Node::SkeyVariable(y)) => x == y,
+        (Node::AkeyVariable(f, x), Node::AkeyVariable(g, y)) => f == g && x == y,
+        (Node::Ltk(a, b), Node::Ltk(c, d)) => a == c && b == d,
+        (Node::Pubk(f, p, x), Node::Pubk(g, q, y)) => f == g && x == y && same_purpose(p, q),
+        _ => false,
+    }
+}
+
+impl Term {
+    /// Whether this is the same term as the other.
+    pub fn same(&self, other: &Term) -> bool
+        ensures { IsTrue result ↔ (self.now ≡ other.now) }
+    {
+        let mut a = self;
+        let mut b = other;
+        loop {
+            match (a.node(), b.node()) {
+                (Node::Pair(left, right), Node::Pair(other_left, other_right)) => {
+                    if !left.same(other_left) {
+                        return false;
+                    }
+                    a = right;
+                    b = other_right;
+                }
+                (Node::Encryption(body, key), Node::Encryption(other_body, other_key)) => {
+                    if !key.same(other_key) {
+                        return false;
+                    }
+                    a = body;
+                    b = other_body;
+                }
+                (Node::Pair(..) | Node::Encryption(..), _) => return false,
+                (leaf, other) => return same_leaf(leaf, other),
+            }
+        }
+    }
+}

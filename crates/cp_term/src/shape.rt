@@ -1,0 +1,49 @@
+// What a term is made of.
+ghost use Rattle.cp_term.specs.Shapes.{IsShapeOf};
+
+use crate::term::{Node, Term};
+use crate::text::Text;
+use crate::variable::{Sort, VarId};
+
+/// What a term is made of, one level deep.
+#[derive(Clone, Copy)]
+pub enum Shape<'a> {
+    Tag(&'a str),
+    /// A variable of this sort, which is not that of all messages.
+    Variable(VarId, Sort),
+    /// The inverse of a variable of sort akey.
+    Inverse(VarId),
+    /// The long-term key of two names.
+    Ltk(VarId, VarId),
+    /// The public key of a name, for a purpose or for none; where the flag is set the private key.
+    Pubk(bool, Option<&'a str>, VarId),
+    Pair(&'a Term, &'a Term),
+    /// The encryption of a term under a key.
+    Encryption(&'a Term, &'a Term),
+}
+
+impl Term {
+    /// What the term is made of.
+    pub fn shape(&self) -> Shape<'_>
+        ensures { IsShapeOf result self.now }
+    {
+        match self.node() {
+            Node::Tag(text) => Shape::Tag(text.as_str()),
+            Node::TextVariable(id) => Shape::Variable(*id, Sort::Text),
+            Node::DatumVariable(id) => Shape::Variable(*id, Sort::Datum),
+            Node::NameVariable(id) => Shape::Variable(*id, Sort::Name),
+            Node::SkeyVariable(id) => Shape::Variable(*id, Sort::Skey),
+            Node::AkeyVariable(false, id) => Shape::Variable(*id, Sort::Akey),
+            Node::AkeyVariable(true, id) => Shape::Inverse(*id),
+            Node::Ltk(a, b) => Shape::Ltk(*a, *b),
+            Node::Pubk(flag, None, name) => Shape::Pubk(*flag, None, *name),
+            Node::Pubk(flag, Some(purpose), name) => Shape::Pubk(
+                *flag,
+                Some(purpose.as_str()),
+                *name,
+            ),
+            Node::Pair(left, right) => Shape::Pair(left, right),
+            Node::Encryption(body, key) => Shape::Encryption(body, key),
+        }
+    }
+}

@@ -1,0 +1,119 @@
+// Variables: their sorts, their numbers, and the table in which they are declared.
+ghost use Rattle.std.specs.Prelude.{◌≡◌, ◌<◌, ◌++◌, [], ◌∷◌, length, slice_get, Some, IfOk, OnOk, OnErr};
+ghost use Rattle.cp_term.specs.Table.{roots, sorts};
+
+use crate::text::Text;
+use std::alloc::{AllocError, Global};
+use std::marker::Model;
+
+/// The sort of a variable. All others lie below that of all messages.
+#[derive(Clone, Copy, Debug, PartialEq, Eq)]
+pub enum Sort {
+    Text,
+    Datum,
+    Name,
+    /// Symmetric keys.
+    Skey,
+    /// Asymmetric keys.
+    Akey,
+    /// All messages.
+    Mesg,
+}
+
+/// A variable: its number, which is its place in the table of variables, counted from 0.
+#[derive(Clone, Copy, Debug, PartialEq, Eq)]
+pub struct VarId {
+    number: usize,
+}
+
+impl Model for VarId {
+    ghost use Rattle.std.specs.Prelude.{ℕ};
+
+    ghost Value = { ℕ };
+
+    ghost view = { λ v. v.number };
+
+    ghost inverse = { λ n. record { number = n } };
+}
+
+impl VarId {
+    /// The variable's number.
+    pub fn number(self) -> usize
+        ensures { result ≡ self }
+    {
+        self.number
+    }
+}
+
+/// What is kept of a variable: the identifier that it is named after, and its sort.
+#[derive(Drop)]
+struct Entry {
+    root: Text,
+    sort: Sort,
+}
+
+/// The variables that were made so far, in the order in which they were made.
+#[derive(Drop)]
+pub struct VarTable {
+    entries: Vec<Entry>,
+}
+
+impl Model for VarTable {
+    ghost use Rattle.std.specs.Prelude.{List, map};
+    ghost use Rattle.cp_term.specs.Table.{Declared};
+
+    ghost Value = { List Declared };
+
+    ghost use Rattle.cp_term.specs.Entries.{declared_by};
+
+    ghost view = { λ t. map declared_by t.entries.items };
+}
+
+impl VarTable {
+    /// A table with no variable.
+    pub fn new(alloc: Global) -> VarTable
+        ensures { result ≡ [] }
+    {
+        VarTable {
+            entries: Vec::new(alloc),
+        }
+    }
+
+    /// How many variables there are.
+    pub fn len(&self) -> usize
+        ensures { result ≡ length self.now }
+    {
+        self.entries.len()
+    }
+
+    /// Makes a variable of this sort, later than all others, that is named after this identifier.
+    /// Where memory runs out the table stays as it was.
+    pub fn fresh(&mut self, root: &str, sort: Sort) -> Result<VarId, AllocError>
+        ensures later { IfOk result (λ v. v ≡ length self.old) }
+        ensures added { OnOk result (self.new ≡ self.old ++ record { root = root.now; sort = sort } ∷ []) }
+        ensures unchanged { OnErr result (self.new ≡ self.old) }
+    {
+        let number = self.entries.len();
+        let root = Text::new(*self.entries.allocator(), root)?;
+        self.entries.push(Entry { root, sort })?;
+        Ok(VarId { number })
+    }
+
+    /// The identifier that the variable is named after.
+    pub fn root(&self, id: VarId) -> &str
+        requires { id < length self.now }
+        ensures { slice_get (roots self.now) id ≡ Some result.now }
+    {
+        let entry = &self.entries[id.number];
+        entry.root.as_str()
+    }
+
+    /// The sort of the variable.
+    pub fn sort(&self, id: VarId) -> Sort
+        requires { id < length self.now }
+        ensures { slice_get (sorts self.now) id ≡ Some result }
+    {
+        let entry = &self.entries[id.number];
+        entry.sort
+    }
+}
