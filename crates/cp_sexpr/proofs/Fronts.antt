@@ -1,0 +1,84 @@
+-- Pieces one after another: each fold over pieces, at one piece more.
+use Rattle.std.proofs.Common.{◌≡◌, ℕ, ◌+◌, ◌-◌, ◌<◌, ◌≤◌, List, [], ◌∷◌, ◌++◌, length, take, refl, sym, ap, ◌∙◌, subst, arith, length-append}
+use Rattle.cp_base.specs.declared.place.Place.{Place}
+use Rattle.cp_base.specs.declared.place.Code.{Code}
+use Rattle.cp_sexpr.specs.Pieces.{Piece, blank, comment, opening, closing, quoted, token, spelling, IsPiece, BeginsWith, IsCut, after_byte, place_after, after_piece, after_pieces}
+use Rattle.cp_sexpr.specs.Reading.{opened_behind, opened_after, IsRefusedPiece, AreAccepted}
+
+pub IsCut-push : (ps : List Piece) (text rest : List ℕ) (p : Piece) (after : List ℕ) → IsCut text ps rest → BeginsWith rest p after → IsCut text (ps ++ p ∷ []) after
+IsCut-push [] text rest p after c b = (after, subst (λ t. BeginsWith t p after) (sym c) b, refl)
+IsCut-push (q ∷ ps) text rest p after c b = (c.0, c.1, IsCut-push ps c.0 rest p after c.2 b)
+
+pub after_pieces-append : (at : Place) (ps qs : List Piece) → after_pieces at (ps ++ qs) ≡ after_pieces (after_pieces at ps) qs
+after_pieces-append at [] qs = refl
+after_pieces-append at (p ∷ ps) qs = after_pieces-append (after_piece at p) ps qs
+
+pub opened_after-append : (at : Place) (opened : List Place) (ps qs : List Piece) → opened_after at opened (ps ++ qs) ≡ opened_after (after_pieces at ps) (opened_after at opened ps) qs
+opened_after-append at opened [] qs = refl
+opened_after-append at opened (p ∷ ps) qs = opened_after-append (after_piece at p) (opened_behind at opened p) ps qs
+
+pub AreAccepted-push : (at : Place) (opened : List Place) (ps : List Piece) (p : Piece) → AreAccepted at opened ps → ((code : Code) → IsRefusedPiece (opened_after at opened ps) p code → ⊥)
+    → AreAccepted at opened (ps ++ p ∷ [])
+AreAccepted-push at opened [] p a h = (h, tt)
+AreAccepted-push at opened (q ∷ ps) p a h = (a.0, AreAccepted-push (after_piece at q) (opened_behind at opened q) ps p a.1 h)
+
+-- ---- lengths and places
+
+pub length-spelling : (p : Piece) → IsPiece p → 0 < length (spelling p)
+length-spelling (blank b) h = omega arith
+length-spelling (comment t) h = omega arith
+length-spelling opening h = omega arith
+length-spelling closing h = omega arith
+length-spelling (quoted t) h = omega arith
+length-spelling (token t) h = h.0
+
+pub shorter : (text : List ℕ) (p : Piece) (rest : List ℕ) → BeginsWith text p rest → length rest < length text
+shorter text p rest b =
+    let e = ap length b.spelled ∙ length-append (spelling p) rest in
+    let n = length-spelling p b.piece in
+    omega arith
+
+take_front : (front rest : List ℕ) → take (length front) (front ++ rest) ≡ front
+take_front [] rest = refl
+take_front (b ∷ front) rest = ap (λ t. b ∷ t) (take_front front rest)
+
+pub front_spelled : (text front rest : List ℕ) → text ≡ front ++ rest → take (length text - length rest) text ≡ front
+front_spelled text front rest e =
+    let n : length text - length rest ≡ length front = omega (arith, ap length e ∙ length-append front rest) in
+    ap (λ k. take k text) n ∙ ap (take (length front)) e ∙ take_front front rest
+
+after_byte-line : (at : Place) (b : ℕ) → (after_byte at b).line ≤ at.line + 1
+after_byte-line at b = grind arith
+
+after_byte-col : (at : Place) (b : ℕ) → (after_byte at b).col ≤ at.col + 1
+after_byte-col at b = grind arith
+
+pub place_after-line : (at : Place) (t : List ℕ) → (place_after at t).line ≤ at.line + length t
+place_after-line at [] = omega arith
+place_after-line at (b ∷ t) =
+    let h = place_after-line (after_byte at b) t in
+    let k = after_byte-line at b in
+    omega arith
+
+pub place_after-col : (at : Place) (t : List ℕ) → (place_after at t).col ≤ at.col + length t
+place_after-col at [] = omega arith
+place_after-col at (b ∷ t) =
+    let h = place_after-col (after_byte at b) t in
+    let k = after_byte-col at b in
+    omega arith
+
+pub after_pieces-line : (ps : List Piece) (at : Place) (text rest : List ℕ) → IsCut text ps rest → (after_pieces at ps).line + length rest ≤ at.line + length text
+after_pieces-line [] at text rest c = let e = ap length c in omega arith
+after_pieces-line (p ∷ ps) at text rest c =
+    let h = after_pieces-line ps (after_piece at p) c.0 rest c.2 in
+    let k = place_after-line at (spelling p) in
+    let e = ap length c.1.spelled ∙ length-append (spelling p) c.0 in
+    omega arith
+
+pub after_pieces-col : (ps : List Piece) (at : Place) (text rest : List ℕ) → IsCut text ps rest → (after_pieces at ps).col + length rest ≤ at.col + length text
+after_pieces-col [] at text rest c = let e = ap length c in omega arith
+after_pieces-col (p ∷ ps) at text rest c =
+    let h = after_pieces-col ps (after_piece at p) c.0 rest c.2 in
+    let k = place_after-col at (spelling p) in
+    let e = ap length c.1.spelled ∙ length-append (spelling p) c.0 in
+    omega arith

@@ -1,0 +1,11 @@
+pub mod Stacks
+pub mod Runs
+pub mod Numbers
+pub mod Fronts
+pub mod Grammar
+pub mod Readings
+pub mod Spelled
+pub mod Unique
+pub mod ReadBack
+pub mod Given
+pub mod Exists

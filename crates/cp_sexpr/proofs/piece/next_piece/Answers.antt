@@ -1,0 +1,16 @@
+use Rattle.std.proofs.Common.{arith}
+use Rattle.cp_sexpr.specs.Pieces.{IsTokenByte}
+use Rattle.cp_sexpr.proofs.Runs.{token_text, byte_refused, no_white_space, not_visible}
+use Rattle.cp_sexpr.proofs.piece.next_piece.Goals as goal
+
+pub returns-in_default-first-clause-piece : goal.returns-in_default-first-clause-piece
+returns-in_default-first-clause-piece c =
+    let is_token : IsTokenByte c.in-Some.first.now = grind arith in
+    token_text c.args.bytes.now c.in-Some.first.now c.in-Some.rest.now c.token_length.result c.split_at-in_default-first.result.0.now c.split_at-in_default-first.result.1.now
+    c.in-Some.ensures.cases.0 is_token c.token_length.ensures c.split_at-in_default-first.ensures.front c.split_at-in_default-first.ensures.back
+
+pub returns-in_default-2-clause-refused : goal.returns-in_default-2-clause-refused
+returns-in_default-2-clause-refused c opened =
+    byte_refused c.args.place opened c.args.bytes.now c.in-Some.first.now c.in-Some.rest.now c.in-Some.ensures.cases.0
+    (no_white_space c.in-Some.first.now (λ e. grind arith) (λ e. grind arith) (λ e. grind arith) (λ e. grind arith))
+    (not_visible c.in-Some.first.now (λ t. grind arith) (λ e. grind arith) (λ e. grind arith) (λ e. grind arith) (λ e. grind arith))

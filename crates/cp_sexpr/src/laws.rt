@@ -1,0 +1,27 @@
+// What holds of reading and spelling, whatever the text and the forms.
+ghost use Rattle.std.specs.Prelude.{◌≡◌, ◌≤◌, ℕ, List, Result, Ok};
+ghost use Rattle.cp_base.specs.declared.place.Refusal.{Refusal as RefusalData};
+ghost use Rattle.cp_sexpr.specs.Reading.{IsReading, max_depth};
+ghost use Rattle.cp_sexpr.specs.ReadingBack.{IsSpellable, AreSpellable, depth, depth_of, top_spellings, ReadsAs};
+ghost use Rattle.cp_sexpr.specs.Spelling.{spelling};
+ghost use Rattle.cp_sexpr.specs.Syntax.{Form as FormData, Forms, none, more};
+
+/// A text has one reading: its forms, or its first fault.
+pub fn one_reading()
+    // It has one at least.
+    ensures exists { (text : List ℕ) → (a : Result Forms RefusalData) × IsReading text a }
+    // It has one at most.
+    ensures only { (text : List ℕ) (a b : Result Forms RefusalData) → IsReading text a
+        → IsReading text b → a ≡ b }
+{}
+
+/// The forms that reading gives are those that are read back from their spelling.
+pub fn reads_back()
+    // What reading gives has a spelling.
+    ensures given { (text : List ℕ) (fs : Forms) → IsReading text (Ok fs)
+        → AreSpellable fs × (depth_of fs ≤ max_depth) }
+    // A form that has one is read back from it.
+    ensures form { (f : FormData) → IsSpellable f → depth f ≤ max_depth → ReadsAs (spelling f) (more f none) }
+    // So are top forms, one behind the other.
+    ensures top_forms { (fs : Forms) → AreSpellable fs → depth_of fs ≤ max_depth → ReadsAs (top_spellings fs) fs }
+{}
