@@ -1,0 +1,4 @@
+mod RefusalExamplesOne
+mod RefusalExamplesTwo
+pub mod OneAnswer
+mod ReportExamples

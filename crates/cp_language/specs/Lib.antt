@@ -1,0 +1,10 @@
+pub mod Words
+pub mod Same
+pub mod Faults
+pub mod Terms
+pub mod Roles
+pub mod Problems
+pub mod Input
+pub mod Names
+pub mod Printed
+pub mod Report

@@ -1,0 +1,15 @@
+//! The input language: which forms are well formed, what they state, and which fault is answered first; and the
+//! report: its forms and its text. Definitions alone, with their laws.
+#![tactic(auto)]
+
+ghost use Rattle.std.specs.Prelude.{◌≡◌, List, Result};
+ghost use Rattle.cp_base.specs.declared.place.Refusal.{Refusal};
+ghost use Rattle.cp_language.specs.Input.{Entry, IsInput};
+ghost use Rattle.cp_sexpr.specs.Syntax.{Forms};
+
+/// Forms have exactly one answer: what they state where they are well formed, or else the first of their faults.
+#[tactic(auto, using(crate::proofs::OneAnswer::one_answer, crate::proofs::OneAnswer::some_answer))]
+pub fn forms_have_one_answer()
+    ensures one { (fs : Forms) (a b : Result (List Entry) Refusal) → IsInput fs a → IsInput fs b → a ≡ b }
+    ensures some { (fs : Forms) → (a : Result (List Entry) Refusal) × IsInput fs a }
+{}
