@@ -1,0 +1,8 @@
+use Rattle.std.proofs.Common.{◌≡◌, ◌++◌, map, drop}
+use Rattle.cp_language.specs.Names.{names_onto}
+use Rattle.cp_app.specs.Loaded.{declaration_view}
+use Rattle.cp_app.proofs.printing.names.problem_names.Given as goal
+
+-- the names so far, and those that are left, are all
+abbrev pub invariant-loop-variable : goal.invariant-loop-variable
+invariant-loop-variable l = l.names.items ++ names_onto l.names.items (map declaration_view (drop l.variable-index l.others)) ≡ l.initial.names.items ++ names_onto l.initial.names.items (map declaration_view l.others)

@@ -1,0 +1,13 @@
+pub mod Supported
+pub mod Loaded
+pub mod Outcomes
+pub mod Choosing
+pub mod Distinct
+pub mod Instances
+pub mod Uniques
+pub mod Stated
+pub mod Loading
+pub mod Analysis
+pub mod Headline
+pub mod Steps
+pub mod Printing

@@ -1,0 +1,16 @@
+//! The top call: words, input, analysis and report.
+#![tactic(auto)]
+
+mod loaded;
+mod loader;
+mod printing;
+mod reading;
+mod running;
+mod stopped;
+mod words;
+mod writing;
+
+pub use running::run;
+
+#[cfg(test)]
+mod tests;

@@ -1,0 +1,80 @@
+// The names of a problem's variables in a report.
+ghost use Rattle.std.specs.Prelude.{◌≡◌, map, IfOk};
+ghost use Rattle.cp_language.specs.Words.{same_text, is_one_of};
+ghost use Rattle.cp_language.specs.Names.{numbered_name, free_name, identifiers_in, problem_names};
+ghost use Rattle.cp_app.specs.Loaded.{declaration_view};
+
+use crate::loaded::Declaration;
+use crate::printing::words::write_numeral;
+use cp_sexpr::Text;
+use std::alloc::{AllocError, Global};
+
+fn is_same_name(a: &[u8], b: &[u8]) -> bool
+    ensures { result ≡ same_text a.now b.now }
+{
+    a == b
+}
+
+fn is_taken(name: &[u8], taken: &[Text]) -> bool
+    ensures { result ≡ is_one_of name.now taken.now }
+{
+    for other in taken {
+        if is_same_name(name, other.as_bytes()) {
+            return true;
+        }
+    }
+    false
+}
+
+/// The name with a number behind it.
+fn numbered_name(alloc: Global, name: &[u8], number: usize) -> Result<Text, AllocError>
+    ensures { IfOk result (λ t. t ≡ numbered_name name.now number) }
+{
+    let mut bytes = Vec::from_slice(alloc, name)?;
+    bytes.push(b'-')?;
+    write_numeral(number, &mut bytes)?;
+    Text::new(alloc, &bytes)
+}
+
+/// The first of the name and its numbered forms that is not taken.
+fn free_name(alloc: Global, taken: &[Text], name: &[u8]) -> Result<Text, AllocError>
+    ensures { IfOk result (λ t. t ≡ free_name taken.now name.now) }
+{
+    if !is_taken(name, taken) {
+        return Text::new(alloc, name);
+    }
+    for n in 0..taken.len() {
+        let numbered = numbered_name(alloc, name, n)?;
+        if !is_taken(numbered.as_bytes(), taken) {
+            return Ok(numbered);
+        }
+    }
+    numbered_name(alloc, name, taken.len())
+}
+
+fn identifiers(alloc: Global, variables: &[Declaration]) -> Result<Vec<Text>, AllocError>
+    ensures { IfOk result (λ names. names.items ≡ identifiers_in (map declaration_view variables.now)) }
+{
+    let mut names = Vec::new(alloc);
+    for variable in variables {
+        names.push(Text::new(alloc, variable.identifier.as_bytes())?)?;
+    }
+    Ok(names)
+}
+
+/// The names of a problem's variables, of which the first are declared and keep their identifiers.
+pub(crate) fn problem_names(
+    alloc: Global,
+    declared: usize,
+    variables: &[Declaration],
+) -> Result<Vec<Text>, AllocError>
+    ensures { IfOk result (λ names. names.items ≡ problem_names declared (map declaration_view variables.now)) }
+{
+    let (kept, others) = variables.split_at(declared.min(variables.len()));
+    let mut names = identifiers(alloc, kept)?;
+    for variable in others {
+        let name = free_name(alloc, &names, variable.identifier.as_bytes())?;
+        names.push(name)?;
+    }
+    Ok(names)
+}
