@@ -9,3 +9,8 @@ pub mod Weaker
 pub mod Skeletons
 pub mod Mapped
 pub mod Spoken
+pub mod Embedded
+pub mod Sources
+pub mod Tested
+pub mod OpenedBundle
+pub mod Outside

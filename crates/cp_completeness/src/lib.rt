@@ -1,10 +1,13 @@
 //! Laws by which no execution is missed: normalising a skeleton loses none of the bundles in which it stands apart.
 #![tactic(auto)]
 
+mod covering;
 mod examples;
 mod laws;
 mod steps;
+mod testing;
 
+pub use covering::embedding_then_standing;
 pub use examples::repeated_text_example;
 pub use laws::{
     carried_non_originating_stands_nowhere, heard_where_it_does_not_originate,
@@ -16,3 +19,4 @@ pub use steps::{
     origin_pairs_lose_no_standing, skeletons_stay_skeletons, steps_compose,
     weaker_loses_no_standing,
 };
+pub use testing::{authentication_test, opened_text_example};
