@@ -9,16 +9,16 @@ use Rattle.std.proofs.lemmas.Slice.Eq.{slice_eq-Decides}
 use Rattle.cp_model.specs.Term.{SymmetricTerm, skey_variable, ltk_term, PairTerm, akey_variable, pubk_term, KeyTerm, symmetric_term, asymmetric_term, AtomTerm, text_variable, datum_variable, name_variable, key_term, Term, tag_term, atom_term, pair_term, enc_term}
 use Rattle.cp_term.specs.Same.{same_flag, same_symmetric, same_pair, same_key, same_atom, is_same}
 
-bytes_Decides : (x y : List ℕ) → Decides (pointwise nat_eq x y) (x ≡ y)
+pub bytes_Decides : (x y : List ℕ) → Decides (pointwise nat_eq x y) (x ≡ y)
 bytes_Decides x y = slice_eq-Decides Decides-eqb x y (pointwise nat_eq x y) refl
 
-flag_Decides : (f g : Bool) → Decides (same_flag f g) (f ≡ g)
+pub flag_Decides : (f g : Bool) → Decides (same_flag f g) (f ≡ g)
 flag_Decides true true = (λ _. refl, λ _. refl)
 flag_Decides false false = (λ _. refl, λ _. refl)
 flag_Decides true false = (λ p. sym p, λ p. sym p)
 flag_Decides false true = (λ p. p, λ p. p)
 
-purpose_Decides : (p q : Option (List ℕ)) → Decides (option_eq (pointwise nat_eq) p q) (p ≡ q)
+pub purpose_Decides : (p q : Option (List ℕ)) → Decides (option_eq (pointwise nat_eq) p q) (p ≡ q)
 purpose_Decides None None = (λ _. refl, λ _. refl)
 purpose_Decides None (Some y) = (λ p. cc, λ p. cc)
 purpose_Decides (Some x) None = (λ p. cc, λ p. cc)
@@ -42,7 +42,7 @@ key_Decides (asymmetric_term f k) (asymmetric_term g j) = Decides-like _ (λ e. 
 key_Decides (symmetric_term k) (asymmetric_term g j) = (λ p. cc, λ p. cc)
 key_Decides (asymmetric_term f k) (symmetric_term j) = (λ p. cc, λ p. cc)
 
-atom_Decides : (a b : AtomTerm) → Decides (same_atom a b) (a ≡ b)
+pub atom_Decides : (a b : AtomTerm) → Decides (same_atom a b) (a ≡ b)
 atom_Decides (text_variable m) (text_variable n) = Decides-like _ (λ e. ap text_variable e) (λ e. cc) (Decides-eqb m n)
 atom_Decides (datum_variable m) (datum_variable n) = Decides-like _ (λ e. ap datum_variable e) (λ e. cc) (Decides-eqb m n)
 atom_Decides (name_variable m) (name_variable n) = Decides-like _ (λ e. ap name_variable e) (λ e. cc) (Decides-eqb m n)

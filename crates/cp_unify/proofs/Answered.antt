@@ -1,0 +1,113 @@
+-- The answers of unification.
+use Rattle.std.proofs.Common.{◌≡◌, ◌<◌, ◌≤◌, ◌+◌, ℕ, List, [], ◌∷◌, ◌++◌, Option, Some, None, MatchOption, IfSome, IfNone, length, get_or, drop, sym, ap, ◌∙◌, subst}
+use Rattle.std.proofs.lemmas.List.{drop_all}
+use Rattle.cp_model.specs.Lists.{here, there}
+use Rattle.cp_model.specs.Message.{atom}
+use Rattle.cp_model.specs.Term.{Term, atom_term, atom_of_variable, variables_of_atom, variables_of, Assignment, value_of_atom, value_of}
+use Rattle.cp_unify.specs.Bindings.{Binding, variable_of, MeetsBinding, Meets, variables_of_bindings}
+use Rattle.cp_unify.specs.Solved.{IsSolved, SolvesBeside}
+use Rattle.cp_unify.specs.Unifiers.{AreAmong, IsMostGeneral, HasNoUnifier}
+use Rattle.cp_unify.proofs.Looked.{rest_at}
+use Rattle.cp_unify.proofs.Members.{in_none, in_left, in_right, among_append}
+use Rattle.cp_unify.proofs.SolvedBindings.{factoring, idempotent_term, unified, solves, solvable}
+use Rattle.cp_unify.proofs.Steps.{one_variable}
+
+-- The bindings r solve those of s but the rest.
+pub record AreSolvedBut (s rest r : List Binding) : Type 0 where
+  pub solved : IsSolved r
+  pub sound : (g : Assignment) → Meets g r → Meets g rest → Meets g s
+  pub general : (g : Assignment) → Meets g s → Meets g r × Meets g rest
+  pub within : AreAmong (variables_of_bindings r) (variables_of_bindings s)
+  pub rest_within : AreAmong (variables_of_bindings rest) (variables_of_bindings s)
+
+pub solved_but_all : (s : List Binding) → AreSolvedBut s s []
+solved_but_all s = record {
+  solved = record { met = λ g. tt; later_to_earlier = tt };
+  sound = λ g m n. n;
+  general = λ g m. (tt, m);
+  within = λ x i. absurd (in_none i);
+  rest_within = λ x i. i;
+}
+
+next_within : (s rest r : List Binding) (b : Binding) → AreSolvedBut s (b ∷ rest) r →
+    AreAmong (variables_of (atom_term (atom_of_variable (variable_of b))) ++ (variables_of (atom_term b.term) ++ variables_of_bindings r)) (variables_of_bindings s)
+next_within s rest r b h =
+    let own : AreAmong (variables_of_atom (atom_of_variable (variable_of b))) (variables_of_bindings s) =
+    one_variable (variable_of b).sort b.number (variables_of_bindings s) (h.rest_within (variable_of b) here) in
+    among_append _ _ _ own (among_append _ _ _ (λ x i. h.rest_within x (there (in_left x _ (variables_of_bindings rest) i))) h.within)
+
+solved_but_fewer : (s rest r next : List Binding) (b : Binding) → AreSolvedBut s (b ∷ rest) r →
+    SolvesBeside (atom_term (atom_of_variable (variable_of b))) (atom_term b.term) r next → AreSolvedBut s rest next
+solved_but_fewer s rest r next b h k = record {
+  solved = k.solved;
+  sound = λ g m n. let p = k.sound g m in
+      let e : atom (value_of_atom g (atom_of_variable (variable_of b))) ≡ atom (value_of_atom g b.term) = p.1 in
+      let e' : MeetsBinding g b = cc in h.sound g p.0 (e', n);
+  general = λ g m. let p = h.general g m in (k.general g p.0 (ap atom p.1.0), p.1.1);
+  within = λ x i. next_within s rest r b h x (k.no_new x i);
+  rest_within = λ x i. h.rest_within x (there (in_right x (variables_of_atom b.term) _ i));
+}
+
+none_solved : (s rest r : List Binding) (b : Binding) → AreSolvedBut s (b ∷ rest) r →
+    HasNoUnifier (atom_term (atom_of_variable (variable_of b))) (atom_term b.term) r → (a c : Term) → HasNoUnifier a c s
+none_solved s rest r b h k a c g m e = let p = h.general g m in k g p.0 (ap atom p.1.0)
+
+-- As the loop has them.
+pub next_solved : (s r next : List Binding) (i : ℕ) (b : Binding) (left right : Term) → AreSolvedBut s (drop i s) r → i < length s → b ≡ get_or s i b →
+    left ≡ atom_term (atom_of_variable (variable_of b)) → right ≡ atom_term b.term → SolvesBeside left right r next → AreSolvedBut s (drop (i + 1) s) next
+next_solved s r next i b left right h below read el er k =
+    solved_but_fewer s (drop (i + 1) s) r next b (subst (λ (t : List Binding). AreSolvedBut s t r) (rest_at s i b below read) h) (rw (← el, ← er) k)
+
+pub no_next : (s r : List Binding) (i : ℕ) (b : Binding) (left right : Term) → AreSolvedBut s (drop i s) r → i < length s → b ≡ get_or s i b →
+    left ≡ atom_term (atom_of_variable (variable_of b)) → right ≡ atom_term b.term → HasNoUnifier left right r → (a c : Term) → HasNoUnifier a c s
+no_next s r i b left right h below read el er k =
+    none_solved s (drop (i + 1) s) r b (subst (λ (t : List Binding). AreSolvedBut s t r) (rest_at s i b below read) h)
+    (λ g m e. k g m (ap (value_of g) el ∙ e ∙ sym (ap (value_of g) er)))
+
+all_solved : (s r : List Binding) (i : ℕ) → AreSolvedBut s (drop i s) r → length s ≤ i → AreSolvedBut s [] r
+all_solved s r i h end = subst (λ (t : List Binding). AreSolvedBut s t r) (drop_all i s end) h
+
+pub most_general : (s r answer : List Binding) (i : ℕ) (a b : Term) → AreSolvedBut s (drop i s) r → length s ≤ i → SolvesBeside a b r answer → IsMostGeneral a b s answer
+most_general s r answer i a b so_far end k =
+    let h : AreSolvedBut s [] r = all_solved s r i so_far end in
+    record {
+      sound = λ g m. let p = k.sound g m in (h.sound g p.0 tt, p.1);
+      general = λ g m e. k.general g (h.general g m).0 e;
+      solvable = solvable answer k.solved.met;
+      factors = factoring answer s a b (λ g m e. k.general g (h.general g m).0 e);
+      unifies = unified answer a b k.solved.met (λ g m. (k.sound g m).1);
+      solves_given = solves answer s k.solved.met (λ g m. h.sound g (k.sound g m).0 tt);
+      idempotent = idempotent_term answer k.solved.met;
+      no_new = λ x i. among_append (variables_of a) _ _ (λ y j. in_left y _ _ j)
+          (among_append (variables_of b) (variables_of_bindings r) _ (λ y j. in_right y (variables_of a) _ (in_left y _ _ j))
+          (λ y j. in_right y (variables_of a) _ (in_right y (variables_of b) _ (h.within y j)))) x (k.no_new x i);
+      later_to_earlier = k.solved.later_to_earlier;
+    }
+
+pub no_unifier : (s r : List Binding) (i : ℕ) (a b : Term) → AreSolvedBut s (drop i s) r → length s ≤ i → HasNoUnifier a b r → HasNoUnifier a b s
+no_unifier s r i a b so_far end k g m e = k g ((all_solved s r i so_far end).general g m).0 e
+
+-- What the loop has found, for bindings that are those given.
+pub some_answer : (s given r : List Binding) (i : ℕ) (a b : Term) → s ≡ given → AreSolvedBut s (drop i s) r → length s ≤ i → (answer : Option (List Binding)) →
+    MatchOption answer (HasNoUnifier a b r) (λ q. SolvesBeside a b r q) → IfSome answer (λ q. IsMostGeneral a b given q)
+some_answer s given r i a b e h end None k = tt
+some_answer s given r i a b e h end (Some q) k = subst (λ (t : List Binding). IsMostGeneral a b t q) e (most_general s r q i a b h end k)
+
+pub none_answer : (s given r : List Binding) (i : ℕ) (a b : Term) → s ≡ given → AreSolvedBut s (drop i s) r → length s ≤ i → (answer : Option (List Binding)) →
+    MatchOption answer (HasNoUnifier a b r) (λ q. SolvesBeside a b r q) → IfNone answer (HasNoUnifier a b given)
+none_answer s given r i a b e h end None k = subst (λ (t : List Binding). HasNoUnifier a b t) e (no_unifier s r i a b h end k)
+none_answer s given r i a b e h end (Some q) k = tt
+
+pub none_early : (s given r : List Binding) (i : ℕ) (x : Binding) (left right : Term) → s ≡ given → AreSolvedBut s (drop i s) r → i < length s → x ≡ get_or s i x →
+    left ≡ atom_term (atom_of_variable (variable_of x)) → right ≡ atom_term x.term → (answer : Option (List Binding)) → answer ≡ None →
+    MatchOption answer (HasNoUnifier left right r) (λ q. SolvesBeside left right r q) → (a b : Term) → HasNoUnifier a b given
+none_early s given r i x left right e h below read el er answer is_none k a b =
+    let k' : HasNoUnifier left right r = rw is_none at k in
+    subst (λ (t : List Binding). HasNoUnifier a b t) e (no_next s r i x left right h below read el er k' a b)
+
+pub next_early : (s r : List Binding) (i : ℕ) (x : Binding) (left right : Term) → AreSolvedBut s (drop i s) r → i < length s → x ≡ get_or s i x →
+    left ≡ atom_term (atom_of_variable (variable_of x)) → right ≡ atom_term x.term → (answer : Option (List Binding)) (next : List Binding) → answer ≡ Some next →
+    MatchOption answer (HasNoUnifier left right r) (λ q. SolvesBeside left right r q) → AreSolvedBut s (drop (i + 1) s) next
+next_early s r i x left right h below read el er answer next is_some k =
+    let k' : SolvesBeside left right r next = rw is_some at k in
+    next_solved s r next i x left right h below read el er k'

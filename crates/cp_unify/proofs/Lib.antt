@@ -1,0 +1,14 @@
+pub mod Free
+pub mod Members
+pub mod SolvedBindings
+pub mod Substituted
+pub mod Found
+pub mod Occurring
+pub mod Deciding
+pub mod Steps
+pub mod Looked
+pub mod Applied
+pub mod Composed
+pub mod Differing
+pub mod Answered
+pub mod MatchedTerms

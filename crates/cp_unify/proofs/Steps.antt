@@ -1,0 +1,268 @@
+-- The loop that mends one difference after the other.
+use Rattle.std.proofs.Common.{◌≡◌, ◌⊎◌, inl, inr, ◌<◌, ℕ, true, false, List, [], ◌∷◌, ◌++◌, refl, sym, ap, ◌∙◌, subst, arith}
+use Rattle.cp_model.specs.Lists.{IsIn, here, there}
+use Rattle.cp_model.specs.Term.{Sort, text_sort, datum_sort, name_sort, skey_sort, akey_sort, Variable, skey_variable, ltk_term, akey_variable, pubk_term, symmetric_term, asymmetric_term, AtomTerm, text_variable, datum_variable, name_variable, key_term, Term, atom_of_variable, variables_of_atom, variables_of, Assignment, value_of, Substitution, apply_to_atom, apply_to, unchanged}
+use Rattle.cp_model.proofs.LawTerms.{atom_unchanged, term_composed}
+use Rattle.cp_unify.specs.Bindings.{Binding, variable_of, Meets, put_term, as_substitution, variables_of_bindings}
+use Rattle.cp_unify.specs.Joined.{moved, joined}
+use Rattle.cp_unify.specs.Unifiers.{IsBefore, AreLaterToEarlier, AreAmong}
+use Rattle.cp_unify.specs.Solved.{IsSolved, SolvesBeside}
+use Rattle.cp_unify.proofs.Deciding.{is_variable, is_variable_tells, occurs, occurs_tells, count, fewer}
+use Rattle.cp_unify.proofs.Found.{Narrows, IsDifference, found}
+use Rattle.cp_unify.specs.Differences.{difference_of}
+use Rattle.cp_unify.specs.declared.difference.Difference.TheVariants.{Same, Clash, Bind}
+use Rattle.cp_unify.proofs.Members.{in_cases, in_none, in_one, in_left, in_right, in_append, among_append, among_left, among_right}
+use Rattle.cp_unify.proofs.Occurring.{Leaves, leaves_variables_of, leaves_atom, bound, other, leaves_other, leaves_absent, given_atom, given_term}
+use Rattle.cp_unify.proofs.SolvedBindings.{variable_kept, meets_joined, joined_meets, AlwaysMet, always_met_joined, idempotent_term}
+use Rattle.cp_unify.proofs.Substituted.{as_joined, value_met}
+
+-- What bindings give to a variable is over their variables and that one.
+gives_cases : (b : Binding) (s : Substitution) (zs : List Variable) (x : Variable) → AreAmong (variables_of_atom b.term) zs →
+    AreAmong (variables_of_atom (apply_to_atom s (atom_of_variable x))) zs →
+    ((is_variable x (variable_of b) ≡ true) × (x ≡ variable_of b)) ⊎ ((is_variable x (variable_of b) ≡ false) × (x ≡ variable_of b → ⊥)) →
+    AreAmong (variables_of_atom (apply_to_atom (put_term b.number b.term s) (atom_of_variable x))) zs
+gives_cases b s zs x own rest (inl p) =
+    let e : apply_to_atom (put_term b.number b.term s) (atom_of_variable x) ≡ b.term =
+    ap (λ (y : Variable). apply_to_atom (put_term b.number b.term s) (atom_of_variable y)) p.1 ∙ bound b s in
+    subst (λ (u : AtomTerm). AreAmong (variables_of_atom u) zs) (sym e) own
+gives_cases b s zs x own rest (inr p) = subst (λ (u : AtomTerm). AreAmong (variables_of_atom u) zs) (sym (other b s x p.1)) rest
+
+pub one_variable : (s : Sort) (n : ℕ) (zs : List Variable) → (let x : Variable = record { sort = s; number = n } in IsIn x zs → AreAmong (variables_of_atom (atom_of_variable x)) zs)
+one_variable text_sort n zs h y i = subst (λ (z : Variable). IsIn z zs) (sym (in_one i)) h
+one_variable datum_sort n zs h y i = subst (λ (z : Variable). IsIn z zs) (sym (in_one i)) h
+one_variable name_sort n zs h y i = subst (λ (z : Variable). IsIn z zs) (sym (in_one i)) h
+one_variable skey_sort n zs h y i = subst (λ (z : Variable). IsIn z zs) (sym (in_one i)) h
+one_variable akey_sort n zs h y i = subst (λ (z : Variable). IsIn z zs) (sym (in_one i)) h
+
+as_gives : (q : List Binding) (zs : List Variable) → AreAmong (variables_of_bindings q) zs → (x : Variable) → IsIn x zs →
+    AreAmong (variables_of_atom (apply_to_atom (as_substitution q) (atom_of_variable x))) zs
+as_gives [] zs h x i = rw atom_unchanged (one_variable x.sort x.number zs i)
+as_gives (b ∷ bs) zs h x i =
+    gives_cases b (as_substitution bs) zs x (λ y j. h y (there (in_left y _ (variables_of_bindings bs) j)))
+    (as_gives bs zs (λ y j. h y (there (in_right y (variables_of_atom b.term) _ j))) x i) (is_variable_tells x (variable_of b))
+
+pub applied_atom_among : (q : List Binding) (zs : List Variable) (u : AtomTerm) → AreAmong (variables_of_bindings q) zs → AreAmong (variables_of_atom u) zs →
+    AreAmong (variables_of_atom (apply_to_atom (as_substitution q) u)) zs
+applied_atom_among q zs u h k y i = given_atom (λ z. IsIn z zs) (as_substitution q) u (λ x j. as_gives q zs h x (k x j)) y i
+
+pub applied_among : (q : List Binding) (zs : List Variable) (t : Term) → AreAmong (variables_of_bindings q) zs → AreAmong (variables_of t) zs →
+    AreAmong (variables_of (apply_to (as_substitution q) t)) zs
+applied_among q zs t h k y i = given_term (λ z. IsIn z zs) (as_substitution q) t (λ x j. as_gives q zs h x (k x j)) y i
+
+among_cons : (x : Variable) (xs zs : List Variable) → IsIn x zs → AreAmong xs zs → AreAmong (x ∷ xs) zs
+among_cons x xs zs h k y i = elim (in_cases i) [ inl e ↦ subst (λ (z : Variable). IsIn z zs) (sym e) h | inr j ↦ k y j ]
+
+pub joined_among : (r q : List Binding) (zs : List Variable) → AreAmong (variables_of_bindings r) zs → AreAmong (variables_of_bindings q) zs →
+    AreAmong (variables_of_bindings (joined r q)) zs
+joined_among [] q zs h k = k
+joined_among (b ∷ bs) q zs h k =
+    among_cons (variable_of (moved q b)) _ zs (subst (λ (x : Variable). IsIn x zs) (sym (variable_kept q b)) (h (variable_of b) here))
+    (among_append (variables_of_atom (moved q b).term) (variables_of_bindings (joined bs q)) zs
+    (applied_atom_among q zs b.term k (λ y j. h y (there (in_left y _ (variables_of_bindings bs) j))))
+    (joined_among bs q zs (λ y j. h y (there (in_right y (variables_of_atom b.term) _ j))) k))
+
+-- Later variables stay bound to earlier ones.
+before_longer : (u : AtomTerm) (m n : ℕ) → IsBefore u m → m < n → IsBefore u n
+before_longer (text_variable k) m n h l = omega arith
+before_longer (datum_variable k) m n h l = omega arith
+before_longer (name_variable k) m n h l = omega arith
+before_longer (key_term (symmetric_term (skey_variable k))) m n h l = omega arith
+before_longer (key_term (symmetric_term (ltk_term a b))) m n h l = tt
+before_longer (key_term (asymmetric_term flag (akey_variable k))) m n h l = omega arith
+before_longer (key_term (asymmetric_term flag (pubk_term p a))) m n h l = tt
+
+before_own : (s : Sort) (m n : ℕ) → m < n → IsBefore (atom_of_variable (record { sort = s; number = m })) n
+before_own text_sort m n h = h
+before_own datum_sort m n h = h
+before_own name_sort m n h = h
+before_own skey_sort m n h = h
+before_own akey_sort m n h = h
+
+before_variable : (b : Binding) (x : Variable) (n : ℕ) → x.number < n → IsBefore b.term b.number → IsBefore (apply_to_atom (as_substitution (b ∷ [])) (atom_of_variable x)) n
+before_variable b x n l h =
+    elim (is_variable_tells x (variable_of b)) [
+      | inl p ↦
+          let e : apply_to_atom (as_substitution (b ∷ [])) (atom_of_variable x) ≡ b.term =
+          ap (λ (y : Variable). apply_to_atom (as_substitution (b ∷ [])) (atom_of_variable y)) p.1 ∙ bound b unchanged in
+          let number : x.number ≡ b.number = ap (λ (y : Variable). y.number) p.1 in
+          subst (λ (u : AtomTerm). IsBefore u n) (sym e) (before_longer b.term b.number n h (omega arith))
+      | inr p ↦ subst (λ (u : AtomTerm). IsBefore u n) (sym (leaves_other b x p.1)) (before_own x.sort x.number n l)
+    ]
+
+before_moved : (b : Binding) (u : AtomTerm) (n : ℕ) → IsBefore u n → IsBefore b.term b.number → IsBefore (apply_to_atom (as_substitution (b ∷ [])) u) n
+before_moved b (text_variable m) n l h = before_variable b (record { sort = text_sort; number = m }) n l h
+before_moved b (datum_variable m) n l h = before_variable b (record { sort = datum_sort; number = m }) n l h
+before_moved b (name_variable m) n l h = before_variable b (record { sort = name_sort; number = m }) n l h
+before_moved b (key_term (symmetric_term (skey_variable m))) n l h = before_variable b (record { sort = skey_sort; number = m }) n l h
+before_moved b (key_term (symmetric_term (ltk_term a c))) n l h = tt
+before_moved b (key_term (asymmetric_term flag (akey_variable m))) n l h = before_variable b (record { sort = akey_sort; number = m }) n l h
+before_moved b (key_term (asymmetric_term flag (pubk_term p a))) n l h = tt
+
+joined_before : (r : List Binding) (b : Binding) → AreLaterToEarlier r → IsBefore b.term b.number → AreLaterToEarlier (joined r (b ∷ []))
+joined_before [] b h k = (k, tt)
+joined_before (c ∷ cs) b h k = (before_moved b c.term c.number h.0 k, joined_before cs b h.1 k)
+
+-- How far the loop has come: from the equation of a0 and b0 beside the bindings r0 to that of a and b beside r, which
+-- leaves a and b.
+pub record IsReducedTo (a0 b0 : Term) (r0 : List Binding) (a b : Term) (r : List Binding) : Type 0 where
+  pub solved : IsSolved r
+  pub sound : (g : Assignment) → Meets g r → value_of g a ≡ value_of g b → Meets g r0 × (value_of g a0 ≡ value_of g b0)
+  pub general : (g : Assignment) → Meets g r0 → value_of g a0 ≡ value_of g b0 → Meets g r × (value_of g a ≡ value_of g b)
+  pub leaves_left : apply_to (as_substitution r) a ≡ a
+  pub leaves_right : apply_to (as_substitution r) b ≡ b
+  pub within : AreAmong (variables_of_bindings r) (variables_of a0 ++ (variables_of b0 ++ variables_of_bindings r0))
+  pub left_within : AreAmong (variables_of a) (variables_of a0 ++ (variables_of b0 ++ variables_of_bindings r0))
+  pub right_within : AreAmong (variables_of b) (variables_of a0 ++ (variables_of b0 ++ variables_of_bindings r0))
+
+pub reduced_at_first : (a0 b0 : Term) (r0 : List Binding) → IsSolved r0 → IsReducedTo a0 b0 r0 (apply_to (as_substitution r0) a0) (apply_to (as_substitution r0) b0) r0
+reduced_at_first a0 b0 r0 h =
+    let zs : List Variable = variables_of a0 ++ (variables_of b0 ++ variables_of_bindings r0) in
+    let there_r : AreAmong (variables_of_bindings r0) zs = λ x i. in_right x (variables_of a0) _ (in_right x (variables_of b0) _ i) in
+    record {
+      solved = h;
+      sound = λ g m e. (m, sym (value_met g r0 a0 m) ∙ e ∙ value_met g r0 b0 m);
+      general = λ g m e. (m, value_met g r0 a0 m ∙ e ∙ sym (value_met g r0 b0 m));
+      leaves_left = idempotent_term r0 h.met a0;
+      leaves_right = idempotent_term r0 h.met b0;
+      within = there_r;
+      left_within = applied_among r0 zs a0 there_r (λ x i. in_left x _ _ i);
+      right_within = applied_among r0 zs b0 there_r (λ x i. in_right x (variables_of a0) _ (in_left x _ _ i));
+    }
+
+leaves_of_both : (r : List Binding) (a b : Term) → apply_to (as_substitution r) a ≡ a → apply_to (as_substitution r) b ≡ b → (x : Variable) →
+    IsIn x (variables_of a ++ variables_of b) → Leaves (as_substitution r) x
+leaves_of_both r a b la lb x i =
+    elim (in_append x (variables_of a) (variables_of b) i) [
+      | inl j ↦ leaves_variables_of (as_substitution r) a la x j
+      | inr j ↦ leaves_variables_of (as_substitution r) b lb x j
+    ]
+
+leaves_after : (r q : List Binding) (a : Term) → apply_to (as_substitution r) a ≡ a → AlwaysMet (joined r q) →
+    apply_to (as_substitution (joined r q)) (apply_to (as_substitution q) a) ≡ apply_to (as_substitution q) a
+leaves_after r q a la met =
+    let e : apply_to (as_substitution (joined r q)) a ≡ apply_to (as_substitution q) a =
+    ap (λ (s : Substitution). apply_to s a) (as_joined r q) ∙ term_composed (as_substitution r) (as_substitution q) a ∙ ap (apply_to (as_substitution q)) la in
+    ap (apply_to (as_substitution (joined r q))) (sym e) ∙ idempotent_term (joined r q) met a ∙ e
+
+abbrev Equal : Term → Term → Assignment → Type 0
+Equal a b g = value_of g a ≡ value_of g b
+
+pub reduced_further : (a0 b0 : Term) (r0 : List Binding) (a b : Term) (r : List Binding) (x : Binding) → IsReducedTo a0 b0 r0 a b r →
+    Narrows (Equal a b) (variables_of a ++ variables_of b) x →
+    IsReducedTo a0 b0 r0 (apply_to (as_substitution (x ∷ [])) a) (apply_to (as_substitution (x ∷ [])) b) (joined r (x ∷ []))
+reduced_further a0 b0 r0 a b r x h n =
+    let q : List Binding = x ∷ [] in
+    let zs : List Variable = variables_of a0 ++ (variables_of b0 ++ variables_of_bindings r0) in
+    let left_alone : (y : Variable) → IsIn y (variables_of a ++ variables_of b) → Leaves (as_substitution r) y = leaves_of_both r a b h.leaves_left h.leaves_right in
+    let both : AreAmong (variables_of a ++ variables_of b) zs = among_append (variables_of a) (variables_of b) zs h.left_within h.right_within in
+    let of_x : AreAmong (variables_of_bindings q) zs =
+    among_cons (variable_of x) _ zs (both _ n.left) (among_append (variables_of_atom x.term) [] zs (λ y i. both y (n.right y i)) (λ y i. absurd (in_none i))) in
+    let met : AlwaysMet (joined r q) =
+    always_met_joined r x h.solved.met (left_alone (variable_of x) n.left)
+    (leaves_atom (as_substitution r) x.term (λ y i. left_alone y (n.right y i)))
+    (bound x unchanged) (leaves_absent x x.term n.absent) in
+    record {
+      solved = record { met = met; later_to_earlier = joined_before r x h.solved.later_to_earlier n.before };
+      sound = λ g m e.
+          let parts : Meets g r × Meets g q = joined_meets g r q m in
+          h.sound g parts.0 (sym (value_met g q a parts.1) ∙ e ∙ value_met g q b parts.1);
+      general = λ g m e.
+          let before : Meets g r × (value_of g a ≡ value_of g b) = h.general g m e in
+          let meets_x : Meets g q = (n.every g before.1, tt) in
+          (meets_joined g r q before.0 meets_x, value_met g q a meets_x ∙ before.1 ∙ sym (value_met g q b meets_x));
+      leaves_left = leaves_after r q a h.leaves_left met;
+      leaves_right = leaves_after r q b h.leaves_right met;
+      within = joined_among r q zs h.within of_x;
+      left_within = applied_among q zs a of_x h.left_within;
+      right_within = applied_among q zs b of_x h.right_within;
+    }
+
+pub reduced_to_same : (a0 b0 : Term) (r0 : List Binding) (a b : Term) (r : List Binding) → IsReducedTo a0 b0 r0 a b r → a ≡ b → SolvesBeside a0 b0 r0 r
+reduced_to_same a0 b0 r0 a b r h e = record {
+  sound = λ g m. h.sound g m (ap (value_of g) e);
+  general = λ g m equal. (h.general g m equal).0;
+  solved = h.solved;
+  no_new = h.within;
+}
+
+-- How many of some variables occur in two terms: those that are not bound yet.
+abbrev pub unbound : List Variable → Term → Term → ℕ
+unbound zs a b = count (occurs (variables_of a ++ variables_of b)) zs
+
+one_of : (s : Sort) (n : ℕ) (y : Variable) → (let x : Variable = record { sort = s; number = n } in IsIn y (variables_of_atom (atom_of_variable x)) → y ≡ x)
+one_of text_sort n y i = in_one i
+one_of datum_sort n y i = in_one i
+one_of name_sort n y i = in_one i
+one_of skey_sort n y i = in_one i
+one_of akey_sort n y i = in_one i
+
+gone_one : (x : Binding) → (IsIn (variable_of x) (variables_of_atom x.term) → ⊥) → (z y : Variable) →
+    IsIn y (variables_of_atom (apply_to_atom (as_substitution (x ∷ [])) (atom_of_variable z))) → y ≡ variable_of x → ⊥
+gone_one x absent z y i e =
+    elim (is_variable_tells z (variable_of x)) [
+      | inl p ↦
+          let f : apply_to_atom (as_substitution (x ∷ [])) (atom_of_variable z) ≡ x.term =
+          ap (λ (v : Variable). apply_to_atom (as_substitution (x ∷ [])) (atom_of_variable v)) p.1 ∙ bound x unchanged in
+          absent (subst (λ (v : Variable). IsIn v (variables_of_atom x.term)) e (subst (λ (u : AtomTerm). IsIn y (variables_of_atom u)) f i))
+      | inr p ↦ p.1 (sym (one_of z.sort z.number y (subst (λ (u : AtomTerm). IsIn y (variables_of_atom u)) (leaves_other x z p.1) i)) ∙ e)
+    ]
+
+gone_from : (x : Binding) (t : Term) → (IsIn (variable_of x) (variables_of_atom x.term) → ⊥) → (y : Variable) → IsIn y (variables_of (apply_to (as_substitution (x ∷ [])) t)) → y ≡ variable_of x → ⊥
+gone_from x t absent = given_term (λ y. y ≡ variable_of x → ⊥) (as_substitution (x ∷ [])) t (λ z i y j. gone_one x absent z y j)
+
+occurs_still : (xs ys : List Variable) → AreAmong ys xs → (x : Variable) → occurs ys x ≡ true → occurs xs x ≡ true
+occurs_still xs ys h x e =
+    elim (occurs_tells ys x) [
+      | inl p ↦ elim (occurs_tells xs x) [ inl q ↦ q.0 | inr q ↦ absurd (q.1 (h x p.1)) ]
+      | inr p ↦ absurd (let f : true ≡ false = sym e ∙ p.0 in cc)
+    ]
+
+occurs_in : (xs : List Variable) (x : Variable) → IsIn x xs → occurs xs x ≡ true
+occurs_in xs x i = elim (occurs_tells xs x) [ inl p ↦ p.0 | inr p ↦ absurd (p.1 i) ]
+
+occurs_not : (xs : List Variable) (x : Variable) → (IsIn x xs → ⊥) → occurs xs x ≡ false
+occurs_not xs x h = elim (occurs_tells xs x) [ inl p ↦ absurd (h p.1) | inr p ↦ p.0 ]
+
+pub fewer_unbound : (zs : List Variable) (a b : Term) (x : Binding) → AreAmong (variables_of a ++ variables_of b) zs → Narrows (Equal a b) (variables_of a ++ variables_of b) x →
+    unbound zs (apply_to (as_substitution (x ∷ [])) a) (apply_to (as_substitution (x ∷ [])) b) < unbound zs a b
+fewer_unbound zs a b x within n =
+    let q : List Binding = x ∷ [] in
+    let xs : List Variable = variables_of a ++ variables_of b in
+    let ys : List Variable = variables_of (apply_to (as_substitution q) a) ++ variables_of (apply_to (as_substitution q) b) in
+    let of_x : AreAmong (variables_of_bindings q) xs =
+    among_cons (variable_of x) _ xs n.left (among_append (variables_of_atom x.term) [] xs n.right (λ y i. absurd (in_none i))) in
+    let still : AreAmong ys xs = among_append _ _ xs (applied_among q xs a of_x (among_left _ _)) (applied_among q xs b of_x (among_right (variables_of a) (variables_of b))) in
+    let gone : IsIn (variable_of x) ys → ⊥ = λ i. elim (in_append (variable_of x) _ _ i) [
+      | inl j ↦ gone_from x a n.absent (variable_of x) j refl
+      | inr j ↦ gone_from x b n.absent (variable_of x) j refl
+    ] in
+    fewer (occurs xs) (occurs ys) (variable_of x) zs (occurs_still xs ys still) (within _ n.left) (occurs_in xs (variable_of x) n.left) (occurs_not ys (variable_of x) gone)
+
+-- What each difference of the terms so far tells.
+pub same_found : (a b : Term) → Same ≡ difference_of a b → a ≡ b
+same_found a b e = subst (IsDifference a b) (sym e) (found a b)
+
+pub clash_found : (a0 b0 : Term) (r0 : List Binding) (a b : Term) (r : List Binding) → IsReducedTo a0 b0 r0 a b r → Clash ≡ difference_of a b →
+    (g : Assignment) → Meets g r0 → value_of g a0 ≡ value_of g b0 → ⊥
+clash_found a0 b0 r0 a b r h e g m equal =
+    let no : (f : Assignment) → value_of f a ≡ value_of f b → ⊥ = subst (IsDifference a b) (sym e) (found a b) in
+    no g (h.general g m equal).1
+
+bind_found : (a b : Term) (x : Binding) → Bind x ≡ difference_of a b → Narrows (Equal a b) (variables_of a ++ variables_of b) x
+bind_found a b x e = subst (IsDifference a b) (sym e) (found a b)
+
+pub reduced_next : (a0 b0 : Term) (r0 : List Binding) (a b : Term) (r : List Binding) (x : Binding) (q : List Binding) (a1 b1 : Term) (r1 : List Binding) →
+    IsReducedTo a0 b0 r0 a b r → Bind x ≡ difference_of a b → q ≡ x ∷ [] →
+    a1 ≡ apply_to (as_substitution q) a → b1 ≡ apply_to (as_substitution q) b → r1 ≡ joined r q → IsReducedTo a0 b0 r0 a1 b1 r1
+reduced_next a0 b0 r0 a b r x q a1 b1 r1 h e eq ea eb er = rw (ea, eb, er, eq) (reduced_further a0 b0 r0 a b r x h (bind_found a b x e))
+
+pub unbound_falls : (a0 b0 : Term) (r0 : List Binding) (a b : Term) (r : List Binding) (x : Binding) (q : List Binding) (a1 b1 : Term) →
+    IsReducedTo a0 b0 r0 a b r → Bind x ≡ difference_of a b → q ≡ x ∷ [] →
+    a1 ≡ apply_to (as_substitution q) a → b1 ≡ apply_to (as_substitution q) b →
+    unbound (variables_of a0 ++ (variables_of b0 ++ variables_of_bindings r0)) a1 b1 < unbound (variables_of a0 ++ (variables_of b0 ++ variables_of_bindings r0)) a b
+unbound_falls a0 b0 r0 a b r x q a1 b1 h e eq ea eb =
+    rw (ea, eb, eq) (fewer_unbound _ a b x (among_append _ _ _ h.left_within h.right_within) (bind_found a b x e))
+
+pub reduced_first : (a0 b0 : Term) (r0 : List Binding) (a b : Term) → IsSolved r0 → a ≡ apply_to (as_substitution r0) a0 → b ≡ apply_to (as_substitution r0) b0 →
+    IsReducedTo a0 b0 r0 a b r0
+reduced_first a0 b0 r0 a b h ea eb = rw (ea, eb) (reduced_at_first a0 b0 r0 h)

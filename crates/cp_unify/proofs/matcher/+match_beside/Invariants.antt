@@ -1,0 +1,14 @@
+use Rattle.std.proofs.Common.{◌≡◌, ◌≤◌}
+use Rattle.cp_term.specs.Size.{term_size}
+use Rattle.cp_unify.specs.Matched.{matched}
+use Rattle.cp_unify.proofs.matcher.+match_beside.Given as goal
+
+abbrev pub decreases-match_beside : goal.decreases-match_beside
+decreases-match_beside l = term_size l.pattern.now
+
+-- what is found is what is found of the rest beside what was found so far
+abbrev pub invariant-loop-first : goal.invariant-loop-first
+invariant-loop-first l = (term_size l.left ≤ term_size l.pattern) × (matched l.locals l.pattern l.term l.fn.given ≡ matched l.locals l.left l.right l.found)
+
+abbrev pub decreases-loop-first : goal.decreases-loop-first
+decreases-loop-first l = term_size l.left

@@ -1,0 +1,72 @@
+-- The first difference of two terms: where it is none, or cannot be mended, or by which binding it is.
+use Rattle.std.specs.Prelude.{ℕ, Bool, true, false, ◌==◌, ◌&&◌, nat_eq, nat_lt, if◌then◌else◌}
+use Rattle.std.specs.Cmp.Lexicographic.{pointwise}
+use Rattle.std.specs.Option.{option_eq}
+use Rattle.cp_model.specs.Term.{SymmetricTerm, skey_variable, ltk_term, PairTerm, akey_variable, pubk_term, KeyTerm, symmetric_term, asymmetric_term, AtomTerm, text_variable, datum_variable, name_variable, key_term, Term, tag_term, atom_term, pair_term, enc_term, flag_of}
+use Rattle.cp_term.specs.Same.{same_flag}
+use Rattle.cp_unify.specs.declared.difference.Difference.{Difference}
+use Rattle.cp_unify.specs.declared.difference.Difference.TheVariants.{Same, Clash, Bind}
+
+-- A first difference, or where it is none a second.
+abbrev pub first_of : Difference → Difference → Difference
+first_of Same d = d
+first_of Clash d = Clash
+first_of (Bind b) d = Bind b
+
+-- Of two variables the later is bound, x to v or y to u.
+abbrev pub between : ℕ → AtomTerm → ℕ → AtomTerm → Difference
+between x u y v = if x == y then Same else (if nat_lt x y then Bind (record { number = y; term = u }) else Bind (record { number = x; term = v }))
+
+-- Two variables of sort name.
+abbrev pub between_names : ℕ → ℕ → Difference
+between_names a b = between a (name_variable a) b (name_variable b)
+
+-- A variable of sort akey, or its inverse.
+abbrev pub akey_atom : Bool → ℕ → AtomTerm
+akey_atom flag n = key_term (asymmetric_term flag (akey_variable n))
+
+-- Two variables of sort akey that stand for the same key, or for inverses of each other.
+abbrev pub between_akeys : ℕ → ℕ → Difference
+between_akeys m n = between m (akey_atom false m) n (akey_atom false n)
+
+abbrev pub between_opposites : ℕ → ℕ → Difference
+between_opposites m n = if m == n then Clash else between m (akey_atom true m) n (akey_atom true n)
+
+-- Two symmetric keys.
+abbrev pub difference_of_symmetric : SymmetricTerm → SymmetricTerm → Difference
+difference_of_symmetric (skey_variable m) (skey_variable n) = between m (key_term (symmetric_term (skey_variable m))) n (key_term (symmetric_term (skey_variable n)))
+difference_of_symmetric (skey_variable m) (ltk_term a b) = Bind (record { number = m; term = key_term (symmetric_term (ltk_term a b)) })
+difference_of_symmetric (ltk_term a b) (skey_variable n) = Bind (record { number = n; term = key_term (symmetric_term (ltk_term a b)) })
+difference_of_symmetric (ltk_term a b) (ltk_term c d) = first_of (between_names a c) (between_names b d)
+
+-- Two asymmetric keys; the flags say which are inverses.
+abbrev pub difference_of_pairs : Bool → PairTerm → Bool → PairTerm → Difference
+difference_of_pairs f (akey_variable m) g (akey_variable n) =
+    if same_flag f g then between_akeys m n else between_opposites m n
+difference_of_pairs f (akey_variable m) g (pubk_term p a) = Bind (record { number = m; term = key_term (asymmetric_term (flag_of f g) (pubk_term p a)) })
+difference_of_pairs f (pubk_term p a) g (akey_variable n) = Bind (record { number = n; term = key_term (asymmetric_term (flag_of g f) (pubk_term p a)) })
+difference_of_pairs f (pubk_term p a) g (pubk_term q b) =
+    if same_flag f g && option_eq (pointwise nat_eq) p q then between_names a b else Clash
+
+-- Two keys.
+abbrev pub difference_of_keys : KeyTerm → KeyTerm → Difference
+difference_of_keys (symmetric_term k) (symmetric_term j) = difference_of_symmetric k j
+difference_of_keys (asymmetric_term f k) (asymmetric_term g j) = difference_of_pairs f k g j
+difference_of_keys (symmetric_term k) (asymmetric_term g j) = Clash
+difference_of_keys (asymmetric_term f k) (symmetric_term j) = Clash
+
+-- Two terms of atom sorts.
+abbrev pub difference_of_atoms : AtomTerm → AtomTerm → Difference
+difference_of_atoms (text_variable m) (text_variable n) = between m (text_variable m) n (text_variable n)
+difference_of_atoms (datum_variable m) (datum_variable n) = between m (datum_variable m) n (datum_variable n)
+difference_of_atoms (name_variable m) (name_variable n) = between_names m n
+difference_of_atoms (key_term k) (key_term j) = difference_of_keys k j
+difference_of_atoms _ _ = Clash
+
+-- Two terms. The key of an encryption comes before its plaintext.
+abbrev pub difference_of : Term → Term → Difference
+difference_of (tag_term x) (tag_term y) = if pointwise nat_eq x y then Same else Clash
+difference_of (atom_term u) (atom_term v) = difference_of_atoms u v
+difference_of (pair_term a b) (pair_term c d) = first_of (difference_of a c) (difference_of b d)
+difference_of (enc_term a k) (enc_term b j) = first_of (difference_of_keys k j) (difference_of a b)
+difference_of _ _ = Clash

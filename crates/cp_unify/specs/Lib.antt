@@ -1,0 +1,9 @@
+pub mod Atoms
+pub mod Bindings
+pub mod Differences
+pub mod Joined
+pub mod Matched
+pub mod Matching
+pub mod Solved
+pub mod Spines
+pub mod Unifiers

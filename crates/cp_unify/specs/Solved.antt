@@ -1,0 +1,18 @@
+-- Solved bindings, and one step of solving an equation.
+use Rattle.std.specs.Prelude.{◌≡◌, List, ◌++◌}
+use Rattle.cp_model.specs.Term.{Term, variables_of, Assignment, value_of, after}
+use Rattle.cp_unify.specs.Bindings.{Binding, Meets, as_substitution, variables_of_bindings}
+use Rattle.cp_unify.specs.Unifiers.{AreAmong, AreLaterToEarlier}
+
+-- Whatever an assignment gives to the variables that are not bound, the bindings then give an assignment that meets
+-- them; and they are of later variables to earlier ones.
+pub record IsSolved (r : List Binding) : Type 0 where
+  pub met : (g : Assignment) → Meets (after g (as_substitution r)) r
+  pub later_to_earlier : AreLaterToEarlier r
+
+-- r solves the equation of a and b beside the bindings s.
+pub record SolvesBeside (a b : Term) (s r : List Binding) : Type 0 where
+  pub sound : (g : Assignment) → Meets g r → Meets g s × (value_of g a ≡ value_of g b)
+  pub general : (g : Assignment) → Meets g s → value_of g a ≡ value_of g b → Meets g r
+  pub solved : IsSolved r
+  pub no_new : AreAmong (variables_of_bindings r) (variables_of a ++ (variables_of b ++ variables_of_bindings s))

@@ -1,0 +1,314 @@
+// The first difference of two terms.
+ghost use Rattle.std.specs.Prelude.{◌≡◌, ◌≢◌, true, nat_eq, IfOk};
+ghost use Rattle.std.specs.Cmp.Lexicographic.{pointwise};
+ghost use Rattle.std.specs.Option.{option_map, option_eq};
+ghost use Rattle.cp_model.specs.Term.{atom_term, akey_variable, pubk_term, symmetric_term, ltk_term, tag_term, asymmetric_term, KeyTerm, key_term, inverse_term};
+ghost use Rattle.cp_term.specs.Keys.{key_as_term, IsKey};
+ghost use Rattle.cp_term.specs.Variables.{variable_term};
+ghost use Rattle.cp_unify.specs.Atoms.{IsAtom, atom_of};
+ghost use Rattle.cp_unify.specs.Differences.{akey_atom, between, between_names, between_akeys, between_opposites, difference_of_symmetric, difference_of_pairs, difference_of};
+ghost use Rattle.cp_unify.specs.Spines.{HasTail};
+
+use crate::binding::Binding;
+use cp_term::{Shape, Sort, Term, VarId, invert, var};
+use std::alloc::{AllocError, Global};
+
+/// How two terms differ: not at all; so that nothing makes them equal; or so that all that makes them equal meets
+/// this binding.
+#[derive(Drop)]
+pub(crate) enum Difference {
+    Same,
+    Clash,
+    Bind(Binding),
+}
+
+/// Binds the later of two variables, x to b or y to a.
+fn bind_later(x: VarId, a: &Term, y: VarId, b: &Term) -> Result<Difference, AllocError>
+    requires first { IsAtom a.now }
+    requires second { IsAtom b.now }
+    ensures { IfOk result (λ d. d ≡ between x (atom_of a.now) y (atom_of b.now)) }
+{
+    if x == y {
+        return Ok(Difference::Same);
+    }
+    if x.number() < y.number() {
+        let term = a.copy()?;
+        Ok(Difference::Bind(Binding::new(y, term)))
+    } else {
+        let term = b.copy()?;
+        Ok(Difference::Bind(Binding::new(x, term)))
+    }
+}
+
+fn name_difference(alloc: Global, x: VarId, y: VarId) -> Result<Difference, AllocError>
+    ensures { IfOk result (λ d. d ≡ between_names x y) }
+{
+    if x == y {
+        return Ok(Difference::Same);
+    }
+    let a = var(alloc, x, Sort::Name)?;
+    let b = var(alloc, y, Sort::Name)?;
+    bind_later(x, &a, y, &b)
+}
+
+/// Of two variables of sort akey that stand for the same key.
+fn akey_difference(alloc: Global, x: VarId, y: VarId) -> Result<Difference, AllocError>
+    ensures { IfOk result (λ d. d ≡ between_akeys x y) }
+{
+    if x == y {
+        return Ok(Difference::Same);
+    }
+    let a = var(alloc, x, Sort::Akey)?;
+    let b = var(alloc, y, Sort::Akey)?;
+    bind_later(x, &a, y, &b)
+}
+
+/// The inverse of a variable of sort akey.
+fn inverse_of(alloc: Global, x: VarId) -> Result<Term, AllocError>
+    ensures { IfOk result (λ t. t ≡ atom_term (akey_atom true x)) }
+{
+    let key = var(alloc, x, Sort::Akey)?;
+    let inverse = invert(alloc, &key)?;
+    Ok(inverse)
+}
+
+/// Of two variables of sort akey that stand for inverses of each other. No key is its own.
+fn opposite_difference(alloc: Global, x: VarId, y: VarId) -> Result<Difference, AllocError>
+    ensures { IfOk result (λ d. d ≡ between_opposites x y) }
+{
+    if x == y {
+        return Ok(Difference::Clash);
+    }
+    let a = inverse_of(alloc, x)?;
+    let b = inverse_of(alloc, y)?;
+    bind_later(x, &a, y, &b)
+}
+
+fn two_names_difference(
+    alloc: Global,
+    a: VarId,
+    b: VarId,
+    c: VarId,
+    d: VarId,
+) -> Result<Difference, AllocError>
+    ensures { IfOk result (λ e. e ≡ difference_of_symmetric (ltk_term a b) (ltk_term c d)) }
+{
+    match name_difference(alloc, a, c)? {
+        Difference::Same => name_difference(alloc, b, d),
+        other => Ok(other),
+    }
+}
+
+pub(crate) fn is_same_purpose(p: Option<&str>, q: Option<&str>) -> bool
+    ensures { result ≡ option_eq (pointwise nat_eq) (option_map (λ s. s.now) p.entry) (option_map (λ s. s.now) q.entry) }
+{
+    match (p, q) {
+        (None, None) => true,
+        (Some(x), Some(y)) => x == y,
+        _ => false,
+    }
+}
+
+/// A variable bound to a term.
+fn bind(x: VarId, term: &Term) -> Result<Difference, AllocError>
+    requires { IsAtom term.now }
+    ensures { IfOk result (λ d. d ≡ Difference.Bind (record { number = x; term = atom_of term.now })) }
+{
+    let copy = term.copy()?;
+    Ok(Difference::Bind(Binding::new(x, copy)))
+}
+
+/// A variable of sort akey whose inverse stands for a key of a name.
+fn bind_inverse(alloc: Global, x: VarId, key: &Term) -> Result<Difference, AllocError>
+    requires { IsKey key.now }
+    ensures { IfOk result (λ d. (k : KeyTerm) → key.now ≡ key_as_term k
+        → d ≡ Difference.Bind (record { number = x; term = key_term (inverse_term k) })) }
+{
+    let inverse = invert(alloc, key)?;
+    Ok(Difference::Bind(Binding::new(x, inverse)))
+}
+
+/// Of a tag and a term.
+fn tag_difference(x: &str, b: &Term) -> Difference
+    ensures { result ≡ difference_of (tag_term x.now) b.now }
+{
+    match b.shape() {
+        Shape::Tag(y) => {
+            if x == y {
+                Difference::Same
+            } else {
+                Difference::Clash
+            }
+        }
+        _ => Difference::Clash,
+    }
+}
+
+/// Of a variable a, and a term.
+fn variable_difference(
+    alloc: Global,
+    x: VarId,
+    sort: Sort,
+    a: &Term,
+    b: &Term,
+) -> Result<Difference, AllocError>
+    requires variable { a.now ≡ variable_term sort x }
+    requires no_message { sort ≢ Sort.Mesg }
+    ensures { IfOk result (λ d. d ≡ difference_of a.now b.now) }
+{
+    match b.shape() {
+        Shape::Variable(y, other) => {
+            if sort == other {
+                bind_later(x, a, y, b)
+            } else {
+                Ok(Difference::Clash)
+            }
+        }
+        Shape::Inverse(y) => {
+            if sort == Sort::Akey {
+                opposite_difference(alloc, x, y)
+            } else {
+                Ok(Difference::Clash)
+            }
+        }
+        Shape::Ltk(..) => {
+            if sort == Sort::Skey {
+                bind(x, b)
+            } else {
+                Ok(Difference::Clash)
+            }
+        }
+        Shape::Pubk(..) => {
+            if sort == Sort::Akey {
+                bind(x, b)
+            } else {
+                Ok(Difference::Clash)
+            }
+        }
+        _ => Ok(Difference::Clash),
+    }
+}
+
+/// Of the inverse of a variable of sort akey, and a term.
+fn inverse_difference(alloc: Global, x: VarId, b: &Term) -> Result<Difference, AllocError>
+    ensures { IfOk result (λ d. d ≡ difference_of (atom_term (akey_atom true x)) b.now) }
+{
+    match b.shape() {
+        Shape::Variable(y, sort) => {
+            if sort == Sort::Akey {
+                opposite_difference(alloc, x, y)
+            } else {
+                Ok(Difference::Clash)
+            }
+        }
+        Shape::Inverse(y) => akey_difference(alloc, x, y),
+        Shape::Pubk(..) => bind_inverse(alloc, x, b),
+        _ => Ok(Difference::Clash),
+    }
+}
+
+/// Of a long-term key a of two names, and a term.
+fn ltk_difference(
+    alloc: Global,
+    m: VarId,
+    n: VarId,
+    a: &Term,
+    b: &Term,
+) -> Result<Difference, AllocError>
+    requires { a.now ≡ key_as_term (symmetric_term (ltk_term m n)) }
+    ensures { IfOk result (λ d. d ≡ difference_of a.now b.now) }
+{
+    match b.shape() {
+        Shape::Variable(y, sort) => {
+            if sort == Sort::Skey {
+                bind(y, a)
+            } else {
+                Ok(Difference::Clash)
+            }
+        }
+        Shape::Ltk(k, l) => two_names_difference(alloc, m, n, k, l),
+        _ => Ok(Difference::Clash),
+    }
+}
+
+/// Of a key a of a name, and a term.
+fn pubk_difference(
+    alloc: Global,
+    flag: bool,
+    purpose: Option<&str>,
+    x: VarId,
+    a: &Term,
+    b: &Term,
+) -> Result<Difference, AllocError>
+    requires { a.now ≡ key_as_term (asymmetric_term flag (pubk_term (option_map (λ s. s.now) purpose) x)) }
+    ensures { IfOk result (λ d. d ≡ difference_of a.now b.now) }
+{
+    match b.shape() {
+        Shape::Variable(y, sort) => {
+            if sort == Sort::Akey {
+                bind(y, a)
+            } else {
+                Ok(Difference::Clash)
+            }
+        }
+        Shape::Inverse(y) => bind_inverse(alloc, y, a),
+        Shape::Pubk(other, other_purpose, y) => {
+            if flag == other && is_same_purpose(purpose, other_purpose) {
+                name_difference(alloc, x, y)
+            } else {
+                Ok(Difference::Clash)
+            }
+        }
+        _ => Ok(Difference::Clash),
+    }
+}
+
+/// Of two terms, the first a tag or of an atom sort.
+fn leaf_difference(alloc: Global, a: &Term, b: &Term) -> Result<Difference, AllocError>
+    requires { ¬ HasTail a.now }
+    ensures { IfOk result (λ d. d ≡ difference_of a.now b.now) }
+{
+    match a.shape() {
+        Shape::Tag(text) => Ok(tag_difference(text, b)),
+        Shape::Variable(x, sort) => variable_difference(alloc, x, sort, a, b),
+        Shape::Inverse(x) => inverse_difference(alloc, x, b),
+        Shape::Ltk(m, n) => ltk_difference(alloc, m, n, a, b),
+        Shape::Pubk(flag, purpose, x) => pubk_difference(alloc, flag, purpose, x, a, b),
+        _ => unreachable!(),
+    }
+}
+
+/// The first difference of two terms. Right parts and plaintexts are walked by a loop, since a term may be long.
+pub(crate) fn first_difference(alloc: Global, a: &Term, b: &Term) -> Result<Difference, AllocError>
+    ensures { IfOk result (λ d. d ≡ difference_of a.now b.now) }
+{
+    let mut left = a;
+    let mut right = b;
+    loop {
+        match left.shape() {
+            Shape::Pair(first, second) => match right.shape() {
+                Shape::Pair(other_first, other_second) => {
+                    match first_difference(alloc, first, other_first)? {
+                        Difference::Same => {}
+                        found => return Ok(found),
+                    }
+                    left = second;
+                    right = other_second;
+                }
+                _ => return Ok(Difference::Clash),
+            },
+            Shape::Encryption(body, key) => match right.shape() {
+                Shape::Encryption(other_body, other_key) => {
+                    match leaf_difference(alloc, key, other_key)? {
+                        Difference::Same => {}
+                        found => return Ok(found),
+                    }
+                    left = body;
+                    right = other_body;
+                }
+                _ => return Ok(Difference::Clash),
+            },
+            _ => return leaf_difference(alloc, left, right),
+        }
+    }
+}

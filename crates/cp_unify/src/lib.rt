@@ -1,0 +1,19 @@
+//! Unification of terms, and substitutions.
+#![tactic(auto)]
+
+mod applying;
+mod binding;
+mod composing;
+mod difference;
+mod matcher;
+mod subst;
+#[cfg(test)]
+mod tests;
+mod unifying;
+
+pub use applying::apply;
+pub use binding::Binding;
+pub use composing::compose;
+pub use matcher::matching;
+pub use subst::Subst;
+pub use unifying::unify;

@@ -1,0 +1,259 @@
+// Matching: values of local variables that make a pattern a term.
+ghost use Rattle.std.specs.Prelude.{◌≡◌, ◌≢◌, ◌↔◌, ◌==◌, ℕ, [], true, IsTrue, IfSome, IfNone, IfOk};
+ghost use Rattle.std.specs.Option.{option_map};
+ghost use Rattle.std.specs.List.{list_any};
+ghost use Rattle.cp_model.specs.Term.{AtomTerm, atom_term, ltk_term, pubk_term, symmetric_term, asymmetric_term, tag_term};
+ghost use Rattle.cp_term.specs.Keys.{key_as_term};
+ghost use Rattle.cp_term.specs.Same.{same_atom};
+ghost use Rattle.cp_term.specs.Variables.{variable_term};
+ghost use Rattle.cp_unify.specs.Atoms.{IsAtom, atom_of};
+ghost use Rattle.cp_unify.specs.Differences.{akey_atom};
+ghost use Rattle.cp_unify.specs.Matched.{bound_term, is_same_sort, matched, matched_names};
+ghost use Rattle.cp_unify.specs.Matching.{IsMatch, HasNoMatch};
+ghost use Rattle.cp_unify.specs.Spines.{HasTail};
+
+use crate::applying::bound;
+use crate::binding::Binding;
+use crate::difference::is_same_purpose;
+use crate::subst::Subst;
+use cp_term::{Shape, Sort, Term, VarId, invert, var};
+use std::alloc::{AllocError, Global};
+
+fn is_local(locals: &[VarId], variable: VarId) -> bool
+    ensures { result ≡ list_any (λ n. n == variable) locals.now }
+{
+    locals.contains(&variable)
+}
+
+/// Whether a term has this sort, which is not that of all messages.
+fn is_of_sort(term: &Term, sort: Sort) -> bool
+    requires { sort ≢ Sort.Mesg }
+    ensures atom { IsTrue result → IsAtom term.now }
+    ensures sort { IsAtom term.now → (n : ℕ)
+        → result ≡ is_same_sort (atom_of (variable_term sort n)) (atom_of term.now) }
+{
+    match term.shape() {
+        Shape::Variable(_, other) => other == sort,
+        Shape::Inverse(_) | Shape::Pubk(..) => sort == Sort::Akey,
+        Shape::Ltk(..) => sort == Sort::Skey,
+        _ => false,
+    }
+}
+
+/// Whether a term is this variable of this sort, which is not that of all messages.
+fn is_variable(term: &Term, sort: Sort, variable: VarId) -> bool
+    requires { sort ≢ Sort.Mesg }
+    ensures { IsTrue result ↔ (term.now ≡ variable_term sort variable) }
+{
+    match term.shape() {
+        Shape::Variable(other, other_sort) => other == variable && other_sort == sort,
+        _ => false,
+    }
+}
+
+/// Whether a variable of this sort, which is not that of all messages, is bound to the term, if it is bound.
+fn is_bound_to(bindings: &[Binding], sort: Sort, variable: VarId, term: &Term) -> Option<bool>
+    requires no_message { sort ≢ Sort.Mesg }
+    requires atom { IsAtom term.now }
+    ensures { result ≡ option_map (λ t. same_atom t (atom_of term.now))
+        (bound_term bindings.now (variable_term sort variable)) }
+{
+    match bound(bindings, sort, variable) {
+        Some(found) => Some(found.same(term)),
+        None => None,
+    }
+}
+
+/// Matches a variable of this sort, which is not that of all messages, with a term.
+fn variable_match(
+    variable: VarId,
+    sort: Sort,
+    term: &Term,
+    locals: &[VarId],
+    given: Subst,
+) -> Result<Option<Subst>, AllocError>
+    requires { sort ≢ Sort.Mesg }
+    ensures { IfOk result (λ found. found ≡ matched locals.now (variable_term sort variable) term.now given) }
+{
+    if !is_of_sort(term, sort) {
+        return Ok(None);
+    }
+    if !is_local(locals, variable) {
+        if is_variable(term, sort, variable) {
+            return Ok(Some(given));
+        }
+        return Ok(None);
+    }
+    match is_bound_to(given.bindings(), sort, variable, term) {
+        Some(true) => Ok(Some(given)),
+        Some(false) => Ok(None),
+        None => {
+            let copy = term.copy()?;
+            let more = given.with(Binding::new(variable, copy))?;
+            Ok(Some(more))
+        }
+    }
+}
+
+/// Matches a name with a name.
+fn name_match(
+    alloc: Global,
+    a: VarId,
+    b: VarId,
+    locals: &[VarId],
+    given: Subst,
+) -> Result<Option<Subst>, AllocError>
+    ensures { IfOk result (λ found. found ≡ matched_names locals.now a b given) }
+{
+    let name = var(alloc, b, Sort::Name)?;
+    variable_match(a, Sort::Name, &name, locals, given)
+}
+
+/// Matches a tag with a term.
+fn tag_match(text: &str, term: &Term, locals: &[VarId], given: Subst) -> Option<Subst>
+    ensures { result ≡ matched locals.now (tag_term text.now) term.now given }
+{
+    match term.shape() {
+        Shape::Tag(other) => { if text == other { Some(given) } else { None } }
+        _ => None,
+    }
+}
+
+/// Matches the inverse of a variable of sort akey with a term.
+fn inverse_match(
+    alloc: Global,
+    variable: VarId,
+    term: &Term,
+    locals: &[VarId],
+    given: Subst,
+) -> Result<Option<Subst>, AllocError>
+    ensures { IfOk result (λ found. found ≡ matched locals.now (atom_term (akey_atom true variable)) term.now given) }
+{
+    if !is_of_sort(term, Sort::Akey) {
+        return Ok(None);
+    }
+    let inverse = invert(alloc, term)?;
+    variable_match(variable, Sort::Akey, &inverse, locals, given)
+}
+
+/// Matches a long-term key of two names with a term.
+fn ltk_match(
+    alloc: Global,
+    a: VarId,
+    b: VarId,
+    term: &Term,
+    locals: &[VarId],
+    given: Subst,
+) -> Result<Option<Subst>, AllocError>
+    ensures { IfOk result (λ found. found
+        ≡ matched locals.now (key_as_term (symmetric_term (ltk_term a b))) term.now given) }
+{
+    match term.shape() {
+        Shape::Ltk(c, d) => match name_match(alloc, a, c, locals, given)? {
+            Some(first) => name_match(alloc, b, d, locals, first),
+            None => Ok(None),
+        },
+        _ => Ok(None),
+    }
+}
+
+/// Matches a key of a name with a term.
+fn pubk_match(
+    alloc: Global,
+    flag: bool,
+    purpose: Option<&str>,
+    a: VarId,
+    term: &Term,
+    locals: &[VarId],
+    given: Subst,
+) -> Result<Option<Subst>, AllocError>
+    ensures { IfOk result (λ found. found ≡ matched locals.now
+        (key_as_term (asymmetric_term flag (pubk_term (option_map (λ s. s.now) purpose.entry) a))) term.now given) }
+{
+    match term.shape() {
+        Shape::Pubk(other, other_purpose, b) => {
+            if flag == other && is_same_purpose(purpose, other_purpose) {
+                name_match(alloc, a, b, locals, given)
+            } else {
+                Ok(None)
+            }
+        }
+        _ => Ok(None),
+    }
+}
+
+/// Matches a tag or a term of an atom sort with a term.
+fn leaf_match(
+    alloc: Global,
+    pattern: &Term,
+    term: &Term,
+    locals: &[VarId],
+    given: Subst,
+) -> Result<Option<Subst>, AllocError>
+    requires { ¬ HasTail pattern.now }
+    ensures { IfOk result (λ found. found ≡ matched locals.now pattern.now term.now given) }
+{
+    match pattern.shape() {
+        Shape::Tag(text) => Ok(tag_match(text, term, locals, given)),
+        Shape::Variable(variable, sort) => variable_match(variable, sort, term, locals, given),
+        Shape::Inverse(variable) => inverse_match(alloc, variable, term, locals, given),
+        Shape::Ltk(a, b) => ltk_match(alloc, a, b, term, locals, given),
+        Shape::Pubk(flag, purpose, a) => pubk_match(alloc, flag, purpose, a, term, locals, given),
+        _ => unreachable!(),
+    }
+}
+
+/// Matches a term with a term. Right parts and plaintexts are walked by a loop, since a term may be long.
+fn match_beside(
+    alloc: Global,
+    pattern: &Term,
+    term: &Term,
+    locals: &[VarId],
+    given: Subst,
+) -> Result<Option<Subst>, AllocError>
+    ensures { IfOk result (λ found. found ≡ matched locals.now pattern.now term.now given) }
+{
+    let mut left = pattern;
+    let mut right = term;
+    let mut found = given;
+    loop {
+        match left.shape() {
+            Shape::Pair(first, second) => match right.shape() {
+                Shape::Pair(other_first, other_second) => {
+                    match match_beside(alloc, first, other_first, locals, found)? {
+                        Some(next) => found = next,
+                        None => return Ok(None),
+                    }
+                    left = second;
+                    right = other_second;
+                }
+                _ => return Ok(None),
+            },
+            Shape::Encryption(body, key) => match right.shape() {
+                Shape::Encryption(other_body, other_key) => {
+                    match leaf_match(alloc, key, other_key, locals, found)? {
+                        Some(next) => found = next,
+                        None => return Ok(None),
+                    }
+                    left = body;
+                    right = other_body;
+                }
+                _ => return Ok(None),
+            },
+            _ => return leaf_match(alloc, left, right, locals, found),
+        }
+    }
+}
+
+/// Values of the locals that make the pattern the term; none exactly where none do.
+pub fn matching(
+    alloc: Global,
+    pattern: &Term,
+    term: &Term,
+    locals: &[VarId],
+) -> Result<Option<Subst>, AllocError>
+    ensures some { IfOk result (λ answer. IfSome answer (λ r. IsMatch pattern.now term.now locals.now r)) }
+    ensures none { IfOk result (λ answer. IfNone answer (HasNoMatch pattern.now term.now locals.now)) }
+{
+    match_beside(alloc, pattern, term, locals, Subst::new(alloc))
+}
