@@ -1,0 +1,34 @@
+use Rattle.std.proofs.Common.{◌<◌, ◌≤◌, length, sym, subst, arith}
+use Rattle.cp_derive.specs.Building.{Builds}
+use Rattle.cp_derive.specs.declared.opening.Locked.{Locked}
+use Rattle.cp_derive.proofs.Listed.{not_both, none_left, in_rest}
+use Rattle.cp_derive.proofs.Unlocking.{length_weight}
+use Rattle.cp_derive.proofs.opening.unlock.Goals as goal
+
+pub loop-place-smaller-then-builds : goal.loop-place-smaller-then-builds
+loop-place-smaller-then-builds c = omega (arith, length_weight c.loop-place.opening.locked.items, c.in_ok-unlock_at.ensures.falls)
+
+pub loop-place-smaller : goal.loop-place-smaller
+loop-place-smaller c = omega (arith, length_weight c.loop-place.opening.locked.items)
+
+pub loop-place-preserved : goal.loop-place-preserved
+loop-place-preserved c =
+    let within : c.loop-place.place < length c.loop-place.opening.locked.items = omega arith in
+    record {
+      advances = c.loop-place.invariant.advances;
+      weighs = c.loop-place.invariant.weighs;
+      falls = c.loop-place.invariant.falls;
+      done = λ none l h key.
+          in_rest _ c.loop-place.place _ c.index-entry.result.now within c.index-entry.ensures
+          (λ same.
+          not_both c.if-builds.false
+          (c.builds.ensures.1
+          (subst (λ held. Builds c.args.secrets.now held c.index-entry.result.now.inverse) (sym c.deref.ensures.value)
+          (subst (λ (x : Locked). Builds c.args.secrets.now c.loop-place.opening.held.items x.inverse) (sym same) key))))
+          (c.loop-place.invariant.done none l h key);
+    }
+
+pub returns-clause-done : goal.returns-clause-done
+returns-clause-done c =
+    let past : length c.loop-place.opening.locked.items ≤ c.loop-place.place = omega arith in
+    λ none l h key. none_left _ _ _ past (c.loop-place.invariant.done none l h key)
