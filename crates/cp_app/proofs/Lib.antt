@@ -1,5 +1,6 @@
 pub mod Putting
 pub mod Texts
+pub mod IndexedNames
 pub mod Taking
 pub mod Inputs
 pub mod Endings
@@ -16,6 +17,7 @@ pub mod ReportExample
 pub mod Appended
 pub mod Marks
 pub mod FreeNames
+pub mod NamesInUse
 pub mod OwnNames
 pub mod OwnItems
 pub mod OwnMarks
@@ -29,6 +31,7 @@ pub mod Mappings
 pub mod Parts
 pub mod Events
 pub mod Filling
+pub mod MarkedVariables
 pub mod Placing
 pub mod Prefixes
 pub mod Origins

@@ -48,7 +48,7 @@ or_false : (a : Bool) → (a || false) ≡ a
 or_false true = refl
 or_false false = refl
 
-is_one_of-append : (t : List ℕ) (xs ys : List (List ℕ)) → is_one_of t (xs ++ ys) ≡ (is_one_of t xs || is_one_of t ys)
+pub is_one_of-append : (t : List ℕ) (xs ys : List (List ℕ)) → is_one_of t (xs ++ ys) ≡ (is_one_of t xs || is_one_of t ys)
 is_one_of-append t [] ys = refl
 is_one_of-append t (x ∷ xs) ys = ap (λ b. same_text t x || b) (is_one_of-append t xs ys) ∙ sym (or_assoc (same_text t x) (is_one_of t xs) (is_one_of t ys))
 

@@ -114,20 +114,20 @@ role_name_old before at forms n v t s e g h =
     subst P (sym e.items) (λ faultless plain.
     name_is_old (role_names_onto [] (map role_view before)) (λ p. fault p DuplicateRole) (view n) s (λ p f. a_fault p DuplicateRole f) g (is_role_named s before ∙ h) (three (role_names_onto [] (map role_view before)) at (view n) (view v) (view t) faultless).0)
 
-pub role_variables_none : (before : List strand.Role) (at : Place) (forms : List form.Form) (n v t : form.Form) (o : Option (Vec declared.Declaration Global)) → AreThree forms n v t → o ≡ None → ReadsVariables (view v) o → ReadsRole before at (map view forms) None
+pub role_variables_none : (before : List strand.Role) (at : Place) (forms : List form.Form) (n v t : form.Form) (o : Option (List declared.Declaration)) → AreThree forms n v t → o ≡ None → ReadsVariables (view v) o → ReadsRole before at (map view forms) None
 role_variables_none before at forms n v t o e g r =
     let P : List Form → Type 0 = λ fs. ReadsRole before at fs None in
-    let Q : Option (Vec declared.Declaration Global) → Type 0 = λ x. ReadsVariables (view v) x in
+    let Q : Option (List declared.Declaration) → Type 0 = λ x. ReadsVariables (view v) x in
     subst P (sym e.items) (λ faultless plain.
     subst Q g r (three (role_names_onto [] before) at (view n) (view v) (view t) faultless).1 (true_left (are_plain_vars (view v)) (all_forms is_plain_event (items_behind (headed (view t)))) plain))
 
-pub role_trace_none : (before : List strand.Role) (at : Place) (forms : List form.Form) (n v t : form.Form) (o : Option (Vec declared.Declaration Global)) (ds : Vec declared.Declaration Global) (r : Option (Vec events.Event Global)) → AreThree forms n v t
-    → o ≡ Some ds → ReadsVariables (view v) o → r ≡ None → ReadsTrace (map declaration_view ds.items) (view t) r → ReadsRole before at (map view forms) None
+pub role_trace_none : (before : List strand.Role) (at : Place) (forms : List form.Form) (n v t : form.Form) (o : Option (List declared.Declaration)) (ds : List declared.Declaration) (r : Option (Vec events.Event Global)) → AreThree forms n v t
+    → o ≡ Some ds → ReadsVariables (view v) o → r ≡ None → ReadsTrace (map declaration_view ds) (view t) r → ReadsRole before at (map view forms) None
 role_trace_none before at forms n v t o ds r e g vars h trace =
     let P : List Form → Type 0 = λ fs. ReadsRole before at fs None in
-    let Q : Option (Vec declared.Declaration Global) → Type 0 = λ x. ReadsVariables (view v) x in
+    let Q : Option (List declared.Declaration) → Type 0 = λ x. ReadsVariables (view v) x in
     let known = subst Q g vars in
-    let R : Option (Vec events.Event Global) → Type 0 = λ x. ReadsTrace (map declaration_view ds.items) (view t) x in
+    let R : Option (Vec events.Event Global) → Type 0 = λ x. ReadsTrace (map declaration_view ds) (view t) x in
     let S : List strand.Declaration → Type 0 = λ x. ReadsTrace x (view t) None in
     let not_traced = subst S known.same (subst R h trace) in
     subst P (sym e.items) (λ faultless plain.
@@ -137,7 +137,7 @@ abbrev role_with : List ℕ → List strand.Declaration → List (strand.Event T
 role_with name ds es = record { name = name; variables = ds; trace = es; non_originating = []; penetrator_non_originating = []; uniquely_originating = [] }
 
 role_read_at : (before : List (List ℕ)) (at : Place) (n v t : Form) (s : List ℕ) (ds : Vec declared.Declaration Global) (es : Vec events.Event Global) → symbol_of n ≡ Some s → is_one_of s before ≡ false
-    → ReadsVariables v (Some ds) → ReadsTrace (declarations_of v) t (Some es)
+    → ReadsVariables v (Some ds.items) → ReadsTrace (declarations_of v) t (Some es)
     → IsRead (role_faults before at (n ∷ v ∷ t ∷ [])) (is_plain_role_body (n ∷ v ∷ t ∷ [])) (role_view (record { name = s; variables = ds; trace = es })) (role_of (n ∷ v ∷ t ∷ []))
 role_read_at before at n v t s ds es e new vars trace = record {
   no_faults = none_both (name_faults_at before (λ p. fault p DuplicateRole) n ++ vars_faults v ++ trace_faults (declarations_of v) t) []
@@ -148,17 +148,19 @@ role_read_at before at n v t s ds es e new vars trace = record {
       ∙ ap (λ x. role_with (text_of_symbol n) x (map event_view es.items)) vars.same ∙ ap (λ x. role_with (text_of_symbol n) (declarations_of v) x) trace.same;
 }
 
-pub role_read : (before : List program.Role) (at : Place) (forms : List form.Form) (n v t : form.Form) (s : List ℕ) (o : Option (Vec declared.Declaration Global)) (ds : Vec declared.Declaration Global) (r : Option (Vec events.Event Global)) (es : Vec events.Event Global) (text : List ℕ)
-    → AreThree forms n v t → symbol_of (view n) ≡ Some s → list_any (λ r. same_text s r.name) before ≡ false → o ≡ Some ds → ReadsVariables (view v) o → r ≡ Some es → ReadsTrace (map declaration_view ds.items) (view t) r → text ≡ s
+pub role_read : (before : List program.Role) (at : Place) (forms : List form.Form) (n v t : form.Form) (s : List ℕ) (o : Option (List declared.Declaration)) (l : List declared.Declaration) (ds : Vec declared.Declaration Global) (r : Option (Vec events.Event Global)) (es : Vec events.Event Global) (text : List ℕ)
+    → AreThree forms n v t → symbol_of (view n) ≡ Some s → list_any (λ r. same_text s r.name) before ≡ false → o ≡ Some l → ReadsVariables (view v) o → r ≡ Some es → ReadsTrace (map declaration_view l) (view t) r → text ≡ s → ds.items ≡ l
     → ReadsRole (map role_view before) at (map view forms) (Some (record { name = text; variables = ds; trace = es }))
-role_read before at forms n v t s o ds r es text e g new h vars i trace j =
+role_read before at forms n v t s o l ds r es text e g new h vars i trace j same =
     let P : List Form → Type 0 = λ fs. ReadsRole (map role_view before) at fs (Some (record { name = text; variables = ds; trace = es })) in
-    let Q : Option (Vec declared.Declaration Global) → Type 0 = λ x. ReadsVariables (view v) x in
-    let known = subst Q h vars in
+    let Q : Option (List declared.Declaration) → Type 0 = λ x. ReadsVariables (view v) x in
+    let U : List declared.Declaration → Type 0 = λ x. ReadsVariables (view v) (Some x) in
+    let known = subst U (sym same) (subst Q h vars) in
     let R : Option (Vec events.Event Global) → Type 0 = λ x. ReadsTrace (map declaration_view ds.items) (view t) x in
+    let W : List declared.Declaration → Type 0 = λ x. ReadsTrace (map declaration_view x) (view t) r in
     let S : List strand.Declaration → Type 0 = λ x. ReadsTrace x (view t) (Some es) in
     let T : List ℕ → Type 0 = λ x. ReadsRole (map role_view before) at (view n ∷ view v ∷ view t ∷ []) (Some (record { name = x; variables = ds; trace = es })) in
-    subst P (sym e.items) (subst T (sym j) (role_read_at (role_names_onto [] (map role_view before)) at (view n) (view v) (view t) s ds es g (is_role_named s before ∙ new) known (subst S known.same (subst R i trace))))
+    subst P (sym e.items) (subst T (sym j) (role_read_at (role_names_onto [] (map role_view before)) at (view n) (view v) (view t) s ds es g (is_role_named s before ∙ new) known (subst S known.same (subst R i (subst W (sym same) trace)))))
 
 -- ---- the roles of a protocol
 

@@ -1,5 +1,6 @@
 pub mod Supported
 pub mod Loaded
+pub mod Indexed
 pub mod Outcomes
 pub mod Choosing
 pub mod Distinct
@@ -11,3 +12,5 @@ pub mod Analysis
 pub mod Headline
 pub mod Steps
 pub mod Printing
+pub mod Marked
+pub mod Sets

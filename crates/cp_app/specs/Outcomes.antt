@@ -107,8 +107,8 @@ AreTheNames names ds = (t : List ℕ) → is_one_of t names ≡ is_one_of t (ide
 abbrev pub declarations_view : Vec Declaration Global → List strand.Declaration
 declarations_view ds = map declaration_view ds.items
 
-abbrev pub ReadsVariables : Form → Option (Vec Declaration Global) → Type 0
-ReadsVariables f = Reads declarations_view (roles.vars_faults f) (are_plain_vars f) (roles.declarations_of f)
+abbrev pub ReadsVariables : Form → Option (List Declaration) → Type 0
+ReadsVariables f = Reads (map declaration_view) (roles.vars_faults f) (are_plain_vars f) (roles.declarations_of f)
 
 -- The sort that a form names, if variables of it are supported.
 abbrev pub ReadsSort : Form → Option Sort → Type 0

@@ -14,6 +14,7 @@ mod roles;
 mod terms;
 mod uniques;
 mod values;
+mod variables;
 
 use crate::loaded::Loaded;
 use crate::loader::forms::{HeadedList, headed, is_word};

@@ -12,8 +12,9 @@ ghost use Rattle.cp_app.specs.Printing.{pieces_from, forms_behind, HasWritten};
 
 mod items;
 mod labels;
-mod marks;
+pub(crate) mod marks;
 mod names;
+mod taken;
 mod words;
 
 use crate::loaded::{Loaded, Problem, Protocol};

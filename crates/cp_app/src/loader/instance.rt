@@ -1,19 +1,22 @@
 //! Instances of roles.
-ghost use Rattle.std.specs.Prelude.{◌≡◌, ◌<◌, ◌≤◌, ◌&&◌, ◌++◌, ◌∷◌, [], length, map, MatchOption, IfSome, IfOk, OnOk, IsTrue, Some, None};
+ghost use Rattle.std.specs.Prelude.{◌≡◌, ◌<◌, ◌≤◌, ◌&&◌, ◌++◌, ◌∷◌, [], List, length, get_or, map, false, MatchOption, IfSome, IfOk, OnOk, IsTrue, Some, None};
 ghost use Rattle.cp_model.specs.Strand.{variables_of_trace};
 ghost use Rattle.cp_model.specs.Lists.{item_at};
-ghost use Rattle.cp_language.specs.Same.{has_variable};
+ghost use Rattle.cp_model.specs.Term.{Variable as VariableData};
+ghost use Rattle.cp_app.specs.Marked.{AreMarksOf};
 ghost use Rattle.cp_app.specs.Supported.{only_sends};
 ghost use Rattle.cp_sexpr.specs.View.{view};
-ghost use Rattle.cp_app.specs.Loaded.{declaration_view, event_view, role_view, variable_view};
+ghost use Rattle.cp_app.specs.Loaded.{declaration_view, event_view, role_view};
 ghost use Rattle.cp_app.specs.Choosing.{symbol_in, number_in, list_in, role_number};
 ghost use Rattle.std.specs.Prelude.{if◌then◌else◌};
 ghost use Rattle.cp_app.specs.Instances.{IsFilled, maplet_in, maplet_numbers, placed_at, all_placed, lacks_value, filled, named_role, has_sending_prefix, height_within, no_values, AreValues, instance_in, IsChosen};
 
-use crate::loaded::{Declaration, Event, Role, Variable};
+use crate::loaded::{Declaration, Event, Role};
 use crate::loader::forms::is_word;
 use crate::loader::terms::variable_named;
-use crate::loader::values::{is_sort, occurs};
+use crate::loader::values::is_sort;
+use crate::loader::variables::Variables;
+use crate::printing::marks::marks_of;
 use cp_sexpr::{Form, Text};
 use std::alloc::{AllocError, Global};
 
@@ -70,20 +73,27 @@ fn maplet(form: &Form) -> Option<(&[u8], &[u8])>
     Some((symbol(from)?, symbol(to)?))
 }
 
+/// Whether the variable with this number is marked.
+fn is_marked(marks: &[bool], number: usize) -> bool
+    ensures { result ≡ get_or marks.now number false }
+{
+    number < marks.len() && marks[number]
+}
+
 /// The numbers of the role's variable and the problem's that a maplet names, if the first occurs in the prefix and
 /// they have one sort.
 fn read_maplet(
-    prefix: &[Event],
+    marks: &[bool],
     variables: &[Declaration],
-    declared: &[Declaration],
+    declared: &Variables,
     form: &Form,
 ) -> Option<(usize, usize)>
-    ensures { result ≡ maplet_numbers (variables_of_trace (map event_view prefix.now)) (map declaration_view variables.now) (map declaration_view declared.now) (view form.now) }
+    ensures { (occurring : List VariableData) → AreMarksOf occurring (map declaration_view variables.now) marks.now → result ≡ maplet_numbers occurring (map declaration_view variables.now) (map declaration_view declared.now) (view form.now) }
 {
     let (from, to) = maplet(form)?;
     let from = variable_named(variables, from)?;
-    let to = variable_named(declared, to)?;
-    if is_sort(from.sort, to.sort) && occurs(prefix, from) {
+    let to = declared.named(to)?;
+    if is_sort(from.sort, to.sort) && is_marked(marks, from.number) {
         Some((from.number, to.number))
     } else {
         None
@@ -105,17 +115,18 @@ fn place(values: &mut [Option<usize>], from: usize, to: usize) -> bool
 
 /// Gives the role's variables the values of the maplets, each of which names another variable.
 fn place_maplets(
-    prefix: &[Event],
+    marks: &[bool],
     variables: &[Declaration],
-    declared: &[Declaration],
+    declared: &Variables,
     maplets: &[Form],
     values: &mut [Option<usize>],
 ) -> bool
-    ensures { all_placed (variables_of_trace (map event_view prefix.now)) (map declaration_view variables.now) (map declaration_view declared.now) (Some values.old) (map view maplets.now)
+    ensures { (occurring : List VariableData) → AreMarksOf occurring (map declaration_view variables.now) marks.now
+        → all_placed occurring (map declaration_view variables.now) (map declaration_view declared.now) (Some values.old) (map view maplets.now)
         ≡ (if result then Some values.new else None) }
 {
     for form in maplets {
-        let Some((from, to)) = read_maplet(prefix, variables, declared, form) else {
+        let Some((from, to)) = read_maplet(marks, variables, declared, form) else {
             return false;
         };
         if !place(values, from, to) {
@@ -125,11 +136,11 @@ fn place_maplets(
     true
 }
 
-/// Whether a variable of the role has no value and occurs in the prefix.
-fn wants_value(prefix: &[Event], variable: Variable, value: Option<usize>) -> bool
-    ensures { result ≡ (lacks_value value && has_variable (variables_of_trace (map event_view prefix.now)) (variable_view variable)) }
+/// Whether the variable of the role with this number has no value and is marked.
+fn wants_value(marks: &[bool], number: usize, value: Option<usize>) -> bool
+    ensures { result ≡ (lacks_value value && get_or marks.now number false) }
 {
-    value.is_none() && occurs(prefix, variable)
+    value.is_none() && is_marked(marks, number)
 }
 
 /// Puts a copy of the declaration behind the others.
@@ -152,26 +163,19 @@ fn add_copy(
 /// variables of the problem.
 fn fill(
     alloc: Global,
-    prefix: &[Event],
+    marks: &[bool],
     variables: &[Declaration],
     values: &[Option<usize>],
     all: &mut Vec<Declaration>,
 ) -> Result<Vec<Option<usize>>, AllocError>
     requires { length values.now ≡ length variables.now }
-    ensures { IfOk result (λ v. IsFilled (filled (variables_of_trace (map event_view prefix.now)) (map declaration_view variables.now) values.now (length all.old.items) 0)
-        v.items (map declaration_view all.old.items) (map declaration_view all.new.items)) }
+    ensures { IfOk result (λ v. (occurring : List VariableData) → AreMarksOf occurring (map declaration_view variables.now) marks.now
+        → IsFilled (filled occurring (map declaration_view variables.now) values.now (length all.old.items) 0) v.items (map declaration_view all.old.items) (map declaration_view all.new.items)) }
 {
     let mut full = Vec::new(alloc);
     for (number, declaration) in variables.iter().enumerate() {
         let value = values[number];
-        if wants_value(
-            prefix,
-            Variable {
-                sort: declaration.sort,
-                number,
-            },
-            value,
-        ) {
+        if wants_value(marks, number, value) {
             full.push(Some(all.len()))?;
             add_copy(alloc, declaration, all)?;
         } else {
@@ -244,17 +248,20 @@ fn read_values(
     prefix: &[Event],
     variables: &[Declaration],
     maplets: &[Form],
+    declared: &Variables,
     all: &mut Vec<Declaration>,
 ) -> Result<Option<Vec<Option<usize>>>, AllocError>
+    requires { all.old.items ≡ declared.now }
     ensures { IfOk result (λ o. MatchOption o
         (all_placed (variables_of_trace (map event_view prefix.now)) (map declaration_view variables.now) (map declaration_view all.old.items) (Some (no_values (map declaration_view variables.now))) (map view maplets.now) ≡ None)
         (λ v. AreValues (variables_of_trace (map event_view prefix.now)) (map declaration_view variables.now) (map view maplets.now) v.items (map declaration_view all.old.items) (map declaration_view all.new.items))) }
 {
+    let marks = marks_of(alloc, variables, prefix)?;
     let mut values = no_values(alloc, variables)?;
-    if !place_maplets(prefix, variables, all, maplets, &mut values) {
+    if !place_maplets(&marks, variables, declared, maplets, &mut values) {
         return Ok(None);
     }
-    Ok(Some(fill(alloc, prefix, variables, &values, all)?))
+    Ok(Some(fill(alloc, &marks, variables, &values, all)?))
 }
 
 /// An instance of a role: the role and its number, the number of its events, and for each variable of the role the
@@ -272,8 +279,10 @@ pub(crate) fn read_instance<'a>(
     alloc: Global,
     roles: &'a [Role],
     items: &[Form],
+    declared: &Variables,
     all: &mut Vec<Declaration>,
 ) -> Result<Option<Instance<'a>>, AllocError>
+    requires { all.old.items ≡ declared.now }
     ensures chosen { IfOk result (λ o. MatchOption o (instance_in (map role_view roles.now) (map declaration_view all.old.items) (map view items.now) ≡ None)
         (λ i. IsChosen (instance_in (map role_view roles.now) (map declaration_view all.old.items) (map view items.now))
         i.number i.height i.values.items (map declaration_view all.old.items) (map declaration_view all.new.items))) }
@@ -291,7 +300,7 @@ pub(crate) fn read_instance<'a>(
         return Ok(None);
     };
     let prefix = &role.trace[..height];
-    let Some(values) = read_values(alloc, prefix, &role.variables, maplets, all)? else {
+    let Some(values) = read_values(alloc, prefix, &role.variables, maplets, declared, all)? else {
         return Ok(None);
     };
     Ok(Some(Instance {

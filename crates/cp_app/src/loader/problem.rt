@@ -7,11 +7,12 @@ ghost use Rattle.cp_app.specs.Stated.{stated_view, body_in, ReadsProblem};
 ghost use Rattle.cp_app.specs.Distinct.{HaveDistinctRoleVariables};
 ghost use Rattle.cp_base.specs.declared.place.Place.{Place as PlaceData};
 
-use crate::loaded::{Declaration, Problem, Protocol, Role};
+use crate::loaded::{Problem, Protocol, Role};
 use crate::loader::forms::{HeadedList, headed, is_word};
 use crate::loader::instance::read_instance;
 use crate::loader::roles::read_variables;
 use crate::loader::uniques::{Strand, read_uniques};
+use crate::loader::variables::Variables;
 use cp_sexpr::Form;
 use std::alloc::{AllocError, Global};
 
@@ -45,11 +46,11 @@ fn read_body(
     alloc: Global,
     protocol: usize,
     roles: &[Role],
-    mut variables: Vec<Declaration>,
+    declared: Variables,
     strand: &Form,
     items: &[Form],
 ) -> Result<Option<Problem>, AllocError>
-    ensures { IfOk result (λ o. option_map stated_view o ≡ body_in protocol (map role_view roles.now) (map declaration_view variables.items) (view strand.now) (map view items.now)) }
+    ensures { IfOk result (λ o. option_map stated_view o ≡ body_in protocol (map role_view roles.now) (map declaration_view declared) (view strand.now) (map view items.now)) }
 {
     let Some(
         HeadedList {
@@ -63,8 +64,9 @@ fn read_body(
     if !is_word(head, b"defstrand") {
         return Ok(None);
     }
-    let declared = variables.len();
-    let Some(instance) = read_instance(alloc, roles, inside, &mut variables)? else {
+    let mut variables = declared.copy(alloc)?;
+    let number = variables.len();
+    let Some(instance) = read_instance(alloc, roles, inside, &declared, &mut variables)? else {
         return Ok(None);
     };
     let strand = Strand {
@@ -72,7 +74,7 @@ fn read_body(
         height: instance.height,
         values: &instance.values,
     };
-    let Some(uniques) = read_uniques(alloc, &strand, &variables[..declared], items)? else {
+    let Some(uniques) = read_uniques(alloc, &strand, &declared, items)? else {
         return Ok(None);
     };
     Ok(Some(Problem {
@@ -81,7 +83,7 @@ fn read_body(
         height: instance.height,
         values: instance.values,
         variables,
-        declared,
+        declared: number,
         uniques,
     }))
 }

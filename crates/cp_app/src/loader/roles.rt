@@ -7,32 +7,30 @@ ghost use Rattle.cp_language.specs.Words.{same_text};
 ghost use Rattle.cp_app.specs.Loaded.{declaration_view, role_view, protocol_view};
 ghost use Rattle.cp_app.specs.Outcomes.{ReadsVariables, ReadsSort, DeclaresIdentifiers, DeclaresAll, ReadsMessage, ReadsEvent, ReadsTrace, ReadsRole, ReadsRoles, ReadsProtocol};
 
-use crate::loaded::{Declaration, Event, Protocol, Role, Sort, Term};
+use crate::loaded::{Event, Protocol, Role, Sort, Term};
 use crate::loader::forms::{is_word, items_under, symbol_text};
-use crate::loader::terms::{read_term, variable_named};
+use crate::loader::terms::read_term;
+use crate::loader::variables::Variables;
 use cp_sexpr::{Form, Text};
 use std::alloc::{AllocError, Global};
 
 /// Declares these identifiers of this sort behind the variables, if each is a symbol that is not declared yet.
 fn declare(
     alloc: Global,
-    variables: &mut Vec<Declaration>,
+    variables: &mut Variables,
     identifiers: &[Form],
     sort: Sort,
 ) -> Result<bool, AllocError>
-    ensures { IfOk result (DeclaresIdentifiers sort (map view identifiers.now) (map declaration_view variables.old.items) (map declaration_view variables.new.items)) }
+    ensures { IfOk result (DeclaresIdentifiers sort (map view identifiers.now) (map declaration_view variables.old) (map declaration_view variables.new)) }
 {
     for form in identifiers {
         let Some(identifier) = symbol_text(form) else {
             return Ok(false);
         };
-        if variable_named(variables, identifier).is_some() {
+        if variables.named(identifier).is_some() {
             return Ok(false);
         }
-        variables.push(Declaration {
-            identifier: Text::new(alloc, identifier)?,
-            sort,
-        })?;
+        variables.push(alloc, identifier, sort)?;
     }
     Ok(true)
 }
@@ -54,10 +52,10 @@ fn read_sort(form: &Form) -> Option<Sort>
 /// Declares what one declaration does behind the variables: its identifiers, of the sort that stands last.
 fn read_declaration(
     alloc: Global,
-    variables: &mut Vec<Declaration>,
+    variables: &mut Variables,
     form: &Form,
 ) -> Result<bool, AllocError>
-    ensures { IfOk result (DeclaresAll (view form.now) (map declaration_view variables.old.items) (map declaration_view variables.new.items)) }
+    ensures { IfOk result (DeclaresAll (view form.now) (map declaration_view variables.old) (map declaration_view variables.new)) }
 {
     let Form::List(_, items) = form else {
         return Ok(false);
@@ -75,16 +73,13 @@ fn read_declaration(
 }
 
 /// The variables that a `vars` list declares.
-pub(crate) fn read_variables(
-    alloc: Global,
-    form: &Form,
-) -> Result<Option<Vec<Declaration>>, AllocError>
+pub(crate) fn read_variables(alloc: Global, form: &Form) -> Result<Option<Variables>, AllocError>
     ensures { IfOk result (ReadsVariables (view form.now)) }
 {
     let Some(items) = items_under(form, b"vars") else {
         return Ok(None);
     };
-    let mut variables = Vec::new(alloc);
+    let mut variables = Variables::new(alloc);
     for item in items {
         if !read_declaration(alloc, &mut variables, item)? {
             return Ok(None);
@@ -96,7 +91,7 @@ pub(crate) fn read_variables(
 /// The message of a transmission or a reception, the only item behind its head.
 fn read_message(
     alloc: Global,
-    variables: &[Declaration],
+    variables: &Variables,
     items: &[Form],
 ) -> Result<Option<Term>, AllocError>
     ensures { IfOk result (λ read. (at : PlaceData)
@@ -111,7 +106,7 @@ fn read_message(
 /// The event that a form stands for.
 fn read_event(
     alloc: Global,
-    variables: &[Declaration],
+    variables: &Variables,
     form: &Form,
 ) -> Result<Option<Event>, AllocError>
     ensures { IfOk result (ReadsEvent (map declaration_view variables.now) (view form.now)) }
@@ -134,7 +129,7 @@ fn read_event(
 /// The events of a `trace` list.
 fn read_trace(
     alloc: Global,
-    variables: &[Declaration],
+    variables: &Variables,
     form: &Form,
 ) -> Result<Option<Vec<Event>>, AllocError>
     ensures { IfOk result (ReadsTrace (map declaration_view variables.now) (view form.now)) }
@@ -185,7 +180,7 @@ fn read_role(alloc: Global, before: &[Role], items: &[Form]) -> Result<Option<Ro
     };
     Ok(Some(Role {
         name: Text::new(alloc, name)?,
-        variables,
+        variables: variables.into_declarations(),
         trace,
     }))
 }

@@ -9,6 +9,7 @@ ghost use Rattle.cp_app.specs.Outcomes.{ReadsPublicKey, ReadsAtom, ReadsTerm, Re
 
 use crate::loaded::{Atom, Declaration, Sort, Term, Variable};
 use crate::loader::forms::{is_word, items_under, symbol_text};
+use crate::loader::variables::Variables;
 use cp_sexpr::Form;
 use std::alloc::{AllocError, Global};
 
@@ -28,13 +29,13 @@ pub(crate) fn variable_named(variables: &[Declaration], identifier: &[u8]) -> Op
 }
 
 /// The number of the name that the only one of these items is.
-fn read_name(variables: &[Declaration], items: &[Form]) -> Option<usize>
+fn read_name(variables: &Variables, items: &[Form]) -> Option<usize>
     ensures { (at : PlaceData) → ReadsPublicKey (map declaration_view variables.now) at (map view items.now) result }
 {
     let [name] = items else {
         return None;
     };
-    let variable = variable_named(variables, symbol_text(name)?)?;
+    let variable = variables.named(symbol_text(name)?)?;
     match variable.sort {
         Sort::Name => Some(variable.number),
         Sort::Text => None,
@@ -42,12 +43,12 @@ fn read_name(variables: &[Declaration], items: &[Form]) -> Option<usize>
 }
 
 /// The term of an atom sort that a form stands for.
-pub(crate) fn read_atom(variables: &[Declaration], form: &Form) -> Option<Atom>
+pub(crate) fn read_atom(variables: &Variables, form: &Form) -> Option<Atom>
     ensures atom { ReadsAtom (map declaration_view variables.now) (view form.now) result }
     ensures term { IfSome result (λ a. term_of (map declaration_view variables.now) (view form.now) ≡ atom_term (atom_view a)) }
 {
     if let Some(identifier) = symbol_text(form) {
-        let variable = variable_named(variables, identifier)?;
+        let variable = variables.named(identifier)?;
         return Some(Atom::Variable(variable));
     }
     let name = read_name(variables, items_under(form, b"pubk")?)?;
@@ -79,7 +80,7 @@ fn encryption_of(mut terms: Vec<Term>) -> Option<Term>
 #[cycle(term)]
 pub(crate) fn read_term(
     alloc: Global,
-    variables: &[Declaration],
+    variables: &Variables,
     form: &Form,
 ) -> Result<Option<Term>, AllocError>
     ensures { IfOk result (ReadsTerm (map declaration_view variables.now) (view form.now)) }
@@ -100,7 +101,7 @@ pub(crate) fn read_term(
 #[cycle(term)]
 fn read_terms(
     alloc: Global,
-    variables: &[Declaration],
+    variables: &Variables,
     forms: &[Form],
 ) -> Result<Option<Vec<Term>>, AllocError>
     ensures { IfOk result (ReadsTerms (map declaration_view variables.now) (views forms.now)) }

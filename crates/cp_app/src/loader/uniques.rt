@@ -7,10 +7,11 @@ ghost use Rattle.cp_app.specs.Loaded.{declaration_view, role_view, unique_view};
 ghost use Rattle.cp_app.specs.Instances.{strand_with};
 ghost use Rattle.cp_app.specs.Uniques.{unique_in, all_added, item_added, items_added};
 
-use crate::loaded::{Declaration, Role, Unique};
+use crate::loaded::{Role, Unique};
 use crate::loader::forms::{HeadedList, headed, is_word};
 use crate::loader::terms::read_atom;
 use crate::loader::values::{Mapping, is_atom, origin};
+use crate::loader::variables::Variables;
 use cp_sexpr::Form;
 use std::alloc::{AllocError, Global};
 
@@ -23,7 +24,7 @@ pub(crate) struct Strand<'a> {
 }
 
 /// The unique value that a form states, with its origin on the strand.
-fn read_unique(strand: &Strand<'_>, declared: &[Declaration], form: &Form) -> Option<Unique>
+fn read_unique(strand: &Strand<'_>, declared: &Variables, form: &Form) -> Option<Unique>
     requires { strand.now.height ≤ length strand.now.role.now.trace.items }
     ensures { option_map unique_view result ≡ unique_in (strand_with (role_view strand.now.role.now) strand.now.height strand.now.values.now ∷ []) (map declaration_view declared.now) (view form.now) }
 {
@@ -65,7 +66,7 @@ fn add_unique(uniques: &mut Vec<Unique>, unique: Unique) -> Result<(), AllocErro
 /// Adds the unique values that these forms state, if each states one.
 fn add_forms(
     strand: &Strand<'_>,
-    declared: &[Declaration],
+    declared: &Variables,
     forms: &[Form],
     uniques: &mut Vec<Unique>,
 ) -> Result<bool, AllocError>
@@ -85,7 +86,7 @@ fn add_forms(
 /// Adds the unique values that an item states, if it is such an assumption.
 fn add_item(
     strand: &Strand<'_>,
-    declared: &[Declaration],
+    declared: &Variables,
     item: &Form,
     uniques: &mut Vec<Unique>,
 ) -> Result<bool, AllocError>
@@ -106,7 +107,7 @@ fn add_item(
 pub(crate) fn read_uniques(
     alloc: Global,
     strand: &Strand<'_>,
-    declared: &[Declaration],
+    declared: &Variables,
     items: &[Form],
 ) -> Result<Option<Vec<Unique>>, AllocError>
     requires { strand.now.height ≤ length strand.now.role.now.trace.items }

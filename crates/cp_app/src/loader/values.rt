@@ -1,9 +1,9 @@
 //! Terms of a role under the values of an instance.
 ghost use Rattle.std.specs.Prelude.{◌≡◌, map, option_map};
-ghost use Rattle.cp_model.specs.Term.{apply_to_atom, apply_to, variables_of, variables_of_atom, atom_term};
-ghost use Rattle.cp_model.specs.Strand.{payload, variables_of_trace, event_map};
-ghost use Rattle.cp_language.specs.Same.{same_sort, same_atom, has_variable, carries, origin_in};
-ghost use Rattle.cp_app.specs.Loaded.{sort_view, declaration_view, variable_view, atom_view, term_view, event_view};
+ghost use Rattle.cp_model.specs.Term.{apply_to_atom, apply_to, atom_term};
+ghost use Rattle.cp_model.specs.Strand.{payload, event_map};
+ghost use Rattle.cp_language.specs.Same.{same_sort, same_atom, carries, origin_in};
+ghost use Rattle.cp_app.specs.Loaded.{sort_view, declaration_view, atom_view, term_view, event_view};
 ghost use Rattle.cp_app.specs.Instances.{mapping_of, number_mapped};
 
 use crate::loaded::{Atom, Declaration, Event, Sort, Term, Variable};
@@ -33,33 +33,6 @@ pub(crate) fn is_atom(a: Atom, b: Atom) -> bool
     }
 }
 
-/// Whether the variable occurs in the atom.
-fn occurs_in_atom(atom: Atom, variable: Variable) -> bool
-    ensures { result ≡ has_variable (variables_of_atom (atom_view atom)) (variable_view variable) }
-{
-    match atom {
-        Atom::Variable(x) => is_sort(x.sort, variable.sort) && x.number == variable.number,
-        Atom::PublicKey(name) => is_sort(Sort::Name, variable.sort) && name == variable.number,
-    }
-}
-
-/// Whether the variable occurs in the term.
-fn occurs_in(term: &Term, variable: Variable) -> bool
-    ensures { result ≡ has_variable (variables_of (term_view term.now)) (variable_view variable) }
-{
-    match term {
-        Term::Atom(atom) => occurs_in_atom(*atom, variable),
-        Term::Encryption(terms, name) => {
-            for part in terms {
-                if occurs_in(part, variable) {
-                    return true;
-                }
-            }
-            occurs_in_atom(Atom::PublicKey(*name), variable)
-        }
-    }
-}
-
 /// The message of an event.
 fn payload(event: &Event) -> &Term
     ensures { term_view result.now ≡ payload (event_view event.now) }
@@ -68,18 +41,6 @@ fn payload(event: &Event) -> &Term
         Event::Send(term) => term,
         Event::Receive(term) => term,
     }
-}
-
-/// Whether the variable occurs in the events.
-pub(crate) fn occurs(events: &[Event], variable: Variable) -> bool
-    ensures { result ≡ has_variable (variables_of_trace (map event_view events.now)) (variable_view variable) }
-{
-    for event in events {
-        if occurs_in(payload(event), variable) {
-            return true;
-        }
-    }
-    false
 }
 
 /// The number that a variable is mapped to; its own where it has no value.

@@ -5,6 +5,7 @@ ghost use Rattle.cp_model.specs.Strand.{payload, variables_of_trace};
 ghost use Rattle.cp_language.specs.Same.{same_sort};
 ghost use Rattle.cp_app.specs.Loaded.{sort_view, declaration_view, variable_view, atom_view, term_view, event_view};
 ghost use Rattle.cp_app.specs.Printing.{met_variable, met_variables, all_unmet};
+ghost use Rattle.cp_app.specs.Marked.{AreMarksOf};
 
 use crate::loaded::{Atom, Declaration, Event, Sort, Term, Variable};
 use std::alloc::{AllocError, Global};
@@ -86,6 +87,19 @@ fn unmarked(alloc: Global, variables: &[Declaration]) -> Result<Vec<bool>, Alloc
     Ok(marks)
 }
 
+/// For each variable of a role whether it occurs in these events.
+pub(crate) fn marks_of(
+    alloc: Global,
+    variables: &[Declaration],
+    trace: &[Event],
+) -> Result<Vec<bool>, AllocError>
+    ensures { IfOk result (λ marks. AreMarksOf (variables_of_trace (map event_view trace.now)) (map declaration_view variables.now) marks.items) }
+{
+    let mut marks = unmarked(alloc, variables)?;
+    mark_trace(variables, trace, &mut marks);
+    Ok(marks)
+}
+
 /// For each variable of a role whether it occurs in the prefix of this height.
 pub(crate) fn marks_of_prefix(
     alloc: Global,
@@ -95,7 +109,5 @@ pub(crate) fn marks_of_prefix(
 ) -> Result<Vec<bool>, AllocError>
     ensures { IfOk result (λ marks. marks.items ≡ met_variables (map declaration_view variables.now) (variables_of_trace (take height (map event_view trace.now))) (all_unmet (map declaration_view variables.now))) }
 {
-    let mut marks = unmarked(alloc, variables)?;
-    mark_trace(variables, &trace[..height.min(trace.len())], &mut marks);
-    Ok(marks)
+    marks_of(alloc, variables, &trace[..height.min(trace.len())])
 }

@@ -1,30 +1,13 @@
 // The names of a problem's variables in a report.
 ghost use Rattle.std.specs.Prelude.{◌≡◌, map, IfOk};
-ghost use Rattle.cp_language.specs.Words.{same_text, is_one_of};
 ghost use Rattle.cp_language.specs.Names.{numbered_name, free_name, identifiers_in, problem_names};
 ghost use Rattle.cp_app.specs.Loaded.{declaration_view};
 
 use crate::loaded::Declaration;
+use crate::printing::taken::Taken;
 use crate::printing::words::write_numeral;
 use cp_sexpr::Text;
 use std::alloc::{AllocError, Global};
-
-fn is_same_name(a: &[u8], b: &[u8]) -> bool
-    ensures { result ≡ same_text a.now b.now }
-{
-    a == b
-}
-
-fn is_taken(name: &[u8], taken: &[Text]) -> bool
-    ensures { result ≡ is_one_of name.now taken.now }
-{
-    for other in taken {
-        if is_same_name(name, other.as_bytes()) {
-            return true;
-        }
-    }
-    false
-}
 
 /// The name with a number behind it.
 fn numbered_name(alloc: Global, name: &[u8], number: usize) -> Result<Text, AllocError>
@@ -37,27 +20,27 @@ fn numbered_name(alloc: Global, name: &[u8], number: usize) -> Result<Text, Allo
 }
 
 /// The first of the name and its numbered forms that is not taken.
-fn free_name(alloc: Global, taken: &[Text], name: &[u8]) -> Result<Text, AllocError>
+fn free_name(alloc: Global, taken: &Taken, name: &[u8]) -> Result<Text, AllocError>
     ensures { IfOk result (λ t. t ≡ free_name taken.now name.now) }
 {
-    if !is_taken(name, taken) {
+    if !taken.has(name) {
         return Text::new(alloc, name);
     }
     for n in 0..taken.len() {
         let numbered = numbered_name(alloc, name, n)?;
-        if !is_taken(numbered.as_bytes(), taken) {
+        if !taken.has(numbered.as_bytes()) {
             return Ok(numbered);
         }
     }
     numbered_name(alloc, name, taken.len())
 }
 
-fn identifiers(alloc: Global, variables: &[Declaration]) -> Result<Vec<Text>, AllocError>
-    ensures { IfOk result (λ names. names.items ≡ identifiers_in (map declaration_view variables.now)) }
+fn identifiers(alloc: Global, variables: &[Declaration]) -> Result<Taken, AllocError>
+    ensures { IfOk result (λ names. names ≡ identifiers_in (map declaration_view variables.now)) }
 {
-    let mut names = Vec::new(alloc);
+    let mut names = Taken::new(alloc);
     for variable in variables {
-        names.push(Text::new(alloc, variable.identifier.as_bytes())?)?;
+        names.push(alloc, Text::new(alloc, variable.identifier.as_bytes())?)?;
     }
     Ok(names)
 }
@@ -74,7 +57,7 @@ pub(crate) fn problem_names(
     let mut names = identifiers(alloc, kept)?;
     for variable in others {
         let name = free_name(alloc, &names, variable.identifier.as_bytes())?;
-        names.push(name)?;
+        names.push(alloc, name)?;
     }
-    Ok(names)
+    Ok(names.into_names())
 }

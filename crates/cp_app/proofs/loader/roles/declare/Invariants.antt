@@ -7,5 +7,5 @@ use Rattle.cp_app.proofs.loader.roles.declare.Given as goal
 
 abbrev pub invariant-loop-form : goal.invariant-loop-form
 invariant-loop-form l =
-    (before : List (List ℕ)) → AreTheNames before (map declaration_view l.initial.variables.items)
-    → AreIdentifiersLeft (sort_view l.sort) before (map view l.identifiers) (map view (drop l.form-index l.identifiers)) (map declaration_view l.initial.variables.items) (map declaration_view l.variables.items)
+    (before : List (List ℕ)) → AreTheNames before (map declaration_view l.initial.variables)
+    → AreIdentifiersLeft (sort_view l.sort) before (map view l.identifiers) (map view (drop l.form-index l.identifiers)) (map declaration_view l.initial.variables) (map declaration_view l.variables)

@@ -5,4 +5,4 @@ use Rattle.cp_app.proofs.printing.names.identifiers.Given as goal
 
 -- the names so far, and those that are left, are all
 abbrev pub invariant-loop-variable : goal.invariant-loop-variable
-invariant-loop-variable l = l.names.items ++ identifiers_in (map declaration_view (drop l.variable-index l.variables)) ≡ identifiers_in (map declaration_view l.variables)
+invariant-loop-variable l = l.names ++ identifiers_in (map declaration_view (drop l.variable-index l.variables)) ≡ identifiers_in (map declaration_view l.variables)

@@ -5,4 +5,4 @@ use Rattle.cp_app.proofs.printing.names.problem_names.Given as goal
 
 -- the names so far, and those that are left, are all
 abbrev pub invariant-loop-variable : goal.invariant-loop-variable
-invariant-loop-variable l = l.names.items ++ names_onto l.names.items (map declaration_view (drop l.variable-index l.others)) ≡ l.initial.names.items ++ names_onto l.initial.names.items (map declaration_view l.others)
+invariant-loop-variable l = l.names ++ names_onto l.names (map declaration_view (drop l.variable-index l.others)) ≡ l.initial.names ++ names_onto l.initial.names (map declaration_view l.others)
