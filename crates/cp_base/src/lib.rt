@@ -1,4 +1,4 @@
-// What every layer stands on: places in a text, the codes of refusals, statuses, and the outside world as a
+// What every layer stands on: texts, places in a text, the codes of refusals, statuses, and the outside world as a
 // source of bytes and a sink for bytes, both in memory and over real streams.
 #![tactic(auto)]
 
@@ -8,6 +8,7 @@ mod real;
 mod sink;
 mod source;
 mod status;
+mod text;
 
 pub use memory::{MemSink, MemSource};
 pub use place::{Code, Place, Refusal};
@@ -15,6 +16,7 @@ pub use real::{StdSink, StdSource};
 pub use sink::Sink;
 pub use source::Source;
 pub use status::{Failed, Status};
+pub use text::Text;
 
 #[cfg(test)]
 mod tests;

@@ -25,6 +25,15 @@ fn statuses_and_codes(rt: HostRuntime) {
 }
 
 #[test]
+fn texts(rt: HostRuntime) -> Result<(), Fail> {
+    let text = Text::new(rt.alloc(), "n1")?;
+    let copy = text.copy()?;
+    assert_eq!(rt; copy.as_str(), "n1");
+    assert_eq!(rt; copy.as_bytes(), b"n1".as_slice());
+    Ok(())
+}
+
+#[test]
 fn source_in_memory(rt: HostRuntime) -> Result<(), Fail> {
     let alloc = rt.alloc();
     let bytes = b"abcdef".to_vec(alloc)?;
