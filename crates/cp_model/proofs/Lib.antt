@@ -5,6 +5,7 @@ pub mod LawEmbeddings
 pub mod LawMessages
 pub mod LawOrigins
 pub mod LawRuns
+pub mod LawOrder
 pub mod SingleValues
 pub mod SingleTraces
 pub mod SingleBundle

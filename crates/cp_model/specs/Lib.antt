@@ -5,6 +5,7 @@ pub mod Strand
 pub mod Bundle
 pub mod Run
 pub mod Skeleton
+pub mod Order
 pub mod Standing
 pub mod Homomorphism
 pub mod Problem

@@ -1,11 +1,13 @@
 //! Laws of the definitions: each stands as the contract of a function that does nothing.
-ghost use Rattle.std.specs.Prelude.{◌≡◌, ◌⊎◌, Some};
+ghost use Rattle.std.specs.Prelude.{◌≡◌, ◌⊎◌, ◌↔◌, Some};
 ghost use Rattle.cp_model.specs.Message.{Message, IsCarriedBy};
 ghost use Rattle.cp_model.specs.Term.{Term, Assignment, value_of, Substitution, apply_to, after, composed};
 ghost use Rattle.cp_model.specs.Strand.{Event, payload, Protocol};
 ghost use Rattle.cp_model.specs.Bundle.{AreOfProtocol, Node, event_at, OriginatesAt, Bundle, Precedes, IsBundle};
 ghost use Rattle.cp_model.specs.Run.{Run, IsRun, IsBundleOf};
-ghost use Rattle.cp_model.specs.Skeleton.{Skeleton, IsSkeleton};
+ghost use Rattle.cp_model.specs.Lists.{IsIn};
+ghost use Rattle.cp_model.specs.Skeleton.{IsNodeOf, OrderPair, Skeleton, Before, IsOrderPair, IsSkeleton};
+ghost use Rattle.cp_model.specs.Order.{LeadsTo};
 ghost use Rattle.cp_model.specs.Standing.{Standing, StandsIn};
 ghost use Rattle.cp_model.specs.Homomorphism.{SkeletonMap, IsHomomorphism, Embeds};
 ghost use Rattle.cp_model.specs.Composition.{through};
@@ -46,4 +48,11 @@ pub fn origin_at_or_before()
 #[tactic(auto, using(crate::proofs::LawRuns::bundle_of_run))]
 pub fn run_makes_a_bundle()
     ensures { (protocol : Protocol) (r : Run) (b : Bundle) → IsRun r → IsBundleOf r b → AreOfProtocol protocol r.strands → IsBundle protocol b }
+{}
+
+/// In a skeleton whose pairs are between nodes that are there, and whose order has no cycle, a node is before another
+/// that is there exactly when it leads to it along strands and pairs and is not the same.
+#[tactic(auto, using(crate::proofs::LawOrder::before_by_pairs))]
+pub fn before_is_leading_to_another()
+    ensures { (k : Skeleton) → ((p : OrderPair) → IsIn p k.pairs → IsOrderPair k p) → ((n : Node) → Before k n n → ⊥) → (x y : Node) → IsNodeOf k.strands y → Before k x y ↔ (LeadsTo k.pairs x y × (x ≡ y → ⊥)) }
 {}

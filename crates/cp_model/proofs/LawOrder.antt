@@ -1,0 +1,85 @@
+-- The order of a skeleton by strands and pairs alone.
+use Rattle.std.proofs.Common.{◌≡◌, ◌↔◌, ◌⊎◌, inl, inr, ℕ, zero, suc, ◌<◌, ◌≤◌, List, [], ◌∷◌, refl, sym, ◌∙◌, subst, arith}
+use Rattle.std.specs.Prelude.{nat_lt, Bool, true, false, Some}
+use Rattle.std.proofs.lemmas.Bool.Decides.{nat_tests}
+use Rattle.cp_model.specs.Lists.{item_at, IsIn, Steps, one_step, more_steps}
+use Rattle.cp_model.specs.Strand.{send}
+use Rattle.cp_model.specs.Bundle.{Node, node_at}
+use Rattle.cp_model.specs.Skeleton.{skeleton_trace_or_none, IsNodeOf, OrderPair, Skeleton, OrderStep, along_strand_of, along_pair, Before, IsOrderPair}
+use Rattle.cp_model.specs.Order.{IsAtOrAfter, LeadsTo, on_strand, over_pair}
+
+-- ---- what is before leads there
+
+leads_from_before : (pairs : List OrderPair) (x y z : Node) → IsAtOrAfter x y → LeadsTo pairs y z → LeadsTo pairs x z
+leads_from_before pairs x y z a (on_strand b) = on_strand (a.0 ∙ b.0, omega (arith, a.1, b.1))
+leads_from_before pairs x y z a (over_pair m b l) = over_pair m (a.0 ∙ b.0, omega (arith, a.1, b.1)) l
+
+step_leads : (k : Skeleton) (x y z : Node) → OrderStep k x y → LeadsTo k.pairs y z → LeadsTo k.pairs x z
+step_leads k x y z (along_strand_of {s} {i} e) l = leads_from_before k.pairs (node_at s i) (node_at s (suc i)) z (refl, omega arith) l
+step_leads k x y z (along_pair {p} m) l = over_pair m (refl, omega arith) l
+
+pub before_leads : (k : Skeleton) (x y : Node) → Before k x y → LeadsTo k.pairs x y
+before_leads k x y (one_step s) = step_leads k x y y s (on_strand (refl, omega arith))
+before_leads k x z (more_steps {y} s l) = step_leads k x y z s (before_leads k y z l)
+
+-- ---- what leads there is before
+
+earlier_item : {A : Type 0} (xs : List A) (i j : ℕ) (e : A) → i ≤ j → item_at xs j ≡ Some e → (f : A) × (item_at xs i ≡ Some f)
+earlier_item [] i j e l h = absurd (cc)
+earlier_item (x ∷ xs) zero j e l h = (x, refl)
+earlier_item (x ∷ xs) (suc i) zero e l h = absurd (omega arith)
+earlier_item (x ∷ xs) (suc i) (suc j) e l h = earlier_item xs i j e (omega (arith, l)) h
+
+joined : {A : Type 0} {step : A → A → Type 0} (a b c : A) → Steps step a b → Steps step b c → Steps step a c
+joined a b c (one_step s) t = more_steps s t
+joined a b c (more_steps {y} s r) t = more_steps s (joined y b c r t)
+
+less_or_same : (i j : ℕ) → i < suc j → (i < j) ⊎ (i ≡ j)
+less_or_same i j l = by_test (nat_lt i j) refl
+  where
+    by_test : (b : Bool) → nat_lt i j ≡ b → (i < j) ⊎ (i ≡ j)
+    by_test true e = inl (grind (arith, nat_tests))
+    by_test false e = inr (grind (arith, nat_tests))
+
+-- up a strand to an event
+along : (k : Skeleton) (s i j : ℕ) → i < j → IsNodeOf k.strands (node_at s j) → Before k (node_at s i) (node_at s j)
+along k s i zero l n = absurd (omega arith)
+along k s i (suc j) l n =
+    let below : IsNodeOf k.strands (node_at s j) = earlier_item (skeleton_trace_or_none (item_at k.strands s)) j (suc j) n.0 (omega arith) n.1 in
+    let last : Before k (node_at s j) (node_at s (suc j)) = one_step (along_strand_of n.1) in
+    elim (less_or_same i j l) as (λ _. Before k (node_at s i) (node_at s (suc j))) [
+      | inl less ↦ joined (node_at s i) (node_at s j) (node_at s (suc j)) (along k s i j less below) last
+      | inr same ↦ subst (λ h. Before k (node_at s h) (node_at s (suc j))) (sym same) last
+    ]
+
+same_or_along : (k : Skeleton) (x y : Node) → IsAtOrAfter x y → IsNodeOf k.strands y → (x ≡ y) ⊎ Before k x y
+same_or_along k x y a n = elim (less_or_same x.index y.index (omega (arith, a.1))) as (λ _. (x ≡ y) ⊎ Before k x y) [
+  | inl less ↦ inr (subst (λ s. Before k (node_at s x.index) y) (sym a.0) (along k y.strand x.index y.index less n))
+  | inr same ↦ inl (λ i. record { strand = a.0 i; index = same i })
+]
+
+then_before : (k : Skeleton) (x y z : Node) → (x ≡ y) ⊎ Before k x y → Before k y z → Before k x z
+then_before k x y z (inl e) b = subst (λ (n : Node). Before k n z) (sym e) b
+then_before k x y z (inr a) b = joined x y z a b
+
+before_then : (k : Skeleton) (x y z : Node) → Before k x y → (y ≡ z) ⊎ Before k y z → Before k x z
+before_then k x y z a (inl e) = subst (Before k x) e a
+before_then k x y z a (inr b) = joined x y z a b
+
+module _ (k : Skeleton) (order_pairs : (p : OrderPair) → IsIn p k.pairs → IsOrderPair k p) where
+  is_node : (p : OrderPair) → IsIn p k.pairs → IsNodeOf k.strands p.earlier
+  is_node p m = (send (order_pairs p m).sent, (order_pairs p m).transmission)
+
+  pub leads_before : (x y : Node) → IsNodeOf k.strands y → LeadsTo k.pairs x y → (x ≡ y) ⊎ Before k x y
+  leads_before x y n (on_strand a) = same_or_along k x y a n
+  leads_before x y n (over_pair {p} m a l) =
+      inr (then_before k x p.earlier y (same_or_along k x p.earlier a (is_node p m))
+      (before_then k p.earlier p.later y (one_step (along_pair m)) (leads_before p.later y n l)))
+
+  differ : (x y : Node) → (x ≡ y → ⊥) → (x ≡ y) ⊎ Before k x y → Before k x y
+  differ x y other (inl e) = absurd (other e)
+  differ x y other (inr b) = b
+
+  pub before_by_pairs : ((n : Node) → Before k n n → ⊥) → (x y : Node) → IsNodeOf k.strands y → Before k x y ↔ (LeadsTo k.pairs x y × (x ≡ y → ⊥))
+  before_by_pairs no_cycle x y n =
+      (λ b. (before_leads k x y b, λ e. no_cycle x (subst (Before k x) (sym e) b)), λ h. differ x y h.1 (leads_before x y n h.0))
