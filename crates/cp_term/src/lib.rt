@@ -11,9 +11,9 @@ mod shape;
 mod term;
 #[cfg(test)]
 mod tests;
-mod text;
 mod variable;
 
+pub use cp_base::Text;
 pub use laws::{carried_at_a_position, positions_are_those_found, test_of_equality};
 pub use making::{enc, invert, ltk, pair, pubk, tag, var};
 pub use path::{Path, Step};

@@ -4,7 +4,7 @@ ghost use Rattle.cp_term.specs.Layer.{term_of_node};
 ghost use Rattle.cp_term.specs.Leaves.{IsLeaf};
 
 use crate::term::{Node, Term};
-use crate::text::Text;
+use cp_base::Text;
 
 fn same_text(a: &Text, b: &Text) -> bool
     ensures { IsTrue result ↔ (a.now ≡ b.now) }

@@ -2,8 +2,8 @@
 ghost use Rattle.cp_term.specs.Shapes.{IsShapeOf};
 
 use crate::term::{Node, Term};
-use crate::text::Text;
 use crate::variable::{Sort, VarId};
+use cp_base::Text;
 
 /// What a term is made of, one level deep.
 #[derive(Clone, Copy)]

@@ -2,8 +2,8 @@
 ghost use Rattle.std.specs.Prelude.{◌≡◌, IfOk};
 ghost use Rattle.cp_term.specs.Layer.{term_of_node, IsWellSorted};
 
-use crate::text::Text;
 use crate::variable::VarId;
+use cp_base::Text;
 use std::alloc::{AllocError, Global};
 use std::marker::Model;
 use std::rc::Rc;

@@ -16,6 +16,9 @@ fn variables(rt: HostRuntime) -> Result<(), Fail> {
     assert_eq!(rt; (n.number(), k.number()), (0, 1));
     assert_eq!(rt; (table.root(n), table.root(k)), ("n1", "k"));
     assert_eq!(rt; (table.sort(n), table.sort(k)), (Sort::Text, Sort::Akey));
+    let again = table.copy()?;
+    assert_eq!(rt; again.len(), 2);
+    assert_eq!(rt; (again.root(k), again.sort(k)), ("k", Sort::Akey));
     Ok(())
 }
 

@@ -1,8 +1,9 @@
 // Variables: their sorts, their numbers, and the table in which they are declared.
-ghost use Rattle.std.specs.Prelude.{◌≡◌, ◌<◌, ◌++◌, [], ◌∷◌, length, slice_get, Some, IfOk, OnOk, OnErr};
+ghost use Rattle.std.specs.Prelude.{◌≡◌, ◌<◌, ◌++◌, [], ◌∷◌, length, map, slice_get, Some, IfOk, OnOk, OnErr};
+ghost use Rattle.cp_term.specs.Entries.{declared_by};
 ghost use Rattle.cp_term.specs.Table.{roots, sorts};
 
-use crate::text::Text;
+use cp_base::Text;
 use std::alloc::{AllocError, Global};
 use std::marker::Model;
 
@@ -37,6 +38,13 @@ impl Model for VarId {
 }
 
 impl VarId {
+    /// The variable with this number.
+    pub fn numbered(number: usize) -> VarId
+        ensures { result ≡ number }
+    {
+        VarId { number }
+    }
+
     /// The variable's number.
     pub fn number(self) -> usize
         ensures { result ≡ self }
@@ -50,6 +58,29 @@ impl VarId {
 struct Entry {
     root: Text,
     sort: Sort,
+}
+
+impl Entry {
+    fn copy(&self, alloc: Global) -> Result<Entry, AllocError>
+        ensures { IfOk result (λ e. declared_by e ≡ declared_by self.now) }
+    {
+        let root = Text::new(alloc, self.root.as_str())?;
+        Ok(Entry {
+            root,
+            sort: self.sort,
+        })
+    }
+}
+
+fn copy_entries(alloc: Global, entries: &[Entry]) -> Result<Vec<Entry>, AllocError>
+    ensures { IfOk result (λ v. map declared_by v.items ≡ map declared_by entries.now) }
+{
+    let mut copies = Vec::new(alloc);
+    for entry in entries {
+        let copy = entry.copy(alloc)?;
+        copies.push(copy)?;
+    }
+    Ok(copies)
 }
 
 /// The variables that were made so far, in the order in which they were made.
@@ -97,6 +128,14 @@ impl VarTable {
         let root = Text::new(*self.entries.allocator(), root)?;
         self.entries.push(Entry { root, sort })?;
         Ok(VarId { number })
+    }
+
+    /// The same variables again.
+    pub fn copy(&self) -> Result<VarTable, AllocError>
+        ensures { IfOk result (λ t. t ≡ self.now) }
+    {
+        let entries = copy_entries(*self.entries.allocator(), &self.entries)?;
+        Ok(VarTable { entries })
     }
 
     /// The identifier that the variable is named after.
