@@ -1,5 +1,5 @@
 -- The longest run of bytes of a kind.
-use Rattle.std.proofs.Common.{◌≡◌, ℕ, zero, suc, ◌+◌, ◌<◌, ◌≤◌, List, [], ◌∷◌, ◌++◌, length, get_or, take, drop, refl, sym, ap, ◌∙◌, arith, subst, append_assoc, ◌≢◌, ⊎_elim, one-add}
+use Rattle.std.proofs.Common.{◌≡◌, ℕ, zero, suc, ◌+◌, ◌<◌, ◌≤◌, List, [], ◌∷◌, ◌++◌, length, get_or, slice_index, take, drop, refl, sym, ap, ◌∙◌, arith, subst, append_assoc, ◌≢◌, ⊎_elim, one-add, lit<, IsAscii, Result, Ok, Err, IsOk, MatchResult}
 use Rattle.std.specs.List.{AllByRecursion}
 use Rattle.std.proofs.lemmas.Bool.{cases_eq}
 use Rattle.std.proofs.lemmas.List.{take-append-drop}
@@ -102,3 +102,22 @@ pub token_text : (bytes : List ℕ) (b : ℕ) (t : List ℕ) (n : ℕ) (front re
 token_text bytes b t n front rest e h r f g =
     subst (λ s. BeginsWith bytes (token s) rest) (sym f) (subst (λ s. BeginsWith bytes (token (take n bytes)) s) (sym g)
     (subst (λ s. BeginsWith s (token (take n s)) (drop n s)) (sym e) (token_begins b t n h (subst (λ s. IsRun IsTokenByte s n) e r))))
+
+-- ---- runs are texts
+
+pub front_ascii : (t : List ℕ) (n i : ℕ) → ((k : ℕ) → k < n → get_or t k 0 < 128) → slice_index (take n t) i < 128
+front_ascii [] zero i h = lit< tt
+front_ascii [] (suc n) i h = lit< tt
+front_ascii (b ∷ t) zero i h = lit< tt
+front_ascii (b ∷ t) (suc n) zero h = h zero (omega arith)
+front_ascii (b ∷ t) (suc n) (suc i) h = front_ascii t n i (λ k m. h (suc k) (omega arith))
+
+pub token_ascii : (t : List ℕ) (n : ℕ) → IsRun IsTokenByte t n → IsAscii (take n t)
+token_ascii t n r i = front_ascii t n i (λ k m. omega (arith, (r.each k m).1))
+
+pub string_ascii : (t : List ℕ) (n : ℕ) → IsRun IsStringByte t n → IsAscii (take n t)
+string_ascii t n r i = front_ascii t n i (λ k m. omega (arith, (r.each k m).1))
+
+pub ok_where_no_error : {A E : Type 0} (r : Result A E) (P : A → Type 0) (Q : E → Type 0) → MatchResult r P Q → ((e : E) → Q e → ⊥) → IsOk r
+ok_where_no_error (Ok a) P Q m none = refl
+ok_where_no_error (Err e) P Q m none = absurd (none e m)

@@ -7,9 +7,9 @@ ghost use Rattle.cp_sexpr.specs.View.{view, views};
 ghost use Rattle.cp_sexpr.specs.Building.{nothing_yet, with_form, with_list_open, with_list_closed, word, with_piece, building_of, opened_by, RefusesPiece, RefusesEnd};
 
 use crate::error::ReadError;
-use crate::form::{Form, Text};
+use crate::form::Form;
 use crate::piece::Piece;
-use cp_base::{Code, Place, Refusal};
+use cp_base::{Code, Place, Refusal, Text};
 use std::alloc::Global;
 use std::mem;
 
@@ -34,7 +34,7 @@ pub(crate) struct Builder {
 }
 
 /// The number that a token writes, if it is one to nine digits.
-fn number_of(digits: &[u8]) -> Option<u32>
+fn number_of(digits: &[u8]) -> Option<usize>
     ensures number { IfSome result (λ n. IsNumber digits.now × (n ≡ value digits.now)) }
     ensures none { IfNone result (IsNumber digits.now → ⊥) }
 {
@@ -46,7 +46,7 @@ fn number_of(digits: &[u8]) -> Option<u32>
         if !byte.is_ascii_digit() {
             return None;
         }
-        number = number * 10 + u32::from(*byte - b'0');
+        number = number * 10 + usize::from(*byte - b'0');
     }
     Some(number)
 }
@@ -58,15 +58,15 @@ fn begins_with_digit(text: &[u8]) -> bool
 }
 
 /// The form that a token stands for.
-fn word(alloc: Global, place: Place, text: &[u8]) -> Result<Form, ReadError>
+fn word(alloc: Global, place: Place, text: &str) -> Result<Form, ReadError>
     ensures form { IfOk result (λ f. view f ≡ word place text.now) }
     ensures accepted { IfOk result (λ _. IsAccepted [] (token text.now)) }
     ensures refused { IfErr result (RefusesPiece place [] (token text.now)) }
 {
-    if !begins_with_digit(text) {
+    if !begins_with_digit(text.as_bytes()) {
         return Ok(Form::Symbol(place, Text::new(alloc, text)?));
     }
-    match number_of(text) {
+    match number_of(text.as_bytes()) {
         Some(number) => Ok(Form::Number(place, number)),
         None => Err(ReadError::Refused(Refusal {
             place,

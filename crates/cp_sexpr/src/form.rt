@@ -1,38 +1,5 @@
-// A form, and the text of a symbol or a string.
-ghost use Rattle.std.specs.Prelude.{◌≡◌, ℕ, List, IfOk};
-
-use cp_base::Place;
-use std::alloc::{AllocError, Global};
-use std::marker::Model;
-
-/// The bytes of a symbol, or those between the quotes of a string.
-#[derive(Drop)]
-pub struct Text {
-    bytes: Vec<u8>,
-}
-
-impl Model for Text {
-    ghost Value = { List ℕ };
-
-    ghost view = { λ t. t.bytes.items };
-}
-
-impl Text {
-    /// A copy of these bytes. The error is that memory ran out.
-    pub fn new(alloc: Global, bytes: &[u8]) -> Result<Text, AllocError>
-        ensures { IfOk result (λ t. t ≡ bytes.now) }
-    {
-        let bytes = Vec::from_slice(alloc, bytes)?;
-        Ok(Text { bytes })
-    }
-
-    /// The bytes.
-    pub fn as_bytes(&self) -> &[u8]
-        ensures { result.now ≡ self.now }
-    {
-        self.bytes.as_slice()
-    }
-}
+// A form.
+use cp_base::{Place, Text};
 
 /// A form, with the place of its first byte.
 #[derive(Drop)]
@@ -42,7 +9,7 @@ pub enum Form {
     /// A string: the bytes between its quotes.
     String(Place, Text),
     /// A number, of nine digits at most where it was read.
-    Number(Place, u32),
+    Number(Place, usize),
     /// A list: its items.
     List(Place, Vec<Form>),
 }

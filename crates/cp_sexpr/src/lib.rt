@@ -10,7 +10,7 @@ mod reading;
 mod writing;
 
 pub use error::ReadError;
-pub use form::{Form, Text};
+pub use form::Form;
 pub use laws::{one_reading, reads_back};
 pub use reading::{MAX_LENGTH, read};
 pub use writing::{write, write_top};

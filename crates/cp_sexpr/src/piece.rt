@@ -1,21 +1,22 @@
 // The pieces of a text.
-ghost use Rattle.std.specs.Prelude.{◌≡◌, ◌+◌, ◌<◌, ◌≤◌, ◌^◌, ℕ, [], ◌∷◌, List, length, IsTrue, ◌↔◌, IfOk, IfErr, MatchOption};
+ghost use Rattle.std.specs.Prelude.{◌≡◌, ◌+◌, ◌<◌, ◌≤◌, ◌^◌, ℕ, [], ◌∷◌, List, length, IsTrue, ◌↔◌, IfOk, IfErr, MatchOption, IsAscii};
 ghost use Rattle.cp_base.specs.declared.place.Place.{Place as PlaceData};
 ghost use Rattle.cp_sexpr.specs.Pieces.{IsTokenByte, IsStringByte, IsCommentByte, BeginsWith, place_after, quote};
 ghost use Rattle.cp_sexpr.specs.Reading.{IsRefused};
 ghost use Rattle.cp_sexpr.specs.Scanning.{IsRun, piece_of};
 
 use cp_base::{Code, Place, Refusal};
+use std::str;
 
-/// A piece of a text, with the bytes that it holds.
+/// A piece of a text, with what it holds.
 #[derive(Clone, Copy)]
 pub(crate) enum Piece<'a> {
     Blank(u8),
     Comment(&'a [u8]),
     Opening,
     Closing,
-    Quoted(&'a [u8]),
-    Token(&'a [u8]),
+    Quoted(&'a str),
+    Token(&'a str),
 }
 
 fn is_token_byte(b: u8) -> bool
@@ -60,6 +61,14 @@ fn line_length(bytes: &[u8]) -> usize
         .unwrap_or(bytes.len())
 }
 
+/// The bytes of a token or of a string as a text.
+fn text_of(bytes: &[u8]) -> &str
+    requires { IsAscii bytes.now }
+    ensures { result.now ≡ bytes.now }
+{
+    str::from_utf8(bytes).unwrap()
+}
+
 /// The place behind the bytes, where they begin at this place.
 pub(crate) fn place_after(place: Place, bytes: &[u8]) -> Place
     requires lines { place.line + length bytes.now < 2 ^ 32 }
@@ -101,7 +110,7 @@ fn string_piece(place: Place, bytes: &[u8]) -> Result<(Piece<'_>, &[u8]), Refusa
         });
     };
     match *byte {
-        b'"' => Ok((Piece::Quoted(text), rest)),
+        b'"' => Ok((Piece::Quoted(text_of(text)), rest)),
         b'\n' => Err(Refusal {
             place,
             code: Code::OpenString,
@@ -138,7 +147,7 @@ pub(crate) fn next_piece(place: Place, bytes: &[u8]) -> Result<Option<(Piece<'_>
         b'"' => Ok(Some(string_piece(place, bytes)?)),
         byte if is_token_byte(byte) => {
             let (text, rest) = bytes.split_at(token_length(bytes));
-            Ok(Some((Piece::Token(text), rest)))
+            Ok(Some((Piece::Token(text_of(text)), rest)))
         }
         _ => Err(Refusal {
             place,

@@ -5,7 +5,8 @@ ghost use Rattle.cp_sexpr.specs.Pieces.{quote, open_parenthesis, close_parenthes
 ghost use Rattle.cp_sexpr.specs.Spelling.{spelling, first_spelling, next_spelling, top_gap, first_top_spelling, next_top_spelling, top_text, top_spelling, AppendsFront};
 ghost use Rattle.cp_sexpr.specs.View.{view, views};
 
-use crate::form::{Form, Text};
+use crate::form::Form;
+use cp_base::Text;
 use itoa::Buffer;
 use std::alloc::AllocError;
 
@@ -19,7 +20,7 @@ fn write_string(text: &Text, out: &mut Vec<u8>) -> Result<(), AllocError>
     Ok(())
 }
 
-fn write_number(number: u32, out: &mut Vec<u8>) -> Result<(), AllocError>
+fn write_number(number: usize, out: &mut Vec<u8>) -> Result<(), AllocError>
     ensures ok { OnOk result (out.new.items ≡ out.old.items ++ decimal number) }
     ensures err { OnErr result (AppendsFront out.old.items out.new.items (decimal number)) }
 {

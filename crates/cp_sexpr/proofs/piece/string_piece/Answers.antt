@@ -1,9 +1,9 @@
-use Rattle.std.proofs.Common.{◌≡◌, ◌∷◌, drop, take, sym, ap, ◌∙◌, subst, arith}
+use Rattle.std.proofs.Common.{◌≡◌, ◌∷◌, drop, take, sym, ap, ◌∙◌, subst, arith, IsAscii}
 use Rattle.std.proofs.lemmas.List.{nil_from_length}
 use Rattle.cp_base.specs.declared.place.Code.TheVariants.{BadByte, OpenString}
 use Rattle.cp_sexpr.specs.Pieces.{quoted, quote, BeginsWith, EndsLine, place_after}
 use Rattle.cp_sexpr.specs.Reading.{IsRefused, refusal}
-use Rattle.cp_sexpr.proofs.Runs.{string_text, string_begins, string_open, string_byte_refused, front_of_string}
+use Rattle.cp_sexpr.proofs.Runs.{string_text, string_ascii, string_begins, string_open, string_byte_refused, front_of_string}
 use Rattle.cp_sexpr.proofs.piece.string_piece.Goals as goal
 
 pub returns-in_default-clause-refused : goal.returns-in_default-clause-refused
@@ -22,9 +22,13 @@ returns-in-34-clause-piece c =
     let rest = c.in-Some.rest.now in
     let text = string_text c.args.bytes.now tail c.requires.begins c.split_at.ensures.back in
     let next : drop n tail ≡ quote ∷ rest = sym c.split_at-2.ensures.back ∙ c.in-Some.ensures.cases.0 ∙ ap (λ b. b ∷ rest) c.in-34.is in
-    subst (λ t. BeginsWith t (quoted c.split_at-2.result.0.now) rest) (sym text)
-    (subst (λ t. BeginsWith (quote ∷ tail) (quoted t) rest) (sym c.split_at-2.ensures.front)
+    subst (λ t. BeginsWith t (quoted c.text_of.result.now) rest) (sym text)
+    (subst (λ t. BeginsWith (quote ∷ tail) (quoted t) rest) (sym (c.text_of.ensures ∙ c.split_at-2.ensures.front))
     (string_begins tail n rest c.string_length-length.ensures next))
+
+pub text_of-requires : goal.text_of-requires
+text_of-requires c =
+    subst IsAscii (sym c.split_at-2.ensures.front) (string_ascii c.split_at.result.1.now c.string_length-length.result c.string_length-length.ensures)
 
 pub returns-in-10-clause-refused : goal.returns-in-10-clause-refused
 returns-in-10-clause-refused c opened =
