@@ -1,4 +1,6 @@
 mod RefusalExamplesOne
 mod RefusalExamplesTwo
 pub mod OneAnswer
+pub mod Reaching
 mod ReportExamples
+pub mod ValidTests

@@ -67,6 +67,14 @@ entries_from above (f ∷ fs) = record { form = f; problem = stated_problem abov
 abbrev pub input_of : Forms → List Entry
 input_of fs = entries_from [] (items_of fs)
 
+-- The protocols that the forms state, in order.
+abbrev pub protocols_in : List Form → List Protocol
+protocols_in [] = []
+protocols_in (f ∷ fs) = protocols_behind (headed f) [] ++ protocols_in fs
+
+abbrev pub protocols_of : Forms → List Protocol
+protocols_of fs = protocols_in (items_of fs)
+
 -- Forms are well formed when they have no fault; otherwise the first of their faults is answered.
 abbrev pub IsInput : Forms → Result (List Entry) Refusal → Type 0
 IsInput fs (Ok entries) = (faults_of fs ≡ []) × (entries ≡ input_of fs)

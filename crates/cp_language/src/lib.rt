@@ -2,9 +2,13 @@
 //! report: its forms and its text. Definitions alone, with their laws.
 #![tactic(auto)]
 
-ghost use Rattle.std.specs.Prelude.{◌≡◌, List, Result};
+ghost use Rattle.std.specs.Prelude.{◌≡◌, ◌↔◌, List, length, Result, true};
 ghost use Rattle.cp_base.specs.declared.place.Refusal.{Refusal};
 ghost use Rattle.cp_language.specs.Input.{Entry, IsInput};
+ghost use Rattle.cp_language.specs.Problems.{reaches};
+ghost use Rattle.cp_model.specs.Bundle.{Node};
+ghost use Rattle.cp_model.specs.Order.{LeadsTo};
+ghost use Rattle.cp_model.specs.Skeleton.{OrderPair};
 ghost use Rattle.cp_sexpr.specs.Syntax.{Forms};
 
 /// Forms have exactly one answer: what they state where they are well formed, or else the first of their faults.
@@ -12,4 +16,11 @@ ghost use Rattle.cp_sexpr.specs.Syntax.{Forms};
 pub fn forms_have_one_answer()
     ensures one { (fs : Forms) (a b : Result (List Entry) Refusal) → IsInput fs a → IsInput fs b → a ≡ b }
     ensures some { (fs : Forms) → (a : Result (List Entry) Refusal) × IsInput fs a }
+{}
+
+/// Searching along as many pairs as there are finds all that leads from one node to another: no pair needs to be taken
+/// twice.
+#[tactic(auto, using(crate::proofs::Reaching::reaches_all))]
+pub fn search_is_complete()
+    ensures { (pairs : List OrderPair) (x y : Node) → (reaches (length pairs) pairs x y ≡ true) ↔ LeadsTo pairs x y }
 {}
