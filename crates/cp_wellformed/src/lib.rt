@@ -1,0 +1,37 @@
+//! Laws of well-formed input: its problems are skeletons over their protocols and map to themselves, and the roles of
+//! these protocols are well formed. They hold for all of the language.
+#![tactic(auto)]
+
+ghost use Rattle.std.specs.Prelude.{◌≡◌, [], Some};
+ghost use Rattle.cp_language.specs.Input.{Entry, faults_of, input_of};
+ghost use Rattle.cp_language.specs.Problems.{Problem};
+ghost use Rattle.cp_model.specs.Lists.{IsIn};
+ghost use Rattle.cp_model.specs.Problem.{IsOwnProblem};
+ghost use Rattle.cp_model.specs.Skeleton.{IsSkeleton};
+ghost use Rattle.cp_model.specs.Strand.{Role};
+ghost use Rattle.cp_sexpr.specs.Syntax.{Forms};
+ghost use Rattle.cp_wellformed.specs.Example.{example_input};
+ghost use Rattle.cp_wellformed.specs.Role.{IsWellFormedRole};
+
+/// The laws that each problem that well-formed input states is a skeleton over its protocol, and that it maps to itself:
+/// each of its strands and of its variables to itself, and all variables that occur in it are among its own.
+#[tactic(auto, using(crate::proofs::Problems::are_skeletons))]
+pub fn problems_of_input_are_skeletons()
+    ensures skeletons { (fs : Forms) (e : Entry) (p : Problem) → faults_of fs ≡ [] → IsIn e (input_of fs) → e.problem ≡ Some p → IsSkeleton p.protocol p.skeleton }
+    ensures own { (fs : Forms) (e : Entry) (p : Problem) → faults_of fs ≡ [] → IsIn e (input_of fs) → e.problem ≡ Some p → IsOwnProblem p.variables p.skeleton }
+{}
+
+/// The law that the roles of the protocols of these problems are well formed: each identifier names its own variable, all
+/// variables that occur are declared, and unique values originate in the trace.
+#[tactic(auto, using(crate::proofs::Problems::roles_are_well_formed))]
+pub fn roles_of_input_are_well_formed()
+    ensures { (fs : Forms) (e : Entry) (p : Problem) (r : Role) → faults_of fs ≡ [] → IsIn e (input_of fs) → e.problem ≡ Some p → IsIn r p.protocol.roles → IsWellFormedRole r }
+{}
+
+/// The law that an input meets the premises of the laws above: it is well formed and states a problem, of two instances,
+/// a listener, assumptions of each kind, and a pair.
+#[tactic(auto, using(crate::proofs::Example::is_well_formed))]
+pub fn well_formed_example()
+    ensures well_formed { faults_of example_input ≡ [] }
+    ensures stated { (e : Entry) × (p : Problem) × IsIn e (input_of example_input) × (e.problem ≡ Some p) }
+{}
