@@ -1,0 +1,3 @@
+mod Gathering
+mod Ordering
+pub mod Spinewise

@@ -1,0 +1,45 @@
+// What leads to nodes of three strands, worked out by hand.
+use super::{Leading, Node, OrderPair};
+use std::test::Fail;
+
+fn node(strand: usize, index: usize) -> Node {
+    Node { strand, index }
+}
+
+fn pair(earlier: Node, later: Node) -> OrderPair {
+    OrderPair { earlier, later }
+}
+
+fn pairs() -> [OrderPair; 4] {
+    [
+        pair(node(2, 1), node(1, 2)),
+        pair(node(1, 1), node(0, 1)),
+        pair(node(0, 2), node(2, 0)),
+        pair(node(0, 0), node(1, 0)),
+    ]
+}
+
+fn lead(leading: &Leading, nodes: &[Node]) -> bool {
+    nodes.iter().all(|node| leading.has(*node))
+}
+
+fn none_leads(leading: &Leading, nodes: &[Node]) -> bool {
+    !nodes.iter().any(|node| leading.has(*node))
+}
+
+#[test]
+fn over_pairs_of_all_strands(rt: HostRuntime) -> Result<(), Fail> {
+    let leading = Leading::new(rt.alloc(), &pairs(), node(1, 2))?;
+    assert!(rt; lead(&leading, &[node(1, 0), node(1, 1), node(1, 2)]));
+    assert!(rt; lead(&leading, &[node(2, 0), node(2, 1), node(0, 0), node(0, 2)]));
+    assert!(rt; none_leads(&leading, &[node(1, 3), node(2, 2), node(0, 3), node(3, 0)]));
+    Ok(())
+}
+
+#[test]
+fn not_over_pairs_that_come_later(rt: HostRuntime) -> Result<(), Fail> {
+    let leading = Leading::new(rt.alloc(), &pairs(), node(1, 1))?;
+    assert!(rt; lead(&leading, &[node(1, 0), node(1, 1), node(0, 0)]));
+    assert!(rt; none_leads(&leading, &[node(1, 2), node(0, 1), node(2, 0)]));
+    Ok(())
+}

@@ -1,0 +1,77 @@
+// Derivation trees as values.
+use crate::skeleton::{Node, Skeleton};
+use cp_term::{Pattern, Term};
+
+/// The greatest number of labels that are expanded, and the bound on the number of strands.
+#[derive(Clone, Copy, Debug, PartialEq, Eq)]
+pub struct Limits {
+    pub steps: u32,
+    pub strands: u32,
+}
+
+/// How a label was made. Strands and nodes are those of the label's own skeleton.
+#[derive(Drop)]
+pub enum Operation {
+    /// The problem itself, in normal form.
+    Problem,
+    /// The transmission at this node now carries the critical term.
+    Contracted(Node),
+    /// The transmission at this node was put before the test's.
+    Displaced(Node),
+    /// A strand of a role was added; it has this number.
+    AddedStrand(usize),
+    /// A listener was added; it has this number.
+    AddedListener(usize),
+    /// Strands of the problem were identified: for each of them, the lowest that it is identified with.
+    Collapsed(Vec<usize>),
+    /// A realised label was made more general.
+    Generalised,
+}
+
+/// What a leaf is.
+#[derive(Clone, Copy, Debug, PartialEq, Eq)]
+pub enum Mark {
+    Shape,
+    Dead,
+    /// Isomorphic to this earlier label.
+    Seen(usize),
+    /// This shape embeds in it.
+    InstanceOf(usize),
+    LimitSteps,
+    LimitStrands,
+}
+
+/// How the search for a problem ended.
+#[derive(Clone, Copy, Debug, PartialEq, Eq)]
+pub enum Outcome {
+    Complete,
+    LimitSteps,
+    LimitStrands,
+}
+
+/// An authentication test: a reception, and the component of its message that cannot be derived.
+#[derive(Drop)]
+pub struct Test {
+    pub node: Node,
+    pub term: Term,
+}
+
+/// One label of a tree. Labels are numbered from 0 by their places.
+#[derive(Drop)]
+pub struct TreeNode {
+    pub parent: Option<usize>,
+    pub operation: Operation,
+    pub skeleton: Skeleton,
+    pub unrealised: Vec<Node>,
+    pub test: Option<Test>,
+    pub patterns: Vec<Pattern>,
+    pub children: Vec<usize>,
+    pub mark: Option<Mark>,
+}
+
+/// The derivation tree of a problem.
+#[derive(Drop)]
+pub struct Tree {
+    pub nodes: Vec<TreeNode>,
+    pub outcome: Outcome,
+}
