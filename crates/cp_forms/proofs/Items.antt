@@ -1,0 +1,111 @@
+-- Items of lists, and what they lack or have too many.
+use Rattle.std.proofs.Common.{◌≡◌, ℕ, zero, suc, ◌+◌, ◌<◌, ◌≤◌, List, [], ◌∷◌, ◌++◌, length, get_or, map, take, drop, refl, sym, ap, ◌∙◌, add-one, arith}
+use Rattle.std.specs.Prelude.{Option, Some, None}
+use Rattle.std.proofs.lemmas.List.{take_all, drop_all}
+use Rattle.std.proofs.Math.Seq.{drop-cons}
+use Rattle.cp_base.specs.declared.place.Place.{Place}
+use Rattle.cp_base.specs.declared.place.Code.TheVariants.{BadShape}
+use Rattle.cp_base.specs.declared.place.Refusal.{Refusal}
+use Rattle.cp_model.specs.Lists.{item_at}
+use Rattle.cp_model.specs.Strand.{Declaration}
+use Rattle.cp_sexpr.specs.Syntax.{Form}
+use Rattle.cp_sexpr.specs.View.{view}
+use Rattle.cp_sexpr.specs.declared.form.Form as program
+use Rattle.cp_language.specs.Faults.{fault, place_of}
+use Rattle.cp_language.specs.Terms.{lacks, exceeds, key_faults, last_key_faults}
+use Rattle.cp_language.specs.Roles.{last_form, front_of, each_faults}
+use Rattle.cp_forms.specs.FirstFault.{first_onto}
+use Rattle.cp_forms.proofs.Firsts.{first_onto-append}
+
+pub map-length : (fs : List program.Form) → length (map view fs) ≡ length fs
+map-length [] = refl
+map-length (f ∷ fs) = ap suc (map-length fs)
+
+pub map-take : (n : ℕ) (fs : List program.Form) → map view (take n fs) ≡ take n (map view fs)
+map-take zero fs = refl
+map-take (suc n) [] = refl
+map-take (suc n) (f ∷ fs) = ap (λ gs. view f ∷ gs) (map-take n fs)
+
+pub map-drop : (n : ℕ) (fs : List program.Form) → map view (drop n fs) ≡ drop n (map view fs)
+map-drop zero fs = refl
+map-drop (suc n) [] = refl
+map-drop (suc n) (f ∷ fs) = map-drop n fs
+
+pub short-take : (n : ℕ) (fs : List program.Form) → length fs < n → map view fs ≡ take n (map view fs)
+short-take n fs h = sym (take_all n (map view fs) (omega (arith, map-length fs)))
+
+pub short-drop : (n : ℕ) (fs : List program.Form) → length fs < n → [] ≡ drop n (map view fs)
+short-drop n fs h = sym (drop_all n (map view fs) (omega (arith, map-length fs)))
+
+-- ---- the last item
+
+pub last-of : (fs : List program.Form) (f : program.Form) → last_form (map view (fs ++ f ∷ [])) ≡ Some (view f)
+last-of [] f = refl
+last-of (g ∷ []) f = refl
+last-of (g ∷ h ∷ fs) f = last-of (h ∷ fs) f
+
+pub front-of : (fs : List program.Form) (f : program.Form) → front_of (map view (fs ++ f ∷ [])) ≡ map view fs
+front-of [] f = refl
+front-of (g ∷ []) f = refl
+front-of (g ∷ h ∷ fs) f = ap (λ gs. view g ∷ gs) (front-of (h ∷ fs) f)
+
+pub none-last : (fs : List program.Form) → length fs ≡ 0 → last_form (map view fs) ≡ None
+none-last [] e = refl
+none-last (f ∷ fs) e = absurd (omega arith)
+
+-- ---- too few and too many
+
+pub lacks-fault : (n : ℕ) (at : Place) (fs : List program.Form) → length fs < n → lacks n at (map view fs) ≡ fault at BadShape
+lacks-fault zero at fs h = absurd (omega arith)
+lacks-fault (suc n) at [] h = refl
+lacks-fault (suc n) at (f ∷ fs) h = lacks-fault n at fs (omega arith)
+
+pub lacks-none : (n : ℕ) (at : Place) (fs : List program.Form) → n ≤ length fs → lacks n at (map view fs) ≡ []
+lacks-none zero at fs h = refl
+lacks-none (suc n) at [] h = absurd (omega arith)
+lacks-none (suc n) at (f ∷ fs) h = lacks-none n at fs (omega arith)
+
+pub exceeds-fault : (n : ℕ) (fs : List Form) (f : Form) → Some f ≡ item_at fs n → exceeds n fs ≡ fault (place_of f) BadShape
+exceeds-fault zero [] f e = absurd (cc)
+exceeds-fault zero (g ∷ fs) f e = let same : f ≡ g = cc in ap (λ x. fault (place_of x) BadShape) (sym same)
+exceeds-fault (suc n) [] f e = absurd (cc)
+exceeds-fault (suc n) (g ∷ fs) f e = exceeds-fault n fs f e
+
+pub exceeds-none : (n : ℕ) (fs : List Form) → None ≡ item_at fs n → exceeds n fs ≡ []
+exceeds-none zero [] e = refl
+exceeds-none zero (g ∷ fs) e = absurd (cc)
+exceeds-none (suc n) [] e = refl
+exceeds-none (suc n) (g ∷ fs) e = exceeds-none n fs e
+
+pub last_key-fault : (ds : List Declaration) (fs : List Form) (f : Form) → Some f ≡ last_form fs → last_key_faults ds fs ≡ key_faults ds f
+last_key-fault ds [] f e = absurd (cc)
+last_key-fault ds (g ∷ []) f e = let same : f ≡ g = cc in ap (key_faults ds) (sym same)
+last_key-fault ds (g ∷ h ∷ fs) f e = last_key-fault ds (h ∷ fs) f e
+
+pub last_key-none : (ds : List Declaration) (fs : List Form) → None ≡ last_form fs → last_key_faults ds fs ≡ []
+last_key-none ds [] e = refl
+last_key-none ds (g ∷ []) e = absurd (cc)
+last_key-none ds (g ∷ h ∷ fs) e = last_key-none ds (h ∷ fs) e
+
+-- ---- a list item by item
+
+pub item-drop : {A : Type 0} (xs : List A) (k : ℕ) (x : A) → k < length xs → x ≡ get_or xs k x → drop k xs ≡ x ∷ drop (k + 1) xs
+item-drop xs k x h e = drop-cons xs k x h ∙ rw (← e) (ap (λ ys. x ∷ ys) (rw add-one))
+
+module _ (faults : Form → List Refusal) (fs : List program.Form) (k : ℕ) where
+  -- the faults of what is left, after those of the item that comes next
+  pub each-step : (f : program.Form) → k < length fs → f ≡ get_or fs k f → (o : Option Refusal)
+      → first_onto o (each_faults faults (map view (drop k fs))) ≡ first_onto (first_onto o (faults (view f))) (each_faults faults (map view (drop (k + 1) fs)))
+  each-step f h e o =
+      ap (λ gs. first_onto o (each_faults faults (map view gs))) (item-drop fs k f h e)
+      ∙ first_onto-append o (faults (view f)) (each_faults faults (map view (drop (k + 1) fs)))
+
+  pub each-end : length fs ≤ k → (o : Option Refusal) → first_onto o (each_faults faults (map view (drop k fs))) ≡ o
+  each-end h o = ap (λ gs. first_onto o (each_faults faults (map view gs))) (drop_all k fs h)
+
+  pub each-taken : (f : program.Form) → k < length fs → f ≡ get_or fs k f → (o p all : Option Refusal) → p ≡ first_onto o (faults (view f))
+      → first_onto o (each_faults faults (map view (drop k fs))) ≡ all → first_onto p (each_faults faults (map view (drop (k + 1) fs))) ≡ all
+  each-taken f h e o p all g i = ap (λ q. first_onto q (each_faults faults (map view (drop (k + 1) fs)))) g ∙ sym (each-step f h e o) ∙ i
+
+  pub each-done : length fs ≤ k → (o all : Option Refusal) → first_onto o (each_faults faults (map view (drop k fs))) ≡ all → o ≡ all
+  each-done h o all i = sym (each-end h o) ∙ i

@@ -1,0 +1,104 @@
+-- The faults of pairs, part by part.
+use Rattle.std.proofs.Common.{◌≡◌, ℕ, ◌+◌, ◌-◌, ◌<◌, ◌≤◌, List, [], ◌∷◌, ◌++◌, length, get_or, map, take, drop, Bool, true, false, refl, sym, ap, ◌∙◌, subst, arith}
+use Rattle.std.specs.Prelude.{◌↔◌, Option, Some, None, is_none, nat_le}
+use Rattle.std.proofs.lemmas.Bool.{cond-false}
+use Rattle.std.proofs.lemmas.List.{take_all}
+use Rattle.cp_base.specs.declared.place.Place.{Place}
+use Rattle.cp_base.specs.declared.place.Code.TheVariants.{BadShape}
+use Rattle.cp_base.specs.declared.place.Refusal.{Refusal}
+use Rattle.cp_model.specs.Skeleton.{SkeletonStrand, OrderPair}
+use Rattle.cp_model.specs.Order.{LeadsTo}
+use Rattle.cp_sexpr.specs.Syntax.{Form}
+use Rattle.cp_sexpr.specs.View.{view}
+use Rattle.cp_sexpr.specs.declared.form.Form as program
+use Rattle.cp_language.specs.Faults.{fault}
+use Rattle.cp_language.specs.Roles.{unless_faulty, list_items}
+use Rattle.cp_language.specs.Terms.{exceeds}
+use Rattle.cp_language.specs.Problems.{on_one_strand, reaches, closes_cycle, node_of, node_faults, pair_of_nodes, order_faults, pair_items_faults, pair_faults, pair_of, pairs_in, pairs_faults}
+use Rattle.cp_language.proofs.Reaching.{reaches_all}
+use Rattle.cp_skel.specs.Leading.{Target}
+use Rattle.cp_forms.specs.FirstFault.{first_onto, merged, onto_none}
+use Rattle.cp_forms.proofs.Firsts.{first_onto-append, first_then_four, merged-unless}
+use Rattle.cp_forms.proofs.Items.{item-drop}
+
+-- ---- cycles
+
+same_bool : (b c : Bool) → (b ≡ true → c ≡ true) → (c ≡ true → b ≡ true) → b ≡ c
+same_bool true c f g = sym (f refl)
+same_bool false true f g = g refl
+same_bool false false f g = refl
+
+pub cycle-searched : (before : List OrderPair) (p : OrderPair) (l : Target) (b : Bool) → on_one_strand p ≡ false → l ≡ record { pairs = before; node = p.earlier } → (b ≡ true) ↔ LeadsTo l.pairs p.later l.node → b ≡ closes_cycle before p
+cycle-searched before p l b other is h =
+    let leads : (b ≡ true) ↔ LeadsTo before p.later p.earlier = subst (λ (t : Target). (b ≡ true) ↔ LeadsTo t.pairs p.later t.node) is h in
+    let law = reaches_all before p.later p.earlier in
+    same_bool b (reaches (length before) before p.later p.earlier) (λ e. law.1 (leads.0 e)) (λ e. leads.1 (law.0 e))
+    ∙ sym (cond-false (on_one_strand p) (nat_le p.later.index p.earlier.index) (reaches (length before) before p.later p.earlier) other)
+
+-- ---- nodes, or else their order
+
+onto_none-there : (i j : Option Refusal) (others : List Refusal) → is_none i ≡ true → j ≡ first_onto i others → j ≡ onto_none i others
+onto_none-there None j others h e = e
+onto_none-there (Some r) j others h e = absurd (cc)
+
+onto_none-not : (i j : Option Refusal) (others : List Refusal) → is_none i ≡ false → j ≡ i → j ≡ onto_none i others
+onto_none-not None j others h e = absurd (cc)
+onto_none-not (Some r) j others h e = e
+
+module _ (o m i j k : Option Refusal) (b : Bool) (ns rs others : List Refusal) (first : m ≡ first_onto None ns) (second : i ≡ first_onto m rs) (test : b ≡ is_none i) (whole : k ≡ merged o j) where
+  both : i ≡ first_onto None (ns ++ rs)
+  both = second ∙ ap (λ x. first_onto x rs) first ∙ sym (first_onto-append None ns rs)
+
+  pub nodes-there : b ≡ true → j ≡ first_onto i others → k ≡ first_onto o (unless_faulty (ns ++ rs) others)
+  nodes-there h e = merged-unless o i j k (ns ++ rs) others both (onto_none-there i j others (sym test ∙ h) e) whole
+
+  pub nodes-faulty : b ≡ false → j ≡ i → k ≡ first_onto o (unless_faulty (ns ++ rs) others)
+  nodes-faulty h e = merged-unless o i j k (ns ++ rs) others both (onto_none-not i j others (sym test ∙ h) e) whole
+
+-- ---- one pair
+
+module _ (strands : List SkeletonStrand) (before : List OrderPair) (at : Place) where
+  pub few_in_pair : (fs : List program.Form) → length fs < 2 → fault at BadShape ≡ pair_items_faults strands before at (map view fs)
+  few_in_pair [] l = refl
+  few_in_pair (x ∷ []) l = refl
+  few_in_pair (x ∷ y ∷ fs) l = absurd (omega arith)
+
+  abbrev inner : Form → Form → List Refusal
+  inner f g = unless_faulty (node_faults strands f ++ node_faults strands g) (order_faults strands before at f g (pair_of_nodes (node_of f) (node_of g)))
+
+  abbrev whole : Form → Form → List Form → List Form → List Form → List Refusal
+  whole f g fs gs rest = inner f g ++ exceeds 2 fs ++ exceeds 2 gs ++ exceeds 0 rest
+
+  pub pair-read : (items : List program.Form) (f g : program.Form) → 2 ≤ length items → f ≡ get_or items 0 f → g ≡ get_or items 1 g → (fs gs : List program.Form) → map view fs ≡ list_items (view f) → map view gs ≡ list_items (view g)
+      → (o p q r s : Option Refusal) → p ≡ first_onto o (inner (view f) (view g)) → q ≡ first_onto p (exceeds 2 (map view fs)) → r ≡ first_onto q (exceeds 2 (map view gs))
+      → s ≡ first_onto r (exceeds 0 (map view (take (length items - 2) (drop 2 items)))) → s ≡ first_onto o (pair_items_faults strands before at (map view items))
+  pair-read [] f g l e h fs gs ef eg o p q r s hp hq hr hs = absurd (omega arith)
+  pair-read (x ∷ []) f g l e h fs gs ef eg o p q r s hp hq hr hs = absurd (omega arith)
+  pair-read (x ∷ y ∷ items) f g l e h fs gs ef eg o p q r s hp hq hr hs =
+      let rest = take (length (x ∷ y ∷ items) - 2) items in
+      first_then_four o p q r s (inner (view f) (view g)) (exceeds 2 (map view fs)) (exceeds 2 (map view gs)) (exceeds 0 (map view rest)) hp hq hr hs
+      ∙ ap (λ ls. first_onto o (whole (view f) (view g) ls (map view gs) (map view rest))) ef
+      ∙ ap (λ ls. first_onto o (whole (view f) (view g) (list_items (view f)) ls (map view rest))) eg
+      ∙ ap (λ k. first_onto o (whole (view k) (view g) (list_items (view k)) (list_items (view g)) (map view rest))) e
+      ∙ ap (λ k. first_onto o (whole (view x) (view k) (list_items (view x)) (list_items (view k)) (map view rest))) h
+      ∙ ap (λ ks. first_onto o (whole (view x) (view y) (list_items (view x)) (list_items (view y)) (map view ks))) (take_all (length (x ∷ y ∷ items) - 2) items (omega arith))
+
+-- ---- pair after pair
+
+append_assoc : {A : Type 0} (xs ys zs : List A) → (xs ++ ys) ++ zs ≡ xs ++ (ys ++ zs)
+append_assoc [] ys zs = refl
+append_assoc (x ∷ xs) ys zs = ap (λ bs. x ∷ bs) (append_assoc xs ys zs)
+
+module _ (strands : List SkeletonStrand) (items : List program.Form) (k : ℕ) (f : program.Form) (lt : k < length items) (is : f ≡ get_or items k f) (before after : List OrderPair) (added : after ≡ before ++ pair_of (view f)) where
+  pub pairs-taken : (whole : List OrderPair) → before ++ pairs_in (map view (drop k items)) ≡ whole → after ++ pairs_in (map view (drop (k + 1) items)) ≡ whole
+  pairs-taken whole h =
+      let rest = pairs_in (map view (drop (k + 1) items)) in
+      ap (λ ps. ps ++ rest) added ∙ append_assoc before (pair_of (view f)) rest ∙ sym (ap (λ gs. before ++ pairs_in (map view gs)) (item-drop items k f lt is)) ∙ h
+
+  pub pairs-judged : (o p all : Option Refusal) → p ≡ first_onto o (pair_faults strands before (view f)) → first_onto o (pairs_faults strands before (map view (drop k items))) ≡ all
+      → first_onto p (pairs_faults strands after (map view (drop (k + 1) items))) ≡ all
+  pairs-judged o p all e h =
+      let rest = map view (drop (k + 1) items) in
+      ap (λ q. first_onto q (pairs_faults strands after rest)) e ∙ ap (λ ps. first_onto (first_onto o (pair_faults strands before (view f))) (pairs_faults strands ps rest)) added
+      ∙ sym (first_onto-append o (pair_faults strands before (view f)) (pairs_faults strands (before ++ pair_of (view f)) rest))
+      ∙ sym (ap (λ gs. first_onto o (pairs_faults strands before (map view gs))) (item-drop items k f lt is)) ∙ h

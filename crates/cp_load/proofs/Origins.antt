@@ -1,0 +1,101 @@
+-- Tests that are exact, and loops over events.
+use Rattle.std.proofs.Common.{◌≡◌, ℕ, suc, ◌+◌, ◌<◌, ◌≤◌, List, [], ◌∷◌, ◌++◌, length, get_or, drop, map, refl, sym, ap, ◌∙◌, add-one, arith, Bool, true, false, Option, Some, None, if◌then◌else◌}
+use Rattle.std.proofs.lemmas.List.{at_drop_all}
+use Rattle.cp_base.specs.declared.place.Place.{Place}
+use Rattle.cp_base.specs.declared.place.Code.TheVariants.{BadShape}
+use Rattle.cp_model.specs.Term.{Term, AtomTerm, IsCarriedByTerm}
+use Rattle.cp_model.specs.Strand as strand
+use Rattle.cp_model.specs.Strand.{payload, send, recv, Declaration}
+use Rattle.cp_sexpr.specs.Syntax.{Form}
+use Rattle.cp_sexpr.specs.View.{view}
+use Rattle.cp_sexpr.specs.declared.form.Form as program
+use Rattle.cp_language.specs.Faults.{fault, place_of}
+use Rattle.cp_language.specs.Same.{carries, same_atom, origin_in, one_later}
+use Rattle.cp_language.specs.Terms.{term_faults}
+use Rattle.cp_language.specs.Roles.{message_faults, event_faults, events_faults, each_faults}
+use Rattle.cp_language.proofs.ValidTests.{carried, is_carried, atom_is, is_atom}
+use Rattle.cp_skel.specs.View.{event_view}
+use Rattle.cp_skel.specs.declared.protocol.Event.{Event}
+use Rattle.cp_forms.proofs.Items.{item-drop}
+
+exact : (r t : Bool) (P : Type 0) → (r ≡ true → P) → (P → r ≡ true) → (t ≡ true → P) → (P → t ≡ true) → r ≡ t
+exact true true P f g h i = refl
+exact true false P f g h i = sym (i (f refl))
+exact false true P f g h i = g (h refl)
+exact false false P f g h i = refl
+
+pub exact-carries : (r : Bool) (whole part : Term) → (r ≡ true → IsCarriedByTerm part whole) → (IsCarriedByTerm part whole → r ≡ true) → r ≡ carries whole part
+exact-carries r whole part f g = exact r (carries whole part) (IsCarriedByTerm part whole) f g (carried whole part) (is_carried part whole)
+
+pub exact-atom : (r : Bool) (a b : AtomTerm) → (r ≡ true → a ≡ b) → (a ≡ b → r ≡ true) → r ≡ same_atom a b
+exact-atom r a b f g = exact r (same_atom a b) (a ≡ b) f g (atom_is a b) (is_atom a b)
+
+-- ---- origins
+
+abbrev pub place_if_sent : strand.Event Term → ℕ → Option ℕ
+place_if_sent (send m) n = Some n
+place_if_sent (recv m) n = None
+
+-- the origin of a value, the first of the events having number n
+abbrev pub origin_from : Term → ℕ → List (strand.Event Term) → Option ℕ
+origin_from v n [] = None
+origin_from v n (e ∷ es) = if carries (payload e) v then place_if_sent e n else origin_from v (suc n) es
+
+plus : ℕ → Option ℕ → Option ℕ
+plus n None = None
+plus n (Some m) = Some (n + m)
+
+plus_later : (n : ℕ) (o : Option ℕ) → plus n (one_later o) ≡ plus (suc n) o
+unfolding plus
+plus_later n None = refl
+plus_later n (Some m) = ap Some (let h : n + suc m ≡ suc n + m = omega arith in h)
+
+plus_zero : (o : Option ℕ) → o ≡ plus 0 o
+unfolding plus
+plus_zero None = refl
+plus_zero (Some m) = ap Some (let h : m ≡ 0 + m = omega arith in h)
+
+cond_ap : {A B : Type 0} (f : A → B) (b : Bool) (x y : A) → f (if b then x else y) ≡ (if b then f x else f y)
+cond_ap f true x y = refl
+cond_ap f false x y = refl
+
+origin_plus : (v : Term) (n : ℕ) (es : List (strand.Event Term)) → origin_from v n es ≡ plus n (origin_in es v)
+unfolding plus
+origin_plus v n [] = refl
+origin_plus v n (send m ∷ es) =
+    ap (λ o. if carries m v then Some n else o) (origin_plus v (suc n) es ∙ sym (plus_later n (origin_in es v)))
+    ∙ ap (λ k. if carries m v then Some k else plus n (one_later (origin_in es v))) (let h : n ≡ n + 0 = omega arith in h)
+    ∙ sym (cond_ap (plus n) (carries m v) (Some 0) (one_later (origin_in es v)))
+origin_plus v n (recv m ∷ es) =
+    ap (λ o. if carries m v then None else o) (origin_plus v (suc n) es ∙ sym (plus_later n (origin_in es v)))
+    ∙ sym (cond_ap (plus n) (carries m v) None (one_later (origin_in es v)))
+
+pub origin-first : (v : Term) (es : List (strand.Event Term)) → origin_in es v ≡ origin_from v 0 es
+origin-first v es = plus_zero (origin_in es v) ∙ sym (origin_plus v 0 es)
+
+module _ (v : Term) (es : List Event) (i : ℕ) where
+  pub origin-at : (e : Event) (b : Bool) → i < length es → e ≡ get_or es i e → b ≡ carries (payload (event_view e)) v
+      → origin_from v i (map event_view (drop i es)) ≡ (if b then place_if_sent (event_view e) i else origin_from v (i + 1) (map event_view (drop (i + 1) es)))
+  origin-at e b lt is f =
+      ap (λ us. origin_from v i (map event_view us)) (item-drop es i e lt is)
+      ∙ ap (λ c. if c then place_if_sent (event_view e) i else origin_from v (suc i) (map event_view (drop (i + 1) es))) (sym f)
+      ∙ ap (λ k. if b then place_if_sent (event_view e) i else origin_from v k (map event_view (drop (i + 1) es))) (sym (add-one i))
+
+  pub origin-end : length es ≤ i → origin_from v i (map event_view (drop i es)) ≡ None
+  origin-end le = at_drop_all (λ us. origin_from v i (map event_view us)) es i le
+
+-- ---- events
+
+pub three_messages : (ds : List Declaration) (at : Place) (fs : List program.Form) (a b c : program.Form) → 3 ≤ length fs → a ≡ get_or fs 0 a → b ≡ get_or fs 1 b → c ≡ get_or fs 2 c
+    → term_faults ds (view a) ++ term_faults ds (view b) ++ fault (place_of (view c)) BadShape ≡ message_faults ds at (map view fs)
+three_messages ds at [] a b c l e f g = absurd (omega arith)
+three_messages ds at (x ∷ []) a b c l e f g = absurd (omega arith)
+three_messages ds at (x ∷ y ∷ []) a b c l e f g = absurd (omega arith)
+three_messages ds at (x ∷ y ∷ z ∷ fs) a b c l e f g =
+    ap (λ h. term_faults ds (view h) ++ term_faults ds (view b) ++ fault (place_of (view c)) BadShape) e
+    ∙ ap (λ h. term_faults ds (view x) ++ term_faults ds (view h) ++ fault (place_of (view c)) BadShape) f
+    ∙ ap (λ h. term_faults ds (view x) ++ term_faults ds (view y) ++ fault (place_of (view h)) BadShape) g
+
+pub each-event : (ds : List Declaration) (fs : List Form) → each_faults (event_faults ds) fs ≡ events_faults ds fs
+each-event ds [] = refl
+each-event ds (f ∷ fs) = ap (λ rs. event_faults ds f ++ rs) (each-event ds fs)

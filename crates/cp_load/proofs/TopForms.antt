@@ -1,0 +1,163 @@
+-- The forms of the input, one after another.
+use Rattle.std.proofs.Common.{◌≡◌, ℕ, suc, ◌+◌, ◌<◌, ◌≤◌, ◌||◌, List, [], ◌∷◌, ◌++◌, length, get_or, map, drop, refl, sym, ap, ◌∙◌}
+use Rattle.std.specs.Prelude.{Option, Some, None, option_map, Ok, Err}
+use Rattle.std.proofs.lemmas.List.{drop_all}
+use Rattle.cp_base.specs.declared.place.Place.{Place}
+use Rattle.cp_base.specs.declared.place.Code.TheVariants.{DuplicateProtocol}
+use Rattle.cp_base.specs.declared.place.Refusal.{Refusal}
+use Rattle.cp_model.specs.Strand.{Protocol}
+use Rattle.cp_sexpr.specs.Syntax.{Form}
+use Rattle.cp_sexpr.specs.View.{view, views}
+use Rattle.cp_sexpr.specs.declared.form.Form as program
+use Rattle.cp_language.specs.Words.{same_text, is_one_of, TopHead, protocol_form, problem_form, free_form, top_out_of_profile, no_top, top_head}
+use Rattle.cp_language.specs.Faults.{fault, place_of}
+use Rattle.cp_language.specs.Roles.{Headed, headed, algebra_faults, roles_faults, protocol_faults, protocol_of}
+use Rattle.cp_language.specs.Problems.{Problem}
+use Rattle.cp_language.specs.Input.{protocol_names, headed_top_faults, protocols_onto, protocols_behind, faults_from, stated_problem, Entry, entries_from, protocols_in, protocols_of, faults_of, IsInput}
+use Rattle.cp_load.specs.Above.{names_of_protocols, turned}
+use Rattle.cp_forms.specs.FirstFault.{first_onto}
+use Rattle.cp_load.specs.Inputs.{problem_view, entries_view}
+use Rattle.cp_load.specs.declared.input.Problem as loaded
+use Rattle.cp_forms.proofs.Firsts.{first_onto-append, first_found, none_found}
+use Rattle.cp_forms.proofs.Items.{item-drop}
+use Rattle.cp_load.proofs.Naming.{AreSameNames, names-swap}
+use Rattle.cp_load.proofs.RoleNames.{name-names}
+use Rattle.cp_load.proofs.Standing.{turned-push}
+use Rattle.cp_forms.proofs.Views.{items_of-forms_of}
+
+append-nil : {A : Type 0} (xs : List A) → xs ++ [] ≡ xs
+append-nil [] = refl
+append-nil (x ∷ xs) = ap (λ ys. x ∷ ys) (append-nil xs)
+
+append_assoc : {A : Type 0} (xs ys zs : List A) → (xs ++ ys) ++ zs ≡ xs ++ (ys ++ zs)
+append_assoc [] ys zs = refl
+append_assoc (x ∷ xs) ys zs = ap (λ bs. x ∷ bs) (append_assoc xs ys zs)
+
+-- ---- the names of protocols
+
+names-turned : (ps others : List Protocol) → AreSameNames (names_of_protocols ps ++ protocol_names others) (protocol_names (turned ps others))
+names-turned [] others t = refl
+names-turned (p ∷ ps) others t =
+    let names = names_of_protocols ps in
+    ap (λ b. same_text t p.name || b) (names-swap names (protocol_names others) t)
+    ∙ names-swap (p.name ∷ protocol_names others) names t
+    ∙ names-turned ps (p ∷ others) t
+
+pub faults-turned : (ps : List Protocol) (at : Place) (fs : List Form) → protocol_faults (names_of_protocols ps) at fs ≡ protocol_faults (protocol_names (turned ps [])) at fs
+faults-turned ps at [] = refl
+faults-turned ps at (x ∷ []) = refl
+faults-turned ps at (x ∷ y ∷ fs) =
+    ap (λ rs. rs ++ algebra_faults y ++ roles_faults [] fs) (name-names (names_of_protocols ps) (protocol_names (turned ps [])) (λ p. fault p DuplicateProtocol) x same)
+  where
+    same : AreSameNames (names_of_protocols ps) (protocol_names (turned ps []))
+    same t = ap (is_one_of t) (sym (append-nil (names_of_protocols ps))) ∙ names-turned ps [] t
+
+onto-turned : (ps : List Protocol) (h : TopHead) (fs : List Form) → turned (ps ++ protocols_onto h fs []) [] ≡ protocols_onto h fs (turned ps [])
+onto-turned ps protocol_form fs = turned-push ps [] (protocol_of fs)
+onto-turned ps problem_form fs = ap (λ xs. turned xs []) (append-nil ps)
+onto-turned ps free_form fs = ap (λ xs. turned xs []) (append-nil ps)
+onto-turned ps top_out_of_profile fs = ap (λ xs. turned xs []) (append-nil ps)
+onto-turned ps no_top fs = ap (λ xs. turned xs []) (append-nil ps)
+
+-- what stands above, the last first, with the protocol of a form
+behind-turned : (ps : List Protocol) (o : Option Headed) → turned (ps ++ protocols_behind o []) [] ≡ protocols_behind o (turned ps [])
+behind-turned ps None = ap (λ xs. turned xs []) (append-nil ps)
+behind-turned ps (Some h) = onto-turned ps (top_head h.head) h.items
+
+-- ---- one form after another
+
+abbrev pub problems_from : List Protocol → List Form → List (Option Problem)
+problems_from above [] = []
+problems_from above (f ∷ fs) = stated_problem above (headed f) ∷ problems_from (protocols_behind (headed f) above) fs
+
+problems-length : (above : List Protocol) (fs : List Form) → length (problems_from above fs) ≡ length fs
+problems-length above [] = refl
+problems-length above (f ∷ fs) = ap suc (problems-length (protocols_behind (headed f) above) fs)
+
+mapped-length : {A B : Type 0} (f : A → B) (xs : List A) → length (map f xs) ≡ length xs
+mapped-length f [] = refl
+mapped-length f (x ∷ xs) = ap suc (mapped-length f xs)
+
+pub problem-pushed : (xs ys : List (Option loaded.Problem)) (p : Option loaded.Problem) → ys ≡ xs ++ p ∷ []
+    → map (option_map problem_view) ys ≡ map (option_map problem_view) xs ++ option_map problem_view p ∷ []
+problem-pushed xs ys p e = ap (map (option_map problem_view)) e ∙ pushed xs
+  where
+    pushed : (zs : List (Option loaded.Problem)) → map (option_map problem_view) (zs ++ p ∷ []) ≡ map (option_map problem_view) zs ++ option_map problem_view p ∷ []
+    pushed [] = refl
+    pushed (z ∷ zs) = ap (λ us. option_map problem_view z ∷ us) (pushed zs)
+
+module _ (fs : List program.Form) (k : ℕ) where
+  module _ (f : program.Form) (lt : k < length fs) (is : f ≡ get_or fs k f) (ps qs : List Protocol) (behind : qs ≡ ps ++ protocols_behind (headed (view f)) []) where
+    above-same : turned qs [] ≡ protocols_behind (headed (view f)) (turned ps [])
+    above-same = ap (λ xs. turned xs []) behind ∙ behind-turned ps (headed (view f))
+
+    pub faults-taken : (o p all : Option Refusal) → p ≡ first_onto o (headed_top_faults (turned ps []) (place_of (view f)) (headed (view f)))
+        → first_onto o (faults_from (turned ps []) (map view (drop k fs))) ≡ all → first_onto p (faults_from (turned qs []) (map view (drop (k + 1) fs))) ≡ all
+    faults-taken o p all e i =
+        let rest = map view (drop (k + 1) fs) in
+        let after = protocols_behind (headed (view f)) (turned ps []) in
+        ap (λ x. first_onto p (faults_from x rest)) above-same ∙ ap (λ x. first_onto x (faults_from after rest)) e
+        ∙ sym (first_onto-append o (headed_top_faults (turned ps []) (place_of (view f)) (headed (view f))) (faults_from after rest))
+        ∙ sym (ap (λ gs. first_onto o (faults_from (turned ps []) (map view gs))) (item-drop fs k f lt is)) ∙ i
+
+    pub problems-taken : (xs ys all : List (Option Problem)) (x : Option Problem) → x ≡ stated_problem (turned ps []) (headed (view f)) → ys ≡ xs ++ x ∷ []
+        → xs ++ problems_from (turned ps []) (map view (drop k fs)) ≡ all → ys ++ problems_from (turned qs []) (map view (drop (k + 1) fs)) ≡ all
+    problems-taken xs ys all x e g i =
+        let rest = map view (drop (k + 1) fs) in
+        let after = protocols_behind (headed (view f)) (turned ps []) in
+        ap (λ y. ys ++ problems_from y rest) above-same ∙ ap (λ zs. zs ++ problems_from after rest) g ∙ append_assoc xs (x ∷ []) (problems_from after rest)
+        ∙ ap (λ y. xs ++ y ∷ problems_from after rest) e
+        ∙ sym (ap (λ gs. xs ++ problems_from (turned ps []) (map view gs)) (item-drop fs k f lt is)) ∙ i
+
+    pub protocols-taken : (all : List Protocol) → ps ++ protocols_in (map view (drop k fs)) ≡ all → qs ++ protocols_in (map view (drop (k + 1) fs)) ≡ all
+    protocols-taken all i =
+        let rest = protocols_in (map view (drop (k + 1) fs)) in
+        ap (λ xs. xs ++ rest) behind ∙ append_assoc ps (protocols_behind (headed (view f)) []) rest
+        ∙ sym (ap (λ gs. ps ++ protocols_in (map view gs)) (item-drop fs k f lt is)) ∙ i
+
+  pub faults-done : length fs ≤ k → (above : List Protocol) (o all : Option Refusal) → first_onto o (faults_from above (map view (drop k fs))) ≡ all → o ≡ all
+  faults-done h above o all i = sym (ap (λ gs. first_onto o (faults_from above (map view gs))) (drop_all k fs h)) ∙ i
+
+  problems-done : length fs ≤ k → (above : List Protocol) (xs all : List (Option Problem)) → xs ++ problems_from above (map view (drop k fs)) ≡ all → xs ≡ all
+  problems-done h above xs all i = sym (append-nil xs) ∙ sym (ap (λ gs. xs ++ problems_from above (map view gs)) (drop_all k fs h)) ∙ i
+
+  pub protocols-done : length fs ≤ k → (ps all : List Protocol) → ps ++ protocols_in (map view (drop k fs)) ≡ all → ps ≡ all
+  protocols-done h ps all i = sym (append-nil ps) ∙ sym (ap (λ gs. ps ++ protocols_in (map view gs)) (drop_all k fs h)) ∙ i
+
+  entries-with : (above : List Protocol) (gs : List Form) (ps : List (Option loaded.Problem)) → map (option_map problem_view) ps ≡ problems_from above gs → entries_view gs ps ≡ entries_from above gs
+  entries-with above [] ps e = refl
+  entries-with above (g ∷ gs) [] e = absurd (cc)
+  entries-with above (g ∷ gs) (p ∷ ps) e =
+      let first : option_map problem_view p ≡ stated_problem above (headed g) = cc in
+      let rest : map (option_map problem_view) ps ≡ problems_from (protocols_behind (headed g) above) gs = cc in
+      ap (λ x. (let entry : Entry = record { form = g; problem = x } in entry) ∷ entries_view gs ps) first
+      ∙ ap (λ es. (let entry : Entry = record { form = g; problem = stated_problem above (headed g) } in entry) ∷ es) (entries-with (protocols_behind (headed g) above) gs ps rest)
+
+  pub entries-done : length fs ≤ k → (above : List Protocol) (ps : List (Option loaded.Problem))
+      → map (option_map problem_view) ps ++ problems_from above (map view (drop k fs)) ≡ problems_from [] (map view fs) → entries_view (map view fs) ps ≡ entries_from [] (map view fs)
+  entries-done h above ps i = entries-with [] (map view fs) ps (problems-done h above (map (option_map problem_view) ps) (problems_from [] (map view fs)) i)
+
+  pub counted : length fs ≤ k → (above : List Protocol) (ps : List (Option loaded.Problem))
+      → map (option_map problem_view) ps ++ problems_from above (map view (drop k fs)) ≡ problems_from [] (map view fs) → length ps ≡ length fs
+  counted h above ps i =
+      sym (mapped-length (option_map problem_view) ps) ∙ ap length (problems-done h above (map (option_map problem_view) ps) (problems_from [] (map view fs)) i)
+      ∙ problems-length [] (map view fs) ∙ mapped-length view fs
+
+-- ---- all forms
+
+module _ (fs : List program.Form) where
+  faults-all : faults_of (views fs) ≡ faults_from [] (map view fs)
+  faults-all = ap (faults_from []) (items_of-forms_of (map view fs))
+
+  pub protocols-all : (ps : List Protocol) → ps ≡ protocols_in (map view fs) → ps ≡ protocols_of (views fs)
+  protocols-all ps e = e ∙ sym (ap protocols_in (items_of-forms_of (map view fs)))
+
+  module _ (o p : Option Refusal) (new : o ≡ None) (met : p ≡ first_onto o (faults_from [] (map view fs))) where
+    found : p ≡ first_onto None (faults_of (views fs))
+    found = met ∙ ap (λ x. first_onto x (faults_from [] (map view fs))) new ∙ ap (first_onto None) (sym faults-all)
+
+    pub input-loaded : p ≡ None → (es : List Entry) → es ≡ entries_from [] (map view fs) → IsInput (views fs) (Ok es)
+    input-loaded e es h = (none_found (faults_of (views fs)) (sym found ∙ e), h ∙ sym (ap (entries_from []) (items_of-forms_of (map view fs))))
+
+    pub input-refused : (r : Refusal) → p ≡ Some r → IsInput (views fs) (Err r)
+    input-refused r e = first_found (faults_of (views fs)) r (sym found ∙ e)

@@ -1,0 +1,7 @@
+use Rattle.std.proofs.Common.{◌≡◌, ◌++◌, map, drop}
+use Rattle.cp_model.specs.Problem.{numbers_from}
+use Rattle.cp_skel.specs.View.{strand_view}
+use Rattle.cp_load.proofs.values.numbers_of.Given as goal
+
+abbrev pub invariant-loop-number : goal.invariant-loop-number
+invariant-loop-number l = l.numbers.items ++ numbers_from l.number (map strand_view (drop l.number l.strands)) ≡ numbers_from 0 (map strand_view l.strands)

@@ -1,0 +1,222 @@
+// The faults of the items of problems.
+ghost use Rattle.std.specs.Prelude.{◌≡◌, ◌++◌, ◌||◌, [], not, map, OnOk};
+ghost use Rattle.cp_sexpr.specs.View.{view};
+ghost use Rattle.cp_language.specs.Terms.{atom_faults};
+ghost use Rattle.cp_language.specs.Roles.{headed, item_or_none, items_behind, item_faults, each_faults};
+ghost use Rattle.cp_language.specs.Problems.{misplaced_unless, instance_faults, listener_faults, unique_faults, pairs_faults, pairs_in, pairs_if, is_precedes_item, stage_after, problem_item_faults, body_faults};
+ghost use Rattle.cp_skel.specs.View.{declaration_view, pair_view, strand_view};
+ghost use Rattle.cp_forms.specs.FirstFault.{first_onto};
+ghost use Rattle.cp_load.specs.Named.{shared_roles_view};
+ghost use Rattle.cp_load.specs.Stages.{stage_view, no_stage};
+
+use crate::assumptions::atoms_faults;
+use crate::making::is_assumption_or_order;
+use crate::orders::pairs_faults;
+use crate::pairs::add_pairs;
+use crate::problems::is_strand_item;
+use crate::strands::{instance_faults, listener_faults};
+use crate::values::unique_faults;
+use cp_base::{Code, Place};
+use cp_forms::{FirstFault, ItemHead, headed, item_head, place_of};
+use cp_sexpr::Form;
+use cp_skel::{Declaration, OrderPair, Role, Strand};
+use std::alloc::{AllocError, Global};
+use std::rc::Rc;
+
+/// What the items of a problem speak of: the roles of its protocol, its declared variables, and its strands.
+#[derive(Clone, Copy)]
+pub(crate) struct Scope<'a> {
+    pub(crate) roles: &'a [Rc<Role>],
+    pub(crate) variables: &'a [Declaration],
+    pub(crate) strands: &'a [Strand],
+}
+
+/// Whether a strand, and whether an assumption or an order, stood before an item.
+#[derive(Clone, Copy)]
+pub(crate) struct Stage {
+    pub(crate) after_strand: bool,
+    pub(crate) after_item: bool,
+}
+
+impl Stage {
+    /// The stage behind this item.
+    fn after(self, item: &Form) -> Stage
+        ensures { stage_view result ≡ stage_after (stage_view self) (item_or_none (headed (view item.now))) }
+    {
+        Stage {
+            after_strand: self.after_strand || is_strand_item(item),
+            after_item: self.after_item || is_assumption_or_order(item),
+        }
+    }
+}
+
+/// The faults of an instance with these items behind its head, which no assumption and no order stands before.
+fn instance_item_faults(
+    scope: Scope<'_>,
+    stage: Stage,
+    place: Place,
+    items: &[Form],
+    first: &mut FirstFault,
+)
+    ensures { first.new ≡ first_onto first.old (misplaced_unless (not stage.after_item) place
+        (instance_faults (shared_roles_view scope.entry.roles.now) (map declaration_view scope.entry.variables.now) place (map view items.now))) }
+{
+    if stage.after_item {
+        first.note(place, Code::UnknownForm);
+    } else {
+        instance_faults(scope.roles, scope.variables, place, items, first);
+    }
+}
+
+/// The faults of a listener with these items behind its head, which no assumption and no order stands before.
+fn listener_item_faults(
+    scope: Scope<'_>,
+    stage: Stage,
+    place: Place,
+    items: &[Form],
+    first: &mut FirstFault,
+)
+    ensures { first.new ≡ first_onto first.old (misplaced_unless (not stage.after_item) place
+        (listener_faults (map declaration_view scope.entry.variables.now) place (map view items.now))) }
+{
+    if stage.after_item {
+        first.note(place, Code::UnknownForm);
+    } else {
+        listener_faults(scope.variables, place, items, first);
+    }
+}
+
+/// The faults of an assumption with these items behind its head, which a strand stands before.
+fn atoms_item_faults(
+    scope: Scope<'_>,
+    stage: Stage,
+    place: Place,
+    items: &[Form],
+    first: &mut FirstFault,
+)
+    ensures { first.new ≡ first_onto first.old (misplaced_unless stage.after_strand place
+        (each_faults (atom_faults (map declaration_view scope.entry.variables.now)) (map view items.now))) }
+{
+    if stage.after_strand {
+        atoms_faults(scope.variables, items, first);
+    } else {
+        first.note(place, Code::UnknownForm);
+    }
+}
+
+/// The faults of the unique values of a problem.
+fn uniques_faults(
+    alloc: Global,
+    scope: Scope<'_>,
+    items: &[Form],
+    first: &mut FirstFault,
+) -> Result<(), AllocError>
+    ensures { OnOk result (first.new ≡ first_onto first.old
+        (each_faults (unique_faults (map strand_view scope.entry.strands.now) (map declaration_view scope.entry.variables.now)) (map view items.now))) }
+{
+    for item in items {
+        unique_faults(alloc, scope.strands, scope.variables, item, first)?;
+    }
+    Ok(())
+}
+
+/// The faults of unique values with these items behind their head, which a strand stands before.
+fn uniques_item_faults(
+    alloc: Global,
+    scope: Scope<'_>,
+    stage: Stage,
+    place: Place,
+    items: &[Form],
+    first: &mut FirstFault,
+) -> Result<(), AllocError>
+    ensures { OnOk result (first.new ≡ first_onto first.old (misplaced_unless stage.after_strand place
+        (each_faults (unique_faults (map strand_view scope.entry.strands.now) (map declaration_view scope.entry.variables.now)) (map view items.now)))) }
+{
+    if stage.after_strand {
+        return uniques_faults(alloc, scope, items, first);
+    }
+    first.note(place, Code::UnknownForm);
+    Ok(())
+}
+
+/// The faults of an order with these items behind its head, which a strand stands before; its pairs go behind those
+/// before.
+fn order_item_faults(
+    alloc: Global,
+    scope: Scope<'_>,
+    before: &mut Vec<OrderPair>,
+    stage: Stage,
+    place: Place,
+    items: &[Form],
+    first: &mut FirstFault,
+) -> Result<(), AllocError>
+    ensures faults { OnOk result (first.new ≡ first_onto first.old (misplaced_unless stage.after_strand place
+        (pairs_faults (map strand_view scope.entry.strands.now) (map pair_view before.old.items) (map view items.now)))) }
+    ensures pairs { OnOk result (map pair_view before.new.items ≡ map pair_view before.old.items ++ pairs_in (map view items.now)) }
+{
+    if stage.after_strand {
+        return pairs_faults(alloc, scope.strands, before, items, first);
+    }
+    first.note(place, Code::UnknownForm);
+    add_pairs(items, before)
+}
+
+/// The faults of an item of a problem; the pairs that it states go behind those before.
+fn item_faults(
+    alloc: Global,
+    scope: Scope<'_>,
+    before: &mut Vec<OrderPair>,
+    stage: Stage,
+    form: &Form,
+    first: &mut FirstFault,
+) -> Result<(), AllocError>
+    ensures faults { OnOk result (first.new ≡ first_onto first.old (item_faults (problem_item_faults (shared_roles_view scope.entry.roles.now)
+        (map declaration_view scope.entry.variables.now) (map strand_view scope.entry.strands.now) (map pair_view before.old.items) (stage_view stage)) (view form.now))) }
+    ensures pairs { OnOk result (map pair_view before.new.items
+        ≡ map pair_view before.old.items ++ pairs_if (is_precedes_item (item_or_none (headed (view form.now)))) (items_behind (headed (view form.now)))) }
+{
+    let place = place_of(form);
+    let Some(list) = headed(form) else {
+        first.note(place, Code::BadShape);
+        return Ok(());
+    };
+    match item_head(list.head) {
+        ItemHead::Strand => instance_item_faults(scope, stage, place, list.items, first),
+        ItemHead::Listener => listener_item_faults(scope, stage, place, list.items, first),
+        ItemHead::Non | ItemHead::PenetratorNon => {
+            atoms_item_faults(scope, stage, place, list.items, first)
+        }
+        ItemHead::Unique => {
+            return uniques_item_faults(alloc, scope, stage, place, list.items, first);
+        }
+        ItemHead::Precedes => {
+            return order_item_faults(alloc, scope, before, stage, place, list.items, first);
+        }
+        ItemHead::Comment => {}
+        ItemHead::OutOfProfile => first.note(place, Code::OutOfProfile),
+        ItemHead::Role | ItemHead::Unknown => first.note(place, Code::UnknownForm),
+    }
+    Ok(())
+}
+
+/// The faults of the items of a problem.
+pub(crate) fn body_faults(
+    alloc: Global,
+    scope: Scope<'_>,
+    items: &[Form],
+    first: &mut FirstFault,
+) -> Result<(), AllocError>
+    ensures { OnOk result (first.new ≡ first_onto first.old (body_faults (shared_roles_view scope.entry.roles.now) (map declaration_view scope.entry.variables.now)
+        (map strand_view scope.entry.strands.now) [] no_stage (map view items.now))) }
+{
+    let mut before = Vec::new(alloc);
+    let mut stage = Stage {
+        after_strand: false,
+        after_item: false,
+    };
+    for item in items {
+        item_faults(alloc, scope, &mut before, stage, item, first)?;
+        stage = stage.after(item);
+    }
+    Ok(())
+}

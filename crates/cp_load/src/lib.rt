@@ -1,0 +1,35 @@
+//! The loader: from forms to protocols and problems, or the first fault of the forms.
+#![tactic(auto)]
+
+mod assumptions;
+mod bodies;
+mod declarations;
+mod error;
+mod events;
+mod faults;
+mod giving;
+mod input;
+mod instances;
+mod loading;
+mod making;
+mod nodes;
+mod occurring;
+mod once;
+mod orders;
+mod originating;
+mod pairs;
+mod problems;
+mod protocols;
+mod roles;
+mod same;
+mod sorts;
+mod strands;
+mod terms;
+mod values;
+
+pub use error::LoadError;
+pub use input::{Input, Problem};
+pub use loading::load;
+
+#[cfg(test)]
+mod tests;

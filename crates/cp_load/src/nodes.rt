@@ -1,0 +1,127 @@
+// Nodes of problems: their faults, and the directions of their events.
+ghost use Rattle.std.specs.Prelude.{◌≡◌, map, option_map};
+ghost use Rattle.cp_model.specs.Lists.{item_at};
+ghost use Rattle.cp_model.specs.Skeleton.{skeleton_trace, term_event_at};
+ghost use Rattle.cp_sexpr.specs.View.{view};
+ghost use Rattle.cp_language.specs.Problems.{node_of, range_faults, two_number_faults, node_faults};
+ghost use Rattle.cp_skel.specs.View.{event_view, strand_view, node_view};
+ghost use Rattle.cp_forms.specs.FirstFault.{first_onto};
+ghost use Rattle.cp_load.specs.Directions.{direction_of, number_in, number_faults_if};
+
+use crate::faults::lacks;
+use crate::strands::prefix_of;
+use cp_base::{Code, Place};
+use cp_forms::{FirstFault, item_at, list_items, place_of};
+use cp_sexpr::Form;
+use cp_skel::{Event, Node, Strand};
+
+/// The direction of an event.
+#[derive(Clone, Copy, Debug, PartialEq, Eq)]
+pub(crate) enum Direction {
+    Transmission,
+    Reception,
+}
+
+/// The direction of the event at a place.
+fn event_direction(events: &[Event], index: usize) -> Option<Direction>
+    ensures { result ≡ direction_of (item_at (map event_view events.now) index) }
+{
+    match events.get(index) {
+        Some(Event::Send(_)) => Some(Direction::Transmission),
+        Some(Event::Receive(_)) => Some(Direction::Reception),
+        None => None,
+    }
+}
+
+/// The direction of the event at a place of a strand.
+fn strand_direction(strand: &Strand, index: usize) -> Option<Direction>
+    ensures { result ≡ direction_of (item_at (skeleton_trace (strand_view strand.now)) index) }
+{
+    match strand {
+        Strand::Instance(instance) => event_direction(
+            prefix_of(&instance.role, instance.height),
+            index,
+        ),
+        Strand::Listener(_) => match index {
+            0 => Some(Direction::Reception),
+            1 => Some(Direction::Transmission),
+            _ => None,
+        },
+    }
+}
+
+/// The direction of the event at a node, if there is one.
+pub(crate) fn node_direction(strands: &[Strand], node: Node) -> Option<Direction>
+    ensures { result ≡ direction_of (term_event_at (map strand_view strands.now) (node_view node)) }
+{
+    match strands.get(node.strand) {
+        Some(strand) => strand_direction(strand, node.index),
+        None => None,
+    }
+}
+
+/// The number that a form is, if it is one.
+fn number(form: Option<&Form>) -> Option<usize>
+    ensures { result ≡ number_in (option_map (λ f. view f.now) form.entry) }
+{
+    match form {
+        Some(Form::Number(_, number)) => Some(*number),
+        _ => None,
+    }
+}
+
+/// The node that a form states, if it does.
+pub(crate) fn node_of(form: &Form) -> Option<Node>
+    ensures { option_map node_view result ≡ node_of (view form.now) }
+{
+    let items = list_items(form);
+    match (number(item_at(items, 0)), number(item_at(items, 1))) {
+        (Some(strand), Some(index)) => Some(Node { strand, index }),
+        _ => None,
+    }
+}
+
+/// An item of a node has to be a number.
+fn number_faults(form: Option<&Form>, first: &mut FirstFault)
+    ensures { first.new ≡ first_onto first.old (number_faults_if (option_map (λ f. view f.now) form.entry)) }
+{
+    match form {
+        None | Some(Form::Number(..)) => {}
+        Some(form) => first.note(place_of(form), Code::BadShape),
+    }
+}
+
+/// A node has to be there.
+fn range_faults(strands: &[Strand], place: Place, node: Option<Node>, first: &mut FirstFault)
+    ensures { first.new ≡ first_onto first.old (range_faults (map strand_view strands.now) place (option_map node_view node)) }
+{
+    if let Some(node) = node {
+        first.note_unless(
+            node_direction(strands, node).is_some(),
+            place,
+            Code::BadNode,
+        );
+    }
+}
+
+/// The first two items of a node have to be numbers.
+fn two_number_faults(items: &[Form], first: &mut FirstFault)
+    ensures { first.new ≡ first_onto first.old (two_number_faults (map view items.now)) }
+{
+    number_faults(item_at(items, 0), first);
+    number_faults(item_at(items, 1), first);
+}
+
+/// The faults of a node that a form states.
+pub(crate) fn node_faults(strands: &[Strand], form: &Form, first: &mut FirstFault)
+    ensures { first.new ≡ first_onto first.old (node_faults (map strand_view strands.now) (view form.now)) }
+{
+    let Form::List(place, items) = form else {
+        first.note(place_of(form), Code::BadShape);
+        return;
+    };
+    let items = items.as_slice();
+    lacks(2, *place, items, first);
+    range_faults(strands, *place, node_of(form), first);
+    two_number_faults(items, first);
+}

@@ -1,0 +1,140 @@
+// The faults of the pairs of problems.
+ghost use Rattle.std.specs.Prelude.{◌≡◌, ◌++◌, map, option_map, IfOk, OnOk};
+ghost use Rattle.cp_sexpr.specs.View.{view};
+ghost use Rattle.cp_language.specs.Roles.{unless_faulty};
+ghost use Rattle.cp_language.specs.Problems.{node_of, node_faults, pair_of_nodes, closes_cycle, order_faults, pair_items_faults, pair_faults, pairs_in, pairs_faults};
+ghost use Rattle.cp_skel.specs.View.{node_view, strand_view, pair_view};
+ghost use Rattle.cp_forms.specs.FirstFault.{first_onto};
+
+use crate::faults::exceeds;
+use crate::nodes::{node_faults, node_of};
+use crate::pairs::{add_pair, direction_faults, is_on_one_strand, pair_of};
+use cp_base::{Code, Place};
+use cp_forms::{FirstFault, list_items, place_of};
+use cp_sexpr::Form;
+use cp_skel::{Leading, Node, OrderPair, Strand};
+use std::alloc::{AllocError, Global};
+
+/// Whether a pair goes back or stays on one strand, or closes a cycle with strand order and the pairs before it.
+fn closes_cycle(alloc: Global, before: &[OrderPair], pair: OrderPair) -> Result<bool, AllocError>
+    ensures { IfOk result (λ closes. closes ≡ closes_cycle (map pair_view before.now) (pair_view pair)) }
+{
+    if is_on_one_strand(pair) {
+        return Ok(pair.later.index <= pair.earlier.index);
+    }
+    let leading = Leading::new(alloc, before, pair.earlier)?;
+    Ok(leading.has(pair.later))
+}
+
+/// The pair of two nodes, if both are there.
+fn pair_of_nodes(earlier: Option<Node>, later: Option<Node>) -> Option<OrderPair>
+    ensures { option_map pair_view result ≡ pair_of_nodes (option_map node_view earlier) (option_map node_view later) }
+{
+    match (earlier, later) {
+        (Some(earlier), Some(later)) => Some(OrderPair { earlier, later }),
+        _ => None,
+    }
+}
+
+/// The faults of the pair that two forms state, at this place: a cycle, or else its directions.
+fn order_faults(
+    alloc: Global,
+    strands: &[Strand],
+    before: &[OrderPair],
+    place: Place,
+    earlier: &Form,
+    later: &Form,
+    first: &mut FirstFault,
+) -> Result<(), AllocError>
+    ensures { OnOk result (first.new ≡ first_onto first.old (order_faults (map strand_view strands.now) (map pair_view before.now) place (view earlier.now) (view later.now) (pair_of_nodes (node_of (view earlier.now)) (node_of (view later.now))))) }
+{
+    let Some(pair) = pair_of_nodes(node_of(earlier), node_of(later)) else {
+        return Ok(());
+    };
+    if closes_cycle(alloc, before, pair)? {
+        first.note(place, Code::CyclicOrder);
+    } else {
+        direction_faults(strands, earlier, later, pair, first);
+    }
+    Ok(())
+}
+
+/// The faults of the two nodes that forms state, or else those of their pair.
+fn nodes_or_order_faults(
+    alloc: Global,
+    strands: &[Strand],
+    before: &[OrderPair],
+    place: Place,
+    earlier: &Form,
+    later: &Form,
+    first: &mut FirstFault,
+) -> Result<(), AllocError>
+    ensures { OnOk result (first.new ≡ first_onto first.old (unless_faulty (node_faults (map strand_view strands.now) (view earlier.now) ++ node_faults (map strand_view strands.now) (view later.now))
+        (order_faults (map strand_view strands.now) (map pair_view before.now) place (view earlier.now) (view later.now) (pair_of_nodes (node_of (view earlier.now)) (node_of (view later.now)))))) }
+{
+    let mut inside = FirstFault::new();
+    node_faults(strands, earlier, &mut inside);
+    node_faults(strands, later, &mut inside);
+    if inside.is_none() {
+        order_faults(alloc, strands, before, place, earlier, later, &mut inside)?;
+    }
+    first.merge(inside);
+    Ok(())
+}
+
+/// The faults of a pair with these items, behind which these pairs stand.
+fn pair_items_faults(
+    alloc: Global,
+    strands: &[Strand],
+    before: &[OrderPair],
+    place: Place,
+    items: &[Form],
+    first: &mut FirstFault,
+) -> Result<(), AllocError>
+    ensures { OnOk result (first.new ≡ first_onto first.old (pair_items_faults (map strand_view strands.now) (map pair_view before.now) place (map view items.now))) }
+{
+    let [earlier, later, rest @ ..] = items else {
+        first.note(place, Code::BadShape);
+        return Ok(());
+    };
+    nodes_or_order_faults(alloc, strands, before, place, earlier, later, first)?;
+    exceeds(2, list_items(earlier), first);
+    exceeds(2, list_items(later), first);
+    exceeds(0, rest, first);
+    Ok(())
+}
+
+/// The faults of a pair that a form states, behind which these pairs stand.
+fn pair_faults(
+    alloc: Global,
+    strands: &[Strand],
+    before: &[OrderPair],
+    form: &Form,
+    first: &mut FirstFault,
+) -> Result<(), AllocError>
+    ensures { OnOk result (first.new ≡ first_onto first.old (pair_faults (map strand_view strands.now) (map pair_view before.now) (view form.now))) }
+{
+    let Form::List(place, items) = form else {
+        first.note(place_of(form), Code::BadShape);
+        return Ok(());
+    };
+    pair_items_faults(alloc, strands, before, *place, items.as_slice(), first)
+}
+
+/// The faults of the pairs that these forms state, behind which these stand; the pairs go behind them.
+pub(crate) fn pairs_faults(
+    alloc: Global,
+    strands: &[Strand],
+    before: &mut Vec<OrderPair>,
+    items: &[Form],
+    first: &mut FirstFault,
+) -> Result<(), AllocError>
+    ensures faults { OnOk result (first.new ≡ first_onto first.old (pairs_faults (map strand_view strands.now) (map pair_view before.old.items) (map view items.now))) }
+    ensures pairs { OnOk result (map pair_view before.new.items ≡ map pair_view before.old.items ++ pairs_in (map view items.now)) }
+{
+    for form in items {
+        pair_faults(alloc, strands, before, form, first)?;
+        add_pair(pair_of(form), before)?;
+    }
+    Ok(())
+}

@@ -1,0 +1,151 @@
+// Problems: their faults, and what they state.
+ghost use Rattle.std.specs.Prelude.{◌≡◌, [], map, option_map, IfOk, OnOk};
+ghost use Rattle.cp_sexpr.specs.View.{view};
+ghost use Rattle.cp_language.specs.Problems.{protocol_name_faults, has_strand, is_strand_item, protocol_named, protocol_or_none, problem_strands, problem_faults, problem_of};
+ghost use Rattle.cp_language.specs.Roles.{headed, item_or_none};
+ghost use Rattle.cp_skel.specs.View.{declaration_view, protocol_view, strand_view};
+ghost use Rattle.cp_load.specs.Above.{protocols_view, turned};
+ghost use Rattle.cp_forms.specs.FirstFault.{first_onto};
+ghost use Rattle.cp_load.specs.Inputs.{problem_view};
+ghost use Rattle.cp_load.specs.Making.{AreMade};
+ghost use Rattle.cp_load.specs.Named.{shared_roles_view};
+
+use crate::bodies::{Scope, body_faults};
+use crate::declarations::variables_of;
+use crate::input::Problem;
+use crate::instances::copies_of;
+use crate::making::{before_items, strands};
+use crate::protocols::{no_protocol, protocol_named};
+use crate::values::own_skeleton;
+use cp_base::{Code, Place};
+use cp_forms::{FirstFault, ItemHead, headed, item_head, later_items, place_of, symbol_or_empty};
+use cp_sexpr::Form;
+use cp_skel::{Declaration, Protocol, Strand};
+use std::alloc::{AllocError, Global};
+use std::rc::Rc;
+
+/// The faults of the name of a problem's protocol, where these protocols stand above it.
+pub(crate) fn protocol_name_faults(above: &[Rc<Protocol>], form: &Form, first: &mut FirstFault)
+    ensures { first.new ≡ first_onto first.old (protocol_name_faults (turned (protocols_view above.now) []) (view form.now)) }
+{
+    match form {
+        Form::Symbol(place, name) => {
+            first.note_unless(
+                protocol_named(above, name.as_bytes()).is_some(),
+                *place,
+                Code::UnknownProtocol,
+            );
+        }
+        _ => first.note(place_of(form), Code::BadShape),
+    }
+}
+
+/// Whether an item is headed as a strand.
+pub(crate) fn is_strand_item(form: &Form) -> bool
+    ensures { result ≡ is_strand_item (item_or_none (headed (view form.now))) }
+{
+    match headed(form) {
+        Some(list) => matches!(item_head(list.head), ItemHead::Strand | ItemHead::Listener),
+        None => false,
+    }
+}
+
+/// Whether one of these items is headed as a strand.
+pub(crate) fn has_strand(items: &[Form]) -> bool
+    ensures { result ≡ has_strand (map view items.now) }
+{
+    for item in items {
+        if is_strand_item(item) {
+            return true;
+        }
+    }
+    false
+}
+
+/// The last protocol of this name; where there is none, one without roles.
+fn protocol_or_none(
+    alloc: Global,
+    above: &[Rc<Protocol>],
+    name: &[u8],
+) -> Result<Rc<Protocol>, AllocError>
+    ensures { IfOk result (λ p. protocol_view p.value ≡ protocol_or_none (protocol_named (turned (protocols_view above.now) []) name.now)) }
+{
+    match protocol_named(above, name) {
+        Some(protocol) => protocol.clone(),
+        None => Ok(Rc::new(alloc, no_protocol(alloc)?)?),
+    }
+}
+
+/// The strands of a problem, and all its variables: those declared, and behind them those made for the strands.
+#[derive(Drop)]
+struct Parts {
+    strands: Vec<Strand>,
+    variables: Vec<Declaration>,
+}
+
+/// The strands that a problem with these roles and declared variables states, and all its variables.
+fn parts_of(
+    alloc: Global,
+    protocol: &Protocol,
+    declared: &[Declaration],
+    body: &[Form],
+) -> Result<Parts, AllocError>
+    ensures { IfOk result (λ p. AreMade (problem_strands (protocol_view protocol.now).roles (map declaration_view declared.now) (map view body.now))
+        (map strand_view p.strands.items) (map declaration_view declared.now) (map declaration_view p.variables.items)) }
+{
+    let mut variables = copies_of(alloc, declared)?;
+    let strands = strands(
+        alloc,
+        &protocol.roles,
+        declared,
+        before_items(body),
+        &mut variables,
+    )?;
+    Ok(Parts { strands, variables })
+}
+
+/// What stands where there is no problem.
+fn no_problem(alloc: Global) -> Result<Problem, AllocError>
+    ensures { IfOk result (λ p. problem_view p ≡ problem_of [] []) }
+{
+    Ok(Problem {
+        protocol: Rc::new(alloc, no_protocol(alloc)?)?,
+        declared: 0,
+        skeleton: own_skeleton(alloc, &[], Vec::new(alloc), &[], &[])?,
+    })
+}
+
+/// The problem with these items behind its head, where these protocols stand above it. What stands for a problem with
+/// faults has no meaning.
+pub(crate) fn problem_of(
+    alloc: Global,
+    above: &[Rc<Protocol>],
+    place: Place,
+    items: &[Form],
+    first: &mut FirstFault,
+) -> Result<Problem, AllocError>
+    ensures faults { OnOk result (first.new ≡ first_onto first.old (problem_faults (turned (protocols_view above.now) []) place (map view items.now))) }
+    ensures problem { IfOk result (λ p. problem_view p ≡ problem_of (turned (protocols_view above.now) []) (map view items.now)) }
+{
+    let [name, variables, body @ ..] = items else {
+        first.note(place, Code::BadShape);
+        return no_problem(alloc);
+    };
+    first.note_unless(has_strand(later_items(items, 1)), place, Code::BadShape);
+    protocol_name_faults(above, name, first);
+    let declared = variables_of(alloc, variables, first)?;
+    let protocol = protocol_or_none(alloc, above, symbol_or_empty(name))?;
+    let Parts { strands, variables } = parts_of(alloc, &protocol, &declared, body)?;
+    let scope = Scope {
+        roles: &protocol.roles,
+        variables: &declared,
+        strands: &strands,
+    };
+    body_faults(alloc, scope, body, first)?;
+    let skeleton = own_skeleton(alloc, &declared, strands, body, &variables)?;
+    Ok(Problem {
+        protocol,
+        declared: declared.len(),
+        skeleton,
+    })
+}

@@ -1,0 +1,179 @@
+// The unique values of problems, and the skeletons that problems state.
+ghost use Rattle.std.specs.Prelude.{◌≡◌, [], map, IfOk, OnOk};
+ghost use Rattle.cp_model.specs.Problem.{numbers_from, variable_terms};
+ghost use Rattle.cp_sexpr.specs.View.{view};
+ghost use Rattle.cp_language.specs.Problems.{unique_faults, atoms_onto, uniques_onto, own_uniques, own_assumptions, is_precedes_item, pairs_in, own_skeleton};
+ghost use Rattle.cp_language.specs.Roles.{headed, item_or_none, atoms_in, forms_under, is_unique_item};
+ghost use Rattle.cp_skel.specs.View.{declaration_view, pair_view, strand_view, unique_view, assumptions_view, skeleton_view};
+ghost use Rattle.cp_skel.specs.Trees.{variables_view};
+ghost use Rattle.cp_forms.specs.FirstFault.{first_onto};
+ghost use Rattle.cp_load.specs.Kinds.{is_of_kind};
+
+use crate::assumptions::{Kind, atom_of, atoms_of};
+use crate::faults::atom_faults;
+use crate::giving::add_given;
+use crate::once::add_atoms;
+use crate::originating::{add_own_uniques, originates};
+use crate::pairs::add_pairs;
+use crate::sorts::Variable;
+use crate::terms::variable_term;
+use cp_base::Code;
+use cp_forms::{FirstFault, ItemHead, headed, item_head, items_behind, place_of};
+use cp_sexpr::Form;
+use cp_skel::{Assumptions, Atom, Declaration, FromProblem, OrderPair, Skeleton, Strand, UniqueAt};
+use cp_term::{Term, VarTable};
+use std::alloc::{AllocError, Global};
+
+/// The faults of a value of a problem's unique values: it has to originate on one of these strands.
+pub(crate) fn unique_faults(
+    alloc: Global,
+    strands: &[Strand],
+    variables: &[Declaration],
+    form: &Form,
+    first: &mut FirstFault,
+) -> Result<(), AllocError>
+    ensures { OnOk result (first.new ≡ first_onto first.old (unique_faults (map strand_view strands.now) (map declaration_view variables.now) (view form.now))) }
+{
+    let value = atom_of(alloc, variables, form)?;
+    let holds = originates(alloc, strands, &value)?;
+    let mut inside = FirstFault::new();
+    atom_faults(variables, form, &mut inside);
+    inside.note_unless_faulty(holds, place_of(form), Code::UniqNowhere);
+    first.merge(inside);
+    Ok(())
+}
+
+/// The atoms of the assumptions of this kind among these items, each once.
+fn own_atoms(
+    alloc: Global,
+    declared: &[Declaration],
+    kind: Kind,
+    body: &[Form],
+) -> Result<Vec<Atom>, AllocError>
+    ensures { IfOk result (λ v. v.items ≡ atoms_onto [] (atoms_in (map declaration_view declared.now) (forms_under (is_of_kind kind) (map view body.now)))) }
+{
+    let atoms = atoms_of(alloc, declared, kind, body)?;
+    let mut once = Vec::new(alloc);
+    add_atoms(&mut once, &atoms)?;
+    Ok(once)
+}
+
+/// The unique values that these items state, with their origins on the strands, each once.
+fn own_uniques(
+    alloc: Global,
+    declared: &[Declaration],
+    strands: &[Strand],
+    body: &[Form],
+) -> Result<Vec<UniqueAt>, AllocError>
+    ensures { IfOk result (λ v. map unique_view v.items ≡ uniques_onto [] (own_uniques (map strand_view strands.now)
+        (atoms_in (map declaration_view declared.now) (forms_under is_unique_item (map view body.now))))) }
+{
+    let values = atoms_of(alloc, declared, Kind::Unique, body)?;
+    let mut uniques = Vec::new(alloc);
+    add_own_uniques(alloc, strands, &values, &mut uniques)?;
+    Ok(uniques)
+}
+
+/// The assumptions that these items of a problem state.
+fn own_assumptions(
+    alloc: Global,
+    declared: &[Declaration],
+    strands: &[Strand],
+    body: &[Form],
+) -> Result<Assumptions, AllocError>
+    ensures { IfOk result (λ a. assumptions_view a ≡ own_assumptions (map declaration_view declared.now) (map strand_view strands.now) (map view body.now)) }
+{
+    Ok(Assumptions {
+        non_originating: own_atoms(alloc, declared, Kind::Non, body)?,
+        penetrator_non_originating: own_atoms(alloc, declared, Kind::PenetratorNon, body)?,
+        uniquely_originating: own_uniques(alloc, declared, strands, body)?,
+    })
+}
+
+/// Whether an item orders nodes.
+fn is_precedes(form: &Form) -> bool
+    ensures { result ≡ is_precedes_item (item_or_none (headed (view form.now))) }
+{
+    match headed(form) {
+        Some(list) => matches!(item_head(list.head), ItemHead::Precedes),
+        None => false,
+    }
+}
+
+/// The pairs that these items of a problem state.
+fn pairs_of(alloc: Global, body: &[Form]) -> Result<Vec<OrderPair>, AllocError>
+    ensures { IfOk result (λ v. map pair_view v.items ≡ pairs_in (forms_under is_precedes_item (map view body.now))) }
+{
+    let mut pairs = Vec::new(alloc);
+    for item in body {
+        if is_precedes(item) {
+            add_pairs(items_behind(item), &mut pairs)?;
+        }
+    }
+    Ok(pairs)
+}
+
+/// The numbers of these strands.
+fn numbers_of(alloc: Global, strands: &[Strand]) -> Result<Vec<usize>, AllocError>
+    ensures { IfOk result (λ v. v.items ≡ numbers_from 0 (map strand_view strands.now)) }
+{
+    let mut numbers = Vec::new(alloc);
+    for number in 0..strands.len() {
+        numbers.push(number)?;
+    }
+    Ok(numbers)
+}
+
+/// The variables as terms.
+fn variable_terms(alloc: Global, variables: &[Declaration]) -> Result<Vec<Term>, AllocError>
+    ensures { IfOk result (λ v. v.items ≡ variable_terms 0 (map declaration_view variables.now)) }
+{
+    let mut terms = Vec::new(alloc);
+    for (number, declaration) in variables.iter().enumerate() {
+        let sort = declaration.sort;
+        let term = variable_term(alloc, Variable { sort, number })?;
+        terms.push(term)?;
+    }
+    Ok(terms)
+}
+
+/// The table of these variables.
+fn table_of(alloc: Global, variables: &[Declaration]) -> Result<VarTable, AllocError>
+    ensures { IfOk result (λ t. variables_view t ≡ map declaration_view variables.now) }
+{
+    let mut table = VarTable::new(alloc);
+    for declaration in variables {
+        table.fresh(declaration.identifier.as_str(), declaration.sort)?;
+    }
+    Ok(table)
+}
+
+/// The skeleton of a problem with these strands, which declares these variables, and all of whose variables are these:
+/// it maps to itself.
+pub(crate) fn own_skeleton(
+    alloc: Global,
+    declared: &[Declaration],
+    strands: Vec<Strand>,
+    body: &[Form],
+    all: &[Declaration],
+) -> Result<Skeleton, AllocError>
+    ensures skeleton { IfOk result (λ k. skeleton_view k ≡ own_skeleton (map declaration_view declared.now) (map strand_view strands.items) (map view body.now) (map declaration_view all.now)) }
+    ensures variables { IfOk result (λ k. variables_view k.variables ≡ map declaration_view all.now) }
+{
+    let own = own_assumptions(alloc, declared, &strands, body)?;
+    let mut assumptions = own.copy(alloc)?;
+    add_given(alloc, &strands, &mut assumptions)?;
+    let pairs = pairs_of(alloc, body)?;
+    Ok(Skeleton {
+        variables: table_of(alloc, all)?,
+        pairs: Vec::from_slice(alloc, &pairs)?,
+        assumptions,
+        from_problem: FromProblem {
+            strands: numbers_of(alloc, &strands)?,
+            values: variable_terms(alloc, all)?,
+            assumptions: own,
+            pairs,
+        },
+        strands,
+    })
+}
