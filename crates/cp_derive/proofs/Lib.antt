@@ -5,3 +5,10 @@ pub mod BuildingSteps
 pub mod Taking
 pub mod Unlocking
 pub mod Walks
+pub mod Occurring
+pub mod EventLists
+pub mod Secrets
+pub mod Picking
+pub mod Extending
+pub mod Placing
+pub mod GivenAtNode

@@ -62,7 +62,7 @@ below_parts : (s : Step) (before after : List Component) (path : List Step) (c :
     below s (before ++ (record { path = path; term = c } ∷ after)) ≡ below s before ++ (record { path = s ∷ path; term = c } ∷ below s after)
 below_parts s before after path c = map-append (λ d. record { path = s ∷ d.path; term = d.term }) before (record { path = path; term = c } ∷ after)
 
-pub first_listed : (g : Given) (c t : Term) (path : List Step) → LeadsToFirst g c t path → IsFirstUnderivable g t path c
+pub first_listed : (g : Given) (c t : Term) (path : List Step) → LeadsToFirst g c t path → IsFirstUnderivable (IsDerivable g) t path c
 first_listed g c _ _ (at_itself plain none) = record { before = []; after = []; among = alone c plain; underivable = none; derivable = λ d h. elim h [ ] }
 first_listed g c _ _ (to_left {a} {b} {path} l) =
     let f = first_listed g c a path l in

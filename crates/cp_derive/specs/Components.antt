@@ -4,7 +4,6 @@ use Rattle.cp_model.specs.Lists.{IsIn}
 use Rattle.cp_model.specs.Term.{Term, tag_term, atom_term, pair_term, enc_term}
 use Rattle.cp_term.specs.declared.path.Step.{Step}
 use Rattle.cp_term.specs.declared.path.Step.TheVariants.{Left, Right}
-use Rattle.cp_derive.specs.Given.{Given, IsDerivable}
 
 -- A component, and the path to it.
 pub record Component : Type 0 where
@@ -21,10 +20,11 @@ components_of (atom_term a) = record { path = []; term = atom_term a } ∷ []
 components_of (pair_term a b) = below Left (components_of a) ++ below Right (components_of b)
 components_of (enc_term a k) = record { path = []; term = enc_term a k } ∷ []
 
--- The component at this path is the first of the term's that cannot be derived: all before it can.
-pub record IsFirstUnderivable (g : Given) (t : Term) (path : List Step) (component : Term) : Type 0 where
+-- The component at this path is the first of the term's that cannot be derived, where these terms can: all before it
+-- can.
+pub record IsFirstUnderivable (CanBeDerived : Term → Type 0) (t : Term) (path : List Step) (component : Term) : Type 0 where
   pub before : List Component
   pub after : List Component
   pub among : components_of t ≡ before ++ (record { path = path; term = component } ∷ after)
-  pub underivable : IsDerivable g component → ⊥
-  pub derivable : (d : Component) → IsIn d before → IsDerivable g d.term
+  pub underivable : CanBeDerived component → ⊥
+  pub derivable : (d : Component) → IsIn d before → CanBeDerived d.term

@@ -5,3 +5,7 @@ pub mod Building
 pub mod Forms
 pub mod Opening
 pub mod Walking
+pub mod Unrealised
+pub mod Occurrences
+pub mod Assumed
+pub mod Before

@@ -53,3 +53,15 @@ pub record Advances (secrets : List Term) (old new : Opening) : Type 0 where
 -- Nothing that is locked has a key that can be built.
 abbrev pub AreLocked : List Term → Opening → Type 0
 AreLocked secrets o = (l : Locked) → IsIn l o.locked.items → Builds secrets o.held.items l.inverse → ⊥
+
+-- All that is held can be derived from whatever lists hold what was sent, each encryption is open or locked, and what
+-- was sent can be built.
+pub record IsCovered (sent secrets : List Term) (o : Opening) : Type 0 where
+  pub sound : (whole : List Term) → ((t : Term) → IsIn t sent → IsIn t whole) → IsSound (record { sent = whole; secrets = secrets }) o
+  pub opened : AreOpenOrLocked secrets o
+  pub builds : (t : Term) → IsIn t sent → Builds secrets o.held.items t
+
+-- What was sent is opened as far as it can be.
+pub record IsOpened (sent secrets : List Term) (o : Opening) : Type 0 where
+  pub covered : IsCovered sent secrets o
+  pub locked : AreLocked secrets o

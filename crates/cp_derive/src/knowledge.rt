@@ -1,9 +1,9 @@
 // What the penetrator knows, and what he can derive from it.
-ghost use Rattle.std.specs.Prelude.{◌≡◌, ◌↔◌, IsTrue, IfOk};
+ghost use Rattle.std.specs.Prelude.{◌≡◌, ◌↔◌, ◌++◌, IsTrue, IfOk, OnOk};
 ghost use Rattle.cp_derive.specs.Given.{IsDerivable};
 
 use crate::building::builds;
-use crate::opening::opened;
+use crate::opening::{Opening, open_more};
 use cp_term::Term;
 use std::alloc::{AllocError, Global};
 use std::marker::Model;
@@ -14,13 +14,13 @@ use std::marker::Model;
 pub struct Known {
     sent: Vec<Term>,
     secrets: Vec<Term>,
-    /// What is needed of what was sent, opened.
-    held: Vec<Term>,
+    /// What was sent, opened.
+    opening: Opening,
 }
 
 impl Model for Known {
     ghost use Rattle.cp_derive.specs.Given.{Given, coded_given};
-    ghost use Rattle.cp_derive.specs.Building.{IsClosed};
+    ghost use Rattle.cp_derive.specs.Opening.{IsOpened};
 
     ghost Value = { Given };
 
@@ -28,7 +28,18 @@ impl Model for Known {
 
     ghost view = { λ k. record { sent = k.sent.items; secrets = k.secrets.items } };
 
-    ghost invariant = { λ k. IsClosed (record { sent = k.sent.items; secrets = k.secrets.items }) k.held.items };
+    ghost invariant = { λ k. IsOpened k.sent.items k.secrets.items k.opening };
+}
+
+/// Puts terms behind others.
+fn add_terms(more: &[Term], terms: &mut Vec<Term>) -> Result<(), AllocError>
+    ensures { OnOk result (terms.new.items ≡ terms.old.items ++ more.now) }
+{
+    for term in more {
+        let term = term.copy()?;
+        terms.push(term)?;
+    }
+    Ok(())
 }
 
 impl Known {
@@ -37,12 +48,39 @@ impl Known {
     pub fn new(alloc: Global, sent: Vec<Term>, secrets: Vec<Term>) -> Result<Known, AllocError>
         ensures { IfOk result (λ k. k ≡ record { sent = sent.items; secrets = secrets.items }) }
     {
-        let held = opened(alloc, &secrets, &sent)?;
+        let mut opening = Opening::new(alloc);
+        open_more(alloc, &secrets, &sent, &mut opening)?;
         Ok(Known {
             sent,
             secrets,
-            held,
+            opening,
         })
+    }
+
+    /// What is known where these terms were sent too.
+    pub(crate) fn extended(self, alloc: Global, more: Vec<Term>) -> Result<Known, AllocError>
+        ensures { IfOk result (λ k. k ≡ record { sent = self.sent ++ more.items; secrets = self.secrets }) }
+    {
+        let Known {
+            mut sent,
+            secrets,
+            mut opening,
+        } = self;
+        open_more(alloc, &secrets, &more, &mut opening)?;
+        add_terms(&more, &mut sent)?;
+        Ok(Known {
+            sent,
+            secrets,
+            opening,
+        })
+    }
+
+    /// What is known where these terms alone were sent, and the same atoms are secret.
+    pub(crate) fn restarted(self, alloc: Global, sent: Vec<Term>) -> Result<Known, AllocError>
+        ensures { IfOk result (λ k. k ≡ record { sent = sent.items; secrets = self.secrets }) }
+    {
+        let Known { secrets, .. } = self;
+        Known::new(alloc, sent, secrets)
     }
 }
 
@@ -50,5 +88,5 @@ impl Known {
 pub fn buildable(known: &Known, t: &Term) -> bool
     ensures { IsTrue result ↔ IsDerivable known.now t.now }
 {
-    builds(&known.secrets, &known.held, t)
+    builds(&known.secrets, known.opening.held(), t)
 }

@@ -1,17 +1,26 @@
 //! What the penetrator can derive, decided.
 #![tactic(auto)]
 
+mod assumed;
+mod at_node;
+mod before;
 mod building;
 mod component;
 mod form;
+mod front;
 mod knowledge;
 mod laws;
+mod occurrence;
 mod opening;
+mod receptions;
 #[cfg(test)]
 mod tests;
+mod transmission;
 mod walk;
 
+pub use at_node::{critical, known};
 pub use component::Critical;
 pub use knowledge::{Known, buildable};
 pub use laws::{derivable_at_a_node, derivable_where_given};
-pub use walk::critical;
+pub use receptions::unrealised;
+pub use walk::critical_in;

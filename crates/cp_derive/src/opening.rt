@@ -1,10 +1,10 @@
 // Opening what was sent, until nothing more opens.
-ghost use Rattle.std.specs.Prelude.{◌≡◌, ◌<◌, true, false, List, slice_index_or, vec_len, IfOk, OnOk};
+ghost use Rattle.std.specs.Prelude.{◌≡◌, ◌<◌, true, false, List, [], ◌++◌, slice_index_or, vec_len, IfOk, OnOk};
 ghost use Rattle.cp_model.specs.Term.{AtomTerm, KeyTerm, Term as Plain, atom_term, enc_term};
 ghost use Rattle.cp_term.specs.Keys.{key_as_term};
-ghost use Rattle.cp_derive.specs.Building.{Builds, IsClosed};
+ghost use Rattle.cp_derive.specs.Building.{Builds};
 ghost use Rattle.cp_derive.specs.declared.opening.Locked.{Locked as LockedData};
-ghost use Rattle.cp_derive.specs.Opening.{weight, Takes, Advances, AreLocked};
+ghost use Rattle.cp_derive.specs.Opening.{weight, Takes, Advances, AreLocked, IsOpened};
 
 use crate::building::{builds, is_among, is_at_hand};
 use crate::form::{Form, form_of};
@@ -124,22 +124,38 @@ fn unlock(alloc: Global, secrets: &[Term], opening: &mut Opening) -> Result<bool
     Ok(some)
 }
 
-/// All that is to be held of what was sent, such that whatever can be derived can be built from it.
-pub(crate) fn opened(
+/// Opens more that was sent, until nothing more opens.
+pub(crate) fn open_more(
     alloc: Global,
     secrets: &[Term],
-    sent: &[Term],
-) -> Result<Vec<Term>, AllocError>
-    ensures { IfOk result (λ held. IsClosed (record { sent = sent.now; secrets = secrets.now }) held.items) }
+    more: &[Term],
+    opening: &mut Opening,
+) -> Result<(), AllocError>
+    ensures { OnOk result ((sent : List Plain) → IsOpened sent secrets.now opening.old → IsOpened (sent ++ more.now) secrets.now opening.new) }
 {
-    let mut opening = Opening {
-        held: Vec::new(alloc),
-        locked: Vec::new(alloc),
-    };
-    for term in sent {
-        take_apart(alloc, secrets, term, &mut opening)?;
+    for term in more {
+        take_apart(alloc, secrets, term, opening)?;
     }
-    while unlock(alloc, secrets, &mut opening)? {}
-    let Opening { held, .. } = opening;
-    Ok(held)
+    while unlock(alloc, secrets, opening)? {}
+    Ok(())
+}
+
+impl Opening {
+    /// What is held where nothing was sent.
+    #[tactic(auto, using(crate::proofs::Extending::nothing_opened))]
+    pub(crate) fn new(alloc: Global) -> Opening
+        ensures { (secrets : List Plain) → IsOpened [] secrets result }
+    {
+        Opening {
+            held: Vec::new(alloc),
+            locked: Vec::new(alloc),
+        }
+    }
+
+    /// The terms from which all that can be derived can be built.
+    pub(crate) fn held(&self) -> &[Term]
+        ensures { result.now ≡ self.now.held.items }
+    {
+        &self.held
+    }
 }

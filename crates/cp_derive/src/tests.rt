@@ -71,8 +71,8 @@ fn reception_of_the_initiator(rt: HostRuntime) -> Result<(), Fail> {
     assert!(rt; !buildable(&known, &second) && !buildable(&known, &n1));
     assert!(rt; buildable(&known, &first) && buildable(&known, &a) && buildable(&known, &n2));
     assert!(rt; buildable(&known, &tag(alloc, "hello")?) && buildable(&known, &public(alloc, &a)?));
-    assert!(rt; is_critical(&critical(alloc, &known, &second)?, &[], &second));
-    assert!(rt; critical(alloc, &known, &first)?.is_none());
+    assert!(rt; is_critical(&critical_in(alloc, &known, &second)?, &[], &second));
+    assert!(rt; critical_in(alloc, &known, &first)?.is_none());
     Ok(())
 }
 
@@ -89,7 +89,7 @@ fn component_from_the_left(rt: HostRuntime) -> Result<(), Fail> {
     let message = pair(alloc, a, pair(alloc, n.copy()?, m)?)?;
     assert!(rt;
         is_critical(
-            &critical(alloc, &known, &message)?,
+            &critical_in(alloc, &known, &message)?,
             &[Step::Right, Step::Left],
             &n
         )
@@ -134,7 +134,7 @@ fn long_chain(rt: HostRuntime) -> Result<(), Fail> {
     let chain = chain(alloc, &a, &n, 300_000)?;
     let nothing = Known::new(alloc, Vec::new(alloc), vec![in alloc; n.copy()?]?)?;
     assert!(rt; !buildable(&nothing, &chain));
-    let found = critical(alloc, &nothing, &chain)?;
+    let found = critical_in(alloc, &nothing, &chain)?;
     assert!(rt; found.is_some_and(|critical| critical.path.len() == 300_000));
     let all = Known::new(alloc, vec![in alloc; chain]?, vec![in alloc; n.copy()?]?)?;
     assert!(rt; buildable(&all, &n));

@@ -43,9 +43,9 @@ fn find(known: &Known, whole: &Term, here: &mut Path) -> Result<Option<Term>, Al
 
 /// The first component of the message, from left to right, that cannot be derived: the critical one. There is none
 /// exactly where the message can be derived.
-pub fn critical(alloc: Global, known: &Known, t: &Term) -> Result<Option<Critical>, AllocError>
+pub fn critical_in(alloc: Global, known: &Known, t: &Term) -> Result<Option<Critical>, AllocError>
     ensures none { IfOk result (λ found. IsNone found ↔ IsDerivable known.now t.now) }
-    ensures first { IfOk result (λ found. IfSome found (λ c. IsFirstUnderivable known.now t.now c.path c.term)) }
+    ensures first { IfOk result (λ found. IfSome found (λ c. IsFirstUnderivable (IsDerivable known.now) t.now c.path c.term)) }
     ensures place { IfOk result (λ found. IfSome found (λ c. term_at t.now c.path ≡ Some c.term)) }
 {
     let mut path = Path::new(alloc);

@@ -1,18 +1,20 @@
 use Rattle.std.proofs.Common.{◌≡◌, List, sym, subst, ap₂}
 use Rattle.cp_model.specs.Term.{Term}
-use Rattle.cp_derive.specs.Building.{Builds}
+use Rattle.cp_derive.specs.Building.{Builds, IsClosed}
 use Rattle.cp_derive.specs.Given.{Given, IsDerivable}
 use Rattle.cp_derive.proofs.Built.{built_derivable, derivable_built}
+use Rattle.cp_derive.proofs.Extending.{closed}
 use Rattle.cp_derive.proofs.knowledge.buildable.Goals as goal
 
 pub returns : goal.returns
 returns c =
     let g : Given = record { sent = c.known.inside.sent.items; secrets = c.known.inside.secrets.items } in
-    let held : List Term = c.known.inside.held.items in
+    let held : List Term = c.known.inside.opening.held.items in
     let t : Term = c.args.t.now in
     let view : g ≡ c.args.known.now = c.known.view_is in
-    let lists : Builds c.deref.result.now c.deref-2.result.now t ≡ Builds g.secrets held t =
-    ap₂ (λ s h. Builds s h t) c.deref.ensures.value c.deref-2.ensures.value in (
-      λ r. subst (λ k. IsDerivable k t) view (built_derivable g held c.known.invariant.derivable t (subst (λ P. P) lists (c.builds.ensures.0 r))),
-      λ d. c.builds.ensures.1 (subst (λ P. P) (sym lists) (derivable_built g held c.known.invariant t (subst (λ k. IsDerivable k t) (sym view) d))),
+    let is_closed : IsClosed g held = closed g c.known.inside.opening c.known.invariant in
+    let lists : Builds c.deref.result.now c.held.result.now t ≡ Builds g.secrets held t =
+    ap₂ (λ s h. Builds s h t) c.deref.ensures.value c.held.ensures in (
+      λ r. subst (λ k. IsDerivable k t) view (built_derivable g held is_closed.derivable t (subst (λ P. P) lists (c.builds.ensures.0 r))),
+      λ d. c.builds.ensures.1 (subst (λ P. P) (sym lists) (derivable_built g held is_closed t (subst (λ k. IsDerivable k t) (sym view) d))),
     )

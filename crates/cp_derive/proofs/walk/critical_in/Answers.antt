@@ -1,7 +1,7 @@
 use Rattle.cp_derive.proofs.Walks.{first_underivable, first_place, first_listed, leads_from_start, found_some}
 use Rattle.cp_derive.specs.Walking.{LeadsToFirst}
-use Rattle.cp_derive.proofs.walk.critical.Goals as goal
-use Rattle.cp_derive.proofs.walk.critical.Goals.{In-Some}
+use Rattle.cp_derive.proofs.walk.critical_in.Goals as goal
+use Rattle.cp_derive.proofs.walk.critical_in.Goals.{In-Some}
 
 leads : (c : In-Some) → LeadsToFirst c.args.known.now c.in-Some.term c.args.t.now c.find.new.here
 leads c = leads_from_start _ _ _ _ _ c.new-path.ensures (found_some _ _ _ _ _ _ c.in-Some.is c.in_ok-find.ensures)

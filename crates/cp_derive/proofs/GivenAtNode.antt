@@ -1,0 +1,149 @@
+-- What is given at a node of a skeleton by the transmissions that lead there.
+use Rattle.std.proofs.Common.{ℕ, zero, suc, ◌+◌, ◌<◌, ◌≤◌, ◌++◌, length, get_or, drop, append_assoc, arith, List, [], ◌∷◌, map, Option, Some, None, ◌≡◌, refl, sym, subst, ap, ◌∙◌}
+use Rattle.std.specs.Prelude.{◌↔◌, option_map}
+use Rattle.std.proofs.Math.Seq.{drop-cons}
+use Rattle.std.proofs.lemmas.List.{append-nil, drop_all, map-append}
+use Rattle.cp_skel.specs.View.{node_view, event_view}
+use Rattle.cp_skel.specs.declared.skeleton.Node.{Node as ProgramNode}
+use Rattle.cp_skel.specs.declared.protocol.Event.{Event as ProgramEvent}
+use Rattle.cp_skel.specs.declared.protocol.Event.TheVariants.{Send, Receive}
+use Rattle.cp_derive.specs.declared.occurrence.Occurrence as program
+use Rattle.cp_derive.specs.Assumed.{assumed_values}
+use Rattle.cp_model.specs.Lists.{item_at, IsIn, here, there}
+use Rattle.cp_model.specs.Term.{Term}
+use Rattle.cp_model.specs.Strand.{Event, send, recv, payload}
+use Rattle.cp_model.specs.Bundle.{Node}
+use Rattle.cp_model.specs.Skeleton.{term_event_at, IsNodeOf, Skeleton, Before}
+use Rattle.cp_model.specs.Derivable.{DerivableAt}
+use Rattle.cp_model.proofs.LawOrder.{before_by_pairs}
+use Rattle.cp_derive.specs.From.{IsSentBefore}
+use Rattle.cp_derive.specs.Given.{Given, IsDerivable, IsGivenAt}
+use Rattle.cp_derive.specs.Occurrences.{occurrence_view, occurrences_from, Transmission}
+use Rattle.cp_derive.specs.Before.{IsOrdered, LeadsToOther, ArePlacesBefore, messages_at, transmissions_of, given_by}
+use Rattle.cp_term.specs.declared.path.Step.{Step}
+use Rattle.cp_derive.specs.Components.{components_of, IsFirstUnderivable}
+use Rattle.cp_derive.specs.Unrealised.{IsUnrealisedAt, IsRealisedAt, ListsUnrealised}
+use Rattle.cp_derive.proofs.FromLaw.{given_at}
+use Rattle.cp_derive.proofs.EventLists.{listed_event, transmission_listed, listed_on_role, listed_transmission}
+use Rattle.cp_derive.proofs.Placing.{IsMessageAt, message_at, at_message, item_viewed}
+use Rattle.cp_derive.proofs.Picking.{Picks, no_more, picks, passes, lists_unrealised}
+use Rattle.cp_derive.proofs.Secrets.{secret_values}
+
+-- An item of a list is at some place, and what is at a place is an item.
+place_of : {A : Type 0} (xs : List A) (x : A) → IsIn x xs → (p : ℕ) × (item_at xs p ≡ Some x)
+place_of (x ∷ xs) _ here = (0, refl)
+place_of (y ∷ xs) x (there h) = let more = place_of xs x h in (suc more.0, more.1)
+place_of [] x h = elim h [ ]
+
+item_of : {A : Type 0} (xs : List A) (p : ℕ) (x : A) → item_at xs p ≡ Some x → IsIn x xs
+item_of [] p x e = absurd (cc)
+item_of (y ∷ xs) zero x e = let same : y ≡ x = cc in subst (λ z. IsIn z (y ∷ xs)) same here
+item_of (y ∷ xs) (suc p) x e = there (item_of xs p x e)
+
+module _ (k : Skeleton) (n : Node) (places : List ℕ) (ordered : IsOrdered k) (there_is : IsNodeOf k.strands n)
+    (before : ArePlacesBefore k.pairs n (transmissions_of k) places) where
+  order : (m : Node) → Before k m n ↔ LeadsToOther k.pairs m n
+  order m = before_by_pairs k ordered.order_pairs ordered.no_cycle m n there_is
+
+  sent_at : (t : Term) → IsMessageAt places (transmissions_of k) t → IsSentBefore k n t
+  sent_at t h = record {
+    from = h.transmission.node;
+    on_instance = listed_on_role k h.transmission (item_of (transmissions_of k) h.place h.transmission h.at);
+    transmission =
+        listed_transmission k h.transmission (item_of (transmissions_of k) h.place h.transmission h.at) ∙ ap (λ m. Some (send m)) h.message;
+    before = (order h.transmission.node).1 (before.only h.place h.transmission h.at h.listed);
+  }
+
+  at_sent : (t : Term) → IsSentBefore k n t → IsIn t (messages_at places (transmissions_of k))
+  at_sent t s =
+      let x : Transmission = record { node = s.from; message = t } in
+      let at = place_of (transmissions_of k) x (transmission_listed k s.from t s.on_instance s.transmission) in
+      at_message places (transmissions_of k) at.0 x (before.each at.0 x at.1 ((order s.from).0 s.before)) at.1
+
+  pub given_at_node : IsGivenAt k n (given_by k places)
+  given_at_node = record {
+    sent = λ t. (λ h. sent_at t (message_at places (transmissions_of k) t h), at_sent t);
+    secrets = secret_values k;
+  }
+
+  pub derivable_at_node : (g : Given) → g ≡ given_by k places → (t : Term) → DerivableAt k n t ↔ IsDerivable g t
+  derivable_at_node g e = subst (λ x. (t : Term) → DerivableAt k n t ↔ IsDerivable x t) (sym e) (given_at k n (given_by k places) given_at_node)
+
+-- A reception is unrealised exactly where its message cannot be derived.
+pub unrealised_at : (k : Skeleton) (n : Node) (m : Term) → term_event_at k.strands n ≡ Some (recv m) → (DerivableAt k n m → ⊥) → IsUnrealisedAt k n
+unrealised_at k n m at none = record { message = m; reception = at; underivable = none }
+
+pub realised_at : (k : Skeleton) (n : Node) (m : Term) → term_event_at k.strands n ≡ Some (recv m) → DerivableAt k n m → IsRealisedAt k n
+realised_at k n m at d t r = subst (DerivableAt k n) (let e : m ≡ t = cc in e) d
+
+pub transmission_realised : (k : Skeleton) (n : Node) (m : Term) → term_event_at k.strands n ≡ Some (send m) → IsRealisedAt k n
+transmission_realised k n m at t r = absurd (cc)
+
+-- ---- the message at a node
+
+pub message_is : (m : Term) (o : Option (Event Term)) (e : Event Term) → Some m ≡ option_map payload o → o ≡ Some e → m ≡ payload e
+message_is m o e at is = let whole : Some m ≡ Some (payload e) = at ∙ ap (option_map payload) is in cc
+
+pub no_message : (o : Option (Event Term)) (e : Event Term) → None ≡ option_map payload o → o ≡ Some e → ⊥
+no_message o e at is = let whole : None ≡ Some (payload e) = at ∙ ap (option_map payload) is in cc
+
+-- What is first over the lists is first at the node.
+pub first_of : (P Q : Term → Type 0) → ((t : Term) → P t ↔ Q t) → (t u : Term) (path : List Step) (c : Term) → t ≡ u → IsFirstUnderivable P t path c → IsFirstUnderivable Q u path c
+first_of P Q same t u path c e h = record {
+  before = h.before;
+  after = h.after;
+  among = ap components_of (sym e) ∙ h.among;
+  underivable = λ q. h.underivable ((same c).1 q);
+  derivable = λ d i. (same d.term).0 (h.derivable d i);
+}
+
+-- What is known from the transmissions of the skeleton at these places is what is given by them.
+pub given_from : (k : Skeleton) (places lent : List ℕ) (ts : List Transmission) (sent secrets : List Term) (g : Given) → lent ≡ places → ts ≡ transmissions_of k → sent ≡ messages_at lent ts →
+    secrets ≡ assumed_values k.assumptions → g ≡ record { sent = sent; secrets = secrets } → g ≡ given_by k places
+given_from k places lent ts sent secrets g l t s a e =
+    let whole : sent ≡ messages_at places (transmissions_of k) = s ∙ ap (λ ps. messages_at ps ts) l ∙ ap (messages_at places) t in
+    e
+    ∙ ap (λ xs. let g : Given = record { sent = xs; secrets = secrets } in g) whole
+    ∙ ap (λ xs. let g : Given = record { sent = messages_at places (transmissions_of k); secrets = xs } in g) a
+
+-- The events from a place on, where the next is passed or picked.
+module _ (k : Skeleton) (os : List program.Occurrence) (i : ℕ) (o : program.Occurrence) (nodes : List ProgramNode) (h : i < length os) (is : o ≡ get_or os i o)
+    (so_far : (ns : List Node) → Picks k (map occurrence_view (drop i os)) ns → Picks k (map occurrence_view os) (map node_view nodes ++ ns)) where
+  next_occurrence : map occurrence_view (drop i os) ≡ occurrence_view o ∷ map occurrence_view (drop (suc i) os)
+  next_occurrence = ap (map occurrence_view) (drop-cons os i o h) ∙ ap (λ (x : program.Occurrence). occurrence_view x ∷ map occurrence_view (drop (suc i) os)) (sym is)
+
+  pub passed : IsRealisedAt k (node_view o.node) → (ns : List Node) → Picks k (map occurrence_view (drop (i + 1) os)) ns → Picks k (map occurrence_view os) (map node_view nodes ++ ns)
+  passed none ns more =
+      let plus_one : i + 1 ≡ suc i = omega arith in
+      so_far ns (subst (λ xs. Picks k xs ns) (sym next_occurrence) (passes {o = occurrence_view o} none (subst (λ j. Picks k (map occurrence_view (drop j os)) ns) plus_one more)))
+
+  pub taken : (new : List ProgramNode) → new ≡ nodes ++ (o.node ∷ []) → IsUnrealisedAt k (node_view o.node) → (ns : List Node) → Picks k (map occurrence_view (drop (i + 1) os)) ns →
+      Picks k (map occurrence_view os) (map node_view new ++ ns)
+  taken new n u ns more =
+      let plus_one : i + 1 ≡ suc i = omega arith in
+      let behind : map node_view new ++ ns ≡ map node_view nodes ++ (node_view o.node ∷ ns) =
+      ap (λ xs. map node_view xs ++ ns) n ∙ ap (λ xs. xs ++ ns) (map-append node_view nodes (o.node ∷ [])) ∙ append_assoc (map node_view nodes) (node_view o.node ∷ []) ns in
+      subst (Picks k (map occurrence_view os)) (sym behind)
+      (so_far (node_view o.node ∷ ns)
+      (subst (λ xs. Picks k xs (node_view o.node ∷ ns)) (sym next_occurrence)
+      (picks {o = occurrence_view o} u (subst (λ j. Picks k (map occurrence_view (drop j os)) ns) plus_one more))))
+
+  pub event_at : map occurrence_view os ≡ occurrences_from 0 k.strands → term_event_at k.strands (node_view o.node) ≡ Some (event_view o.event)
+  event_at all =
+      listed_event k (occurrence_view o)
+      (subst (IsIn (occurrence_view o)) all (item_of (map occurrence_view os) i (occurrence_view o) (item_viewed occurrence_view os i o h is)))
+
+pub all_passed : (k : Skeleton) (os : List program.Occurrence) (i : ℕ) (nodes : List ProgramNode) → length os ≤ i → map occurrence_view os ≡ occurrences_from 0 k.strands →
+    ((ns : List Node) → Picks k (map occurrence_view (drop i os)) ns → Picks k (map occurrence_view os) (map node_view nodes ++ ns)) → ListsUnrealised k (map node_view nodes)
+all_passed k os i nodes past all so_far =
+    lists_unrealised k (map node_view nodes)
+    (subst (λ xs. Picks k xs (map node_view nodes)) all
+    (subst (Picks k (map occurrence_view os)) (append-nil (map node_view nodes)) (so_far [] (subst (λ xs. Picks k (map occurrence_view xs) []) (sym (drop_all i os past)) no_more))))
+
+-- An event that is no reception is realised.
+pub other_realised : (k : Skeleton) (n : Node) (e : ProgramEvent) → term_event_at k.strands n ≡ Some (event_view e) → ((m : Term) → e ≡ Receive m → ⊥) → IsRealisedAt k n
+other_realised k n (Receive m) at other = absurd (other m refl)
+other_realised k n (Send m) at other = transmission_realised k n m at
+
+pub reception_at : (k : Skeleton) (n : Node) (e : ProgramEvent) (m : Term) → term_event_at k.strands n ≡ Some (event_view e) → e ≡ Receive m → term_event_at k.strands n ≡ Some (recv m)
+reception_at k n e m at is = at ∙ ap (λ x. Some (event_view x)) is

@@ -1,0 +1,42 @@
+use Rattle.std.proofs.Common.{◌≤◌, ◌≡◌, ◌+◌, Some, length, map, ap, sym, subst, ◌∙◌, arith}
+use Rattle.cp_model.specs.Lists.{item_at}
+use Rattle.cp_model.specs.Order.{LeadsTo}
+use Rattle.cp_skel.specs.Leading.{Target}
+use Rattle.cp_skel.specs.View.{node_view, pair_view}
+use Rattle.cp_derive.specs.Occurrences.{transmission_view}
+use Rattle.cp_derive.proofs.Listed.{not_both}
+use Rattle.cp_derive.proofs.Placing.{ArePlacesBelow, placed, not_placed, all_placed, item_viewed, viewed_length}
+use Rattle.cp_derive.proofs.before.places_before.Goals as goal
+use Rattle.cp_derive.proofs.before.places_before.Goals.{then-has+then-not-is_same_node+in_ok-push, else-has, else-has-via-then-has+else-not-is_same_node, else-has-via-else-has}
+
+pub loop-place-preserved : goal.loop-place-preserved
+loop-place-preserved c =
+    let at : item_at (map transmission_view c.args.transmissions.now) c.loop-place.place ≡ Some (transmission_view c.index-transmissions-place.result) =
+    item_viewed transmission_view c.args.transmissions.now c.loop-place.place c.index-transmissions-place.result c.loop-place-test.true c.index-transmissions-place.is in
+    elim c.if-has.branch [
+      | then-has+then-not-is_same_node+in_ok-push w ↦
+          placed (map pair_view c.args.pairs.now) (node_view c.args.node) _ c.loop-place.place (transmission_view c.index-transmissions-place.result) c.loop-place.places.items _ at (
+            subst (λ (x : Target). LeadsTo x.pairs (node_view c.index-transmissions-place.result.node) x.node) c.in_ok-leading.ensures (c.has.ensures.0 w.if-has.true),
+            λ same. not_both w.if-not-is_same_node.true (w.is_same_node.ensures.1 same),
+          )
+          (ap (λ v. v.items) w.places-is ∙ w.in_ok-push.ensures.items) c.loop-place.invariant
+      | else-has w ↦
+          subst (λ ps. ArePlacesBelow (map pair_view c.args.pairs.now) (node_view c.args.node) (map transmission_view c.args.transmissions.now) (c.loop-place.place + 1) ps)
+          (sym (ap (λ v. v.items) w.places-is))
+          (elim w.else-has.branch [
+            | else-has-via-then-has+else-not-is_same_node w' ↦
+                not_placed (map pair_view c.args.pairs.now) (node_view c.args.node) _ c.loop-place.place (transmission_view c.index-transmissions-place.result) _ at
+                (λ l. l.1 (w'.is_same_node.ensures.0 w'.if-not-is_same_node.false)) c.loop-place.invariant
+            | else-has-via-else-has w' ↦
+                not_placed (map pair_view c.args.pairs.now) (node_view c.args.node) _ c.loop-place.place (transmission_view c.index-transmissions-place.result) _ at
+                (λ l.
+                not_both w'.if-has.false
+                (c.has.ensures.1 (subst (λ (x : Target). LeadsTo x.pairs (node_view c.index-transmissions-place.result.node) x.node) (sym c.in_ok-leading.ensures) l.0)))
+                c.loop-place.invariant
+          ])
+    ]
+
+pub returns : goal.returns
+returns c =
+    let past : length (map transmission_view c.args.transmissions.now) ≤ c.loop-place.place = omega (arith, viewed_length transmission_view c.args.transmissions.now) in
+    all_placed _ _ _ _ _ past c.loop-place.invariant

@@ -1,0 +1,8 @@
+use Rattle.std.proofs.Common.{map}
+use Rattle.cp_skel.specs.View.{node_view, pair_view}
+use Rattle.cp_derive.specs.Occurrences.{transmission_view}
+use Rattle.cp_derive.proofs.Placing.{ArePlacesBelow}
+use Rattle.cp_derive.proofs.before.places_before.Given as goal
+
+abbrev pub invariant-loop-place : goal.invariant-loop-place
+invariant-loop-place l = ArePlacesBelow (map pair_view l.pairs) (node_view l.node) (map transmission_view l.transmissions) l.place l.places.items

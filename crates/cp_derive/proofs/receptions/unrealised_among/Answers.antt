@@ -1,0 +1,59 @@
+use Rattle.cp_model.specs.Strand.{recv}
+use Rattle.cp_skel.specs.View.{node_view, skeleton_view}
+use Rattle.cp_derive.proofs.Listed.{not_both}
+use Rattle.cp_derive.proofs.GivenAtNode.{unrealised_at, realised_at, passed, taken, event_at, all_passed, other_realised, reception_at}
+use Rattle.cp_derive.proofs.receptions.unrealised_among.Goals as goal
+
+pub loop-occurrence-preserved-in_default : goal.loop-occurrence-preserved-in_default
+loop-occurrence-preserved-in_default c = record {
+  given = c.loop-occurrence.invariant.given;
+  picks =
+      passed (skeleton_view c.args.k.now) c.args.occurrences.now c.loop-occurrence.occurrence-index c.occurrence-item.result c.loop-occurrence.nodes.items c.loop-occurrence-test.true
+      c.occurrence-item.is c.loop-occurrence.invariant.picks
+      (other_realised (skeleton_view c.args.k.now) (node_view c.occurrence-item.result.node) c.occurrence-item.result.event
+      (event_at (skeleton_view c.args.k.now) c.args.occurrences.now c.loop-occurrence.occurrence-index c.occurrence-item.result c.loop-occurrence.nodes.items c.loop-occurrence-test.true
+      c.occurrence-item.is c.loop-occurrence.invariant.picks c.requires.listed)
+      c.in_default.not-Receive);
+}
+
+pub front_at-requires-clause-there : goal.front_at-requires-clause-there
+front_at-requires-clause-there c = (
+  recv c.in-Receive.message,
+  reception_at (skeleton_view c.args.k.now) (node_view c.occurrence-item.result.node) c.occurrence-item.result.event c.in-Receive.message
+      (event_at (skeleton_view c.args.k.now) c.args.occurrences.now c.loop-occurrence.occurrence-index c.occurrence-item.result c.loop-occurrence.nodes.items c.loop-occurrence-test.true
+      c.occurrence-item.is c.loop-occurrence.invariant.picks c.requires.listed)
+      c.in-Receive.is,
+)
+
+pub loop-occurrence-preserved-then-buildable : goal.loop-occurrence-preserved-then-buildable
+loop-occurrence-preserved-then-buildable c = record {
+  given = c.in_ok-front.ensures.given;
+  picks =
+      passed (skeleton_view c.args.k.now) c.args.occurrences.now c.loop-occurrence.occurrence-index c.occurrence-item.result c.loop-occurrence.nodes.items c.loop-occurrence-test.true
+      c.occurrence-item.is c.loop-occurrence.invariant.picks
+      (realised_at (skeleton_view c.args.k.now) (node_view c.occurrence-item.result.node) c.in-Receive.message
+      (reception_at (skeleton_view c.args.k.now) (node_view c.occurrence-item.result.node) c.occurrence-item.result.event c.in-Receive.message
+      (event_at (skeleton_view c.args.k.now) c.args.occurrences.now c.loop-occurrence.occurrence-index c.occurrence-item.result c.loop-occurrence.nodes.items c.loop-occurrence-test.true
+      c.occurrence-item.is c.loop-occurrence.invariant.picks c.requires.listed)
+      c.in-Receive.is)
+      ((c.in_ok-front.ensures.at_node c.in-Receive.message).1 (c.buildable.ensures.0 c.if-buildable.true)));
+}
+
+pub loop-occurrence-preserved : goal.loop-occurrence-preserved
+loop-occurrence-preserved c = record {
+  given = c.in_ok-front.ensures.given;
+  picks =
+      taken (skeleton_view c.args.k.now) c.args.occurrences.now c.loop-occurrence.occurrence-index c.occurrence-item.result c.loop-occurrence.nodes.items c.loop-occurrence-test.true
+      c.occurrence-item.is c.loop-occurrence.invariant.picks c.push.new.self.items c.in_ok-push.ensures.items
+      (unrealised_at (skeleton_view c.args.k.now) (node_view c.occurrence-item.result.node) c.in-Receive.message
+      (reception_at (skeleton_view c.args.k.now) (node_view c.occurrence-item.result.node) c.occurrence-item.result.event c.in-Receive.message
+      (event_at (skeleton_view c.args.k.now) c.args.occurrences.now c.loop-occurrence.occurrence-index c.occurrence-item.result c.loop-occurrence.nodes.items c.loop-occurrence-test.true
+      c.occurrence-item.is c.loop-occurrence.invariant.picks c.requires.listed)
+      c.in-Receive.is)
+      (λ d. not_both c.if-buildable.false (c.buildable.ensures.1 ((c.in_ok-front.ensures.at_node c.in-Receive.message).0 d))));
+}
+
+pub returns : goal.returns
+returns c =
+    all_passed (skeleton_view c.args.k.now) c.args.occurrences.now c.loop-occurrence.occurrence-index c.loop-occurrence.nodes.items c.loop-occurrence-test.false c.requires.listed
+    c.loop-occurrence.invariant.picks

@@ -1,0 +1,15 @@
+use Rattle.std.proofs.Common.{◌≡◌, ◌++◌, List, map, drop}
+use Rattle.cp_model.specs.Bundle.{Node}
+use Rattle.cp_skel.specs.View.{node_view, skeleton_view}
+use Rattle.cp_derive.specs.Before.{given_by}
+use Rattle.cp_derive.specs.Occurrences.{occurrence_view}
+use Rattle.cp_derive.proofs.Picking.{Picks}
+use Rattle.cp_derive.proofs.receptions.unrealised_among.Given as goal
+
+-- what is picked of the events that are left is picked of all behind the nodes so far
+abbrev pub invariant-loop-occurrence : goal.invariant-loop-occurrence
+invariant-loop-occurrence l = record {
+  given : l.front.known ≡ given_by (skeleton_view l.k) l.front.places.items;
+  picks : (ns : List Node) → Picks (skeleton_view l.k) (map occurrence_view (drop l.occurrence-index l.occurrences)) ns →
+      Picks (skeleton_view l.k) (map occurrence_view l.occurrences) (map node_view l.nodes.items ++ ns);
+}

@@ -1,0 +1,41 @@
+-- What was sent before a node of a skeleton, by the order's pairs alone.
+use Rattle.std.specs.Prelude.{◌≡◌, ℕ, List, [], ◌∷◌, Option, Some, None}
+use Rattle.cp_model.specs.Lists.{item_at, IsIn}
+use Rattle.cp_model.specs.Term.{Term}
+use Rattle.cp_model.specs.Bundle.{Node}
+use Rattle.cp_model.specs.Skeleton.{OrderPair, Skeleton, Before, IsOrderPair}
+use Rattle.cp_model.specs.Order.{LeadsTo}
+use Rattle.cp_derive.specs.Given.{Given}
+use Rattle.cp_derive.specs.Occurrences.{Transmission, transmissions_among, occurrences_from}
+use Rattle.cp_derive.specs.Assumed.{assumed_values}
+
+-- The pairs of the skeleton are between nodes that are there, and its order has no cycle.
+pub record IsOrdered (k : Skeleton) : Type 0 where
+  pub order_pairs : (p : OrderPair) → IsIn p k.pairs → IsOrderPair k p
+  pub no_cycle : (n : Node) → Before k n n → ⊥
+
+-- Node m leads to another one, n.
+abbrev pub LeadsToOther : List OrderPair → Node → Node → Type 0
+LeadsToOther pairs m n = LeadsTo pairs m n × (m ≡ n → ⊥)
+
+-- These are the places of the transmissions that lead to another node, n.
+pub record ArePlacesBefore (pairs : List OrderPair) (n : Node) (ts : List Transmission) (places : List ℕ) : Type 0 where
+  pub each : (p : ℕ) (t : Transmission) → item_at ts p ≡ Some t → LeadsToOther pairs t.node n → IsIn p places
+  pub only : (p : ℕ) (t : Transmission) → item_at ts p ≡ Some t → IsIn p places → LeadsToOther pairs t.node n
+
+-- The messages of the transmissions at these places.
+abbrev pub message_onto : Option Transmission → List Term → List Term
+message_onto None rest = rest
+message_onto (Some t) rest = t.message ∷ rest
+
+abbrev pub messages_at : List ℕ → List Transmission → List Term
+messages_at [] ts = []
+messages_at (p ∷ ps) ts = message_onto (item_at ts p) (messages_at ps ts)
+
+-- What role strands of a skeleton send.
+abbrev pub transmissions_of : Skeleton → List Transmission
+transmissions_of k = transmissions_among (occurrences_from 0 k.strands)
+
+-- What is given where the transmissions at these places came before.
+abbrev pub given_by : Skeleton → List ℕ → Given
+given_by k places = record { sent = messages_at places (transmissions_of k); secrets = assumed_values k.assumptions }

@@ -1,0 +1,79 @@
+// What can be derived at a node of a skeleton.
+ghost use Rattle.std.specs.Prelude.{◌≡◌, ◌↔◌, Some, map, option_map, IsNone, IfSome, IfOk};
+ghost use Rattle.cp_model.specs.Derivable.{DerivableAt};
+ghost use Rattle.cp_model.specs.Skeleton.{IsNodeOf, term_event_at};
+ghost use Rattle.cp_model.specs.Strand.{Event as PlainEvent, payload};
+ghost use Rattle.cp_model.specs.Term.{Term as Plain};
+ghost use Rattle.cp_skel.specs.View.{node_view, skeleton_view};
+ghost use Rattle.cp_term.specs.Positions.{term_at};
+ghost use Rattle.cp_derive.specs.Before.{IsOrdered, transmissions_of};
+ghost use Rattle.cp_derive.specs.Components.{IsFirstUnderivable};
+ghost use Rattle.cp_derive.specs.Given.{IsDerivable};
+ghost use Rattle.cp_derive.specs.Occurrences.{transmission_view};
+
+use crate::assumed::assumed_values;
+use crate::before::{messages_at, places_before};
+use crate::component::Critical;
+use crate::knowledge::Known;
+use crate::occurrence::occurrences;
+use crate::transmission::{Transmission, transmissions};
+use crate::walk::critical_in;
+use cp_skel::{Node, Skeleton};
+use cp_term::Term;
+use std::alloc::{AllocError, Global};
+
+/// What role strands of the skeleton send.
+fn transmissions_of(alloc: Global, k: &Skeleton) -> Result<Vec<Transmission>, AllocError>
+    ensures { IfOk result (λ ts. map transmission_view ts.items ≡ transmissions_of (skeleton_view k.now)) }
+{
+    let occurrences = occurrences(alloc, k)?;
+    transmissions(alloc, &occurrences)
+}
+
+/// What can be derived at a node: from all that role strands send strictly before it, all tags, and all atoms that no
+/// assumption names. The pairs of the skeleton have to be between nodes that are there, its order has to be without a
+/// cycle, and the node has to be there. The error is that memory ran out.
+pub fn known(alloc: Global, k: &Skeleton, node: Node) -> Result<Known, AllocError>
+    requires ordered { IsOrdered (skeleton_view k.now) }
+    requires there { IsNodeOf (skeleton_view k.now).strands (node_view node) }
+    ensures given { IfOk result (λ known. (t : Plain) → IsDerivable known t ↔ DerivableAt (skeleton_view k.now) (node_view node) t) }
+{
+    let transmissions = transmissions_of(alloc, k)?;
+    let places = places_before(alloc, &k.pairs, &transmissions, node)?;
+    let sent = messages_at(alloc, &places, &transmissions)?;
+    let secrets = assumed_values(alloc, &k.assumptions)?;
+    Known::new(alloc, sent, secrets)
+}
+
+/// The message of the event at a node, if there is one.
+fn message_at(alloc: Global, k: &Skeleton, node: Node) -> Result<Option<Term>, AllocError>
+    ensures { IfOk result (λ m. m ≡ option_map payload (term_event_at (skeleton_view k.now).strands (node_view node))) }
+{
+    match k.strands.get(node.strand) {
+        Some(strand) => match strand.event(alloc, node.index)? {
+            Some(event) => {
+                let message = event.payload().copy()?;
+                Ok(Some(message))
+            }
+            None => Ok(None),
+        },
+        None => Ok(None),
+    }
+}
+
+/// The first component, from left to right, of the message at a node that cannot be derived there: the critical one,
+/// with its path. There is none exactly where the message can be derived. The skeleton and the node have to be as for
+/// `known`. The error is that memory ran out.
+pub fn critical(alloc: Global, k: &Skeleton, node: Node) -> Result<Option<Critical>, AllocError>
+    requires ordered { IsOrdered (skeleton_view k.now) }
+    requires there { IsNodeOf (skeleton_view k.now).strands (node_view node) }
+    ensures none { IfOk result (λ found. (e : PlainEvent Plain) → term_event_at (skeleton_view k.now).strands (node_view node) ≡ Some e → IsNone found ↔ DerivableAt (skeleton_view k.now) (node_view node) (payload e)) }
+    ensures first { IfOk result (λ found. IfSome found (λ c. (e : PlainEvent Plain) → term_event_at (skeleton_view k.now).strands (node_view node) ≡ Some e → IsFirstUnderivable (DerivableAt (skeleton_view k.now) (node_view node)) (payload e) c.path c.term)) }
+    ensures place { IfOk result (λ found. IfSome found (λ c. (e : PlainEvent Plain) → term_event_at (skeleton_view k.now).strands (node_view node) ≡ Some e → term_at (payload e) c.path ≡ Some c.term)) }
+{
+    let known = known(alloc, k, node)?;
+    match message_at(alloc, k, node)? {
+        Some(message) => critical_in(alloc, &known, &message),
+        None => Ok(None),
+    }
+}

@@ -1,0 +1,65 @@
+// What was sent before a node.
+ghost use Rattle.std.specs.Prelude.{◌≡◌, ◌↔◌, map, option_map, IsTrue, IfOk};
+ghost use Rattle.cp_model.specs.Lists.{item_at};
+ghost use Rattle.cp_skel.specs.View.{node_view, pair_view};
+ghost use Rattle.cp_derive.specs.Occurrences.{transmission_view};
+ghost use Rattle.cp_derive.specs.Before.{ArePlacesBefore, messages_at};
+
+use crate::transmission::Transmission;
+use cp_skel::{Leading, Node, OrderPair};
+use cp_term::Term;
+use std::alloc::{AllocError, Global};
+
+/// Whether the nodes are the same.
+fn is_same_node(first: Node, second: Node) -> bool
+    ensures { IsTrue result ↔ (node_view first ≡ node_view second) }
+{
+    first.strand == second.strand && first.index == second.index
+}
+
+/// The places of the transmissions that lead to another node, this one.
+pub(crate) fn places_before(
+    alloc: Global,
+    pairs: &[OrderPair],
+    transmissions: &[Transmission],
+    node: Node,
+) -> Result<Vec<usize>, AllocError>
+    ensures { IfOk result (λ ps. ArePlacesBefore (map pair_view pairs.now) (node_view node) (map transmission_view transmissions.now) ps.items) }
+{
+    let leading = Leading::new(alloc, pairs, node)?;
+    let mut places = Vec::new(alloc);
+    for (place, transmission) in transmissions.iter().enumerate() {
+        if leading.has(transmission.node) && !is_same_node(transmission.node, node) {
+            places.push(place)?;
+        }
+    }
+    Ok(places)
+}
+
+/// The message of the transmission at a place, if there is one.
+fn message_of(transmissions: &[Transmission], place: usize) -> Option<&Term>
+    ensures { option_map (λ t. t.now) result ≡ option_map (λ t. t.message) (item_at (map transmission_view transmissions.now) place) }
+{
+    match transmissions.get(place) {
+        Some(transmission) => Some(&transmission.message),
+        None => None,
+    }
+}
+
+/// The messages of the transmissions at these places.
+pub(crate) fn messages_at(
+    alloc: Global,
+    places: &[usize],
+    transmissions: &[Transmission],
+) -> Result<Vec<Term>, AllocError>
+    ensures { IfOk result (λ ts. ts.items ≡ messages_at places.now (map transmission_view transmissions.now)) }
+{
+    let mut messages = Vec::new(alloc);
+    for place in places {
+        if let Some(sent) = message_of(transmissions, *place) {
+            let message = sent.copy()?;
+            messages.push(message)?;
+        }
+    }
+    Ok(messages)
+}

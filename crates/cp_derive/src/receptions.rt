@@ -1,0 +1,59 @@
+// The receptions whose messages cannot be derived.
+ghost use Rattle.std.specs.Prelude.{◌≡◌, map, IfOk};
+ghost use Rattle.cp_skel.specs.View.{node_view, skeleton_view};
+ghost use Rattle.cp_derive.specs.Before.{IsOrdered, transmissions_of, given_by};
+ghost use Rattle.cp_derive.specs.Occurrences.{occurrence_view, occurrences_from, transmission_view};
+ghost use Rattle.cp_derive.specs.Unrealised.{ListsUnrealised};
+
+use crate::assumed::assumed_values;
+use crate::front::{Front, front_at};
+use crate::knowledge::{Known, buildable};
+use crate::occurrence::{Occurrence, occurrences};
+use crate::transmission::{Transmission, transmissions};
+use cp_skel::{Event, Node, Skeleton};
+use std::alloc::{AllocError, Global};
+
+/// The nodes of those among these events, all that there are, that are receptions whose message cannot be derived there.
+fn unrealised_among(
+    alloc: Global,
+    k: &Skeleton,
+    transmissions: &[Transmission],
+    occurrences: &[Occurrence],
+    mut front: Front,
+) -> Result<Vec<Node>, AllocError>
+    requires ordered { IsOrdered (skeleton_view k.now) }
+    requires all { map transmission_view transmissions.now ≡ transmissions_of (skeleton_view k.now) }
+    requires listed { map occurrence_view occurrences.now ≡ occurrences_from 0 (skeleton_view k.now).strands }
+    requires given { front.known ≡ given_by (skeleton_view k.now) front.places.items }
+    ensures { IfOk result (λ nodes. ListsUnrealised (skeleton_view k.now) (map node_view nodes.items)) }
+{
+    let mut nodes = Vec::new(alloc);
+    for occurrence in occurrences {
+        let Event::Receive(message) = &occurrence.event else {
+            continue;
+        };
+        front = front_at(alloc, k, transmissions, occurrence.node, front)?;
+        if buildable(&front.known, message) {
+            continue;
+        }
+        nodes.push(occurrence.node)?;
+    }
+    Ok(nodes)
+}
+
+/// The receptions, those of listeners too, whose message cannot be derived there, by strand and then by index. The
+/// pairs of the skeleton have to be between nodes that are there, and its order has to be without a cycle. The error is
+/// that memory ran out.
+pub fn unrealised(alloc: Global, k: &Skeleton) -> Result<Vec<Node>, AllocError>
+    requires { IsOrdered (skeleton_view k.now) }
+    ensures { IfOk result (λ nodes. ListsUnrealised (skeleton_view k.now) (map node_view nodes.items)) }
+{
+    let occurrences = occurrences(alloc, k)?;
+    let transmissions = transmissions(alloc, &occurrences)?;
+    let secrets = assumed_values(alloc, &k.assumptions)?;
+    let front = Front {
+        places: Vec::new(alloc),
+        known: Known::new(alloc, Vec::new(alloc), secrets)?,
+    };
+    unrealised_among(alloc, k, &transmissions, &occurrences, front)
+}

@@ -1,0 +1,38 @@
+// What role strands send.
+ghost use Rattle.std.specs.Prelude.{◌≡◌, map, IfOk};
+ghost use Rattle.cp_derive.specs.Occurrences.{occurrence_view, transmission_view, transmissions_among};
+
+use crate::occurrence::Occurrence;
+use cp_skel::{Event, Node};
+use cp_term::Term;
+use std::alloc::{AllocError, Global};
+
+/// A message that a role strand sends at a node.
+#[derive(Drop)]
+pub(crate) struct Transmission {
+    pub(crate) node: Node,
+    pub(crate) message: Term,
+}
+
+/// What role strands send, among these events.
+pub(crate) fn transmissions(
+    alloc: Global,
+    occurrences: &[Occurrence],
+) -> Result<Vec<Transmission>, AllocError>
+    ensures { IfOk result (λ ts. map transmission_view ts.items ≡ transmissions_among (map occurrence_view occurrences.now)) }
+{
+    let mut transmissions = Vec::new(alloc);
+    for occurrence in occurrences {
+        if !occurrence.by_role {
+            continue;
+        }
+        if let Event::Send(message) = &occurrence.event {
+            let message = message.copy()?;
+            transmissions.push(Transmission {
+                node: occurrence.node,
+                message,
+            })?;
+        }
+    }
+    Ok(transmissions)
+}
