@@ -1,0 +1,145 @@
+-- What is found among the events of a skeleton is there.
+use Rattle.std.proofs.Common.{ℕ, List, [], map, ◌≡◌, ◌↔◌, ◌⊎◌, inl, inr, Option, Some, None, true, refl, sym, ap, subst, ◌∙◌}
+use Rattle.cp_model.specs.Lists.{item_at, IsIn}
+use Rattle.cp_model.specs.Term.{AtomTerm}
+use Rattle.cp_model.specs.Strand.{send, recv}
+use Rattle.cp_model.specs.Bundle.{Node, node_at}
+use Rattle.cp_model.specs.Skeleton.{SkeletonStrand, instance, listener, skeleton_trace_or_none, term_event_at, UniqueAt, OrderPair, Skeleton}
+use Rattle.cp_model.specs.Derivable.{IsOnInstance, OriginatesAtTerm}
+use Rattle.cp_skel.specs.View.{unique_view}
+use Rattle.cp_skel.specs.declared.skeleton.UniqueAt.{UniqueAt as Entry}
+use Rattle.cp_normal.specs.Events.{Has, Gathers, Occurrence, occurrence_view, occurrences_from, is_instance, CarriesOne, IsElsewhere, IsSentAtOrigin, IsCarriedBefore, IsPairBetween}
+use Rattle.cp_normal.specs.Normalising.{CarriesNonOriginating, HasTwoOrigins, LosesOrigin, IsAddedPair}
+use Rattle.cp_normal.specs.declared.events.Occurrence as program
+use Rattle.cp_normal.proofs.Having.{of_views, to_views}
+use Rattle.cp_normal.proofs.Listing.{event_of_listed, listed_of_event}
+
+module _ (k : Skeleton) (all read : List program.Occurrence) (listed : map occurrence_view all ≡ occurrences_from 0 k.strands) (is_read : read ≡ all) where
+  the_events : map occurrence_view read ≡ occurrences_from 0 k.strands
+  the_events = ap (map occurrence_view) is_read ∙ listed
+
+  -- An event with a property is among those that are listed.
+  pub listed_has : (has : Occurrence → Type 0) → Has (λ o. has (occurrence_view o)) read → Has has (occurrences_from 0 k.strands)
+  listed_has has h = subst (Has has) the_events (of_views occurrence_view has read h)
+
+  pub has_listed : (has : Occurrence → Type 0) → Has has (occurrences_from 0 k.strands) → Has (λ o. has (occurrence_view o)) read
+  has_listed has h = to_views occurrence_view has read (subst (Has has) (sym the_events) h)
+
+  module _ (values : List AtomTerm) (are_non : values ≡ k.assumptions.non_originating) where
+    pub carries_if_found : Has (λ o. CarriesOne values (occurrence_view o)) read → CarriesNonOriginating k
+    carries_if_found h =
+        let r : Has (CarriesOne values) (occurrences_from 0 k.strands) = listed_has (CarriesOne values) h in
+        record { value = r.2.0; listed = subst (IsIn r.2.0) are_non r.2.1; node = r.0.node; carried = record { event = r.0.event; there = event_of_listed k.strands r.0 r.1; carried = r.2.2 } }
+
+    pub found_if_carries : CarriesNonOriginating k → Has (λ o. CarriesOne values (occurrence_view o)) read
+    found_if_carries c =
+        has_listed (CarriesOne values)
+        (record { node = c.node; event = c.carried.event }, listed_of_event k.strands c.node c.carried.event c.carried.there, (c.value, subst (IsIn c.value) (sym are_non) c.listed, c.carried.carried))
+
+  -- ---- origins
+
+  pub originates_if_found : (u : UniqueAt) → IsOnInstance k u.origin → Has (λ o. IsSentAtOrigin u (occurrence_view o)) read → (Has (λ o. IsCarriedBefore u (occurrence_view o)) read → ⊥) → OriginatesAtTerm k u.value u.origin
+  originates_if_found u on sent not =
+      let r : Has (IsSentAtOrigin u) (occurrences_from 0 k.strands) = listed_has (IsSentAtOrigin u) sent in
+      let at : term_event_at k.strands r.0.node ≡ Some r.0.event = event_of_listed k.strands r.0 r.1 in (
+        on,
+        record {
+          sent = r.2.0;
+          transmission = subst (λ (n : Node). term_event_at k.strands n ≡ Some (send r.2.0)) r.2.3 (at ∙ ap Some r.2.1);
+          carried = r.2.2;
+          first = λ j e l there c.
+              not (has_listed (IsCarriedBefore u) (record { node = node_at u.origin.strand j; event = e }, listed_of_event k.strands (node_at u.origin.strand j) e there, (refl, l, c)));
+        },
+      )
+
+  pub sent_if_originates : (u : UniqueAt) → OriginatesAtTerm k u.value u.origin → Has (λ o. IsSentAtOrigin u (occurrence_view o)) read
+  sent_if_originates u or =
+      has_listed (IsSentAtOrigin u) (record { node = u.origin; event = send or.1.sent }, listed_of_event k.strands u.origin (send or.1.sent) or.1.transmission, (or.1.sent, refl, or.1.carried, refl))
+
+  pub not_before_if_originates : (u : UniqueAt) → OriginatesAtTerm k u.value u.origin → Has (λ o. IsCarriedBefore u (occurrence_view o)) read → ⊥
+  not_before_if_originates u or before =
+      let r : Has (IsCarriedBefore u) (occurrences_from 0 k.strands) = listed_has (IsCarriedBefore u) before in
+      let at : term_event_at k.strands r.0.node ≡ Some r.0.event = event_of_listed k.strands r.0 r.1 in
+      or.1.first r.0.node.index r.0.event r.2.1 (subst (λ (s : ℕ). item_at (skeleton_trace_or_none (item_at k.strands s)) r.0.node.index ≡ Some r.0.event) r.2.0 at) r.2.2
+
+-- ---- a strand that is an instance
+
+pub on_instance_if : (k : Skeleton) (n : Node) (o : Option SkeletonStrand) → item_at k.strands n.strand ≡ o → is_instance o ≡ true → IsOnInstance k n
+on_instance_if k n None e t = absurd (cc)
+on_instance_if k n (Some (instance role height terms)) e t = record { role = role; height = height; terms = terms; on_instance = e }
+on_instance_if k n (Some (listener m)) e t = absurd (cc)
+
+pub if_on_instance : (k : Skeleton) (n : Node) → IsOnInstance k n → is_instance (item_at k.strands n.strand) ≡ true
+if_on_instance k n on = ap is_instance on.on_instance
+
+-- ---- entries of unique values
+
+module _ (k : Skeleton) (all read : List Entry) (are_uniques : map unique_view all ≡ k.assumptions.uniquely_originating) (is_read : read ≡ all) where
+  the_uniques : map unique_view read ≡ k.assumptions.uniquely_originating
+  the_uniques = ap (map unique_view) is_read ∙ are_uniques
+
+  pub unique_has : (has : UniqueAt → Type 0) → Has (λ u. has (unique_view u)) read → Has has k.assumptions.uniquely_originating
+  unique_has has h = subst (Has has) the_uniques (of_views unique_view has read h)
+
+  pub has_unique : (has : UniqueAt → Type 0) → Has has k.assumptions.uniquely_originating → Has (λ u. has (unique_view u)) read
+  has_unique has h = to_views unique_view has read (subst (Has has) (sym the_uniques) h)
+
+  pub two_origins_if_found : Has (λ u. Has (λ w. IsElsewhere (unique_view u) (unique_view w)) read) read → HasTwoOrigins k
+  two_origins_if_found h =
+      let r : Has (λ u. Has (λ w. IsElsewhere u (unique_view w)) read) k.assumptions.uniquely_originating = unique_has (λ u. Has (λ w. IsElsewhere u (unique_view w)) read) h in
+      let s : Has (IsElsewhere r.0) k.assumptions.uniquely_originating = unique_has (IsElsewhere r.0) r.2 in
+      record { first = r.0; second = s.0; first_listed = r.1; second_listed = s.1; same_value = s.2.0; elsewhere = s.2.1 }
+
+  pub found_if_two_origins : HasTwoOrigins k → Has (λ u. Has (λ w. IsElsewhere (unique_view u) (unique_view w)) read) read
+  found_if_two_origins t =
+      has_unique (λ u. Has (λ w. IsElsewhere u (unique_view w)) read) (t.first, t.first_listed, has_unique (IsElsewhere t.first) (t.second, t.second_listed, (t.same_value, t.elsewhere)))
+
+  pub loses_if_found : Has (λ u. OriginatesAtTerm k (unique_view u).value (unique_view u).origin → ⊥) read → LosesOrigin k
+  loses_if_found h =
+      let r : Has (λ u. OriginatesAtTerm k u.value u.origin → ⊥) k.assumptions.uniquely_originating = unique_has (λ u. OriginatesAtTerm k u.value u.origin → ⊥) h in
+      record { entry = r.0; listed = r.1; lost = r.2 }
+
+  pub found_if_loses : LosesOrigin k → Has (λ u. OriginatesAtTerm k (unique_view u).value (unique_view u).origin → ⊥) read
+  found_if_loses l = has_unique (λ u. OriginatesAtTerm k u.value u.origin → ⊥) (l.entry, l.listed, l.lost)
+
+-- ---- pairs
+
+module _ (k : Skeleton) (all read : List program.Occurrence) (listed : map occurrence_view all ≡ occurrences_from 0 k.strands) (is_read : read ≡ all) (entries read_entries : List Entry)
+    (are_uniques : map unique_view entries ≡ k.assumptions.uniquely_originating) (entries_read : read_entries ≡ entries) where
+  abbrev AreGiven : OrderPair → Type 0
+  AreGiven p = Has (λ o. Has (λ u. IsPairBetween (occurrence_view o) (unique_view u) p) read_entries) read
+
+  pub added_if_given : (p : OrderPair) → AreGiven p → IsAddedPair k p
+  added_if_given p h =
+      let r : Has (λ o. Has (λ u. IsPairBetween o (unique_view u) p) read_entries) (occurrences_from 0 k.strands) = listed_has k all read listed is_read (λ o. Has (λ u. IsPairBetween o (unique_view u) p) read_entries) h in
+      let s : Has (λ u. IsPairBetween r.0 u p) k.assumptions.uniquely_originating = unique_has k entries read_entries are_uniques entries_read (λ u. IsPairBetween r.0 u p) r.2 in
+      let e : p ≡ record { earlier = s.0.origin; later = r.0.node } = s.2.4 in
+      let at : term_event_at k.strands r.0.node ≡ Some r.0.event = event_of_listed k.strands r.0 r.1 in (
+        record {
+          entry = s.0;
+          listed = s.1;
+          from_origin = ap (λ (q : OrderPair). q.earlier) e;
+          received = s.2.0;
+          reception = subst (λ (n : Node). term_event_at k.strands n ≡ Some (recv s.2.0)) (sym (ap (λ (q : OrderPair). q.later) e)) (at ∙ ap Some s.2.1);
+          carried = s.2.2;
+        },
+        λ same. s.2.3 (sym (ap (λ (q : OrderPair). q.earlier.strand) e) ∙ same ∙ ap (λ (q : OrderPair). q.later.strand) e),
+      )
+
+  pub given_if_added : (p : OrderPair) → IsAddedPair k p → AreGiven p
+  given_if_added p a =
+      let o = a.0 in
+      let e : p ≡ record { earlier = o.entry.origin; later = p.later } = λ i. record { earlier = o.from_origin i; later = p.later } in
+      has_listed k all read listed is_read (λ o. Has (λ u. IsPairBetween o (unique_view u) p) read_entries) (
+        record { node = p.later; event = recv o.received },
+        listed_of_event k.strands p.later (recv o.received) o.reception,
+        has_unique k entries read_entries are_uniques entries_read (λ u. IsPairBetween (record { node = p.later; event = recv o.received }) u p)
+            (o.entry, o.listed, (o.received, refl, o.carried, λ same. a.1 (ap (λ (n : Node). n.strand) o.from_origin ∙ same), e)),
+      )
+
+  none_first : (p : OrderPair) (old : List OrderPair) → old ≡ [] → IsIn p old ⊎ AreGiven p → AreGiven p
+  none_first p old e (inl h) = elim (subst (IsIn p) e h) [ ]
+  none_first p old e (inr h) = h
+
+  pub added_exactly : (old new : List OrderPair) → old ≡ [] → Gathers (λ o p. Has (λ u. IsPairBetween (occurrence_view o) (unique_view u) p) read_entries) read old new → (p : OrderPair) → IsIn p new ↔ IsAddedPair k p
+  added_exactly old new e gathers p = (λ h. added_if_given p (none_first p old e ((gathers p).0 h)), λ a. (gathers p).1 (inr (given_if_added p a)))

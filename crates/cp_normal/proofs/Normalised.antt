@@ -1,0 +1,74 @@
+-- The tests of normalising, put together.
+use Rattle.std.proofs.Common.{◌≡◌, ◌↔◌, ◌⊎◌, inl, inr, List, ◌++◌, map, sym, ap, subst, ◌∙◌}
+use Rattle.std.proofs.lemmas.List.{map-append}
+use Rattle.cp_model.specs.Lists.{IsIn}
+use Rattle.cp_model.specs.Bundle.{Node}
+use Rattle.cp_model.specs.Skeleton.{UniqueAt, OrderPair, Skeleton, Before, IsOrderPair, IsOrigin}
+use Rattle.cp_skel.specs.View.{pair_view, unique_view}
+use Rattle.cp_skel.specs.Leading.{Target}
+use Rattle.cp_skel.specs.declared.skeleton.OrderPair.{OrderPair as Pair}
+use Rattle.cp_skel.specs.declared.skeleton.UniqueAt.{UniqueAt as Entry}
+use Rattle.cp_normal.specs.Events.{Has}
+use Rattle.cp_normal.specs.Cycles.{LeadsOn, IsClosedAt}
+use Rattle.cp_normal.specs.Normalising.{CarriesNonOriginating, HasTwoOrigins, LosesOrigin, ClosesCycle, IsAddedPair, AreNormalPairs, IsContradictory}
+use Rattle.cp_normal.proofs.Having.{of_views, to_views}
+use Rattle.cp_normal.proofs.Listing.{in_either, in_first, in_second}
+use Rattle.cp_normal.proofs.Found.{unique_has, has_unique}
+use Rattle.cp_normal.proofs.Cycling.{closed_if_cycle, cycle_if_closed, cycle_of_these}
+
+-- ---- own and added pairs
+
+own_or_added : (k : Skeleton) (own added : List OrderPair) → own ≡ k.pairs → ((p : OrderPair) → IsIn p added ↔ IsAddedPair k p) → (p : OrderPair) → IsIn p own ⊎ IsIn p added → IsIn p k.pairs ⊎ IsAddedPair k p
+own_or_added k own added e exact p (inl h) = inl (subst (IsIn p) e h)
+own_or_added k own added e exact p (inr h) = inr ((exact p).0 h)
+
+in_both : (k : Skeleton) (own added : List OrderPair) → own ≡ k.pairs → ((p : OrderPair) → IsIn p added ↔ IsAddedPair k p) → (p : OrderPair) → IsIn p k.pairs ⊎ IsAddedPair k p → IsIn p (own ++ added)
+in_both k own added e exact p (inl h) = in_first own added (subst (IsIn p) (sym e) h)
+in_both k own added e exact p (inr h) = in_second own added ((exact p).1 h)
+
+pub normal_of_both : (k : Skeleton) (own added all : List Pair) → map pair_view own ≡ k.pairs → ((p : OrderPair) → IsIn p (map pair_view added) ↔ IsAddedPair k p) → all ≡ own ++ added → AreNormalPairs k (map pair_view all)
+normal_of_both k own added all e exact whole p =
+    let views : map pair_view all ≡ map pair_view own ++ map pair_view added = ap (map pair_view) whole ∙ map-append pair_view own added in (
+      λ h. own_or_added k (map pair_view own) (map pair_view added) e exact p (in_either (map pair_view own) (map pair_view added) (subst (IsIn p) views h)),
+      λ h. subst (IsIn p) (sym views) (in_both k (map pair_view own) (map pair_view added) e exact p h),
+    )
+
+-- ---- cycles
+
+pub closed_if : (pairs : List Pair) (n : Node) (l : Target) → l ≡ record { pairs = map pair_view pairs; node = n } → Has (λ p. LeadsOn l.pairs n l.node (pair_view p)) pairs → IsClosedAt (map pair_view pairs) n
+closed_if pairs n l e h = of_views pair_view (LeadsOn (map pair_view pairs) n n) pairs (subst (λ (l : Target). Has (λ p. LeadsOn l.pairs n l.node (pair_view p)) pairs) e h)
+
+pub if_closed : (pairs : List Pair) (n : Node) (l : Target) → l ≡ record { pairs = map pair_view pairs; node = n } → IsClosedAt (map pair_view pairs) n → Has (λ p. LeadsOn l.pairs n l.node (pair_view p)) pairs
+if_closed pairs n l e h = subst (λ (l : Target). Has (λ p. LeadsOn l.pairs n l.node (pair_view p)) pairs) (sym e) (to_views pair_view (LeadsOn (map pair_view pairs) n n) pairs h)
+
+-- ---- the answer
+
+module _ (k : Skeleton) (pairs read : List Pair) (entries read_entries : List Entry) (normal : AreNormalPairs k (map pair_view pairs)) (is_read : read ≡ pairs)
+    (are_uniques : map unique_view entries ≡ k.assumptions.uniquely_originating) (entries_read : read_entries ≡ entries)
+    (own : (p : OrderPair) → IsIn p k.pairs → IsOrderPair k p) (no_cycle : (n : Node) → Before k n n → ⊥) (origins : (u : UniqueAt) → IsIn u k.assumptions.uniquely_originating → IsOrigin k u) where
+  pub cycle_if_found : Has (λ u. IsClosedAt (map pair_view read) (unique_view u).origin) read_entries → ClosesCycle k
+  cycle_if_found h =
+      let r : Has (λ u. IsClosedAt (map pair_view read) u.origin) k.assumptions.uniquely_originating = unique_has k entries read_entries are_uniques entries_read (λ u. IsClosedAt (map pair_view read) u.origin) h in
+      cycle_if_closed k (map pair_view pairs) normal own origins (subst (λ (ps : List Pair). Has (λ u. IsClosedAt (map pair_view ps) u.origin) k.assumptions.uniquely_originating) is_read r)
+
+  pub found_if_cycle : ClosesCycle k → Has (λ u. IsClosedAt (map pair_view read) (unique_view u).origin) read_entries
+  found_if_cycle c =
+      let r : Has (λ u. IsClosedAt (map pair_view pairs) u.origin) k.assumptions.uniquely_originating = closed_if_cycle k (map pair_view pairs) normal no_cycle c.node (cycle_of_these k (map pair_view pairs) normal c) in
+      let s : Has (λ u. IsClosedAt (map pair_view read) u.origin) k.assumptions.uniquely_originating = subst (λ (ps : List Pair). Has (λ u. IsClosedAt (map pair_view ps) u.origin) k.assumptions.uniquely_originating) (sym is_read) r in
+      has_unique k entries read_entries are_uniques entries_read (λ u. IsClosedAt (map pair_view read) u.origin) s
+
+pub contradictory : (k : Skeleton) → CarriesNonOriginating k ⊎ (HasTwoOrigins k ⊎ LosesOrigin k) → IsContradictory k
+contradictory k (inl c) = inl c
+contradictory k (inr (inl t)) = inr (inl t)
+contradictory k (inr (inr l)) = inr (inr (inl l))
+
+pub consistent : (k : Skeleton) → (CarriesNonOriginating k ⊎ (HasTwoOrigins k ⊎ LosesOrigin k) → ⊥) → (ClosesCycle k → ⊥) → IsContradictory k → ⊥
+consistent k refuted cycle (inl c) = refuted (inl c)
+consistent k refuted cycle (inr (inl t)) = refuted (inr (inl t))
+consistent k refuted cycle (inr (inr (inl l))) = refuted (inr (inr l))
+consistent k refuted cycle (inr (inr (inr c))) = cycle c
+
+pub only_last : (k : Skeleton) → (CarriesNonOriginating k → ⊥) → (HasTwoOrigins k → ⊥) → CarriesNonOriginating k ⊎ (HasTwoOrigins k ⊎ LosesOrigin k) → LosesOrigin k
+only_last k a b (inl c) = absurd (a c)
+only_last k a b (inr (inl t)) = absurd (b t)
+only_last k a b (inr (inr l)) = l

@@ -1,0 +1,6 @@
+use Rattle.std.proofs.Common.{drop}
+use Rattle.cp_normal.specs.Events.{Has, occurrence_view, CarriesOne}
+use Rattle.cp_normal.proofs.carrying.some_carries_one.Given as goal
+
+abbrev pub invariant-loop-occurrence : goal.invariant-loop-occurrence
+invariant-loop-occurrence l = Has (λ o. CarriesOne l.values (occurrence_view o)) l.occurrences → Has (λ o. CarriesOne l.values (occurrence_view o)) (drop l.occurrence-index l.occurrences)

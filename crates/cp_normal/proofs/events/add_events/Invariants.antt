@@ -1,0 +1,11 @@
+use Rattle.std.proofs.Common.{◌≡◌, ◌++◌, map, drop}
+use Rattle.cp_model.specs.Skeleton.{skeleton_trace}
+use Rattle.cp_skel.specs.View.{strand_view}
+use Rattle.cp_normal.specs.Events.{occurrence_view, occurrences_on}
+use Rattle.cp_normal.proofs.events.add_events.Given as goal
+
+-- with the events that are left, all is there
+abbrev pub invariant-loop-index : goal.invariant-loop-index
+invariant-loop-index l =
+    map occurrence_view l.occurrences.items ++ occurrences_on l.number l.index (drop l.index (skeleton_trace (strand_view l.strand)))
+    ≡ map occurrence_view l.initial.occurrences.items ++ occurrences_on l.number 0 (skeleton_trace (strand_view l.strand))

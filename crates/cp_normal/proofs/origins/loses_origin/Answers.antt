@@ -1,0 +1,10 @@
+use Rattle.std.proofs.Common.{refl}
+use Rattle.cp_skel.specs.View.{skeleton_view}
+use Rattle.cp_normal.proofs.Found.{loses_if_found, found_if_loses}
+use Rattle.cp_normal.proofs.origins.loses_origin.Goals as goal
+
+pub returns : goal.returns
+returns c = (
+  λ r. loses_if_found (skeleton_view c.args.k.now) _ _ refl c.deref-2.ensures.value (c.some_loses_origin.ensures.0 r),
+  λ h. c.some_loses_origin.ensures.1 (found_if_loses (skeleton_view c.args.k.now) _ _ refl c.deref-2.ensures.value h),
+)

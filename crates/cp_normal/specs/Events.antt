@@ -1,0 +1,63 @@
+-- The events of a skeleton in a list, each with its node, and what is looked for among them.
+use Rattle.std.specs.Prelude.{◌≡◌, ◌≢◌, ◌↔◌, ◌⊎◌, ◌<◌, ℕ, suc, List, [], ◌∷◌, ◌++◌, Option, Some, None, Bool, true, false}
+use Rattle.cp_model.specs.Lists.{IsIn}
+use Rattle.cp_model.specs.Term.{AtomTerm, Term, atom_term, IsCarriedByTerm}
+use Rattle.cp_model.specs.Strand.{Event, send, recv, payload}
+use Rattle.cp_model.specs.Bundle.{Node, node_at}
+use Rattle.cp_model.specs.Skeleton.{SkeletonStrand, instance, listener, skeleton_trace, UniqueAt, OrderPair}
+use Rattle.cp_skel.specs.View.{node_view, event_view}
+use Rattle.cp_normal.specs.declared.events.Occurrence as program
+
+-- An item of the list has the property.
+abbrev pub Has : {A : Type 0} → (A → Type 0) → List A → Type 0
+Has {A = A} has xs = (x : A) × IsIn x xs × has x
+
+-- The new pairs are the old ones, and those that an item of the list gives.
+abbrev pub Gathers : {A : Type 0} → (A → OrderPair → Type 0) → List A → List OrderPair → List OrderPair → Type 0
+Gathers gives xs old new = (p : OrderPair) → IsIn p new ↔ (IsIn p old ⊎ Has (λ x. gives x p) xs)
+
+-- An event, and the node where it stands.
+pub record Occurrence : Type 0 where
+  pub node : Node
+  pub event : Event Term
+
+abbrev pub occurrence_view : program.Occurrence → Occurrence
+occurrence_view o = record { node = node_view o.node; event = event_view o.event }
+
+-- The events of strand number s, the first of them at place i.
+abbrev pub occurrences_on : ℕ → ℕ → List (Event Term) → List Occurrence
+occurrences_on s i [] = []
+occurrences_on s i (e ∷ es) = record { node = node_at s i; event = e } ∷ occurrences_on s (suc i) es
+
+-- The events of strands, the first of which has number s, by strand and then by place.
+abbrev pub occurrences_from : ℕ → List SkeletonStrand → List Occurrence
+occurrences_from s [] = []
+occurrences_from s (x ∷ xs) = occurrences_on s 0 (skeleton_trace x) ++ occurrences_from (suc s) xs
+
+-- There is a strand, and it is an instance of a role.
+abbrev pub is_instance : Option SkeletonStrand → Bool
+is_instance None = false
+is_instance (Some (instance role height terms)) = true
+is_instance (Some (listener t)) = false
+
+-- The event carries one of the values.
+abbrev pub CarriesOne : List AtomTerm → Occurrence → Type 0
+CarriesOne values o = Has (λ v. IsCarriedByTerm (atom_term v) (payload o.event)) values
+
+-- Another unique value's entry is the same value at another node.
+abbrev pub IsElsewhere : UniqueAt → UniqueAt → Type 0
+IsElsewhere u w = (u.value ≡ w.value) × (u.origin ≢ w.origin)
+
+-- The event is a transmission at the recorded origin of a unique value, and carries the value.
+abbrev pub IsSentAtOrigin : UniqueAt → Occurrence → Type 0
+IsSentAtOrigin u o = (m : Term) × (o.event ≡ send m) × IsCarriedByTerm (atom_term u.value) m × (o.node ≡ u.origin)
+
+-- The event is before the recorded origin of a unique value on its strand, and carries the value.
+abbrev pub IsCarriedBefore : UniqueAt → Occurrence → Type 0
+IsCarriedBefore u o = (o.node.strand ≡ u.origin.strand) × (o.node.index < u.origin.index) × IsCarriedByTerm (atom_term u.value) (payload o.event)
+
+-- The pair goes from the recorded origin of a unique value to the event, a reception on another strand that carries the
+-- value.
+abbrev pub IsPairBetween : Occurrence → UniqueAt → OrderPair → Type 0
+IsPairBetween o u p =
+    (m : Term) × (o.event ≡ recv m) × IsCarriedByTerm (atom_term u.value) m × (u.origin.strand ≢ o.node.strand) × (p ≡ record { earlier = u.origin; later = o.node })

@@ -1,0 +1,3 @@
+pub mod Normalising
+pub mod Events
+pub mod Cycles

@@ -1,0 +1,51 @@
+// Non-originating values that nodes carry.
+ghost use Rattle.std.specs.Prelude.{◌↔◌, IsTrue, IfOk};
+ghost use Rattle.cp_model.specs.Term.{atom_term, IsCarriedByTerm};
+ghost use Rattle.cp_model.specs.Strand.{payload};
+ghost use Rattle.cp_skel.specs.View.{event_view, skeleton_view};
+ghost use Rattle.cp_normal.specs.Events.{Has, occurrence_view, CarriesOne};
+ghost use Rattle.cp_normal.specs.Normalising.{CarriesNonOriginating};
+
+use crate::events::{Occurrence, occurrences};
+use cp_skel::{Atom, Skeleton};
+use cp_term::carries;
+use std::alloc::{AllocError, Global};
+
+/// Whether the event carries the value.
+pub(crate) fn carries_value(occurrence: &Occurrence, value: &Atom) -> bool
+    ensures { IsTrue result ↔ IsCarriedByTerm (atom_term value.now) (payload (event_view occurrence.now.event)) }
+{
+    carries(occurrence.event.payload(), value.as_term())
+}
+
+/// Whether the event carries one of the values.
+fn carries_one(occurrence: &Occurrence, values: &[Atom]) -> bool
+    ensures { IsTrue result ↔ CarriesOne values.now (occurrence_view occurrence.now) }
+{
+    for value in values {
+        if carries_value(occurrence, value) {
+            return true;
+        }
+    }
+    false
+}
+
+/// Whether some event carries one of the values.
+fn some_carries_one(occurrences: &[Occurrence], values: &[Atom]) -> bool
+    ensures { IsTrue result ↔ Has (λ o. CarriesOne values.now (occurrence_view o)) occurrences.now }
+{
+    for occurrence in occurrences {
+        if carries_one(occurrence, values) {
+            return true;
+        }
+    }
+    false
+}
+
+/// Whether some node, of a role strand or a listener, carries a non-originating value. The error is that memory ran out.
+pub fn carries_non_originating(alloc: Global, k: &Skeleton) -> Result<bool, AllocError>
+    ensures { IfOk result (λ found. IsTrue found ↔ CarriesNonOriginating (skeleton_view k.now)) }
+{
+    let occurrences = occurrences(alloc, k)?;
+    Ok(some_carries_one(&occurrences, &k.assumptions.non_originating))
+}

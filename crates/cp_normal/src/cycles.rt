@@ -1,0 +1,52 @@
+// Whether the pairs that unique values add close a cycle.
+ghost use Rattle.std.specs.Prelude.{◌↔◌, map, IsTrue, IfOk};
+ghost use Rattle.cp_skel.specs.View.{node_view, pair_view, unique_view};
+ghost use Rattle.cp_normal.specs.Events.{Has};
+ghost use Rattle.cp_normal.specs.Cycles.{LeadsOn, IsClosedAt};
+
+use crate::origins::is_same_node;
+use cp_skel::{Leading, Node, OrderPair, UniqueAt};
+use std::alloc::{AllocError, Global};
+
+/// Whether the pair goes from the node to one that leads to the other node.
+fn leads_on(leading: &Leading, node: Node, pair: &OrderPair) -> bool
+    ensures { IsTrue result ↔ LeadsOn leading.now.pairs (node_view node) leading.now.node (pair_view pair.now) }
+{
+    is_same_node(pair.earlier, node) && leading.has(pair.later)
+}
+
+/// Whether one of the pairs goes from the node to one that leads to the other node.
+fn some_leads_on(leading: &Leading, node: Node, pairs: &[OrderPair]) -> bool
+    ensures { IsTrue result ↔ Has (λ p. LeadsOn leading.now.pairs (node_view node) leading.now.node (pair_view p)) pairs.now }
+{
+    for pair in pairs {
+        if leads_on(leading, node, pair) {
+            return true;
+        }
+    }
+    false
+}
+
+/// Whether some pair from the node closes a cycle with these pairs.
+fn is_closed_at(alloc: Global, pairs: &[OrderPair], node: Node) -> Result<bool, AllocError>
+    ensures { IfOk result (λ found. IsTrue found ↔ IsClosedAt (map pair_view pairs.now) (node_view node)) }
+{
+    let leading = Leading::new(alloc, pairs, node)?;
+    Ok(some_leads_on(&leading, node, pairs))
+}
+
+/// Whether some pair from the recorded origin of one of these unique values closes a cycle with these pairs.
+pub(crate) fn some_is_closed(
+    alloc: Global,
+    pairs: &[OrderPair],
+    uniques: &[UniqueAt],
+) -> Result<bool, AllocError>
+    ensures { IfOk result (λ found. IsTrue found ↔ Has (λ u. IsClosedAt (map pair_view pairs.now) (unique_view u).origin) uniques.now) }
+{
+    for unique in uniques {
+        if is_closed_at(alloc, pairs, unique.origin)? {
+            return Ok(true);
+        }
+    }
+    Ok(false)
+}

@@ -1,0 +1,60 @@
+// The pairs of a normal form, where there is one.
+ghost use Rattle.std.specs.Prelude.{◌↔◌, ◌⊎◌, map, option_map, IsTrue, IfOk};
+ghost use Rattle.cp_model.specs.Lists.{IsIn};
+ghost use Rattle.cp_model.specs.Bundle.{Node};
+ghost use Rattle.cp_model.specs.Skeleton.{OrderPair as Plain, UniqueAt, Before, IsOrderPair, IsOrigin};
+ghost use Rattle.cp_skel.specs.View.{pair_view, skeleton_view};
+ghost use Rattle.cp_normal.specs.Normalising.{AreNormalPairs, ClosesCycle, IsNormalised, CarriesNonOriginating, HasTwoOrigins, LosesOrigin};
+
+use crate::carrying::carries_non_originating;
+use crate::cycles::some_is_closed;
+use crate::origins::{has_two_origins, loses_origin};
+use crate::pairs::added_pairs;
+use cp_skel::{OrderPair, Skeleton};
+use std::alloc::{AllocError, Global};
+
+/// Whether the assumptions contradict what the nodes carry.
+fn is_refuted(alloc: Global, k: &Skeleton) -> Result<bool, AllocError>
+    ensures { IfOk result (λ found. IsTrue found ↔ (CarriesNonOriginating (skeleton_view k.now) ⊎ (HasTwoOrigins (skeleton_view k.now) ⊎ LosesOrigin (skeleton_view k.now)))) }
+{
+    if carries_non_originating(alloc, k)? {
+        return Ok(true);
+    }
+    if has_two_origins(k) {
+        return Ok(true);
+    }
+    loses_origin(alloc, k)
+}
+
+/// The skeleton's own pairs, and those that unique values add.
+fn own_and_added(alloc: Global, k: &Skeleton) -> Result<Vec<OrderPair>, AllocError>
+    ensures { IfOk result (λ pairs. AreNormalPairs (skeleton_view k.now) (map pair_view pairs.items)) }
+{
+    let added = added_pairs(alloc, k)?;
+    let mut pairs = Vec::from_slice(alloc, &k.pairs)?;
+    pairs.extend_from_slice(&added)?;
+    Ok(pairs)
+}
+
+/// The pairs of the skeleton's normal form: its own, and those from recorded origins of unique values to the receptions
+/// of other strands, listeners too, that carry the value. There is no normal form where some node carries a
+/// non-originating value, where a unique value has two recorded origins or does not originate at its own, and where the
+/// pairs close a cycle.
+///
+/// The skeleton's own pairs have to be between nodes that are there and to close no cycle, and each recorded origin to be
+/// a transmission that carries the value. The error is that memory ran out.
+pub fn normal_pairs(alloc: Global, k: &Skeleton) -> Result<Option<Vec<OrderPair>>, AllocError>
+    requires order_pairs { (p : Plain) → IsIn p (skeleton_view k.now).pairs → IsOrderPair (skeleton_view k.now) p }
+    requires no_cycle { (n : Node) → Before (skeleton_view k.now) n n → ⊥ }
+    requires origins { (u : UniqueAt) → IsIn u (skeleton_view k.now).assumptions.uniquely_originating → IsOrigin (skeleton_view k.now) u }
+    ensures { IfOk result (λ found. IsNormalised (skeleton_view k.now) (option_map (λ pairs. map pair_view pairs.items) found)) }
+{
+    if is_refuted(alloc, k)? {
+        return Ok(None);
+    }
+    let pairs = own_and_added(alloc, k)?;
+    if some_is_closed(alloc, &pairs, &k.assumptions.uniquely_originating)? {
+        return Ok(None);
+    }
+    Ok(Some(pairs))
+}

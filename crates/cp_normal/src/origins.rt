@@ -1,0 +1,153 @@
+// Recorded origins of unique values: values with two, and values that do not originate there.
+ghost use Rattle.std.specs.Prelude.{◌≡◌, ◌↔◌, map, IsTrue, IfOk};
+ghost use Rattle.cp_model.specs.Derivable.{IsOnInstance, OriginatesAtTerm};
+ghost use Rattle.cp_model.specs.Lists.{item_at};
+ghost use Rattle.cp_skel.specs.View.{node_view, strand_view, unique_view, skeleton_view};
+ghost use Rattle.cp_normal.specs.Events.{Has, occurrence_view, occurrences_from, is_instance, IsElsewhere, IsSentAtOrigin, IsCarriedBefore};
+ghost use Rattle.cp_normal.specs.Normalising.{HasTwoOrigins, LosesOrigin};
+
+use crate::carrying::carries_value;
+use crate::events::{Occurrence, occurrences};
+use cp_skel::{Event, Node, Skeleton, Strand, UniqueAt};
+use std::alloc::{AllocError, Global};
+
+/// Whether the nodes are the same.
+pub(crate) fn is_same_node(first: Node, second: Node) -> bool
+    ensures { IsTrue result ↔ (node_view first ≡ node_view second) }
+{
+    first.strand == second.strand && first.index == second.index
+}
+
+/// Whether the other entry is of the same value, with its origin at another node.
+fn is_elsewhere(unique: &UniqueAt, other: &UniqueAt) -> bool
+    ensures { IsTrue result ↔ IsElsewhere (unique_view unique.now) (unique_view other.now) }
+{
+    !is_same_node(unique.origin, other.origin) && unique.value.same(&other.value)
+}
+
+/// Whether one of the entries gives the value another origin.
+fn has_another_origin(uniques: &[UniqueAt], unique: &UniqueAt) -> bool
+    ensures { IsTrue result ↔ Has (λ w. IsElsewhere (unique_view unique.now) (unique_view w)) uniques.now }
+{
+    for other in uniques {
+        if is_elsewhere(unique, other) {
+            return true;
+        }
+    }
+    false
+}
+
+/// Whether one of the values has two origins among these entries.
+fn some_has_two_origins(uniques: &[UniqueAt]) -> bool
+    ensures { IsTrue result ↔ Has (λ u. Has (λ w. IsElsewhere (unique_view u) (unique_view w)) uniques.now) uniques.now }
+{
+    for unique in uniques {
+        if has_another_origin(uniques, unique) {
+            return true;
+        }
+    }
+    false
+}
+
+/// Whether a unique value has two recorded origins, at different nodes.
+pub fn has_two_origins(k: &Skeleton) -> bool
+    ensures { IsTrue result ↔ HasTwoOrigins (skeleton_view k.now) }
+{
+    some_has_two_origins(&k.assumptions.uniquely_originating)
+}
+
+/// Whether the event is a transmission at the recorded origin of a unique value, and carries the value.
+fn is_sent_at_origin(occurrence: &Occurrence, unique: &UniqueAt) -> bool
+    ensures { IsTrue result ↔ IsSentAtOrigin (unique_view unique.now) (occurrence_view occurrence.now) }
+{
+    matches!(occurrence.event, Event::Send(_))
+        && is_same_node(occurrence.node, unique.origin)
+        && carries_value(occurrence, &unique.value)
+}
+
+/// Whether the event is before the recorded origin of a unique value on its strand, and carries the value.
+fn is_carried_before(occurrence: &Occurrence, unique: &UniqueAt) -> bool
+    ensures { IsTrue result ↔ IsCarriedBefore (unique_view unique.now) (occurrence_view occurrence.now) }
+{
+    occurrence.node.strand == unique.origin.strand
+        && occurrence.node.index < unique.origin.index
+        && carries_value(occurrence, &unique.value)
+}
+
+/// Whether one of the events is a transmission at the recorded origin that carries the value.
+fn some_is_sent_at_origin(occurrences: &[Occurrence], unique: &UniqueAt) -> bool
+    ensures { IsTrue result ↔ Has (λ o. IsSentAtOrigin (unique_view unique.now) (occurrence_view o)) occurrences.now }
+{
+    for occurrence in occurrences {
+        if is_sent_at_origin(occurrence, unique) {
+            return true;
+        }
+    }
+    false
+}
+
+/// Whether one of the events carries the value before the recorded origin, on its strand.
+fn some_is_carried_before(occurrences: &[Occurrence], unique: &UniqueAt) -> bool
+    ensures { IsTrue result ↔ Has (λ o. IsCarriedBefore (unique_view unique.now) (occurrence_view o)) occurrences.now }
+{
+    for occurrence in occurrences {
+        if is_carried_before(occurrence, unique) {
+            return true;
+        }
+    }
+    false
+}
+
+/// Whether one of the strands is there and is a role strand.
+fn is_instance_at(strands: &[Strand], number: usize) -> bool
+    ensures { result ≡ is_instance (item_at (map strand_view strands.now) number) }
+{
+    match strands.get(number) {
+        Some(Strand::Instance(_)) => true,
+        Some(Strand::Listener(_)) => false,
+        None => false,
+    }
+}
+
+/// Whether the node is on a role strand.
+fn is_on_instance(k: &Skeleton, node: Node) -> bool
+    ensures { IsTrue result ↔ IsOnInstance (skeleton_view k.now) (node_view node) }
+{
+    is_instance_at(&k.strands, node.strand)
+}
+
+/// Whether a unique value originates at its recorded origin, where these are the events of the skeleton.
+fn originates(k: &Skeleton, occurrences: &[Occurrence], unique: &UniqueAt) -> bool
+    requires listed { map occurrence_view occurrences.now ≡ occurrences_from 0 (skeleton_view k.now).strands }
+    ensures { IsTrue result ↔ OriginatesAtTerm (skeleton_view k.now) (unique_view unique.now).value (unique_view unique.now).origin }
+{
+    if !is_on_instance(k, unique.origin) {
+        return false;
+    }
+    if !some_is_sent_at_origin(occurrences, unique) {
+        return false;
+    }
+    !some_is_carried_before(occurrences, unique)
+}
+
+/// Whether one of these unique values does not originate at its recorded origin, where these are the events of the
+/// skeleton.
+fn some_loses_origin(k: &Skeleton, occurrences: &[Occurrence], uniques: &[UniqueAt]) -> bool
+    requires listed { map occurrence_view occurrences.now ≡ occurrences_from 0 (skeleton_view k.now).strands }
+    ensures { IsTrue result ↔ Has (λ u. OriginatesAtTerm (skeleton_view k.now) (unique_view u).value (unique_view u).origin → ⊥) uniques.now }
+{
+    for unique in uniques {
+        if !originates(k, occurrences, unique) {
+            return true;
+        }
+    }
+    false
+}
+
+/// Whether a unique value does not originate at its recorded origin. The error is that memory ran out.
+pub fn loses_origin(alloc: Global, k: &Skeleton) -> Result<bool, AllocError>
+    ensures { IfOk result (λ found. IsTrue found ↔ LosesOrigin (skeleton_view k.now)) }
+{
+    let occurrences = occurrences(alloc, k)?;
+    Ok(some_loses_origin(k, &occurrences, &k.assumptions.uniquely_originating))
+}

@@ -1,0 +1,76 @@
+// The pairs from recorded origins of unique values to receptions that carry them.
+ghost use Rattle.std.specs.Prelude.{◌↔◌, map, IfOk, OnOk, IfSome, IfNone};
+ghost use Rattle.cp_model.specs.Lists.{IsIn};
+ghost use Rattle.cp_model.specs.Skeleton.{OrderPair as Plain};
+ghost use Rattle.cp_skel.specs.View.{pair_view, unique_view, skeleton_view};
+ghost use Rattle.cp_normal.specs.Events.{Has, Gathers, occurrence_view, IsPairBetween};
+ghost use Rattle.cp_normal.specs.Normalising.{IsAddedPair};
+
+use crate::carrying::carries_value;
+use crate::events::{Occurrence, occurrences};
+use cp_skel::{Event, OrderPair, Skeleton, UniqueAt};
+use std::alloc::{AllocError, Global};
+
+/// The pair from the recorded origin of a unique value to an event, where that is a reception on another strand that
+/// carries the value.
+fn pair_between(occurrence: &Occurrence, unique: &UniqueAt) -> Option<OrderPair>
+    ensures some { IfSome result (λ p. IsPairBetween (occurrence_view occurrence.now) (unique_view unique.now) (pair_view p)) }
+    ensures none { IfNone result ((p : Plain) → IsPairBetween (occurrence_view occurrence.now) (unique_view unique.now) p → ⊥) }
+{
+    let is_pair = matches!(occurrence.event, Event::Receive(_))
+        && unique.origin.strand != occurrence.node.strand
+        && carries_value(occurrence, &unique.value);
+    if is_pair {
+        Some(OrderPair {
+            earlier: unique.origin,
+            later: occurrence.node,
+        })
+    } else {
+        None
+    }
+}
+
+/// Puts the pairs from recorded origins to an event behind others.
+fn add_pairs_to(
+    occurrence: &Occurrence,
+    uniques: &[UniqueAt],
+    pairs: &mut Vec<OrderPair>,
+) -> Result<(), AllocError>
+    ensures { OnOk result (Gathers (λ u p. IsPairBetween (occurrence_view occurrence.now) (unique_view u) p) uniques.now (map pair_view pairs.old.items) (map pair_view pairs.new.items)) }
+{
+    for unique in uniques {
+        if let Some(pair) = pair_between(occurrence, unique) {
+            pairs.push(pair)?;
+        }
+    }
+    Ok(())
+}
+
+/// Puts the pairs from recorded origins to these events behind others.
+fn add_pairs(
+    occurrences: &[Occurrence],
+    uniques: &[UniqueAt],
+    pairs: &mut Vec<OrderPair>,
+) -> Result<(), AllocError>
+    ensures { OnOk result (Gathers (λ o p. Has (λ u. IsPairBetween (occurrence_view o) (unique_view u) p) uniques.now) occurrences.now (map pair_view pairs.old.items) (map pair_view pairs.new.items)) }
+{
+    for occurrence in occurrences {
+        add_pairs_to(occurrence, uniques, pairs)?;
+    }
+    Ok(())
+}
+
+/// The pairs from recorded origins of unique values to the receptions of other strands, listeners too, that carry the
+/// value. The error is that memory ran out.
+pub fn added_pairs(alloc: Global, k: &Skeleton) -> Result<Vec<OrderPair>, AllocError>
+    ensures { IfOk result (λ pairs. (p : Plain) → IsIn p (map pair_view pairs.items) ↔ IsAddedPair (skeleton_view k.now) p) }
+{
+    let occurrences = occurrences(alloc, k)?;
+    let mut pairs = Vec::new(alloc);
+    add_pairs(
+        &occurrences,
+        &k.assumptions.uniquely_originating,
+        &mut pairs,
+    )?;
+    Ok(pairs)
+}
