@@ -1,0 +1,11 @@
+use Rattle.std.proofs.Common.{map, sym, ap, ◌∙◌}
+use Rattle.cp_sexpr.specs.View.{view}
+use Rattle.cp_skel.specs.View.{pair_view, strand_view}
+use Rattle.cp_language.specs.Report.{nodes_from}
+use Rattle.cp_print.proofs.COrdered.{none_ordered}
+use Rattle.cp_print.proofs.order.covering_pairs.Goals as goal
+
+pub returns-then-is_empty : goal.returns-then-is_empty
+returns-then-is_empty c =
+    ap (map view) c.new.ensures.items
+    ∙ sym (none_ordered pair_view c.args.skeleton.now.pairs.items c.deref-pairs.result.now (nodes_from 0 (map strand_view c.args.skeleton.now.strands.items)) c.deref-pairs.ensures.value (sym c.is_empty.ensures ∙ c.if-is_empty.true))

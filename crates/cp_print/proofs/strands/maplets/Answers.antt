@@ -1,0 +1,12 @@
+use Rattle.std.proofs.Common.{◌∙◌, sym, map}
+use Rattle.cp_model.specs.Homomorphism.{substitution_by}
+use Rattle.cp_sexpr.specs.View.{view}
+use Rattle.cp_print.specs.Named.{named_in}
+use Rattle.cp_print.proofs.BStrands.{maplet_skipped}
+use Rattle.cp_print.proofs.strands.maplets.Goals as goal
+
+pub loop-number-preserved-then-not-is_marked : goal.loop-number-preserved-then-not-is_marked
+loop-number-preserved-then-not-is_marked c =
+    let l = c.loop-number in
+    maplet_skipped c.args.marks.now l.number c.args.variables.now c.loop-number-test.true (sym c.is_marked.ensures ∙ c.if-not-is_marked.true)
+    (named_in c.args.naming.now) (substitution_by c.args.values.now) (map view l.forms.items) _ l.invariant

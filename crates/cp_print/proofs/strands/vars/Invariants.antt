@@ -1,0 +1,9 @@
+use Rattle.std.proofs.Common.{◌≡◌, ◌++◌, map, drop}
+use Rattle.cp_sexpr.specs.View.{view}
+use Rattle.cp_skel.specs.View.{declaration_view}
+use Rattle.cp_print.specs.Marks.{vars_by}
+use Rattle.cp_print.proofs.strands.vars.Given as goal
+
+abbrev pub invariant-loop-number : goal.invariant-loop-number
+invariant-loop-number l =
+    map view l.forms.items ++ vars_by l.names l.marks l.number (map declaration_view (drop l.number l.variables)) ≡ vars_by l.names l.marks 0 (map declaration_view l.variables)

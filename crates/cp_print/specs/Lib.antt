@@ -1,0 +1,8 @@
+pub mod Named
+pub mod Variables
+pub mod Sets
+pub mod Marks
+pub mod Sorts
+pub mod Order
+pub mod Writing
+pub mod Parts

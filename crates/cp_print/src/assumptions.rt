@@ -1,0 +1,136 @@
+// Assumptions, the map from the problem, and the test of a label form.
+ghost use Rattle.std.specs.Prelude.{◌≡◌, ◌++◌, [], ◌∷◌, map, option_map, IfOk, OnOk};
+ghost use Rattle.cp_language.specs.Printed.{plain_list, word, atom_form, term_form, pattern_form};
+ghost use Rattle.cp_language.specs.Report.{named_by, unique_form, value_forms, map_form, test_items};
+ghost use Rattle.cp_sexpr.specs.View.{view};
+ghost use Rattle.cp_skel.specs.Trees.{test_view};
+ghost use Rattle.cp_skel.specs.View.{unique_view, skeleton_view};
+ghost use Rattle.cp_term.specs.Patterns.{pattern_of};
+ghost use Rattle.cp_print.specs.Named.{named_in};
+
+use crate::items::{node_form, numerals};
+use crate::making::{headed_list, plain_list, two, word};
+use crate::naming::Naming;
+use crate::patterns::pattern_form;
+use crate::terms::{atom_form, term_form};
+use cp_sexpr::Form;
+use cp_skel::{Atom, Skeleton, Test, UniqueAt};
+use cp_term::{Pattern, Term, Text};
+use std::alloc::{AllocError, Global};
+
+/// These atoms as forms.
+pub(crate) fn atom_forms(
+    alloc: Global,
+    naming: &Naming<'_>,
+    atoms: &[Atom],
+) -> Result<Vec<Form>, AllocError>
+    ensures { IfOk result (λ fs. map view fs.items ≡ map (atom_form (named_in naming.now)) atoms.now) }
+{
+    let mut forms = Vec::new(alloc);
+    for atom in atoms {
+        forms.push(atom_form(alloc, naming, atom.as_term())?)?;
+    }
+    Ok(forms)
+}
+
+/// A unique value with its recorded origin.
+fn unique_form(alloc: Global, naming: &Naming<'_>, unique: &UniqueAt) -> Result<Form, AllocError>
+    ensures { IfOk result (λ f. view f ≡ unique_form (named_in naming.now) (unique_view unique.now)) }
+{
+    let value = atom_form(alloc, naming, unique.value.as_term())?;
+    let origin = node_form(alloc, unique.origin)?;
+    Ok(plain_list(two(alloc, value, origin)?))
+}
+
+/// These unique values as forms.
+pub(crate) fn unique_forms(
+    alloc: Global,
+    naming: &Naming<'_>,
+    uniques: &[UniqueAt],
+) -> Result<Vec<Form>, AllocError>
+    ensures { IfOk result (λ fs. map view fs.items ≡ map (unique_form (named_in naming.now)) (map unique_view uniques.now)) }
+{
+    let mut forms = Vec::new(alloc);
+    for unique in uniques {
+        forms.push(unique_form(alloc, naming, unique)?)?;
+    }
+    Ok(forms)
+}
+
+/// A name with its value.
+fn value_form(
+    alloc: Global,
+    naming: &Naming<'_>,
+    name: &Text,
+    value: &Term,
+) -> Result<Form, AllocError>
+    ensures { IfOk result (λ f. view f ≡ plain_list (word name.now ∷ term_form (named_in naming.now) value.now ∷ [])) }
+{
+    let name = word(alloc, name.as_str())?;
+    let value = term_form(alloc, naming, value)?;
+    Ok(plain_list(two(alloc, name, value)?))
+}
+
+/// For each of these names its term.
+fn value_forms(
+    alloc: Global,
+    naming: &Naming<'_>,
+    names: &[Text],
+    values: &[Term],
+) -> Result<Vec<Form>, AllocError>
+    ensures { IfOk result (λ fs. map view fs.items ≡ value_forms (named_in naming.now) names.now values.now) }
+{
+    let mut forms = Vec::new(alloc);
+    for number in 0..names.len().min(values.len()) {
+        forms.push(value_form(alloc, naming, &names[number], &values[number])?)?;
+    }
+    Ok(forms)
+}
+
+/// The way from the problem, whose variables have these names.
+pub(crate) fn map_form(
+    alloc: Global,
+    naming: &Naming<'_>,
+    of_problem: &[Text],
+    skeleton: &Skeleton,
+) -> Result<Form, AllocError>
+    ensures { IfOk result (λ f. view f ≡ map_form (named_in naming.now) of_problem.now (skeleton_view skeleton.now)) }
+{
+    let strands = plain_list(numerals(alloc, &skeleton.from_problem.strands)?);
+    let mut items = value_forms(alloc, naming, of_problem, &skeleton.from_problem.values)?;
+    items.insert(0, strands)?;
+    headed_list(alloc, "map", items)
+}
+
+/// Appends the label's test, if it has one.
+pub(crate) fn add_test(
+    alloc: Global,
+    naming: &Naming<'_>,
+    test: &Option<Test>,
+    items: &mut Vec<Form>,
+) -> Result<(), AllocError>
+    ensures { OnOk result (map view items.new.items ≡ map view items.old.items ++ test_items (named_in naming.now) (option_map test_view test.now)) }
+{
+    let Some(test) = test else {
+        return Ok(());
+    };
+    let node = node_form(alloc, test.node)?;
+    let critical = term_form(alloc, naming, &test.term)?;
+    items.push(headed_list(alloc, "test", two(alloc, node, critical)?)?)?;
+    Ok(())
+}
+
+/// These patterns as forms.
+pub(crate) fn pattern_forms(
+    alloc: Global,
+    names: &[Text],
+    patterns: &[Pattern],
+) -> Result<Vec<Form>, AllocError>
+    ensures { IfOk result (λ fs. map view fs.items ≡ map (pattern_form (named_by names.now)) (map pattern_of patterns.now)) }
+{
+    let mut forms = Vec::new(alloc);
+    for pattern in patterns {
+        forms.push(pattern_form(alloc, names, pattern)?)?;
+    }
+    Ok(forms)
+}

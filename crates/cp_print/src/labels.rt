@@ -1,0 +1,146 @@
+// Label forms.
+ghost use Rattle.std.specs.Prelude.{◌≡◌, ◌++◌, [], ◌∷◌, codes, map, option_map, IfOk, OnOk};
+ghost use Rattle.cp_language.specs.Printed.{headed_list, numeral, atom_form, pattern_form};
+ghost use Rattle.cp_language.specs.Report.{named_by, variables_of_test, occurring, item_unless_empty, parent_items, operation_words, strand_form, covering_pairs, unique_form, map_form, node_form, test_items, mark_items, label_form};
+ghost use Rattle.cp_sexpr.specs.View.{view};
+ghost use Rattle.cp_skel.specs.Trees.{operation_view, mark_view, test_view, label_view};
+ghost use Rattle.cp_skel.specs.View.{node_view, strand_view, unique_view, skeleton_view};
+ghost use Rattle.cp_term.specs.Patterns.{pattern_of};
+ghost use Rattle.cp_print.specs.Named.{variable_view, named_in};
+
+use crate::assumptions::{add_test, atom_forms, map_form, pattern_forms, unique_forms};
+use crate::items::{add_mark, add_parent, add_unless_empty, node_forms, numerals, operation_words};
+use crate::making::{headed_list, numeral};
+use crate::marks::marks_of;
+use crate::names::{declarations, label_names};
+use crate::naming::{Naming, Variable};
+use crate::order::covering_pairs;
+use crate::patterns::add_patterns;
+use crate::strands::{add_strand_forms, vars};
+use crate::variables::{add_assumptions, add_strands, add_term, add_terms};
+use cp_sexpr::Form;
+use cp_skel::{Skeleton, Test, TreeNode};
+use cp_term::Text;
+use std::alloc::{AllocError, Global};
+
+/// Appends the variables of a test.
+fn add_test_variables(test: &Option<Test>, out: &mut Vec<Variable>) -> Result<(), AllocError>
+    ensures { OnOk result (map variable_view out.new.items ≡ map variable_view out.old.items ++ variables_of_test (option_map test_view test.now)) }
+{
+    match test {
+        Some(test) => add_term(&test.term, out),
+        None => Ok(()),
+    }
+}
+
+/// The variables that occur in a label form.
+fn occurring(alloc: Global, label: &TreeNode) -> Result<Vec<Variable>, AllocError>
+    ensures { IfOk result (λ xs. map variable_view xs.items ≡ occurring (label_view label.now)) }
+{
+    let skeleton = &label.skeleton;
+    let mut variables = Vec::new(alloc);
+    add_strands(alloc, &skeleton.strands, &mut variables)?;
+    add_assumptions(&skeleton.assumptions, &mut variables)?;
+    add_terms(&skeleton.from_problem.values, &mut variables)?;
+    add_test_variables(&label.test, &mut variables)?;
+    add_patterns(alloc, &label.patterns, &mut variables)?;
+    Ok(variables)
+}
+
+/// Appends where the label comes from, its variables and its strands.
+fn add_strand_items(
+    alloc: Global,
+    naming: &Naming<'_>,
+    vars: Vec<Form>,
+    label: &TreeNode,
+    items: &mut Vec<Form>,
+) -> Result<(), AllocError>
+    ensures { OnOk result (map view items.new.items ≡ map view items.old.items
+        ++ parent_items label.now.parent
+        ++ headed_list (codes "by") (operation_words (operation_view label.now.operation)) ∷ []
+        ++ item_unless_empty (codes "vars") (map view vars.items)
+        ++ map (strand_form (named_in naming.now)) (map strand_view label.now.skeleton.strands.items)) }
+{
+    add_parent(alloc, label.parent, items)?;
+    let operation = operation_words(alloc, &label.operation)?;
+    items.push(headed_list(alloc, "by", operation)?)?;
+    add_unless_empty(alloc, "vars", vars, items)?;
+    add_strand_forms(alloc, naming, &label.skeleton.strands, items)
+}
+
+/// Appends the order and the assumptions.
+fn add_assumption_items(
+    alloc: Global,
+    naming: &Naming<'_>,
+    skeleton: &Skeleton,
+    items: &mut Vec<Form>,
+) -> Result<(), AllocError>
+    ensures { OnOk result (map view items.new.items ≡ map view items.old.items
+        ++ item_unless_empty (codes "precedes") (covering_pairs (skeleton_view skeleton.now))
+        ++ item_unless_empty (codes "non-orig") (map (atom_form (named_in naming.now)) skeleton.now.assumptions.non_originating.items)
+        ++ item_unless_empty (codes "pen-non-orig") (map (atom_form (named_in naming.now)) skeleton.now.assumptions.penetrator_non_originating.items)
+        ++ item_unless_empty (codes "uniq-orig") (map (unique_form (named_in naming.now)) (map unique_view skeleton.now.assumptions.uniquely_originating.items))) }
+{
+    let assumptions = &skeleton.assumptions;
+    let precedes = covering_pairs(alloc, skeleton)?;
+    add_unless_empty(alloc, "precedes", precedes, items)?;
+    let non = atom_forms(alloc, naming, &assumptions.non_originating)?;
+    add_unless_empty(alloc, "non-orig", non, items)?;
+    let penetrator_non = atom_forms(alloc, naming, &assumptions.penetrator_non_originating)?;
+    add_unless_empty(alloc, "pen-non-orig", penetrator_non, items)?;
+    let uniques = unique_forms(alloc, naming, &assumptions.uniquely_originating)?;
+    add_unless_empty(alloc, "uniq-orig", uniques, items)
+}
+
+/// Appends the map, and what was found and made of the label.
+fn add_result_items(
+    alloc: Global,
+    naming: &Naming<'_>,
+    of_problem: &[Text],
+    label: &TreeNode,
+    items: &mut Vec<Form>,
+) -> Result<(), AllocError>
+    ensures { OnOk result (map view items.new.items ≡ map view items.old.items
+        ++ map_form (named_in naming.now) of_problem.now (skeleton_view label.now.skeleton) ∷ []
+        ++ item_unless_empty (codes "unrealised") (map node_form (map node_view label.now.unrealised.items))
+        ++ test_items (named_in naming.now) (option_map test_view label.now.test)
+        ++ item_unless_empty (codes "escape") (map (pattern_form (named_by naming.now.names.now)) (map pattern_of label.now.patterns.items))
+        ++ item_unless_empty (codes "children") (map numeral label.now.children.items)
+        ++ mark_items (option_map mark_view label.now.mark)) }
+{
+    items.push(map_form(alloc, naming, of_problem, &label.skeleton)?)?;
+    let unrealised = node_forms(alloc, &label.unrealised)?;
+    add_unless_empty(alloc, "unrealised", unrealised, items)?;
+    add_test(alloc, naming, &label.test, items)?;
+    let escape = pattern_forms(alloc, naming.names, &label.patterns)?;
+    add_unless_empty(alloc, "escape", escape, items)?;
+    let children = numerals(alloc, &label.children)?;
+    add_unless_empty(alloc, "children", children, items)?;
+    add_mark(alloc, label.mark, items)
+}
+
+/// A label form: its number, and its items, where these are the names of the problem's variables.
+pub(crate) fn label_form(
+    alloc: Global,
+    of_problem: &[Text],
+    number: usize,
+    label: &TreeNode,
+) -> Result<Form, AllocError>
+    ensures { IfOk result (λ f. view f ≡ label_form of_problem.now number (label_view label.now)) }
+{
+    let variables = declarations(alloc, &label.skeleton.variables)?;
+    let occurring = occurring(alloc, label)?;
+    let marks = marks_of(alloc, variables.len(), &occurring)?;
+    let names = label_names(alloc, of_problem, &marks, &variables)?;
+    let vars = vars(alloc, &names, &marks, &variables)?;
+    let naming = Naming {
+        names: &names,
+        locals: &[],
+    };
+    let mut items = Vec::new(alloc);
+    items.push(numeral(number)?)?;
+    add_strand_items(alloc, &naming, vars, label, &mut items)?;
+    add_assumption_items(alloc, &naming, &label.skeleton, &mut items)?;
+    add_result_items(alloc, &naming, of_problem, label, &mut items)?;
+    headed_list(alloc, "label", items)
+}

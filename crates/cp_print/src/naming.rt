@@ -1,0 +1,95 @@
+// How variables are named.
+ghost use Rattle.std.specs.Prelude.{◌≡◌, map, IfOk};
+ghost use Rattle.cp_language.specs.Names.{sort_text};
+ghost use Rattle.cp_language.specs.Printed.{variable, place_among};
+ghost use Rattle.cp_language.specs.Report.{name_or_none};
+ghost use Rattle.cp_language.specs.Same.{same_sort};
+ghost use Rattle.cp_model.specs.Lists.{item_at};
+ghost use Rattle.cp_sexpr.specs.View.{view};
+ghost use Rattle.cp_skel.specs.View.{sort_view};
+ghost use Rattle.cp_print.specs.Named.{variable_view, named_in};
+
+use crate::making::{headed_list, numeral, two, word};
+use cp_sexpr::Form;
+use cp_term::{Sort, Text, VarId};
+use std::alloc::{AllocError, Global};
+
+/// A variable of a term: its sort and its number.
+#[derive(Clone, Copy)]
+pub(crate) struct Variable {
+    pub(crate) sort: Sort,
+    pub(crate) number: usize,
+}
+
+/// The names of variables by their numbers, and the locals of a pattern in the order in which they occur, which have no
+/// names.
+#[derive(Clone, Copy)]
+pub(crate) struct Naming<'a> {
+    pub(crate) names: &'a [Text],
+    pub(crate) locals: &'a [Variable],
+}
+
+pub(crate) fn is_same_sort(first: Sort, second: Sort) -> bool
+    ensures { result ≡ same_sort (sort_view first) (sort_view second) }
+{
+    match first {
+        Sort::Text | Sort::Mesg => matches!(second, Sort::Text | Sort::Mesg),
+        Sort::Datum => matches!(second, Sort::Datum),
+        Sort::Name => matches!(second, Sort::Name),
+        Sort::Skey => matches!(second, Sort::Skey),
+        Sort::Akey => matches!(second, Sort::Akey),
+    }
+}
+
+/// The word for a sort.
+pub(crate) fn sort_text(sort: Sort) -> &'static str
+    ensures { result.now ≡ sort_text (sort_view sort) }
+{
+    match sort {
+        Sort::Text | Sort::Mesg => "text",
+        Sort::Datum => "data",
+        Sort::Name => "name",
+        Sort::Skey => "skey",
+        Sort::Akey => "akey",
+    }
+}
+
+/// The name of the variable with this number, which is empty where there is none.
+pub(crate) fn name_of(names: &[Text], number: usize) -> &str
+    ensures { result.now ≡ name_or_none (item_at names.now number) }
+{
+    if number < names.len() {
+        names[number].as_str()
+    } else {
+        ""
+    }
+}
+
+/// The place of a variable among the locals.
+fn place_among(locals: &[Variable], sort: Sort, number: usize) -> Option<usize>
+    ensures { result ≡ place_among 0 (map variable_view locals.now) (variable (sort_view sort) number) }
+{
+    for (place, local) in locals.iter().enumerate() {
+        if is_same_sort(local.sort, sort) && local.number == number {
+            return Some(place);
+        }
+    }
+    None
+}
+
+impl Naming<'_> {
+    /// A variable by its name, or a local by its place.
+    pub(crate) fn named(&self, alloc: Global, sort: Sort, id: VarId) -> Result<Form, AllocError>
+        ensures { IfOk result (λ f. view f ≡ named_in self.now (variable (sort_view sort) id)) }
+    {
+        let number = id.number();
+        match place_among(self.locals, sort, number) {
+            Some(place) => {
+                let sort = word(alloc, sort_text(sort))?;
+                let place = numeral(place)?;
+                headed_list(alloc, "any", two(alloc, sort, place)?)
+            }
+            None => word(alloc, name_of(self.names, number)),
+        }
+    }
+}

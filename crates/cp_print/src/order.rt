@@ -1,0 +1,216 @@
+// The covering pairs of a skeleton's order.
+ghost use Rattle.std.specs.Prelude.{◌≡◌, ◌++◌, ◌&&◌, [], map, length, get_or, false, not, IfOk, OnOk};
+ghost use Rattle.cp_language.specs.Problems.{reaches};
+ghost use Rattle.cp_language.specs.Report.{nodes_from, covering_pairs};
+ghost use Rattle.cp_language.specs.Same.{same_node};
+ghost use Rattle.cp_model.specs.Skeleton.{skeleton_trace};
+ghost use Rattle.cp_sexpr.specs.View.{view};
+ghost use Rattle.cp_print.specs.Order.{nodes_counted, ordered_view, marks_before, in_order, any_between, covers, covered, all_covered, is_on_pair, is_on_pairs, nodes_on_pairs};
+ghost use Rattle.cp_skel.specs.View.{node_view, pair_view, strand_view, skeleton_view};
+
+use crate::items::node_form;
+use crate::making::{plain_list, two};
+use crate::marks::is_marked;
+use cp_sexpr::Form;
+use cp_skel::{Leading, Node, OrderPair, Skeleton, Strand};
+use std::alloc::{AllocError, Global};
+
+/// A node, and for each node of its skeleton whether it is before this one.
+#[derive(Drop)]
+struct Ordered {
+    node: Node,
+    before: Vec<bool>,
+}
+
+fn is_same_node(x: Node, y: Node) -> bool
+    ensures { result ≡ same_node (node_view x) (node_view y) }
+{
+    x.strand == y.strand && x.index == y.index
+}
+
+/// Whether a node leads to the one that is asked about.
+fn leads(leading: &Leading, x: Node) -> bool
+    ensures { result ≡ reaches (length leading.now.pairs) leading.now.pairs (node_view x) leading.now.node }
+{
+    leading.has(x)
+}
+
+/// Whether a node leads to the one that is asked about and is not this one.
+fn is_before(leading: &Leading, x: Node, y: Node) -> bool
+    ensures { result ≡ (not (same_node (node_view x) (node_view y)) && reaches (length leading.now.pairs) leading.now.pairs (node_view x) leading.now.node) }
+{
+    !is_same_node(x, y) && leads(leading, x)
+}
+
+/// For each of these nodes whether it is before y.
+fn marks_before(
+    alloc: Global,
+    pairs: &[OrderPair],
+    nodes: &[Node],
+    y: Node,
+) -> Result<Vec<bool>, AllocError>
+    ensures { IfOk result (λ marks. marks.items ≡ marks_before (map pair_view pairs.now) (node_view y) (map node_view nodes.now)) }
+{
+    let leading = Leading::new(alloc, pairs, y)?;
+    let mut marks = Vec::new(alloc);
+    for x in nodes {
+        marks.push(is_before(&leading, *x, y))?;
+    }
+    Ok(marks)
+}
+
+/// The nodes with what is before them.
+fn in_order(alloc: Global, pairs: &[OrderPair], nodes: &[Node]) -> Result<Vec<Ordered>, AllocError>
+    ensures { IfOk result (λ all. map ordered_view all.items ≡ map (in_order (map pair_view pairs.now) (map node_view nodes.now)) (map node_view nodes.now)) }
+{
+    let mut all = Vec::new(alloc);
+    for node in nodes {
+        let before = marks_before(alloc, pairs, nodes, *node)?;
+        all.push(Ordered {
+            node: *node,
+            before,
+        })?;
+    }
+    Ok(all)
+}
+
+/// Whether the node z, of the second number, is after the node of the first and before y.
+fn is_between(first: usize, second: usize, z: &Ordered, y: &Ordered) -> bool
+    ensures { result ≡ (get_or y.now.before.items second false && get_or z.now.before.items first false) }
+{
+    is_marked(&y.before, second) && is_marked(&z.before, first)
+}
+
+/// Whether one of the nodes is after the node of this number and before y.
+fn is_any_between(all: &[Ordered], number: usize, y: &Ordered) -> bool
+    ensures { result ≡ any_between number y.now.before.items 0 (map ordered_view all.now) }
+{
+    for between in 0..all.len() {
+        if is_between(number, between, &all[between], y) {
+            return true;
+        }
+    }
+    false
+}
+
+/// Whether y covers the node of this number, x, on another strand.
+fn is_covering(all: &[Ordered], number: usize, x: Node, y: &Ordered) -> bool
+    ensures { result ≡ covers (map ordered_view all.now) number (node_view x) (ordered_view y.now) }
+{
+    x.strand != y.node.strand && is_marked(&y.before, number) && !is_any_between(all, number, y)
+}
+
+/// Appends the covering pairs that begin with the node of this number, x.
+fn add_covered(
+    alloc: Global,
+    all: &[Ordered],
+    number: usize,
+    x: Node,
+    forms: &mut Vec<Form>,
+) -> Result<(), AllocError>
+    ensures { OnOk result (map view forms.new.items ≡ map view forms.old.items ++ covered (map ordered_view all.now) number (node_view x) (map ordered_view all.now)) }
+{
+    for y in all {
+        if is_covering(all, number, x, y) {
+            let earlier = node_form(alloc, x)?;
+            let later = node_form(alloc, y.node)?;
+            forms.push(plain_list(two(alloc, earlier, later)?))?;
+        }
+    }
+    Ok(())
+}
+
+/// How many events a strand has.
+#[tactic(auto, using(crate::proofs::Covering::length_min, crate::proofs::Covering::length_map))]
+fn length_of(strand: &Strand) -> usize
+    ensures { result ≡ length (skeleton_trace (strand_view strand.now)) }
+{
+    match strand {
+        Strand::Instance(instance) => instance.height.min(instance.role.trace.len()),
+        Strand::Listener(_) => 2,
+    }
+}
+
+/// Appends the nodes of a strand.
+fn add_nodes_on(strand: usize, count: usize, nodes: &mut Vec<Node>) -> Result<(), AllocError>
+    ensures { OnOk result (map node_view nodes.new.items ≡ map node_view nodes.old.items ++ nodes_counted strand 0 count) }
+{
+    for index in 0..count {
+        nodes.push(Node { strand, index })?;
+    }
+    Ok(())
+}
+
+/// The nodes of these strands, by strand and index.
+#[tactic(auto, using(crate::proofs::Covering::nodes_are))]
+fn nodes_of(alloc: Global, strands: &[Strand]) -> Result<Vec<Node>, AllocError>
+    ensures { IfOk result (λ nodes. map node_view nodes.items ≡ nodes_from 0 (map strand_view strands.now)) }
+{
+    let mut nodes = Vec::new(alloc);
+    for number in 0..strands.len() {
+        add_nodes_on(number, length_of(&strands[number]), &mut nodes)?;
+    }
+    Ok(nodes)
+}
+
+/// Whether the node's strand is one of the pair's.
+fn is_on_pair(pair: &OrderPair, x: Node) -> bool
+    ensures { result ≡ is_on_pair (pair_view pair.now) (node_view x) }
+{
+    x.strand == pair.earlier.strand || x.strand == pair.later.strand
+}
+
+/// Whether the node's strand is one of some pair's.
+fn is_on_pairs(pairs: &[OrderPair], x: Node) -> bool
+    ensures { result ≡ is_on_pairs (map pair_view pairs.now) (node_view x) }
+{
+    for pair in pairs {
+        if is_on_pair(pair, x) {
+            return true;
+        }
+    }
+    false
+}
+
+/// The nodes on the strands of pairs: no other covers, is covered, or stands between two that do.
+fn nodes_on_pairs(
+    alloc: Global,
+    pairs: &[OrderPair],
+    nodes: &[Node],
+) -> Result<Vec<Node>, AllocError>
+    ensures { IfOk result (λ found. map node_view found.items ≡ nodes_on_pairs (map pair_view pairs.now) (map node_view nodes.now)) }
+{
+    let mut found = Vec::new(alloc);
+    for node in nodes {
+        if is_on_pairs(pairs, *node) {
+            found.push(*node)?;
+        }
+    }
+    Ok(found)
+}
+
+/// The covering pairs of nodes with what is before them.
+fn covered(alloc: Global, all: &[Ordered]) -> Result<Vec<Form>, AllocError>
+    ensures { IfOk result (λ fs. map view fs.items ≡ all_covered (map ordered_view all.now) 0 (map ordered_view all.now)) }
+{
+    let mut forms = Vec::new(alloc);
+    for number in 0..all.len() {
+        add_covered(alloc, all, number, all[number].node, &mut forms)?;
+    }
+    Ok(forms)
+}
+
+/// The covering pairs between different strands, by first node and then by second.
+#[tactic(auto, using(crate::proofs::CPaired::covered_on_pairs))]
+pub(crate) fn covering_pairs(alloc: Global, skeleton: &Skeleton) -> Result<Vec<Form>, AllocError>
+    ensures { IfOk result (λ fs. map view fs.items ≡ covering_pairs (skeleton_view skeleton.now)) }
+{
+    let pairs: &[OrderPair] = &skeleton.pairs;
+    if pairs.is_empty() {
+        return Ok(Vec::new(alloc));
+    }
+    let nodes = nodes_of(alloc, &skeleton.strands)?;
+    let paired = nodes_on_pairs(alloc, pairs, &nodes)?;
+    let all = in_order(alloc, pairs, &paired)?;
+    covered(alloc, &all)
+}

@@ -1,0 +1,215 @@
+// The report.
+ghost use Rattle.std.specs.Prelude.{◌≡◌, ◌++◌, [], ◌∷◌, length, map, option_map, IfOk, OnOk, OnErr};
+ghost use Rattle.cp_language.specs.Printed.{word, numeral};
+ghost use Rattle.cp_language.specs.Report.{labels_from, status_form, tree_forms, report_forms, report_text, text_of_forms};
+ghost use Rattle.cp_load.specs.Inputs.{problem_view, entries_of};
+ghost use Rattle.cp_model.specs.Tree.{expanded_count, shape_count};
+ghost use Rattle.cp_sexpr.specs.Spelling.{AppendsFront};
+ghost use Rattle.cp_sexpr.specs.View.{view};
+ghost use Rattle.cp_skel.specs.Trees.{label_view, tree_view};
+ghost use Rattle.cp_print.specs.Writing.{ends_from, HasWritten, entry_forms, trees_behind};
+
+use crate::items::outcome_words;
+use crate::labels::label_form;
+use crate::making::{headed_list, numeral, word};
+use crate::names::{declarations, problem_names};
+use cp_load::{Input, Problem};
+use cp_sexpr::{Form, write_top};
+use cp_skel::{Mark, Tree, TreeNode};
+use cp_term::Text;
+use std::alloc::{AllocError, Global};
+
+/// Writes a top form.
+#[tactic(auto, using(crate::proofs::Writings::written_one, crate::proofs::Writings::front_one, crate::proofs::Writings::front_whole))]
+fn put(form: &Form, out: &mut Vec<u8>, ends: &mut Vec<usize>) -> Result<(), AllocError>
+    ensures ok { OnOk result (HasWritten out.old.items ends.old.items out.new.items ends.new.items (view form.now ∷ [])) }
+    ensures err { OnErr result (AppendsFront out.old.items out.new.items (text_of_forms (view form.now ∷ []))) }
+{
+    write_top(form, out)?;
+    ends.push(out.len())?;
+    Ok(())
+}
+
+/// Writes the labels of a tree, where these are the names of the problem's variables.
+fn put_labels(
+    alloc: Global,
+    of_problem: &[Text],
+    labels: &[TreeNode],
+    out: &mut Vec<u8>,
+    ends: &mut Vec<usize>,
+) -> Result<(), AllocError>
+    ensures ok { OnOk result (HasWritten out.old.items ends.old.items out.new.items ends.new.items (labels_from of_problem.now 0 (map label_view labels.now))) }
+    ensures err { OnErr result (AppendsFront out.old.items out.new.items (text_of_forms (labels_from of_problem.now 0 (map label_view labels.now)))) }
+{
+    for number in 0..labels.len() {
+        let form = label_form(alloc, of_problem, number, &labels[number])?;
+        put(&form, out, ends)?;
+    }
+    Ok(())
+}
+
+/// How many of the labels were expanded.
+fn expanded_count(labels: &[TreeNode]) -> usize
+    ensures { result ≡ expanded_count (map label_view labels.now) }
+{
+    let mut count = 0;
+    for label in labels {
+        if label.test.is_some() {
+            count += 1;
+        }
+    }
+    count
+}
+
+/// How many of the labels are shapes.
+fn shape_count(labels: &[TreeNode]) -> usize
+    ensures { result ≡ shape_count (map label_view labels.now) }
+{
+    let mut count = 0;
+    for label in labels {
+        if matches!(label.mark, Some(Mark::Shape)) {
+            count += 1;
+        }
+    }
+    count
+}
+
+/// Appends a word and a number.
+fn add_count(
+    alloc: Global,
+    text: &str,
+    count: usize,
+    words: &mut Vec<Form>,
+) -> Result<(), AllocError>
+    ensures { OnOk result (map view words.new.items ≡ map view words.old.items ++ word text.now ∷ numeral count ∷ []) }
+{
+    words.push(word(alloc, text)?)?;
+    words.push(numeral(count)?)?;
+    Ok(())
+}
+
+/// The outcome, and how many labels there are, how many were expanded, and how many are shapes.
+fn status_form(alloc: Global, tree: &Tree) -> Result<Form, AllocError>
+    ensures { IfOk result (λ f. view f ≡ status_form (tree_view tree.now)) }
+{
+    let mut words = outcome_words(alloc, tree.outcome)?;
+    add_count(alloc, "labels", tree.nodes.len(), &mut words)?;
+    add_count(alloc, "expanded", expanded_count(&tree.nodes), &mut words)?;
+    add_count(alloc, "shapes", shape_count(&tree.nodes), &mut words)?;
+    headed_list(alloc, "status", words)
+}
+
+/// Writes the labels of a problem's tree, and its status.
+#[tactic(auto, using(crate::proofs::Writings::front_none))]
+fn put_tree(
+    alloc: Global,
+    problem: &Problem,
+    tree: &Tree,
+    out: &mut Vec<u8>,
+    ends: &mut Vec<usize>,
+) -> Result<(), AllocError>
+    ensures ok { OnOk result (HasWritten out.old.items ends.old.items out.new.items ends.new.items (tree_forms (problem_view problem.now) (tree_view tree.now))) }
+    ensures err { OnErr result (AppendsFront out.old.items out.new.items (text_of_forms (tree_forms (problem_view problem.now) (tree_view tree.now)))) }
+{
+    let variables = declarations(alloc, &problem.skeleton.variables)?;
+    let names = problem_names(alloc, problem.declared, &variables)?;
+    let status = status_form(alloc, tree)?;
+    put_labels(alloc, &names, &tree.nodes, out, ends)?;
+    put(&status, out, ends)?;
+    Ok(())
+}
+
+/// Writes the form of a problem, and its tree.
+fn put_problem(
+    alloc: Global,
+    form: &Form,
+    problem: &Problem,
+    tree: &Tree,
+    out: &mut Vec<u8>,
+    ends: &mut Vec<usize>,
+) -> Result<(), AllocError>
+    ensures ok { OnOk result (HasWritten out.old.items ends.old.items out.new.items ends.new.items (view form.now ∷ tree_forms (problem_view problem.now) (tree_view tree.now))) }
+    ensures err { OnErr result (AppendsFront out.old.items out.new.items (text_of_forms (view form.now ∷ tree_forms (problem_view problem.now) (tree_view tree.now)))) }
+{
+    put(form, out, ends)?;
+    put_tree(alloc, problem, tree, out, ends)?;
+    Ok(())
+}
+
+/// Writes a form of the input; behind that of a problem the first of these trees, if there is one. The rest of the trees
+/// is answered.
+fn put_entry<'a>(
+    alloc: Global,
+    form: &Form,
+    problem: &Option<Problem>,
+    trees: &'a [Tree],
+    out: &mut Vec<u8>,
+    ends: &mut Vec<usize>,
+) -> Result<&'a [Tree], AllocError>
+    ensures ok { OnOk result (HasWritten out.old.items ends.old.items out.new.items ends.new.items (entry_forms (view form.now) (option_map problem_view problem.now) (map tree_view trees.now))) }
+    ensures rest { IfOk result (λ rest. map tree_view rest.now ≡ trees_behind (option_map problem_view problem.now) (map tree_view trees.now)) }
+    ensures err { OnErr result (AppendsFront out.old.items out.new.items (text_of_forms (entry_forms (view form.now) (option_map problem_view problem.now) (map tree_view trees.now)))) }
+{
+    let Some(problem) = problem else {
+        put(form, out, ends)?;
+        return Ok(trees);
+    };
+    let Some((tree, rest)) = trees.split_first() else {
+        put(form, out, ends)?;
+        return Ok(trees);
+    };
+    put_problem(alloc, form, problem, tree, out, ends)?;
+    Ok(rest)
+}
+
+/// A report: the forms of the input, and the derivation tree of each problem that they state, in order.
+#[derive(Drop)]
+pub struct Report {
+    pub forms: Vec<Form>,
+    pub trees: Vec<Tree>,
+}
+
+/// Appends the text of the report on the input with these trees, one for each problem in order, and behind the ends the
+/// place in the text at which each of its top forms ends. The error is that memory ran out: a front of the text may have
+/// been appended.
+pub fn print_pieces(
+    alloc: Global,
+    input: &Input<'_>,
+    trees: &[Tree],
+    out: &mut Vec<u8>,
+    ends: &mut Vec<usize>,
+) -> Result<(), AllocError>
+    ensures ok { OnOk result (out.new.items ≡ out.old.items ++ report_text (entries_of input.now) (map tree_view trees.now)) }
+    ensures ends { OnOk result (ends.new.items ≡ ends.old.items ++ ends_from (length out.old.items) (report_forms (entries_of input.now) (map tree_view trees.now))) }
+    ensures err { OnErr result (AppendsFront out.old.items out.new.items (report_text (entries_of input.now) (map tree_view trees.now))) }
+{
+    let forms = input.forms;
+    let mut rest = trees;
+    for number in 0..forms.len().min(input.problems.len()) {
+        rest = put_entry(
+            alloc,
+            &forms[number],
+            &input.problems[number],
+            rest,
+            out,
+            ends,
+        )?;
+    }
+    Ok(())
+}
+
+/// Appends the text of the report on the input with these trees, one for each problem in order. The error is that memory
+/// ran out: a front of the text may have been appended.
+pub fn print(
+    alloc: Global,
+    input: &Input<'_>,
+    trees: &[Tree],
+    out: &mut Vec<u8>,
+) -> Result<(), AllocError>
+    ensures ok { OnOk result (out.new.items ≡ out.old.items ++ report_text (entries_of input.now) (map tree_view trees.now)) }
+    ensures err { OnErr result (AppendsFront out.old.items out.new.items (report_text (entries_of input.now) (map tree_view trees.now))) }
+{
+    let mut ends = Vec::new(alloc);
+    print_pieces(alloc, input, trees, out, &mut ends)?;
+    Ok(())
+}
