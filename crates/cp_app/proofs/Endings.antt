@@ -1,87 +1,243 @@
 -- What the end of a command that reads says of its input and its output.
-use Rattle.std.proofs.Common.{◌≡◌, ℕ, ◌+◌, ◌≤◌, List, [], ◌∷◌, length, drop, true, false, Option, Some, Result, Ok, Err, ◌⊎◌, inl, inr, refl, sym, ap, ◌∙◌, arith}
+use Rattle.std.proofs.Common.{◌≡◌, ℕ, ◌+◌, ◌<◌, ◌≤◌, List, [], ◌∷◌, ◌++◌, length, take, drop, Bool, true, false, Option, Some, None, Result, Ok, Err, ◌⊎◌, inl, inr, refl, sym, ap, ◌∙◌, arith}
 use Rattle.std.proofs.Math.Seq.{drop-append_seam}
+use Rattle.std.specs.Result.{IfErr}
 use Rattle.cp_base.specs.declared.place.Refusal.{Refusal}
 use Rattle.cp_base.specs.declared.status.Status.{Status}
 use Rattle.cp_base.specs.declared.status.Status.TheVariants.{Done, Limit, Usage, Refused, ReadFault, WriteFault, Memory, TooLong}
 use Rattle.cp_model.specs.Lists.{IsIn}
+use Rattle.cp_model.specs.Tree.{Limits, Tree}
 use Rattle.cp_sexpr.specs.Syntax.{Forms}
+use Rattle.cp_sexpr.specs.Reading.{IsReading}
 use Rattle.cp_sexpr.proofs.Unique.{one_reading_of}
-use Rattle.cp_language.specs.Input.{faults_of}
-use Rattle.cp_app.specs.Supported.{are_supported}
-use Rattle.cp_app.specs.Headline.{most_bytes, IsAccepted, IsRefusedFor, the_refusal, IsAnalysed, TookAtMost}
-use Rattle.cp_app.specs.Steps.{IsCauseFor, HasStopped, HasEnded}
+use Rattle.cp_language.specs.Faults.{IsFirstFault}
+use Rattle.cp_language.proofs.OneAnswer.{one_first}
+use Rattle.cp_app.specs.Profile.{refusals_of}
+use Rattle.cp_app.specs.Headline.{most_bytes, IsAccepted, IsRefusedFor, AreTrue, SaysOutcomes, IsAnalysed, HasReported, HasBrokenOff, HasRefused, WasTooLong, TookAtMost}
+use Rattle.cp_app.specs.Steps.{IsCauseFor, HasStopped, outcomes_status, IsWholeReport, HasWritten, HasEnded, HasExecuted}
+use Rattle.cp_app.specs.Loading.{IsLoaded}
+use Rattle.cp_app.specs.Analysis.{HaveTrees, problems_of}
+use Rattle.cp_app.proofs.Trees.{are_true}
+use Rattle.cp_language.specs.Input.{Entry}
+use Rattle.cp_language.specs.Report.{report_text}
+use Rattle.std.proofs.Common.{subst}
 use Rattle.cp_app.specs.declared.stopped.Stopped.{Stopped}
 use Rattle.cp_app.specs.declared.stopped.Stopped.TheVariants as stopped
-use Rattle.std.specs.Result.{IfErr}
 use Rattle.cp_app.proofs.Putting.{append-empty}
 
 -- ---- an input is refused or accepted
-
-same_forms : (fs gs : Forms) (a b : Result Forms Refusal) → a ≡ Ok fs → b ≡ Ok gs → a ≡ b → fs ≡ gs
-same_forms fs gs a b is also e = cc
 
 none_listed : (faults : List Refusal) (r : Refusal) → faults ≡ [] → IsIn r faults → ⊥
 none_listed [] r none listed = elim listed [ ]
 none_listed (s ∷ faults) r none listed = absurd (cc)
 
+same_forms : (fs gs : Forms) (a b : Result Forms Refusal) → a ≡ Ok fs → b ≡ Ok gs → a ≡ b → fs ≡ gs
+same_forms fs gs a b is also e = cc
+
+same_error : (r s : Refusal) (a b : Result Forms Refusal) → a ≡ Err r → b ≡ Err s → a ≡ b → r ≡ s
+same_error r s a b is also e = cc
+
 -- an input that is accepted is not refused
-pub accepted_or_refused : (input : List ℕ) (fs : Forms) → IsAccepted input fs → IsRefusedFor input → ⊥
-accepted_or_refused input fs accepted (inl (r, reading)) = let e = one_reading_of input (Ok fs) (Err r) accepted.read reading in cc
-accepted_or_refused input fs accepted (inr (inl (gs, r, reading, first))) =
+pub accepted_or_refused : (input : List ℕ) (fs : Forms) (r : Refusal) → IsAccepted input fs → IsRefusedFor input r → ⊥
+accepted_or_refused input fs r accepted (inl reading) = let e = one_reading_of input (Ok fs) (Err r) accepted.read reading in cc
+accepted_or_refused input fs r accepted (inr (gs, reading, first)) =
     let e : fs ≡ gs = same_forms fs gs (Ok fs) (Ok gs) refl refl (one_reading_of input (Ok fs) (Ok gs) accepted.read reading) in
-    none_listed (faults_of gs) r (ap faults_of (sym e) ∙ accepted.well_formed) first.listed
-accepted_or_refused input fs accepted (inr (inr (inl plain))) = let e = sym accepted.plain ∙ plain in cc
-accepted_or_refused input fs accepted (inr (inr (inr (gs, reading, supported)))) =
-    let e : fs ≡ gs = same_forms fs gs (Ok fs) (Ok gs) refl refl (one_reading_of input (Ok fs) (Ok gs) accepted.read reading) in
-    let clash : false ≡ true = sym supported ∙ ap are_supported (sym e) ∙ accepted.supported in
-    cc
+    none_listed (refusals_of gs) r (ap refusals_of (sym e) ∙ accepted.well_formed) first.listed
+
+-- an input is refused for one fault
+pub one_refusal : (input : List ℕ) (r s : Refusal) → IsRefusedFor input r → IsRefusedFor input s → r ≡ s
+one_refusal input r s (inl reading) (inl again) = same_error r s (Err r) (Err s) refl refl (one_reading_of input (Err r) (Err s) reading again)
+one_refusal input r s (inl reading) (inr (gs, again, first)) = let e = one_reading_of input (Err r) (Ok gs) reading again in absurd (cc)
+one_refusal input r s (inr (fs, reading, first)) (inl again) = let e = one_reading_of input (Ok fs) (Err s) reading again in absurd (cc)
+one_refusal input r s (inr (fs, reading, first)) (inr (gs, again, other)) =
+    let e : fs ≡ gs = same_forms fs gs (Ok fs) (Ok gs) refl refl (one_reading_of input (Ok fs) (Ok gs) reading again) in
+    one_first (refusals_of gs) r s (rw e at first) other
 
 -- ---- what was written
 
 took_all : (input : List ℕ) (left_new : Option (List ℕ)) → length input ≤ most_bytes → left_new ≡ Some [] → TookAtMost input left_new
 took_all input left_new short at_end = (length input, omega arith, at_end ∙ ap (λ xs. Some xs) (sym (ap (λ xs. drop (length input) xs) (sym (append-empty input)) ∙ drop-append_seam input [])))
 
--- ---- the clauses
+module _ (limits : Limits) (input : List ℕ) (left_new held_old held_new : Option (List ℕ)) where
+  pub ended_took_at_most : (status : Status) → HasEnded limits input left_new held_old held_new status → TookAtMost input left_new
+  ended_took_at_most Done ended = took_all input left_new ended.report.report.accepted.short ended.at_end
+  ended_took_at_most Limit ended = took_all input left_new ended.report.report.accepted.short ended.at_end
+  ended_took_at_most Usage ended = absurd ended
+  ended_took_at_most (Refused r) ended = took_all input left_new ended.short ended.at_end
+  ended_took_at_most ReadFault ended = ended
+  ended_took_at_most WriteFault (complete, ended) = took_all input left_new ended.report.report.accepted.short ended.at_end
+  ended_took_at_most Memory ended = ended
+  ended_took_at_most TooLong ended = (most_bytes + 1, omega arith, ended.left)
 
-pub ended_took_at_most : (status : Status) (input : List ℕ) (left_new held_old held_new : Option (List ℕ)) → HasEnded input left_new held_old held_new status → TookAtMost input left_new
-ended_took_at_most Done input left_new held_old held_new ended = took_all input left_new ended.report.report.accepted.short ended.at_end
-ended_took_at_most Limit input left_new held_old held_new ended = absurd ended
-ended_took_at_most Usage input left_new held_old held_new ended = absurd ended
-ended_took_at_most (Refused r) input left_new held_old held_new ended = took_all input left_new ended.short ended.at_end
-ended_took_at_most ReadFault input left_new held_old held_new ended = ended
-ended_took_at_most WriteFault input left_new held_old held_new ended = took_all input left_new ended.report.report.accepted.short ended.at_end
-ended_took_at_most Memory input left_new held_old held_new ended = ended
-ended_took_at_most TooLong input left_new held_old held_new ended = (most_bytes + 1, omega arith, ended.left)
+  pub ended_reported : (before : List ℕ) (status : Status) → held_old ≡ Some before → IsAnalysed status → HasEnded limits input left_new held_old held_new status → HasReported limits input before left_new held_new status
+  ended_reported before Done is analysed ended = record { text = ended.text; trees = ended.report.trees; at_end = ended.at_end; held = ended.put before is; report = ended.report.report; outcomes = ended.report.outcomes }
+  ended_reported before Limit is analysed ended = record { text = ended.text; trees = ended.report.trees; at_end = ended.at_end; held = ended.put before is; report = ended.report.report; outcomes = ended.report.outcomes }
+  ended_reported before Usage is analysed ended = absurd ended
+  ended_reported before (Refused r) is (inl e) ended = absurd (cc)
+  ended_reported before (Refused r) is (inr e) ended = absurd (cc)
+  ended_reported before ReadFault is (inl e) ended = absurd (cc)
+  ended_reported before ReadFault is (inr e) ended = absurd (cc)
+  ended_reported before WriteFault is (inl e) ended = absurd (cc)
+  ended_reported before WriteFault is (inr e) ended = absurd (cc)
+  ended_reported before Memory is (inl e) ended = absurd (cc)
+  ended_reported before Memory is (inr e) ended = absurd (cc)
+  ended_reported before TooLong is (inl e) ended = absurd (cc)
+  ended_reported before TooLong is (inr e) ended = absurd (cc)
 
-pub ended_only_refused : (status : Status) (input : List ℕ) (left_new held_old held_new : Option (List ℕ)) → HasEnded input left_new held_old held_new status → length input ≤ most_bytes → IsRefusedFor input
-    → (status ≡ Refused the_refusal) ⊎ ((status ≡ ReadFault) ⊎ (status ≡ Memory))
-ended_only_refused Done input left_new held_old held_new ended short refused = absurd (accepted_or_refused input ended.report.report.forms ended.report.report.accepted refused)
-ended_only_refused Limit input left_new held_old held_new ended short refused = absurd ended
-ended_only_refused Usage input left_new held_old held_new ended short refused = absurd ended
-ended_only_refused (Refused r) input left_new held_old held_new ended short refused = inl (ap (λ x. Refused x) ended.the_one)
-ended_only_refused ReadFault input left_new held_old held_new ended short refused = inr (inl refl)
-ended_only_refused WriteFault input left_new held_old held_new ended short refused = absurd (accepted_or_refused input ended.report.report.forms ended.report.report.accepted refused)
-ended_only_refused Memory input left_new held_old held_new ended short refused = inr (inr refl)
-ended_only_refused TooLong input left_new held_old held_new ended short refused = let long = ended.long in absurd (omega arith)
+  pub ended_broken_off : (before : List ℕ) (status : Status) → held_old ≡ Some before → status ≡ WriteFault → HasEnded limits input left_new held_old held_new status → HasBrokenOff limits input before left_new held_new
+  ended_broken_off before WriteFault is broken (complete, ended) =
+      let put = ended.put before is in
+      record { text = ended.text; trees = ended.report.trees; put = put.0; at_end = ended.at_end; held = put.1; report = ended.report.report }
+  ended_broken_off before Done is broken ended = absurd (cc)
+  ended_broken_off before Limit is broken ended = absurd (cc)
+  ended_broken_off before Usage is broken ended = absurd (cc)
+  ended_broken_off before (Refused r) is broken ended = absurd (cc)
+  ended_broken_off before ReadFault is broken ended = absurd (cc)
+  ended_broken_off before Memory is broken ended = absurd (cc)
+  ended_broken_off before TooLong is broken ended = absurd (cc)
 
-pub ended_completes : (status : Status) (input : List ℕ) (fs : Forms) (left_new held_old held_new : Option (List ℕ)) (read written : Type 0) → HasEnded input left_new held_old held_new status → (status ≡ ReadFault → read) → (status ≡ WriteFault → written)
-    → IsAccepted input fs → (read → ⊥) → (written → ⊥) → IsAnalysed status ⊎ (status ≡ Memory)
-ended_completes Done input fs left_new held_old held_new read written ended reading writing accepted not_read not_written = inl (inl refl)
-ended_completes Limit input fs left_new held_old held_new read written ended reading writing accepted not_read not_written = absurd ended
-ended_completes Usage input fs left_new held_old held_new read written ended reading writing accepted not_read not_written = absurd ended
-ended_completes (Refused r) input fs left_new held_old held_new read written ended reading writing accepted not_read not_written = absurd (accepted_or_refused input fs accepted ended.cause)
-ended_completes ReadFault input fs left_new held_old held_new read written ended reading writing accepted not_read not_written = absurd (not_read (reading refl))
-ended_completes WriteFault input fs left_new held_old held_new read written ended reading writing accepted not_read not_written = absurd (not_written (writing refl))
-ended_completes Memory input fs left_new held_old held_new read written ended reading writing accepted not_read not_written = inr refl
-ended_completes TooLong input fs left_new held_old held_new read written ended reading writing accepted not_read not_written = let long = ended.long in let short = accepted.short in absurd (omega arith)
+  pub ended_accepted : (status : Status) → HasEnded limits input left_new held_old held_new status → (IsAnalysed status ⊎ (status ≡ WriteFault)) → (left_new ≡ Some []) × ((fs : Forms) × IsAccepted input fs)
+  ended_accepted Done ended is = (ended.at_end, (ended.report.report.forms, ended.report.report.accepted))
+  ended_accepted Limit ended is = (ended.at_end, (ended.report.report.forms, ended.report.report.accepted))
+  ended_accepted WriteFault (complete, ended) is = (ended.at_end, (ended.report.report.forms, ended.report.report.accepted))
+  ended_accepted Usage ended is = absurd ended
+  ended_accepted (Refused r) ended (inl (inl e)) = absurd (cc)
+  ended_accepted (Refused r) ended (inl (inr e)) = absurd (cc)
+  ended_accepted (Refused r) ended (inr e) = absurd (cc)
+  ended_accepted ReadFault ended (inl (inl e)) = absurd (cc)
+  ended_accepted ReadFault ended (inl (inr e)) = absurd (cc)
+  ended_accepted ReadFault ended (inr e) = absurd (cc)
+  ended_accepted Memory ended (inl (inl e)) = absurd (cc)
+  ended_accepted Memory ended (inl (inr e)) = absurd (cc)
+  ended_accepted Memory ended (inr e) = absurd (cc)
+  ended_accepted TooLong ended (inl (inl e)) = absurd (cc)
+  ended_accepted TooLong ended (inl (inr e)) = absurd (cc)
+  ended_accepted TooLong ended (inr e) = absurd (cc)
+
+  pub ended_refused : (status : Status) (r : Refusal) → HasEnded limits input left_new held_old held_new status → status ≡ Refused r → HasRefused input left_new r
+  ended_refused (Refused s) r ended is = let e : s ≡ r = cc in rw e at ended
+  ended_refused Done r ended is = absurd (cc)
+  ended_refused Limit r ended is = absurd (cc)
+  ended_refused Usage r ended is = absurd (cc)
+  ended_refused ReadFault r ended is = absurd (cc)
+  ended_refused WriteFault r ended is = absurd (cc)
+  ended_refused Memory r ended is = absurd (cc)
+  ended_refused TooLong r ended is = absurd (cc)
+
+  pub ended_only_refused : (status : Status) (r : Refusal) → HasEnded limits input left_new held_old held_new status → length input ≤ most_bytes → IsRefusedFor input r
+      → (status ≡ Refused r) ⊎ ((status ≡ ReadFault) ⊎ (status ≡ Memory))
+  ended_only_refused Done r ended short refused = absurd (accepted_or_refused input ended.report.report.forms r ended.report.report.accepted refused)
+  ended_only_refused Limit r ended short refused = absurd (accepted_or_refused input ended.report.report.forms r ended.report.report.accepted refused)
+  ended_only_refused Usage r ended short refused = absurd ended
+  ended_only_refused (Refused s) r ended short refused = inl (ap (λ x. Refused x) (one_refusal input s r ended.cause refused))
+  ended_only_refused ReadFault r ended short refused = inr (inl refl)
+  ended_only_refused WriteFault r (complete, ended) short refused = absurd (accepted_or_refused input ended.report.report.forms r ended.report.report.accepted refused)
+  ended_only_refused Memory r ended short refused = inr (inr refl)
+  ended_only_refused TooLong r ended short refused = let long = ended.long in absurd (omega arith)
+
+  pub ended_too_long : (status : Status) → HasEnded limits input left_new held_old held_new status → status ≡ TooLong → WasTooLong input left_new
+  ended_too_long TooLong ended is = ended
+  ended_too_long Done ended is = absurd (cc)
+  ended_too_long Limit ended is = absurd (cc)
+  ended_too_long Usage ended is = absurd (cc)
+  ended_too_long (Refused r) ended is = absurd (cc)
+  ended_too_long ReadFault ended is = absurd (cc)
+  ended_too_long WriteFault ended is = absurd (cc)
+  ended_too_long Memory ended is = absurd (cc)
+
+  pub ended_only_too_long : (status : Status) → HasEnded limits input left_new held_old held_new status → most_bytes < length input → (status ≡ TooLong) ⊎ ((status ≡ ReadFault) ⊎ (status ≡ Memory))
+  ended_only_too_long Done ended long = let short = ended.report.report.accepted.short in absurd (omega arith)
+  ended_only_too_long Limit ended long = let short = ended.report.report.accepted.short in absurd (omega arith)
+  ended_only_too_long Usage ended long = absurd ended
+  ended_only_too_long (Refused r) ended long = let short = ended.short in absurd (omega arith)
+  ended_only_too_long ReadFault ended long = inr (inl refl)
+  ended_only_too_long WriteFault (complete, ended) long = let short = ended.report.report.accepted.short in absurd (omega arith)
+  ended_only_too_long Memory ended long = inr (inr refl)
+  ended_only_too_long TooLong ended long = inl refl
+
+  pub ended_completes : (status : Status) (fs : Forms) (read written : Type 0) → HasEnded limits input left_new held_old held_new status → (status ≡ ReadFault → read) → (status ≡ WriteFault → written)
+      → IsAccepted input fs → (read → ⊥) → (written → ⊥) → IsAnalysed status ⊎ (status ≡ Memory)
+  ended_completes Done fs read written ended reading writing accepted not_read not_written = inl (inl refl)
+  ended_completes Limit fs read written ended reading writing accepted not_read not_written = inl (inr refl)
+  ended_completes Usage fs read written ended reading writing accepted not_read not_written = absurd ended
+  ended_completes (Refused r) fs read written ended reading writing accepted not_read not_written = absurd (accepted_or_refused input fs r accepted ended.cause)
+  ended_completes ReadFault fs read written ended reading writing accepted not_read not_written = absurd (not_read (reading refl))
+  ended_completes WriteFault fs read written ended reading writing accepted not_read not_written = absurd (not_written (writing refl))
+  ended_completes Memory fs read written ended reading writing accepted not_read not_written = inr refl
+  ended_completes TooLong fs read written ended reading writing accepted not_read not_written = let long = ended.long in let short = accepted.short in absurd (omega arith)
 
 -- ---- stopped behind the end of the input
 
 pub stopped_behind_end : {A : Type 0} (result : Result A Stopped) (bytes input : List ℕ) (left_new : Option (List ℕ)) → IfErr result (IsCauseFor bytes) → length bytes ≤ most_bytes → (bytes ≡ input) × (left_new ≡ Some [])
     → IfErr result (HasStopped input left_new)
 stopped_behind_end (Ok x) bytes input left_new cause short read = tt
-stopped_behind_end (Err stopped.Refused) bytes input left_new cause short read = record { at_end = read.1; short = rw read.0 at short; cause = rw read.0 at cause; the_one = refl }
+stopped_behind_end (Err (stopped.Refused r)) bytes input left_new cause short read = record { at_end = read.1; short = rw read.0 at short; cause = rw read.0 at cause }
 stopped_behind_end (Err stopped.ReadFault) bytes input left_new cause short read = absurd cause
 stopped_behind_end (Err stopped.TooLong) bytes input left_new cause short read = absurd cause
 stopped_behind_end (Err stopped.Memory) bytes input left_new cause short read = took_all input left_new (rw read.0 at short) read.1
+
+-- ---- reports
+
+pub whole_report : (limits : Limits) (bytes text : List ℕ) (fs : Forms) (entries : List Entry) (trees : List Tree) (b : Bool) → length bytes ≤ most_bytes → IsReading bytes (Ok fs) → IsLoaded fs entries
+    → HaveTrees limits (problems_of entries) trees → SaysOutcomes (outcomes_status b) trees → text ≡ report_text entries trees → IsWholeReport limits bytes text b
+whole_report limits bytes text fs entries trees b short reading loaded have says printed = record {
+  trees = trees;
+  report = record {
+    forms = fs;
+    accepted = record { short = short; read = reading; well_formed = loaded.well_formed };
+    true_trees = subst (λ es. AreTrue limits es trees) loaded.same (are_true limits entries trees have);
+    printed = printed ∙ ap (λ es. report_text es trees) loaded.same;
+  };
+  outcomes = says;
+}
+
+pub ended_ok : (limits : Limits) (input : List ℕ) (left_new held_old held_new : Option (List ℕ)) (b : Bool) (s : Status) → s ≡ outcomes_status b → HasWritten limits input left_new held_old held_new b (Ok tt)
+    → HasEnded limits input left_new held_old held_new s
+ended_ok limits input left_new held_old held_new true s is written = subst (HasEnded limits input left_new held_old held_new) (sym is) written
+ended_ok limits input left_new held_old held_new false s is written = subst (HasEnded limits input left_new held_old held_new) (sym is) written
+
+-- ---- runs
+
+module _ (o : Option Limits) (input : List ℕ) (left_new held_old held_new : Option (List ℕ)) where
+  pub executed_reported : (limits : Limits) (before : List ℕ) (s : Status) → HasExecuted o input left_new held_old held_new s → o ≡ Some limits → held_old ≡ Some before → IsAnalysed s → HasReported limits input before left_new held_new s
+  executed_reported limits before s executed is held analysed =
+      ended_reported limits input left_new held_old held_new before s held analysed (subst (λ p. HasExecuted p input left_new held_old held_new s) is executed)
+
+  pub executed_broken_off : (limits : Limits) (before : List ℕ) (s : Status) → HasExecuted o input left_new held_old held_new s → o ≡ Some limits → held_old ≡ Some before → s ≡ WriteFault → HasBrokenOff limits input before left_new held_new
+  executed_broken_off limits before s executed is held broken =
+      ended_broken_off limits input left_new held_old held_new before s held broken (subst (λ p. HasExecuted p input left_new held_old held_new s) is executed)
+
+  pub executed_only_refused : (limits : Limits) (r : Refusal) (s : Status) → HasExecuted o input left_new held_old held_new s → o ≡ Some limits → length input ≤ most_bytes → IsRefusedFor input r
+      → (s ≡ Refused r) ⊎ ((s ≡ ReadFault) ⊎ (s ≡ Memory))
+  executed_only_refused limits r s executed is short refused =
+      ended_only_refused limits input left_new held_old held_new s r (subst (λ p. HasExecuted p input left_new held_old held_new s) is executed) short refused
+
+  pub executed_only_too_long : (limits : Limits) (s : Status) → HasExecuted o input left_new held_old held_new s → o ≡ Some limits → most_bytes < length input → (s ≡ TooLong) ⊎ ((s ≡ ReadFault) ⊎ (s ≡ Memory))
+  executed_only_too_long limits s executed is long =
+      ended_only_too_long limits input left_new held_old held_new s (subst (λ p. HasExecuted p input left_new held_old held_new s) is executed) long
+
+  pub executed_completes : (limits : Limits) (s : Status) (fs : Forms) (read written : Type 0) → HasExecuted o input left_new held_old held_new s → o ≡ Some limits → (s ≡ ReadFault → read) → (s ≡ WriteFault → written)
+      → IsAccepted input fs → (read → ⊥) → (written → ⊥) → IsAnalysed s ⊎ (s ≡ Memory)
+  executed_completes limits s fs read written executed is reading writing accepted not_read not_written =
+      ended_completes limits input left_new held_old held_new s fs read written (subst (λ p. HasExecuted p input left_new held_old held_new s) is executed) reading writing accepted not_read not_written
+
+not_usage_accepted : (s : Status) → s ≡ Usage → (IsAnalysed s ⊎ (s ≡ WriteFault)) → ⊥
+not_usage_accepted s usage (inl (inl e)) = cc
+not_usage_accepted s usage (inl (inr e)) = cc
+not_usage_accepted s usage (inr e) = cc
+
+pub executed_accepted : (o : Option Limits) (input : List ℕ) (left_new held_old held_new : Option (List ℕ)) (s : Status) → HasExecuted o input left_new held_old held_new s → (IsAnalysed s ⊎ (s ≡ WriteFault)) → (left_new ≡ Some []) × ((fs : Forms) × IsAccepted input fs)
+executed_accepted None input left_new held_old held_new s executed is = absurd (not_usage_accepted s executed.0 is)
+executed_accepted (Some limits) input left_new held_old held_new s executed is = ended_accepted limits input left_new held_old held_new s executed is
+
+pub executed_refused : (o : Option Limits) (input : List ℕ) (left_new held_old held_new : Option (List ℕ)) (s : Status) (r : Refusal) → HasExecuted o input left_new held_old held_new s → s ≡ Refused r → HasRefused input left_new r
+executed_refused None input left_new held_old held_new s r executed is = let e = executed.0 in absurd (cc)
+executed_refused (Some limits) input left_new held_old held_new s r executed is = ended_refused limits input left_new held_old held_new s r executed is
+
+pub executed_too_long : (o : Option Limits) (input : List ℕ) (left_new held_old held_new : Option (List ℕ)) (s : Status) → HasExecuted o input left_new held_old held_new s → s ≡ TooLong → WasTooLong input left_new
+executed_too_long None input left_new held_old held_new s executed is = let e = executed.0 in absurd (cc)
+executed_too_long (Some limits) input left_new held_old held_new s executed is = ended_too_long limits input left_new held_old held_new s executed is
+
+pub executed_took_at_most : (o : Option Limits) (input : List ℕ) (left_new held_old held_new : Option (List ℕ)) (s : Status) → HasExecuted o input left_new held_old held_new s → TookAtMost input left_new
+executed_took_at_most None input left_new held_old held_new s executed = (0, omega arith, executed.1)
+executed_took_at_most (Some limits) input left_new held_old held_new s executed = ended_took_at_most limits input left_new held_old held_new s executed

@@ -1,57 +1,38 @@
--- How a problem of one sending instance is analysed, and what loading and printing are held to.
-use Rattle.std.specs.Prelude.{◌≡◌, List, [], ◌∷◌, map, true, Option, Some, None}
+-- How the problems of an input are analysed.
+use Rattle.std.specs.Prelude.{◌≡◌, ◌++◌, List, [], ◌∷◌, map, Option, Some, None}
+use Rattle.cp_model.specs.Skeleton.{IsSkeleton}
 use Rattle.cp_model.specs.Problem.{IsOwnProblem}
-use Rattle.cp_model.specs.Single.{IsOneSendingStrand}
-use Rattle.cp_model.specs.Tree.{by_problem, shape, complete, Label, Tree}
-use Rattle.cp_sexpr.specs.Syntax.{Forms}
-use Rattle.cp_language.specs.Faults.{items_of}
+use Rattle.cp_model.specs.Tree.{Limits, Tree}
 use Rattle.cp_language.specs.Problems.{Problem}
-use Rattle.cp_language.specs.Input.{Entry, faults_of, input_of}
-use Rattle.cp_app.specs.declared.loaded.Loaded.{Loaded}
-use Rattle.cp_app.specs.Loaded.{protocol_view, entries_view}
-use Rattle.cp_app.specs.Supported.{are_supported}
+use Rattle.cp_language.specs.Input.{Entry}
+use Rattle.cp_search.specs.Unexpanded.{HasOneInstance}
+use Rattle.cp_app.specs.Headline.{IsTrueTree, TreeIsTrue}
 
--- A problem without receptions is its own shape: the only label of its tree.
-abbrev pub own_label : Problem → Label
-own_label p = record {
-  parent = None;
-  operation = by_problem;
-  variables = p.variables;
-  skeleton = p.skeleton;
-  unrealised = [];
-  test = None;
-  escape = [];
-  children = [];
-  mark = Some shape;
-}
+-- A problem is a skeleton that maps to itself, and has at most one instance of a role.
+pub record IsAnalysable (p : Problem) : Type 0 where
+  pub is_skeleton : IsSkeleton p.protocol p.skeleton
+  pub own : IsOwnProblem p.variables p.skeleton
+  pub one : HasOneInstance p.skeleton
 
-abbrev pub own_tree : Problem → Tree
-own_tree p = record { labels = own_label p ∷ []; outcome = complete }
+abbrev pub IsAnalysableIf : Option Problem → Type 0
+IsAnalysableIf None = Unit {0}
+IsAnalysableIf (Some p) = IsAnalysable p
 
-abbrev pub tree_onto : Option Problem → List Tree → List Tree
-tree_onto None ts = ts
-tree_onto (Some p) ts = own_tree p ∷ ts
+abbrev pub AreAnalysable : List (Option Problem) → Type 0
+AreAnalysable [] = Unit {0}
+AreAnalysable (o ∷ os) = IsAnalysableIf o × AreAnalysable os
 
--- The trees of the problems of the input, in order.
-abbrev pub own_trees : List Entry → List Tree
-own_trees [] = []
-own_trees (e ∷ es) = tree_onto e.problem (own_trees es)
+-- Each problem has its tree.
+abbrev pub HaveTrees : Limits → List (Option Problem) → List Tree → Type 0
+HaveTrees limits [] [] = Unit {0}
+HaveTrees limits [] (t ∷ ts) = ⊥
+HaveTrees limits (o ∷ os) ts = TreeIsTrue limits o ts (HaveTrees limits os)
 
--- The forms are well formed, of the part of the language that is analysed, and were loaded as these values.
-pub record IsLoadedAs (fs : Forms) (l : Loaded) : Type 0 where
-  pub well_formed : faults_of fs ≡ []
-  pub supported : are_supported fs ≡ true
-  pub values : entries_view (map protocol_view l.protocols.items) (items_of fs) l.entries.items ≡ input_of fs
+-- The problems that entries state.
+abbrev pub problems_of : List Entry → List (Option Problem)
+problems_of = map (λ e. e.problem)
 
--- The forms are not well formed, or not of the part of the language that is analysed.
-abbrev pub IsNotLoaded : Forms → Type 0
-IsNotLoaded fs = faults_of fs ≡ [] → are_supported fs ≡ true → ⊥
-
--- A problem is one sending strand and maps to itself.
-abbrev pub IsOneStrandProblem : Option Problem → Type 0
-IsOneStrandProblem None = Unit {0}
-IsOneStrandProblem (Some p) = IsOneSendingStrand p.protocol p.skeleton × IsOwnProblem p.variables p.skeleton
-
-abbrev pub AreOneStrandProblems : List Entry → Type 0
-AreOneStrandProblems [] = Unit {0}
-AreOneStrandProblems (e ∷ es) = IsOneStrandProblem e.problem × AreOneStrandProblems es
+-- Behind these trees stands that of the problem, if there is one.
+abbrev pub HasTreeBehind : Limits → Option Problem → List Tree → List Tree → Type 0
+HasTreeBehind limits None old new = new ≡ old
+HasTreeBehind limits (Some p) old new = (t : Tree) × IsTrueTree limits p t × (new ≡ old ++ t ∷ [])

@@ -1,8 +1,7 @@
 -- What `run` promises, top to bottom.
-use Rattle.std.specs.Prelude.{◌≡◌, ◌≢◌, ℕ, ◌+◌, ◌<◌, ◌≤◌, ◌⊎◌, List, [], ◌∷◌, ◌++◌, length, take, drop, Bool, true, false, ◌&&◌, codes, decimal, Option, Some, None, Ok, Err}
+use Rattle.std.specs.Prelude.{◌≡◌, ◌≢◌, ℕ, ◌+◌, ◌<◌, ◌≤◌, ◌⊎◌, List, [], ◌∷◌, ◌++◌, length, take, drop, Bool, true, false, codes, decimal, Option, Some, None, Ok, Err}
 use Rattle.cp_base.specs.Codes.{code_text}
 use Rattle.cp_base.specs.Outside.{Rose}
-use Rattle.cp_base.specs.declared.place.Code.TheVariants.{OutOfProfile}
 use Rattle.cp_base.specs.declared.place.Refusal.{Refusal}
 use Rattle.cp_base.specs.declared.status.Status.{Status}
 use Rattle.cp_base.specs.declared.status.Status.TheVariants.{Done, Limit, Usage, Refused, ReadFault, WriteFault, Memory, TooLong}
@@ -10,23 +9,12 @@ use Rattle.cp_model.specs.Tree.{complete, Limits, Label, Tree, IsTrueOf}
 use Rattle.cp_model.specs.Lists.{IsIn}
 use Rattle.cp_sexpr.specs.Syntax.{Forms}
 use Rattle.cp_sexpr.specs.Reading.{IsReading}
-use Rattle.cp_language.specs.Words.{same_text}
 use Rattle.cp_language.specs.Problems.{Problem}
 use Rattle.cp_language.specs.Faults.{IsFirstFault}
-use Rattle.cp_language.specs.Input.{Entry, faults_of, input_of}
+use Rattle.cp_language.specs.Input.{Entry, input_of}
 use Rattle.cp_language.specs.Report.{HasItsVariables, report_text}
-use Rattle.cp_app.specs.Supported.{is_plain, are_supported}
-
--- ---- the command
-
--- The words are a name for the program and the command `analyse --limit 0`.
-abbrev pub is_analyse : List (List ℕ) → Bool
-is_analyse (program ∷ command ∷ option ∷ number ∷ []) = same_text command (codes "analyse") && same_text option (codes "--limit") && same_text number (codes "0")
-is_analyse _ = false
-
--- Its limits: no step, and the strand bound that is taken where none is given.
-abbrev pub analyse_limits : Limits
-analyse_limits = record { steps = 0; strands = 8 }
+use Rattle.cp_search.specs.Unexpanded.{IsUnexpanded}
+use Rattle.cp_app.specs.Profile.{refusals_of}
 
 -- ---- the input
 
@@ -34,31 +22,23 @@ analyse_limits = record { steps = 0; strands = 8 }
 abbrev pub most_bytes : ℕ
 most_bytes = 1048576
 
--- The whole input is these forms, which are well formed and of the part of the language that is analysed.
+-- The whole input is these forms, which nothing is refused of.
 pub record IsAccepted (input : List ℕ) (fs : Forms) : Type 0 where
   pub short : length input ≤ most_bytes
   pub read : IsReading input (Ok fs)
-  pub well_formed : faults_of fs ≡ []
-  pub plain : is_plain input ≡ true
-  pub supported : are_supported fs ≡ true
+  pub well_formed : refusals_of fs ≡ []
 
--- The whole input is refused: it is not read as forms, or its forms have a fault, or it holds something that is
--- not analysed.
-abbrev pub IsRefusedFor : List ℕ → Type 0
-IsRefusedFor input =
-    ((r : Refusal) × IsReading input (Err r))
-    ⊎ (((fs : Forms) × (r : Refusal) × IsReading input (Ok fs) × IsFirstFault (faults_of fs) r)
-    ⊎ ((is_plain input ≡ false) ⊎ ((fs : Forms) × IsReading input (Ok fs) × (are_supported fs ≡ false))))
-
--- The one refusal of this version.
-abbrev pub the_refusal : Refusal
-the_refusal = record { place = record { line = 1; col = 1 }; code = OutOfProfile }
+-- The whole input is refused so: the reader refuses it, or this is the first fault of its forms.
+abbrev pub IsRefusedFor : List ℕ → Refusal → Type 0
+IsRefusedFor input r = IsReading input (Err r) ⊎ ((fs : Forms) × IsReading input (Ok fs) × IsFirstFault (refusals_of fs) r)
 
 -- ---- the report
 
--- Each problem has its tree, which is true of it, and whose labels have their variables.
+-- Each problem has its tree, which is true of it, is that of a label that is not expanded, and whose labels have their
+-- variables.
 pub record IsTrueTree (limits : Limits) (p : Problem) (t : Tree) : Type 0 where
   pub truth : IsTrueOf p.protocol p.skeleton limits t
+  pub exact : IsUnexpanded p.skeleton p.variables limits t
   pub variables : (l : Label) → IsIn l t.labels → HasItsVariables p l
 
 abbrev pub TreeIsTrue : Limits → Option Problem → List Tree → (List Tree → Type 0) → Type 0
@@ -72,10 +52,10 @@ AreTrue limits [] (t ∷ ts) = ⊥
 AreTrue limits (e ∷ es) ts = TreeIsTrue limits e.problem ts (AreTrue limits es)
 
 -- The text is that of one report over the forms of the input, with a tree after every problem that is true of it.
-pub record IsReportOf (input text : List ℕ) (trees : List Tree) : Type 0 where
+pub record IsReportOf (limits : Limits) (input text : List ℕ) (trees : List Tree) : Type 0 where
   pub forms : Forms
   pub accepted : IsAccepted input forms
-  pub true_trees : AreTrue analyse_limits (input_of forms) trees
+  pub true_trees : AreTrue limits (input_of forms) trees
   pub printed : text ≡ report_text (input_of forms) trees
 
 -- Done says that every outcome is complete, and Limit that some outcome is a limit.
@@ -117,29 +97,28 @@ status_line TooLong = line (codes "too long")
 -- ---- what a call leaves, where the source tells what it held and the sinks what they hold
 
 -- At Done and Limit the source was read to its end, and what was put is the text of a report of the whole input.
-pub record HasReported (input before : List ℕ) (left_new held_new : Option (List ℕ)) (status : Status) : Type 0 where
+pub record HasReported (limits : Limits) (input before : List ℕ) (left_new held_new : Option (List ℕ)) (status : Status) : Type 0 where
   pub text : List ℕ
   pub trees : List Tree
   pub at_end : left_new ≡ Some []
   pub held : held_new ≡ Some (before ++ text)
-  pub report : IsReportOf input text trees
+  pub report : IsReportOf limits input text trees
   pub outcomes : SaysOutcomes status trees
 
 -- At a write fault the source was read to its end, and what was put is the front of such a text.
-pub record HasBrokenOff (input before : List ℕ) (left_new held_new : Option (List ℕ)) : Type 0 where
+pub record HasBrokenOff (limits : Limits) (input before : List ℕ) (left_new held_new : Option (List ℕ)) : Type 0 where
   pub text : List ℕ
   pub trees : List Tree
   pub put : ℕ
   pub at_end : left_new ≡ Some []
   pub held : held_new ≡ Some (before ++ take put text)
-  pub report : IsReportOf input text trees
+  pub report : IsReportOf limits input text trees
 
--- A refused input was read to its end, is refused for its cause, and at the one place and code of this version.
+-- A refused input was read to its end, and is refused so.
 pub record HasRefused (input : List ℕ) (left_new : Option (List ℕ)) (r : Refusal) : Type 0 where
   pub at_end : left_new ≡ Some []
   pub short : length input ≤ most_bytes
-  pub cause : IsRefusedFor input
-  pub the_one : r ≡ the_refusal
+  pub cause : IsRefusedFor input r
 
 -- Of too long an input one byte more than the most was taken.
 pub record WasTooLong (input : List ℕ) (left_new : Option (List ℕ)) : Type 0 where

@@ -1,9 +1,8 @@
 //! The top call: words, input, analysis and report.
 #![tactic(auto)]
 
-mod loaded;
-mod loader;
-mod printing;
+mod analysing;
+mod profile;
 mod reading;
 mod running;
 mod stopped;

@@ -2,15 +2,16 @@
 ghost use Rattle.std.specs.Prelude.{◌≡◌};
 ghost use Rattle.cp_app.specs.Steps.{status_of};
 
-use cp_base::{Code, Place, Refusal, Status};
+use cp_base::{Refusal, Status};
+use cp_load::LoadError;
 use cp_sexpr::ReadError;
 use std::alloc::AllocError;
 
 // Why a run that has a command makes no output.
 #[derive(Clone, Copy, Debug, PartialEq, Eq)]
 pub(crate) enum Stopped {
-    // The input is refused.
-    Refused,
+    // The input is refused so.
+    Refused(Refusal),
     // The source failed.
     ReadFault,
     // The input is longer than a run may read.
@@ -25,10 +26,7 @@ impl Stopped {
         ensures { result ≡ status_of self }
     {
         match self {
-            Stopped::Refused => Status::Refused(Refusal {
-                place: Place { line: 1, col: 1 },
-                code: Code::OutOfProfile,
-            }),
+            Stopped::Refused(refusal) => Status::Refused(refusal),
             Stopped::ReadFault => Status::ReadFault,
             Stopped::TooLong => Status::TooLong,
             Stopped::Memory => Status::Memory,
@@ -53,8 +51,21 @@ impl From<ReadError> for Stopped {
 
     fn from(error: ReadError) -> Stopped {
         match error {
-            ReadError::Refused(_) => Stopped::Refused,
+            ReadError::Refused(refusal) => Stopped::Refused(refusal),
             ReadError::Memory => Stopped::Memory,
+        }
+    }
+}
+
+impl From<LoadError> for Stopped {
+    ghost use Rattle.cp_app.specs.Steps.{cause_of_load};
+
+    ghost from_gives = { λ error cause. cause ≡ cause_of_load error };
+
+    fn from(error: LoadError) -> Stopped {
+        match error {
+            LoadError::Refused(refusal) => Stopped::Refused(refusal),
+            LoadError::Memory => Stopped::Memory,
         }
     }
 }

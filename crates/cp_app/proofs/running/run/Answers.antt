@@ -1,19 +1,51 @@
+use Rattle.std.proofs.Common.{map, string_bytes}
 use Rattle.cp_base.specs.Outside.{Rose}
-use Rattle.cp_app.proofs.Endings.{ended_took_at_most, ended_only_refused, ended_completes}
+use Rattle.cp_app.specs.Command.{command_of}
+use Rattle.cp_app.proofs.Endings as endings
 use Rattle.cp_app.proofs.running.run.Goals as goal
 
+pub returns-clause-reported : goal.returns-clause-reported
+returns-clause-reported g c = λ limits input before command is held analysed.
+    endings.executed_reported (command_of (map string_bytes c.args.words.now)) input (g.S.Source.left c.execute-status.new.source) (g.O.Sink.held c.args.out.now) (g.O.Sink.held c.execute-status.new.out)
+    limits before c.execute-status.result (c.execute-status.ensures.executed input is) command held analysed
+
+pub returns-clause-broken_off : goal.returns-clause-broken_off
+returns-clause-broken_off g c = λ limits input before command is held broken.
+    endings.executed_broken_off (command_of (map string_bytes c.args.words.now)) input (g.S.Source.left c.execute-status.new.source) (g.O.Sink.held c.args.out.now) (g.O.Sink.held c.execute-status.new.out)
+    limits before c.execute-status.result (c.execute-status.ensures.executed input is) command held broken
+
+pub returns-clause-accepted : goal.returns-clause-accepted
+returns-clause-accepted g c = λ input is accepted.
+    endings.executed_accepted (command_of (map string_bytes c.args.words.now)) input (g.S.Source.left c.execute-status.new.source) (g.O.Sink.held c.args.out.now) (g.O.Sink.held c.execute-status.new.out)
+    c.execute-status.result (c.execute-status.ensures.executed input is) accepted
+
+pub returns-clause-refused : goal.returns-clause-refused
+returns-clause-refused g c = λ r input refused is.
+    endings.executed_refused (command_of (map string_bytes c.args.words.now)) input (g.S.Source.left c.execute-status.new.source) (g.O.Sink.held c.args.out.now) (g.O.Sink.held c.execute-status.new.out)
+    c.execute-status.result r (c.execute-status.ensures.executed input is) refused
+
 pub returns-clause-only_refused : goal.returns-clause-only_refused
-returns-clause-only_refused g c = λ input command is short refused.
-    ended_only_refused c.analyse-status.result input (g.S.Source.left c.analyse-status.new.source) (g.O.Sink.held c.args.out.now) (g.O.Sink.held c.analyse-status.new.out)
-    (c.analyse-status.ensures.ended input is) short refused
+returns-clause-only_refused g c = λ limits r input command is short refused.
+    endings.executed_only_refused (command_of (map string_bytes c.args.words.now)) input (g.S.Source.left c.execute-status.new.source) (g.O.Sink.held c.args.out.now) (g.O.Sink.held c.execute-status.new.out)
+    limits r c.execute-status.result (c.execute-status.ensures.executed input is) command short refused
+
+pub returns-clause-too_long : goal.returns-clause-too_long
+returns-clause-too_long g c = λ input is long.
+    endings.executed_too_long (command_of (map string_bytes c.args.words.now)) input (g.S.Source.left c.execute-status.new.source) (g.O.Sink.held c.args.out.now) (g.O.Sink.held c.execute-status.new.out)
+    c.execute-status.result (c.execute-status.ensures.executed input is) long
+
+pub returns-clause-only_too_long : goal.returns-clause-only_too_long
+returns-clause-only_too_long g c = λ limits input command is long.
+    endings.executed_only_too_long (command_of (map string_bytes c.args.words.now)) input (g.S.Source.left c.execute-status.new.source) (g.O.Sink.held c.args.out.now) (g.O.Sink.held c.execute-status.new.out)
+    limits c.execute-status.result (c.execute-status.ensures.executed input is) command long
 
 pub returns-clause-took_at_most : goal.returns-clause-took_at_most
 returns-clause-took_at_most g c = λ input is.
-    ended_took_at_most c.analyse-status.result input (g.S.Source.left c.analyse-status.new.source) (g.O.Sink.held c.args.out.now) (g.O.Sink.held c.analyse-status.new.out)
-    (c.analyse-status.ensures.ended input is)
+    endings.executed_took_at_most (command_of (map string_bytes c.args.words.now)) input (g.S.Source.left c.execute-status.new.source) (g.O.Sink.held c.args.out.now) (g.O.Sink.held c.execute-status.new.out)
+    c.execute-status.result (c.execute-status.ensures.executed input is)
 
 pub returns-clause-completes : goal.returns-clause-completes
-returns-clause-completes g c = λ input fs command is accepted not_read not_written.
-    ended_completes c.analyse-status.result input fs (g.S.Source.left c.analyse-status.new.source) (g.O.Sink.held c.args.out.now) (g.O.Sink.held c.analyse-status.new.out)
-    (Rose (g.S.Source.faults c.args.source.now) (g.S.Source.faults c.analyse-status.new.source)) (Rose (g.O.Sink.faults c.args.out.now) (g.O.Sink.faults c.analyse-status.new.out))
-    (c.analyse-status.ensures.ended input is) c.analyse-status.ensures.read_fault c.analyse-status.ensures.write_fault accepted not_read not_written
+returns-clause-completes g c = λ limits input fs command is accepted not_read not_written.
+    endings.executed_completes (command_of (map string_bytes c.args.words.now)) input (g.S.Source.left c.execute-status.new.source) (g.O.Sink.held c.args.out.now) (g.O.Sink.held c.execute-status.new.out)
+    limits c.execute-status.result fs (Rose (g.S.Source.faults c.args.source.now) (g.S.Source.faults c.execute-status.new.source)) (Rose (g.O.Sink.faults c.args.out.now) (g.O.Sink.faults c.execute-status.new.out))
+    (c.execute-status.ensures.executed input is) command c.execute-status.ensures.read_fault c.execute-status.ensures.write_fault accepted not_read not_written
