@@ -12,3 +12,8 @@ pub mod SingleBundle
 pub mod SingleRealised
 pub mod SingleMaps
 pub mod SingleExample
+pub mod CarriedMessages
+pub mod Paired
+pub mod RunLinks
+pub mod FirstCarrying
+pub mod OriginTrail

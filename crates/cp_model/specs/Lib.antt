@@ -14,3 +14,12 @@ pub mod Composition
 pub mod Example
 pub mod Derivable
 pub mod Tree
+pub mod MessageCode
+pub mod KeyView
+pub mod MessageView
+pub mod MessageSize
+pub mod FormFalls
+pub mod FormLeaves
+pub mod RunView
+pub mod Linking
+pub mod Carrying

@@ -1,14 +1,29 @@
-//! The definitions of messages, strands, bundles and skeletons, and their laws.
+//! The definitions of messages, strands, bundles and skeletons, and their laws; messages, runs and bundles as values.
 #![tactic(auto)]
 
+mod bundle;
+mod carrying;
+mod key;
 mod laws;
+mod linking;
+mod message;
+mod origin;
 mod single;
+mod strand;
+#[cfg(test)]
+mod tests;
 
+pub use bundle::{Bundle, Run};
+pub use key::Key;
 pub use laws::{
     before_is_leading_to_another, embeddings_compose, embeds_in_itself, homomorphism_then_standing,
     origin_at_or_before, run_makes_a_bundle, value_after_substitution,
 };
+pub use linking::{bundle_of, run_of};
+pub use message::Msg;
+pub use origin::origin_before;
 pub use single::{
     one_sending_strand_example, one_sending_strand_is_realised,
     one_strand_is_its_own_complete_list, skeleton_maps_from_itself,
 };
+pub use strand::{Event, Node, Strand};

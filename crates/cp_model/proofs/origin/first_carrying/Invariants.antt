@@ -1,0 +1,7 @@
+use Rattle.std.proofs.Common.{map}
+use Rattle.cp_model.specs.RunView.{event_view}
+use Rattle.cp_model.specs.Carrying.{NoneCarriesBefore}
+use Rattle.cp_model.proofs.origin.first_carrying.Given as goal
+
+abbrev pub invariant-loop-place : goal.invariant-loop-place
+invariant-loop-place l = NoneCarriesBefore l.message (map event_view l.events) l.place

@@ -1,0 +1,72 @@
+// Runs and bundles, and what stands at their nodes.
+ghost use Rattle.std.specs.Prelude.{◌≡◌, map};
+ghost use Rattle.std.specs.Option.{option_map, option_and_then};
+ghost use Rattle.cp_model.specs.Lists.{item_at};
+ghost use Rattle.cp_model.specs.RunView.{event_view, trace_view, node_view, event_in, sender_view, row_view, link_in, sender_in};
+
+use crate::strand::{Event, Node, Strand};
+
+/// A run: strands, and their events one after another.
+#[derive(Drop)]
+pub struct Run {
+    pub strands: Vec<Strand>,
+    pub events: Vec<Node>,
+}
+
+/// A bundle: strands, for each strand and each event of it the sender where the event is a reception, and a numbering
+/// of the nodes, a list of them.
+#[derive(Drop)]
+pub struct Bundle {
+    pub strands: Vec<Strand>,
+    pub senders: Vec<Vec<Option<Node>>>,
+    pub order: Vec<Node>,
+}
+
+/// The event at a place, counted from 0.
+fn event_on(events: &[Event], place: usize) -> Option<&Event>
+    ensures { option_map (λ e. event_view e.now) result ≡ item_at (map event_view events.now) place }
+{
+    events.get(place)
+}
+
+/// The event at a node, if there is one.
+pub(crate) fn event_at(strands: &[Strand], node: Node) -> Option<&Event>
+    ensures { option_map (λ e. event_view e.now) result ≡ event_in (map trace_view strands.now) (node_view node) }
+{
+    match strands.get(node.strand) {
+        Some(strand) => event_on(&strand.events, node.index),
+        None => None,
+    }
+}
+
+/// The sender at a place of a strand's row, counted from 0.
+fn sender_on(row: &[Option<Node>], place: usize) -> Option<Node>
+    ensures { option_map node_view result ≡ option_and_then (λ o. o) (item_at (map sender_view row.now) place) }
+{
+    match row.get(place) {
+        Some(sender) => *sender,
+        None => None,
+    }
+}
+
+/// The sender that rows have for a node.
+fn link_at(rows: &[Vec<Option<Node>>], node: Node) -> Option<Node>
+    ensures { option_map node_view result ≡ link_in (map row_view rows.now) (node_view node) }
+{
+    match rows.get(node.strand) {
+        Some(row) => sender_on(row, node.index),
+        None => None,
+    }
+}
+
+impl Bundle {
+    /// The sender of the reception at a node; none where no reception is there.
+    pub fn sender(&self, node: Node) -> Option<Node>
+        ensures { option_map node_view result ≡ sender_in self.now (node_view node) }
+    {
+        match event_at(&self.strands, node) {
+            Some(Event::Receive(_)) => link_at(&self.senders, node),
+            _ => None,
+        }
+    }
+}

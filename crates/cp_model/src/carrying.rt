@@ -1,0 +1,109 @@
+// Equality of messages, and what a message carries.
+ghost use Rattle.std.specs.Prelude.{◌≡◌, ◌↔◌, IsTrue};
+ghost use Rattle.cp_model.specs.Message.{IsCarriedBy};
+ghost use Rattle.cp_model.specs.MessageView.{message_of_form};
+ghost use Rattle.cp_model.specs.FormLeaves.{IsLeafForm};
+
+use crate::key::{Key, KeyKind};
+use crate::message::{Form, Msg};
+use cp_base::Text;
+
+fn same_text(a: &Text, b: &Text) -> bool
+    ensures { IsTrue result ↔ (a.now ≡ b.now) }
+{
+    a.as_str() == b.as_str()
+}
+
+fn same_purpose(a: &Option<Text>, b: &Option<Text>) -> bool
+    ensures { IsTrue result ↔ (a.now ≡ b.now) }
+{
+    match (a, b) {
+        (None, None) => true,
+        (Some(x), Some(y)) => same_text(x, y),
+        _ => false,
+    }
+}
+
+impl Key {
+    /// Whether this is the same key as the other.
+    pub fn same(&self, other: &Key) -> bool
+        ensures { IsTrue result ↔ (self.now ≡ other.now) }
+    {
+        match (&self.kind, &other.kind) {
+            (KeyKind::Skey(x), KeyKind::Skey(y)) => x == y,
+            (KeyKind::Ltk(a, b), KeyKind::Ltk(c, d)) => a == c && b == d,
+            (KeyKind::Akey(f, x), KeyKind::Akey(g, y)) => f == g && x == y,
+            (KeyKind::Pubk(f, p, x), KeyKind::Pubk(g, q, y)) => {
+                f == g && x == y && same_purpose(p, q)
+            }
+            _ => false,
+        }
+    }
+}
+
+/// Whether a message without parts is the same as another.
+fn same_leaf(leaf: &Form, other: &Form) -> bool
+    requires { IsLeafForm leaf.now }
+    ensures { IsTrue result ↔ (message_of_form leaf.now ≡ message_of_form other.now) }
+{
+    match (leaf, other) {
+        (Form::Tag(a), Form::Tag(b)) => same_text(a, b),
+        (Form::Text(x), Form::Text(y)) => x == y,
+        (Form::Datum(x), Form::Datum(y)) => x == y,
+        (Form::Name(x), Form::Name(y)) => x == y,
+        (Form::Key(a), Form::Key(b)) => a.same(b),
+        _ => false,
+    }
+}
+
+impl Msg {
+    /// Whether this is the same message as the other.
+    pub fn same(&self, other: &Msg) -> bool
+        ensures { IsTrue result ↔ (self.now ≡ other.now) }
+    {
+        let mut a = self;
+        let mut b = other;
+        loop {
+            match (a.form(), b.form()) {
+                (Form::Pair(left, right), Form::Pair(other_left, other_right)) => {
+                    if !left.same(other_left) {
+                        return false;
+                    }
+                    a = right;
+                    b = other_right;
+                }
+                (Form::Encryption(body, key), Form::Encryption(other_body, other_key)) => {
+                    if !key.same(other_key) {
+                        return false;
+                    }
+                    a = body;
+                    b = other_body;
+                }
+                (Form::Pair(..) | Form::Encryption(..), _) => return false,
+                (leaf, other) => return same_leaf(leaf, other),
+            }
+        }
+    }
+
+    /// Whether the message carries the part: is it, or is a pair or an encryption whose parts or plaintext carry it.
+    pub fn carries(&self, part: &Msg) -> bool
+        ensures { IsTrue result ↔ IsCarriedBy part.now self.now }
+    {
+        let mut rest = self;
+        loop {
+            if rest.same(part) {
+                return true;
+            }
+            match rest.form() {
+                Form::Pair(left, right) => {
+                    if left.carries(part) {
+                        return true;
+                    }
+                    rest = right;
+                }
+                Form::Encryption(body, _) => rest = body,
+                _ => return false,
+            }
+        }
+    }
+}

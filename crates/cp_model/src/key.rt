@@ -1,0 +1,125 @@
+// Keys of messages.
+ghost use Rattle.std.specs.Prelude.{◌≡◌, false, IfOk};
+ghost use Rattle.std.specs.Option.{option_map};
+ghost use Rattle.cp_model.specs.Message.{skey, ltk, akey, pubk, symmetric, asymmetric, inverse};
+
+use cp_base::Text;
+use std::alloc::{AllocError, Global};
+use std::marker::Model;
+
+/// A key: a symmetric one, which is its own inverse, or one of the two of a pair that are each other's inverse.
+/// Contracts see it as plain data.
+#[derive(Drop)]
+pub struct Key {
+    pub(crate) kind: KeyKind,
+}
+
+/// What a key is made of. The flag says whether it is the inverse; of a name's keys that is the private one.
+#[derive(Drop)]
+pub(crate) enum KeyKind {
+    Skey(usize),
+    Ltk(usize, usize),
+    Akey(bool, usize),
+    Pubk(bool, Option<Text>, usize),
+}
+
+impl Model for Key {
+    ghost use Rattle.cp_model.specs.Message.{Key as Plain};
+
+    ghost Value = { Plain };
+
+    ghost use Rattle.cp_model.specs.MessageCode.{coded_key};
+
+    ghost coded = { coded_key };
+
+    ghost use Rattle.cp_model.specs.KeyView.{key_of_kind};
+
+    ghost view = { λ k. key_of_kind k.kind };
+}
+
+fn copy_of(purpose: &Option<Text>) -> Result<Option<Text>, AllocError>
+    ensures { IfOk result (λ p. p ≡ purpose.now) }
+{
+    match purpose {
+        None => Ok(None),
+        Some(text) => {
+            let text = text.copy()?;
+            Ok(Some(text))
+        }
+    }
+}
+
+impl Key {
+    /// The symmetric key with this number.
+    pub fn skey(number: usize) -> Key
+        ensures { result ≡ symmetric (skey number) }
+    {
+        Key {
+            kind: KeyKind::Skey(number),
+        }
+    }
+
+    /// The long-term key of the two names with these numbers.
+    pub fn ltk(first: usize, second: usize) -> Key
+        ensures { result ≡ symmetric (ltk first second) }
+    {
+        Key {
+            kind: KeyKind::Ltk(first, second),
+        }
+    }
+
+    /// The asymmetric key with this number.
+    pub fn akey(number: usize) -> Key
+        ensures { result ≡ asymmetric false (akey number) }
+    {
+        Key {
+            kind: KeyKind::Akey(false, number),
+        }
+    }
+
+    /// The public key of the name with this number, for a purpose or for none. The error is that memory ran out.
+    pub fn pubk(alloc: Global, purpose: Option<&str>, name: usize) -> Result<Key, AllocError>
+        ensures { IfOk result (λ k. k ≡ asymmetric false (pubk (option_map (λ s. s.now) purpose.entry) name)) }
+    {
+        match purpose {
+            None => Ok(Key {
+                kind: KeyKind::Pubk(false, None, name),
+            }),
+            Some(text) => {
+                let text = Text::new(alloc, text)?;
+                Ok(Key {
+                    kind: KeyKind::Pubk(false, Some(text), name),
+                })
+            }
+        }
+    }
+
+    /// The inverse: of an asymmetric key the other of its pair; a symmetric key is its own. The error is that memory
+    /// ran out.
+    pub fn inverse(&self) -> Result<Key, AllocError>
+        ensures { IfOk result (λ k. k ≡ inverse self.now) }
+    {
+        let kind = match &self.kind {
+            KeyKind::Skey(number) => KeyKind::Skey(*number),
+            KeyKind::Ltk(first, second) => KeyKind::Ltk(*first, *second),
+            KeyKind::Akey(flag, number) => KeyKind::Akey(!*flag, *number),
+            KeyKind::Pubk(flag, purpose, name) => {
+                KeyKind::Pubk(!*flag, copy_of(purpose)?, *name)
+            }
+        };
+        Ok(Key { kind })
+    }
+
+    /// The same key again. The error is that memory ran out.
+    pub fn copy(&self) -> Result<Key, AllocError>
+        ensures { IfOk result (λ k. k ≡ self.now) }
+    {
+        let kind = match &self.kind {
+            KeyKind::Skey(number) => KeyKind::Skey(*number),
+            KeyKind::Ltk(first, second) => KeyKind::Ltk(*first, *second),
+            KeyKind::Akey(flag, number) => KeyKind::Akey(*flag, *number),
+            KeyKind::Pubk(flag, purpose, name) => KeyKind::Pubk(*flag, copy_of(purpose)?, *name),
+        };
+        Ok(Key { kind })
+    }
+}

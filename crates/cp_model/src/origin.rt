@@ -1,0 +1,59 @@
+// Where a message originates.
+ghost use Rattle.std.specs.Prelude.{◌≡◌, ◌⊎◌, map, Some};
+ghost use Rattle.cp_model.specs.Message.{Message, IsCarriedBy};
+ghost use Rattle.cp_model.specs.Strand.{Event as PlainEvent, payload, Protocol};
+ghost use Rattle.cp_model.specs.Bundle.{Bundle as PlainBundle, event_at, OriginatesAt, Precedes, IsBundle};
+ghost use Rattle.cp_model.specs.RunView.{event_view, trace_view, node_view, StandsForBundle};
+ghost use Rattle.cp_model.specs.Carrying.{IsFirstCarrying, CarriesAt, IsFirstOnStrand};
+
+use crate::bundle::Bundle;
+use crate::message::Msg;
+use crate::strand::{Event, Node, Strand};
+
+/// The place of the first of the events that carries the message.
+fn first_carrying(events: &[Event], message: &Msg) -> Option<usize>
+    ensures { IsFirstCarrying message.now (map event_view events.now) result }
+{
+    for (place, event) in events.iter().enumerate() {
+        if event.message().carries(message) {
+            return Some(place);
+        }
+    }
+    None
+}
+
+/// The first node of a node's strand whose event carries the message; the node itself where none does.
+fn first_on_strand(strands: &[Strand], node: Node, message: &Msg) -> Node
+    ensures { CarriesAt (map trace_view strands.now) message.now (node_view node)
+        → IsFirstOnStrand (map trace_view strands.now) message.now (node_view result) (node_view node) }
+{
+    let Some(strand) = strands.get(node.strand) else {
+        return node;
+    };
+    match first_carrying(&strand.events, message) {
+        Some(index) => Node {
+            strand: node.strand,
+            index,
+        },
+        None => node,
+    }
+}
+
+/// An origin of a message that a node of a bundle carries: a node at which the message originates, and that is the node
+/// or precedes it. Where the node does not carry the message the answer has no meaning.
+pub fn origin_before(bundle: &Bundle, n: Node, m: &Msg) -> Node
+    ensures { (protocol : Protocol) (p : PlainBundle) (e : PlainEvent Message) → StandsForBundle bundle.now p → IsBundle protocol p
+        → event_at p.strands (node_view n) ≡ Some e → IsCarriedBy m.now (payload e)
+        → OriginatesAt p.strands m.now (node_view result) × ((node_view result ≡ node_view n) ⊎ Precedes p (node_view result) (node_view n)) }
+{
+    let mut node = n;
+    // Back along links the numbering falls, so that there are fewer steps than nodes.
+    for _step in 0..bundle.order.len() {
+        node = first_on_strand(&bundle.strands, node, m);
+        match bundle.sender(node) {
+            Some(sender) => node = sender,
+            None => return node,
+        }
+    }
+    node
+}

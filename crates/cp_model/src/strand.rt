@@ -1,0 +1,81 @@
+// Nodes, events and strands.
+ghost use Rattle.std.specs.Prelude.{◌≡◌, map, IfOk};
+ghost use Rattle.cp_model.specs.Strand.{payload};
+ghost use Rattle.cp_model.specs.RunView.{event_view, trace_view};
+
+use crate::message::Msg;
+use std::alloc::{AllocError, Global};
+
+/// A node: the number of a strand, and the place of the event on it, both from 0.
+#[derive(Clone, Copy, Debug, PartialEq, Eq)]
+pub struct Node {
+    pub strand: usize,
+    pub index: usize,
+}
+
+/// One event of a strand: a transmission or a reception of a message.
+#[derive(Drop)]
+pub enum Event {
+    Send(Msg),
+    Receive(Msg),
+}
+
+/// A strand of a run or a bundle: its events, in their order. Of which role it is an instance, or which strand of the
+/// penetrator it is, is not kept.
+#[derive(Drop)]
+pub struct Strand {
+    pub events: Vec<Event>,
+}
+
+impl Event {
+    /// The message that is sent or received.
+    pub fn message(&self) -> &Msg
+        ensures { result.now ≡ payload (event_view self.now) }
+    {
+        match self {
+            Event::Send(message) => message,
+            Event::Receive(message) => message,
+        }
+    }
+
+    /// The same event again. The error is that memory ran out.
+    pub fn copy(&self) -> Result<Event, AllocError>
+        ensures { IfOk result (λ e. event_view e ≡ event_view self.now) }
+    {
+        match self {
+            Event::Send(message) => Ok(Event::Send(message.copy()?)),
+            Event::Receive(message) => Ok(Event::Receive(message.copy()?)),
+        }
+    }
+}
+
+fn copy_events(alloc: Global, events: &[Event]) -> Result<Vec<Event>, AllocError>
+    ensures { IfOk result (λ v. map event_view v.items ≡ map event_view events.now) }
+{
+    let mut copies = Vec::new(alloc);
+    for event in events {
+        copies.push(event.copy()?)?;
+    }
+    Ok(copies)
+}
+
+impl Strand {
+    /// The same strand again. The error is that memory ran out.
+    pub fn copy(&self, alloc: Global) -> Result<Strand, AllocError>
+        ensures { IfOk result (λ s. trace_view s ≡ trace_view self.now) }
+    {
+        let events = copy_events(alloc, &self.events)?;
+        Ok(Strand { events })
+    }
+}
+
+/// The same strands again. The error is that memory ran out.
+pub(crate) fn copy_strands(alloc: Global, strands: &[Strand]) -> Result<Vec<Strand>, AllocError>
+    ensures { IfOk result (λ v. map trace_view v.items ≡ map trace_view strands.now) }
+{
+    let mut copies = Vec::new(alloc);
+    for strand in strands {
+        copies.push(strand.copy(alloc)?)?;
+    }
+    Ok(copies)
+}
