@@ -229,7 +229,7 @@ waits_less pairs n old new rest more t =
 
 -- ---- the whole search
 
-views_push : {A B : Type 0} (f : A → B) (xs : List A) (x : A) → map f (xs ++ x ∷ []) ≡ map f xs ++ f x ∷ []
+pub views_push : {A B : Type 0} (f : A → B) (xs : List A) (x : A) → map f (xs ++ x ∷ []) ≡ map f xs ++ f x ∷ []
 views_push f [] x = refl
 views_push f (y ∷ xs) x = ap (λ ys. f y ∷ ys) (views_push f xs x)
 

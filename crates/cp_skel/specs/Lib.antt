@@ -5,3 +5,16 @@ pub mod Sorted
 pub mod Trees
 pub mod Sorts
 pub mod Spines
+pub mod Originating
+pub mod Given
+pub mod Occurring
+pub mod Changing
+pub mod Valued
+pub mod Joining
+pub mod Ordered
+pub mod Deleting
+pub mod Bridging
+pub mod Kinds
+pub mod Example
+pub mod Closed
+pub mod Composed

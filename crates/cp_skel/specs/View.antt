@@ -85,7 +85,7 @@ from_problem_view p = record {
 abbrev pub skeleton_view : Skeleton → skeleton.Skeleton
 skeleton_view k = record {
   strands = map strand_view k.strands.items;
-  pairs = map pair_view k.pairs.items;
+  pairs = k.order;
   assumptions = assumptions_view k.assumptions;
   from_problem = from_problem_view k.from_problem;
 }

@@ -32,7 +32,7 @@ fn applied_event(alloc: Global, values: &[Term], event: &Event) -> Result<Event,
 }
 
 /// The event at a place, counted from 0.
-fn event_at(events: &[Event], place: usize) -> Option<&Event>
+pub(crate) fn event_at(events: &[Event], place: usize) -> Option<&Event>
     ensures { option_map (λ e. event_view e.now) result ≡ item_at (map event_view events.now) place }
 {
     events.get(place)

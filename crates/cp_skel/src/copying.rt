@@ -7,7 +7,7 @@ use crate::skeleton::{Assumptions, FromProblem, Instance, Skeleton, Strand, Uniq
 use cp_term::Term;
 use std::alloc::{AllocError, Global};
 
-fn copy_terms(alloc: Global, terms: &[Term]) -> Result<Vec<Term>, AllocError>
+pub(crate) fn copy_terms(alloc: Global, terms: &[Term]) -> Result<Vec<Term>, AllocError>
     ensures { IfOk result (λ v. v.items ≡ terms.now) }
 {
     let mut copies = Vec::new(alloc);
@@ -17,7 +17,7 @@ fn copy_terms(alloc: Global, terms: &[Term]) -> Result<Vec<Term>, AllocError>
     Ok(copies)
 }
 
-fn copy_atoms(alloc: Global, atoms: &[Atom]) -> Result<Vec<Atom>, AllocError>
+pub(crate) fn copy_atoms(alloc: Global, atoms: &[Atom]) -> Result<Vec<Atom>, AllocError>
     ensures { IfOk result (λ v. v.items ≡ atoms.now) }
 {
     let mut copies = Vec::new(alloc);
@@ -120,7 +120,7 @@ impl Skeleton {
         Ok(Skeleton {
             variables: self.variables.copy()?,
             strands: copy_strands(alloc, &self.strands)?,
-            pairs: Vec::from_slice(alloc, &self.pairs)?,
+            order: self.order.copy(alloc)?,
             assumptions: self.assumptions.copy(alloc)?,
             from_problem: self.from_problem.copy(alloc)?,
         })

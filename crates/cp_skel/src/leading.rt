@@ -50,7 +50,7 @@ fn is_passed(top: Option<usize>, strand: usize, node: Node) -> bool
 }
 
 /// Whether a node is the other or before it on its strand.
-fn is_at_or_before(node: Node, other: Node) -> bool
+pub(crate) fn is_at_or_before(node: Node, other: Node) -> bool
     ensures { result ≡ is_at_or_before (node_view node) (node_view other) }
 {
     node.strand == other.strand && node.index <= other.index

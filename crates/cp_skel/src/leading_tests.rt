@@ -1,8 +1,14 @@
 // What leads to nodes of three strands, worked out by hand.
+ghost use Rattle.std.specs.Prelude.{◌≡◌};
+ghost use Rattle.cp_model.specs.Bundle.{node_at};
+ghost use Rattle.cp_skel.specs.View.{node_view};
+
 use super::{Leading, Node, OrderPair};
 use std::test::Fail;
 
-fn node(strand: usize, index: usize) -> Node {
+pub(crate) fn node(strand: usize, index: usize) -> Node
+    ensures { node_view result ≡ node_at strand index }
+{
     Node { strand, index }
 }
 
@@ -10,7 +16,7 @@ fn pair(earlier: Node, later: Node) -> OrderPair {
     OrderPair { earlier, later }
 }
 
-fn pairs() -> [OrderPair; 4] {
+pub(crate) fn pairs() -> [OrderPair; 4] {
     [
         pair(node(2, 1), node(1, 2)),
         pair(node(1, 1), node(0, 1)),

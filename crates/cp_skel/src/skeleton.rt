@@ -1,5 +1,6 @@
 // Skeletons and their parts.
 use crate::atom::Atom;
+use crate::order::Order;
 use crate::protocol::Role;
 use cp_term::{Term, VarTable};
 use std::rc::Rc;
@@ -59,13 +60,13 @@ pub struct FromProblem {
     pub pairs: Vec<OrderPair>,
 }
 
-/// A skeleton: its variables, those of its problem first and then those that were made on the way to it; strands, pairs
-/// that order their nodes beside the order of each strand, assumptions, and the way from the problem.
+/// A skeleton: its variables, those of its problem first and then those that were made on the way to it; strands, the
+/// order of their nodes beside the order of each strand, assumptions, and the way from the problem.
 #[derive(Drop)]
 pub struct Skeleton {
     pub variables: VarTable,
     pub strands: Vec<Strand>,
-    pub pairs: Vec<OrderPair>,
+    pub order: Order,
     pub assumptions: Assumptions,
     pub from_problem: FromProblem,
 }

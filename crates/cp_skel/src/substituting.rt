@@ -25,14 +25,14 @@ fn is_of_sort(term: &Term, sort: Sort) -> bool
 }
 
 /// The term at a place, counted from 0.
-fn value_at(values: &[Term], place: usize) -> Option<&Term>
+pub(crate) fn value_at(values: &[Term], place: usize) -> Option<&Term>
     ensures { option_map (λ t. t.now) result ≡ item_at values.now place }
 {
     values.get(place)
 }
 
 /// The term that a variable of this sort, which is not that of all messages, becomes, if it becomes one.
-fn value_of<'a>(values: &'a [Term], sort: Sort, variable: VarId) -> Option<&'a Term>
+pub(crate) fn value_of<'a>(values: &'a [Term], sort: Sort, variable: VarId) -> Option<&'a Term>
     requires { sort ≢ Sort.Mesg }
     ensures { MatchOption result
         (apply_to (substitution_by values.now) (variable_term sort variable) ≡ variable_term sort variable)
@@ -47,7 +47,7 @@ fn value_of<'a>(values: &'a [Term], sort: Sort, variable: VarId) -> Option<&'a T
 }
 
 /// The name that a name becomes.
-fn name_for(values: &[Term], name: VarId) -> VarId
+pub(crate) fn name_for(values: &[Term], name: VarId) -> VarId
     ensures { result ≡ (substitution_by values.now).names name }
 {
     match value_of(values, Sort::Name, name) {

@@ -40,7 +40,7 @@ fn sealed(alloc: Global, n: usize, a: usize, b: usize) -> Result<Term, AllocErro
     enc(alloc, body, shared_key(alloc, a, b)?)
 }
 
-fn atom(term: Term) -> Result<Atom, Fail> {
+pub(crate) fn atom(term: Term) -> Result<Atom, Fail> {
     match Atom::new(term) {
         Some(atom) => Ok(atom),
         None => Err(Fail::new("no atom")),
@@ -211,7 +211,7 @@ fn from_problem(alloc: Global) -> Result<FromProblem, Fail> {
 }
 
 /// A skeleton of a listener alone.
-fn skeleton(alloc: Global) -> Result<Skeleton, Fail> {
+pub(crate) fn skeleton(alloc: Global) -> Result<Skeleton, Fail> {
     let mut strands = Vec::new(alloc);
     strands.push(Strand::Listener(text(alloc, 7)?))?;
     let assumptions = assumptions(alloc)?;
@@ -219,7 +219,7 @@ fn skeleton(alloc: Global) -> Result<Skeleton, Fail> {
     Ok(Skeleton {
         variables: VarTable::new(alloc),
         strands,
-        pairs: Vec::new(alloc),
+        order: Order::of(Vec::new(alloc)),
         assumptions,
         from_problem,
     })

@@ -3,7 +3,7 @@ use Rattle.std.specs.List.Sorted.{IsPermutation}
 use Rattle.cp_skel.specs.View.{node_view, pair_view}
 use Rattle.cp_skel.specs.Leading.{AreTops, tops_of}
 use Rattle.cp_skel.specs.declared.skeleton.OrderPair.{OrderPair}
-use Rattle.cp_skel.proofs.Ordering.{tops-permuted}
+use Rattle.cp_skel.proofs.SortedPairs.{tops-permuted}
 use Rattle.cp_skel.proofs.leading.Leading.new.Goals as goal
 
 pub invariant_of-result : goal.invariant_of-result

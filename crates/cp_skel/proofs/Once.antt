@@ -1,0 +1,86 @@
+-- Lists that grow by what is missing in them.
+use Rattle.std.proofs.Common.{◌≡◌, List, [], ◌∷◌, ◌++◌, refl, sym, ap, ◌∙◌, subst, ◌⊎◌, inl, inr, append_assoc}
+use Rattle.std.proofs.lemmas.List.{append-nil}
+use Rattle.cp_model.specs.Lists.{IsIn, here, there}
+use Rattle.cp_model.proofs.LawLists.{in_append, in_append_left, in_append_right}
+use Rattle.cp_skel.specs.Given.{IsEachOnce, AddsOnce}
+
+either : {A B C : Type 0} → (A → C) → (B → C) → A ⊎ B → C
+either f g (inl a) = f a
+either f g (inr b) = g b
+
+once-append : {A : Type 0} (xs ys : List A) → IsEachOnce xs → IsEachOnce ys → ((x : A) → IsIn x xs → IsIn x ys → ⊥) → IsEachOnce (xs ++ ys)
+once-append [] ys p q apart = q
+once-append (x ∷ xs) ys p q apart =
+    ((λ i. either p.0 (apart x here) (in_append xs ys i)), once-append xs ys p.1 q (λ z i. apart z (there i)))
+
+none-in : {A : Type 0} {x : A} → IsIn x [] → ⊥
+none-in p = elim p [ ]
+
+only : {A : Type 0} (x a : A) → IsIn x (a ∷ []) → x ≡ a
+only x a here = refl
+only x a (there p) = absurd (none-in p)
+
+-- Nothing is given, or all that is given is there.
+pub adds-none : {A : Type 0} (given : A → Type 0) (old : List A) → ((x : A) → given x → IsIn x old) → AddsOnce given old old
+adds-none given old h = record {
+  more = [];
+  behind = sym (append-nil old);
+  only_given = λ x i. absurd (none-in i);
+  only_missing = λ x i j. none-in i;
+  once = tt;
+  all = h;
+}
+
+pub adds-known : {A : Type 0} (a : A) (old : List A) → IsIn a old → AddsOnce (λ x. x ≡ a) old old
+adds-known a old h = adds-none (λ x. x ≡ a) old (λ x e. subst (λ y. IsIn y old) (sym e) h)
+
+pub adds-one : {A : Type 0} (a : A) (old : List A) → (IsIn a old → ⊥) → AddsOnce (λ x. x ≡ a) old (old ++ a ∷ [])
+adds-one a old h = record {
+  more = a ∷ [];
+  behind = refl;
+  only_given = λ x i. only x a i;
+  only_missing = λ x i j. h (subst (λ y. IsIn y old) (only x a i) j);
+  once = ((λ i. none-in i), tt);
+  all = λ x e. in_append_right old (subst (λ y. IsIn y (a ∷ [])) (sym e) here);
+}
+
+-- First what one gives, and then what another gives.
+pub adds-then : {A : Type 0} (P Q R : A → Type 0) (a b c : List A) → ((x : A) → P x → R x) → ((x : A) → Q x → R x) → ((x : A) → R x → P x ⊎ Q x) →
+    AddsOnce P a b → AddsOnce Q b c → AddsOnce R a c
+adds-then P Q R a b c f g h p q = record {
+  more = p.more ++ q.more;
+  behind = q.behind ∙ ap (λ xs. xs ++ q.more) p.behind ∙ append_assoc a p.more q.more;
+  only_given = λ x i. either (λ j. f x (p.only_given x j)) (λ j. g x (q.only_given x j)) (in_append p.more q.more i);
+  only_missing = λ x i j. either (λ k. p.only_missing x k j) (λ k. q.only_missing x k (in-b x (in_append_left p.more j))) (in_append p.more q.more i);
+  once = once-append p.more q.more p.once q.once (λ x i j. q.only_missing x j (in-b x (in_append_right a i)));
+  all = λ x r. either (λ k. in-c x (in_append_left q.more (p.all x k))) (λ k. q.all x k) (h x r);
+}
+  where
+    in-b : (x : _) → IsIn x (a ++ p.more) → IsIn x b
+    in-b x i = subst (IsIn x) (sym p.behind) i
+
+    in-c : (x : _) → IsIn x (b ++ q.more) → IsIn x c
+    in-c x i = subst (IsIn x) (sym q.behind) i
+
+pub adds-same : {A : Type 0} (P R : A → Type 0) (a b : List A) → ((x : A) → P x → R x) → ((x : A) → R x → P x) → AddsOnce P a b → AddsOnce R a b
+adds-same P R a b f g p = record {
+  more = p.more;
+  behind = p.behind;
+  only_given = λ x i. f x (p.only_given x i);
+  only_missing = p.only_missing;
+  once = p.once;
+  all = λ x r. p.all x (g x r);
+}
+
+-- Behind more, which stands behind the old.
+pub known-first : {A : Type 0} (a : A) (old more : List A) → IsIn a old → AddsOnce (λ x. x ≡ a) (old ++ more) (old ++ more)
+known-first a old more h = adds-known a (old ++ more) (in_append_left more h)
+
+pub known-later : {A : Type 0} (a : A) (old more : List A) → IsIn a more → AddsOnce (λ x. x ≡ a) (old ++ more) (old ++ more)
+known-later a old more h = adds-known a (old ++ more) (in_append_right old h)
+
+pub pushed-once : {A : Type 0} (a : A) (old more new : List A) → (IsIn a old → ⊥) → (IsIn a more → ⊥) → new ≡ more ++ a ∷ [] → AddsOnce (λ x. x ≡ a) (old ++ more) (old ++ new)
+pushed-once a old more new f g e =
+    subst (AddsOnce (λ x. x ≡ a) (old ++ more)) (append_assoc old more (a ∷ []) ∙ ap (λ xs. old ++ xs) (sym e))
+    (adds-one a (old ++ more) (λ i. either f g (in_append old more i)))

@@ -1,0 +1,23 @@
+-- Ordered skeletons, and changes of their order.
+use Rattle.std.specs.Prelude.{◌≡◌, List}
+use Rattle.cp_model.specs.Lists.{IsIn}
+use Rattle.cp_model.specs.Bundle.{Node}
+use Rattle.cp_model.specs.Skeleton.{OrderPair, Skeleton, Before, IsOrderPair}
+use Rattle.cp_skel.specs.View.{skeleton_view}
+use Rattle.cp_skel.specs.declared.skeleton.Skeleton as program
+
+-- The pairs of the skeleton are between nodes that are there, and its order has no cycle.
+pub record IsOrdered (k : Skeleton) : Type 0 where
+  pub order_pairs : (p : OrderPair) → IsIn p k.pairs → IsOrderPair k p
+  pub no_cycle : (n : Node) → Before k n n → ⊥
+
+-- The skeleton with these pairs.
+abbrev pub ordered_by : Skeleton → List OrderPair → Skeleton
+ordered_by k pairs = record { strands = k.strands; pairs = pairs; assumptions = k.assumptions; from_problem = k.from_problem }
+
+-- The skeletons are the same but for their orders.
+pub record ChangesOrderOnly (old new : program.Skeleton) : Type 0 where
+  pub variables : new.variables ≡ old.variables
+  pub strands : (skeleton_view new).strands ≡ (skeleton_view old).strands
+  pub assumptions : (skeleton_view new).assumptions ≡ (skeleton_view old).assumptions
+  pub from_problem : (skeleton_view new).from_problem ≡ (skeleton_view old).from_problem

@@ -1,0 +1,78 @@
+// The pairs of a skeleton where a strand is gone.
+ghost use Rattle.std.specs.Prelude.{◌≡◌, ◌++◌, map, IfOk, OnOk};
+ghost use Rattle.cp_skel.specs.View.{pair_view};
+ghost use Rattle.cp_skel.specs.Deleting.{pair_renumbered, IsPairOn, LeavesOut};
+ghost use Rattle.cp_skel.specs.Bridging.{is_through, bridge, bridges_from, bridges, IsWithoutStrand};
+
+use crate::renumbering::{node_renumbered, pairs_left};
+use crate::skeleton::OrderPair;
+use std::alloc::{AllocError, Global};
+
+/// Whether the first pair leads to the strand, and the second from there on to a strand other than where the first
+/// began.
+fn is_through(gone: usize, into: OrderPair, out: OrderPair) -> bool
+    ensures { result ≡ is_through gone (pair_view into) (pair_view out) }
+{
+    into.later.strand == gone
+        && out.earlier.strand == gone
+        && into.later.index <= out.earlier.index
+        && into.earlier.strand != out.later.strand
+}
+
+/// From where the first pair begins to where the second ends.
+fn bridge(gone: usize, into: OrderPair, out: OrderPair) -> OrderPair
+    ensures { pair_view result ≡ bridge gone (pair_view into) (pair_view out) }
+{
+    OrderPair {
+        earlier: node_renumbered(gone, into.earlier),
+        later: node_renumbered(gone, out.later),
+    }
+}
+
+/// Puts the pairs through the strand that begin with this one behind others.
+fn add_bridges_from(
+    gone: usize,
+    into: OrderPair,
+    pairs: &[OrderPair],
+    found: &mut Vec<OrderPair>,
+) -> Result<(), AllocError>
+    ensures { OnOk result (map pair_view found.new.items
+        ≡ map pair_view found.old.items ++ bridges_from gone (pair_view into) (map pair_view pairs.now)) }
+{
+    for out in pairs {
+        if !is_through(gone, into, *out) {
+            continue;
+        }
+        found.push(bridge(gone, into, *out))?;
+    }
+    Ok(())
+}
+
+/// Puts the pairs through the strand behind others.
+fn add_bridges(
+    gone: usize,
+    pairs: &[OrderPair],
+    found: &mut Vec<OrderPair>,
+) -> Result<(), AllocError>
+    ensures { OnOk result (map pair_view found.new.items
+        ≡ map pair_view found.old.items ++ bridges gone (map pair_view pairs.now) (map pair_view pairs.now)) }
+{
+    for into in pairs {
+        add_bridges_from(gone, *into, pairs, found)?;
+    }
+    Ok(())
+}
+
+/// The pairs that order the nodes of the other strands as they were: those that have no node on the strand, and one for
+/// each two that lead through it.
+pub(crate) fn pairs_without(
+    alloc: Global,
+    gone: usize,
+    pairs: &[OrderPair],
+) -> Result<Vec<OrderPair>, AllocError>
+    ensures { IfOk result (λ v. IsWithoutStrand gone (map pair_view pairs.now) (map pair_view v.items)) }
+{
+    let mut found = pairs_left(alloc, gone, pairs)?;
+    add_bridges(gone, pairs, &mut found)?;
+    Ok(found)
+}

@@ -1,0 +1,81 @@
+// Strands that are added to skeletons, and strands that grow.
+ghost use Rattle.std.specs.Prelude.{◌≡◌, map, length, IfOk, OnOk, OnErr};
+ghost use Rattle.cp_model.specs.Strand.{IsHeight};
+ghost use Rattle.cp_skel.specs.Occurring.{prefix_variables, AreTermsFor};
+ghost use Rattle.cp_skel.specs.Changing.{AddsListener, AddsStrand, CanExtend, Extends};
+ghost use Rattle.cp_skel.specs.View.{role_view, skeleton_view};
+
+use crate::giving::missing;
+use crate::protocol::Role;
+use crate::skeleton::{Skeleton, Strand};
+use crate::valuing::instance_of;
+use cp_term::Term;
+use std::alloc::{AllocError, Global};
+use std::rc::Rc;
+
+impl Skeleton {
+    /// Adds a listener behind the strands, and answers its number. The error is that memory ran out; then nothing
+    /// changes.
+    pub fn add_listener(&mut self, message: Term) -> Result<usize, AllocError>
+        ensures number { IfOk result (λ s. s ≡ length (skeleton_view self.old).strands) }
+        ensures changed { OnOk result (AddsListener message (skeleton_view self.old) (skeleton_view self.new)) }
+        ensures unchanged { OnErr result (skeleton_view self.new ≡ skeleton_view self.old) }
+        ensures variables { self.new.variables ≡ self.old.variables }
+    {
+        let strand = self.strands.len();
+        self.strands.push(Strand::Listener(message))?;
+        Ok(strand)
+    }
+
+    /// Adds an instance of a role behind the strands, and answers its number. There is a value for each variable of
+    /// the prefix, in the order of their declarations. What the role gives the instance is added to the assumptions.
+    /// The error is that memory ran out; then nothing changes.
+    pub fn add_strand(
+        &mut self,
+        alloc: Global,
+        role: &Rc<Role>,
+        height: usize,
+        values: &[Term],
+    ) -> Result<usize, AllocError>
+        requires height { IsHeight (role_view role.now.value) height }
+        requires values { AreTermsFor (prefix_variables (role_view role.now.value) height) values.now }
+        ensures number { IfOk result (λ s. s ≡ length (skeleton_view self.old).strands) }
+        ensures changed { OnOk result (AddsStrand (role_view role.now.value) height values.now (skeleton_view self.old) (skeleton_view self.new)) }
+        ensures unchanged { OnErr result (skeleton_view self.new ≡ skeleton_view self.old) }
+        ensures variables { self.new.variables ≡ self.old.variables }
+    {
+        let number = self.strands.len();
+        let instance = instance_of(alloc, role, 0, height, &[], values)?;
+        let more = missing(alloc, number, &instance, &self.assumptions)?;
+        self.assumptions.reserve(&more)?;
+        self.strands.push(Strand::Instance(instance))?;
+        self.assumptions.join(more);
+        Ok(number)
+    }
+
+    /// Lets an instance grow to a height, which is not less than its own. There is a value for each variable that the
+    /// longer prefix adds, in the order of their declarations. What the role then gives the instance is added to the
+    /// assumptions. The error is that memory ran out; then nothing changes.
+    pub fn extend(
+        &mut self,
+        alloc: Global,
+        strand: usize,
+        height: usize,
+        values: &[Term],
+    ) -> Result<(), AllocError>
+        requires { CanExtend (skeleton_view self.old) strand height values.now }
+        ensures changed { OnOk result (Extends strand height values.now (skeleton_view self.old) (skeleton_view self.new)) }
+        ensures unchanged { OnErr result (skeleton_view self.new ≡ skeleton_view self.old) }
+        ensures variables { self.new.variables ≡ self.old.variables }
+    {
+        let Strand::Instance(old) = &self.strands[strand] else {
+            unreachable!()
+        };
+        let instance = instance_of(alloc, &old.role, old.height, height, &old.values, values)?;
+        let more = missing(alloc, strand, &instance, &self.assumptions)?;
+        self.assumptions.reserve(&more)?;
+        self.assumptions.join(more);
+        self.strands[strand] = Strand::Instance(instance);
+        Ok(())
+    }
+}

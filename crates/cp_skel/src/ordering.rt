@@ -1,0 +1,61 @@
+// The order of a skeleton's nodes.
+ghost use Rattle.std.specs.Prelude.{◌≡◌, ◌↔◌, ◌∷◌, true, false, IsTrue, IfOk, OnOk, OnErr};
+ghost use Rattle.cp_model.specs.Bundle.{Node as PlainNode};
+ghost use Rattle.cp_model.specs.Skeleton.{IsNodeOf, Before, IsOrderPair};
+ghost use Rattle.cp_skel.specs.Ordered.{IsOrdered, ordered_by, ChangesOrderOnly};
+ghost use Rattle.cp_skel.specs.View.{node_view, pair_view, skeleton_view};
+
+use crate::skeleton::{Node, OrderPair, Skeleton};
+use std::alloc::{AllocError, Global};
+
+/// Whether the nodes are the same.
+fn is_same_node(x: Node, y: Node) -> bool
+    ensures { IsTrue result ↔ (node_view x ≡ node_view y) }
+{
+    x.strand == y.strand && x.index == y.index
+}
+
+impl Skeleton {
+    /// Whether n is before m in the skeleton's order.
+    pub fn before(&self, n: Node, m: Node) -> bool
+        requires ordered { IsOrdered (skeleton_view self.now) }
+        requires first { IsNodeOf (skeleton_view self.now).strands (node_view n) }
+        requires second { IsNodeOf (skeleton_view self.now).strands (node_view m) }
+        ensures { IsTrue result ↔ Before (skeleton_view self.now) (node_view n) (node_view m) }
+    {
+        !is_same_node(n, m) && self.order.leads_to(n, m)
+    }
+
+    /// Closes the order: what is before what stays the same, and is then found in one pass over the pairs. The error is
+    /// that memory ran out.
+    pub fn order_close(&mut self, alloc: Global) -> Result<(), AllocError>
+        requires { IsOrdered (skeleton_view self.old) }
+        ensures rest { OnOk result (ChangesOrderOnly self.old self.new) }
+        ensures ordered { OnOk result (IsOrdered (skeleton_view self.new)) }
+        ensures before { OnOk result ((x y : PlainNode) → Before (skeleton_view self.new) x y ↔ Before (skeleton_view self.old) x y) }
+        ensures unchanged { OnErr result (self.new ≡ self.old) }
+    {
+        self.order.close(alloc)
+    }
+
+    /// Puts n, a transmission, before m, a reception of another strand, and answers true; where m is before n, and the
+    /// pair would close a cycle, it changes nothing and answers false. The error is that memory ran out.
+    pub fn add_order(&mut self, alloc: Global, n: Node, m: Node) -> Result<bool, AllocError>
+        requires ordered { IsOrdered (skeleton_view self.old) }
+        requires pair { IsOrderPair (skeleton_view self.old) (record { earlier = node_view n; later = node_view m }) }
+        ensures refused { IfOk result (λ added. (added ≡ false) ↔ Before (skeleton_view self.old) (node_view m) (node_view n)) }
+        ensures same { IfOk result (λ added. added ≡ false → self.new ≡ self.old) }
+        ensures rest { IfOk result (λ added. added ≡ true → ChangesOrderOnly self.old self.new) }
+        ensures ordered { IfOk result (λ added. added ≡ true → IsOrdered (skeleton_view self.new)) }
+        ensures before { IfOk result (λ added. added ≡ true → (x y : PlainNode)
+            → Before (skeleton_view self.new) x y ↔ Before (ordered_by (skeleton_view self.old) (record { earlier = node_view n; later = node_view m } ∷ (skeleton_view self.old).pairs)) x y) }
+        ensures unchanged { OnErr result (self.new ≡ self.old) }
+    {
+        if self.before(m, n) {
+            return Ok(false);
+        }
+        let (earlier, later) = (n, m);
+        self.order.add(alloc, OrderPair { earlier, later })?;
+        Ok(true)
+    }
+}
