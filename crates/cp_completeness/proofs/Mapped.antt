@@ -34,13 +34,13 @@ agree_key : (s t : Substitution) (k : KeyTerm) → AgreeOnTerms (variables_of_ke
 agree_key s t (symmetric_term k) a = ap symmetric_term (agree_symmetric s t k a)
 agree_key s t (asymmetric_term flag k) a = ap (λ (p : Bool × PairTerm). asymmetric_term p.0 p.1) (agree_half s t flag k a)
 
-agree_atom : (s t : Substitution) (v : AtomTerm) → AgreeOnTerms (variables_of_atom v) s t → apply_to_atom s v ≡ apply_to_atom t v
+pub agree_atom : (s t : Substitution) (v : AtomTerm) → AgreeOnTerms (variables_of_atom v) s t → apply_to_atom s v ≡ apply_to_atom t v
 agree_atom s t (text_variable n) a = a (record { sort = text_sort; number = n }) here
 agree_atom s t (datum_variable n) a = a (record { sort = datum_sort; number = n }) here
 agree_atom s t (name_variable n) a = a (record { sort = name_sort; number = n }) here
 agree_atom s t (key_term k) a = ap key_term (agree_key s t k a)
 
-agree_term : (s t : Substitution) (u : Term) → AgreeOnTerms (variables_of u) s t → apply_to s u ≡ apply_to t u
+pub agree_term : (s t : Substitution) (u : Term) → AgreeOnTerms (variables_of u) s t → apply_to s u ≡ apply_to t u
 agree_term s t (tag_term bytes) a = refl
 agree_term s t (atom_term v) a = ap atom_term (agree_atom s t v a)
 agree_term s t (pair_term u w) a =
@@ -94,7 +94,7 @@ step_under : (s : Substitution) (k : Skeleton) {x y : Node} → OrderStep k x y 
 step_under s k (along_strand_of {s = a} {i = i} {e = e} ev) = along_strand_of (event_under s k (node_at a (suc i)) e ev)
 step_under s k (along_pair inp) = along_pair inp
 
-before_under : (s : Substitution) (k : Skeleton) {x y : Node} → Before k x y → Before (skeleton_under s k) x y
+pub before_under : (s : Substitution) (k : Skeleton) {x y : Node} → Before k x y → Before (skeleton_under s k) x y
 before_under s k (one_step p) = one_step (step_under s k p)
 before_under s k (more_steps p q) = more_steps (step_under s k p) (before_under s k q)
 

@@ -14,7 +14,7 @@ pub into_map : {A B : Type 0} (f : A → B) {x : A} {xs : List A} → IsIn x xs 
 into_map f here = here
 into_map f (there p) = there (into_map f p)
 
-carried_under : (s : Substitution) {v : AtomTerm} {t : Term} → IsCarriedByTerm (atom_term v) t → IsCarriedByTerm (atom_term (apply_to_atom s v)) (apply_to s t)
+pub carried_under : (s : Substitution) {v : AtomTerm} {t : Term} → IsCarriedByTerm (atom_term v) t → IsCarriedByTerm (atom_term (apply_to_atom s v)) (apply_to s t)
 carried_under s itself_term = itself_term
 carried_under s (in_left_term p) = in_left_term (carried_under s p)
 carried_under s (in_right_term p) = in_right_term (carried_under s p)
@@ -24,7 +24,7 @@ pub event_under : (s : Substitution) (k : Skeleton) (n : Node) (e : Event Term) 
 event_under s k n e ev =
     subst (λ (tr : List (Event Term)). item_at tr n.index ≡ Some (event_map (apply_to s) e)) (sym (trace_under s k.strands n.strand)) (map_of_item (event_map (apply_to s)) (skeleton_trace_or_none (item_at k.strands n.strand)) n.index e ev)
 
-pair_under : (s : Substitution) (k : Skeleton) (p : OrderPair) → IsOrderPair k p → IsOrderPair (skeleton_under s k) p
+pub pair_under : (s : Substitution) (k : Skeleton) (p : OrderPair) → IsOrderPair k p → IsOrderPair (skeleton_under s k) p
 pair_under s k p o = record {
   sent = apply_to s o.sent;
   received = apply_to s o.received;
@@ -33,7 +33,7 @@ pair_under s k p o = record {
   between_strands = o.between_strands;
 }
 
-origin_under : (s : Substitution) (k : Skeleton) (u : UniqueAt) → IsOrigin k u → IsOrigin (skeleton_under s k) (unique_under s u)
+pub origin_under : (s : Substitution) (k : Skeleton) (u : UniqueAt) → IsOrigin k u → IsOrigin (skeleton_under s k) (unique_under s u)
 origin_under s k u o = record {
   role = o.role;
   height = o.height;
