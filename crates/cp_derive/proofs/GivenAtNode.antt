@@ -3,6 +3,7 @@ use Rattle.std.proofs.Common.{ℕ, zero, suc, ◌+◌, ◌<◌, ◌≤◌, ◌++
 use Rattle.std.specs.Prelude.{◌↔◌, option_map}
 use Rattle.std.proofs.Math.Seq.{drop-cons}
 use Rattle.std.proofs.lemmas.List.{append-nil, drop_all, map-append}
+use Rattle.cp_skel.specs.Ordered.{IsOrdered}
 use Rattle.cp_skel.specs.View.{node_view, event_view}
 use Rattle.cp_skel.specs.declared.skeleton.Node.{Node as ProgramNode}
 use Rattle.cp_skel.specs.declared.protocol.Event.{Event as ProgramEvent}
@@ -19,7 +20,7 @@ use Rattle.cp_model.proofs.LawOrder.{before_by_pairs}
 use Rattle.cp_derive.specs.From.{IsSentBefore}
 use Rattle.cp_derive.specs.Given.{Given, IsDerivable, IsGivenAt}
 use Rattle.cp_derive.specs.Occurrences.{occurrence_view, occurrences_from, Transmission}
-use Rattle.cp_derive.specs.Before.{IsOrdered, LeadsToOther, ArePlacesBefore, messages_at, transmissions_of, given_by}
+use Rattle.cp_derive.specs.Before.{LeadsToOther, ArePlacesBefore, messages_at, transmissions_of, given_by}
 use Rattle.cp_term.specs.declared.path.Step.{Step}
 use Rattle.cp_derive.specs.Components.{components_of, IsFirstUnderivable}
 use Rattle.cp_derive.specs.Unrealised.{IsUnrealisedAt, IsRealisedAt, ListsUnrealised}

@@ -12,3 +12,5 @@ pub mod Picking
 pub mod Extending
 pub mod Placing
 pub mod GivenAtNode
+pub mod Unpaired
+pub mod Nodes

@@ -3,16 +3,11 @@ use Rattle.std.specs.Prelude.{◌≡◌, ℕ, List, [], ◌∷◌, Option, Some,
 use Rattle.cp_model.specs.Lists.{item_at, IsIn}
 use Rattle.cp_model.specs.Term.{Term}
 use Rattle.cp_model.specs.Bundle.{Node}
-use Rattle.cp_model.specs.Skeleton.{OrderPair, Skeleton, Before, IsOrderPair}
+use Rattle.cp_model.specs.Skeleton.{OrderPair, Skeleton}
 use Rattle.cp_model.specs.Order.{LeadsTo}
 use Rattle.cp_derive.specs.Given.{Given}
 use Rattle.cp_derive.specs.Occurrences.{Transmission, transmissions_among, occurrences_from}
 use Rattle.cp_derive.specs.Assumed.{assumed_values}
-
--- The pairs of the skeleton are between nodes that are there, and its order has no cycle.
-pub record IsOrdered (k : Skeleton) : Type 0 where
-  pub order_pairs : (p : OrderPair) → IsIn p k.pairs → IsOrderPair k p
-  pub no_cycle : (n : Node) → Before k n n → ⊥
 
 -- Node m leads to another one, n.
 abbrev pub LeadsToOther : List OrderPair → Node → Node → Type 0

@@ -4,9 +4,10 @@ ghost use Rattle.cp_model.specs.Derivable.{DerivableAt};
 ghost use Rattle.cp_model.specs.Skeleton.{IsNodeOf, term_event_at};
 ghost use Rattle.cp_model.specs.Strand.{Event as PlainEvent, payload};
 ghost use Rattle.cp_model.specs.Term.{Term as Plain};
+ghost use Rattle.cp_skel.specs.Ordered.{IsOrdered};
 ghost use Rattle.cp_skel.specs.View.{node_view, skeleton_view};
 ghost use Rattle.cp_term.specs.Positions.{term_at};
-ghost use Rattle.cp_derive.specs.Before.{IsOrdered, transmissions_of};
+ghost use Rattle.cp_derive.specs.Before.{transmissions_of};
 ghost use Rattle.cp_derive.specs.Components.{IsFirstUnderivable};
 ghost use Rattle.cp_derive.specs.Given.{IsDerivable};
 ghost use Rattle.cp_derive.specs.Occurrences.{transmission_view};
@@ -39,7 +40,7 @@ pub fn known(alloc: Global, k: &Skeleton, node: Node) -> Result<Known, AllocErro
     ensures given { IfOk result (λ known. (t : Plain) → IsDerivable known t ↔ DerivableAt (skeleton_view k.now) (node_view node) t) }
 {
     let transmissions = transmissions_of(alloc, k)?;
-    let places = places_before(alloc, &k.pairs, &transmissions, node)?;
+    let places = places_before(alloc, k.order.pairs(), &transmissions, node)?;
     let sent = messages_at(alloc, &places, &transmissions)?;
     let secrets = assumed_values(alloc, &k.assumptions)?;
     Known::new(alloc, sent, secrets)

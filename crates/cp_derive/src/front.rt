@@ -3,8 +3,9 @@ ghost use Rattle.std.specs.Prelude.{◌≡◌, ◌↔◌, map, IfOk};
 ghost use Rattle.cp_model.specs.Derivable.{DerivableAt};
 ghost use Rattle.cp_model.specs.Skeleton.{IsNodeOf};
 ghost use Rattle.cp_model.specs.Term.{Term as Plain};
+ghost use Rattle.cp_skel.specs.Ordered.{IsOrdered};
 ghost use Rattle.cp_skel.specs.View.{node_view, skeleton_view};
-ghost use Rattle.cp_derive.specs.Before.{IsOrdered, messages_at, transmissions_of, given_by};
+ghost use Rattle.cp_derive.specs.Before.{messages_at, transmissions_of, given_by};
 ghost use Rattle.cp_derive.specs.Given.{IsDerivable};
 ghost use Rattle.cp_derive.specs.Occurrences.{transmission_view};
 
@@ -60,7 +61,7 @@ pub(crate) fn front_at(
     ensures given { IfOk result (λ f. f.known ≡ given_by (skeleton_view k.now) f.places.items) }
     ensures at_node { IfOk result (λ f. (t : Plain) → DerivableAt (skeleton_view k.now) (node_view node) t ↔ IsDerivable f.known t) }
 {
-    let places = places_before(alloc, &k.pairs, transmissions, node)?;
+    let places = places_before(alloc, k.order.pairs(), transmissions, node)?;
     let Front {
         places: last,
         known,

@@ -1,7 +1,8 @@
 // The receptions whose messages cannot be derived.
 ghost use Rattle.std.specs.Prelude.{◌≡◌, map, IfOk};
+ghost use Rattle.cp_skel.specs.Ordered.{IsOrdered};
 ghost use Rattle.cp_skel.specs.View.{node_view, skeleton_view};
-ghost use Rattle.cp_derive.specs.Before.{IsOrdered, transmissions_of, given_by};
+ghost use Rattle.cp_derive.specs.Before.{transmissions_of, given_by};
 ghost use Rattle.cp_derive.specs.Occurrences.{occurrence_view, occurrences_from, transmission_view};
 ghost use Rattle.cp_derive.specs.Unrealised.{ListsUnrealised};
 

@@ -2,6 +2,8 @@
 ghost use Rattle.std.specs.Prelude.{IfOk};
 ghost use Rattle.cp_term.specs.Keys.{IsKey, IsName};
 
+mod skeletons;
+
 use super::*;
 use cp_term::{Sort, Step, Term, VarTable, enc, invert, pair, pubk, tag, var};
 use std::alloc::{AllocError, Global};

@@ -2,7 +2,7 @@ use Rattle.std.proofs.Common.{◌≡◌, map, ap, subst, ◌∙◌}
 use Rattle.std.specs.Prelude.{◌↔◌}
 use Rattle.cp_model.specs.Derivable.{DerivableAt}
 use Rattle.cp_model.specs.Term.{Term}
-use Rattle.cp_skel.specs.View.{node_view, pair_view, skeleton_view}
+use Rattle.cp_skel.specs.View.{node_view, skeleton_view}
 use Rattle.cp_derive.specs.Before.{ArePlacesBefore, transmissions_of, given_by}
 use Rattle.cp_derive.specs.Given.{Given, IsDerivable}
 use Rattle.cp_derive.specs.Occurrences.{Transmission, transmission_view}
@@ -14,19 +14,19 @@ use Rattle.cp_derive.proofs.at_node.known.Goals as goal
 pub returns : goal.returns
 returns c =
     let all : List Transmission = transmissions_of (skeleton_view c.args.k.now) in
-    let lent : map transmission_view c.deref-2.result.now ≡ all = ap (map transmission_view) c.deref-2.ensures.value ∙ c.in_ok-transmissions.ensures in
-    let lent_again : map transmission_view c.deref-4.result.now ≡ all = ap (map transmission_view) c.deref-4.ensures.value ∙ c.in_ok-transmissions.ensures in
-    let before : ArePlacesBefore (map pair_view c.args.k.now.pairs.items) (node_view c.args.node) (map transmission_view c.deref-2.result.now) c.in_ok-places.places.items =
-    subst (λ ps. ArePlacesBefore (map pair_view ps) (node_view c.args.node) (map transmission_view c.deref-2.result.now) c.in_ok-places.places.items) c.deref.ensures.value c.in_ok-places.ensures in
-    let before_all : ArePlacesBefore (map pair_view c.args.k.now.pairs.items) (node_view c.args.node) all c.in_ok-places.places.items =
-    subst (λ ts. ArePlacesBefore (map pair_view c.args.k.now.pairs.items) (node_view c.args.node) ts c.in_ok-places.places.items) lent before in
+    let lent : map transmission_view c.deref.result.now ≡ all = ap (map transmission_view) c.deref.ensures.value ∙ c.in_ok-transmissions.ensures in
+    let lent_again : map transmission_view c.deref-3.result.now ≡ all = ap (map transmission_view) c.deref-3.ensures.value ∙ c.in_ok-transmissions.ensures in
+    let before : ArePlacesBefore c.args.k.now.order (node_view c.args.node) (map transmission_view c.deref.result.now) c.in_ok-places.places.items =
+    subst (λ ps. ArePlacesBefore ps (node_view c.args.node) (map transmission_view c.deref.result.now) c.in_ok-places.places.items) c.pairs.ensures c.in_ok-places.ensures in
+    let before_all : ArePlacesBefore c.args.k.now.order (node_view c.args.node) all c.in_ok-places.places.items =
+    subst (λ ts. ArePlacesBefore c.args.k.now.order (node_view c.args.node) ts c.in_ok-places.places.items) lent before in
     record {
       given =
           ok_then (λ (g : Given). g ≡ record { sent = c.in_ok-sent.sent.items; secrets = c.in_ok-secrets.secrets.items })
           (λ (g : Given). (t : Term) → IsDerivable g t ↔ DerivableAt (skeleton_view c.args.k.now) (node_view c.args.node) t) c.new.result
           (λ g e t.
           let given : g ≡ given_by (skeleton_view c.args.k.now) c.in_ok-places.places.items =
-          given_from (skeleton_view c.args.k.now) c.in_ok-places.places.items _ _ c.in_ok-sent.sent.items c.in_ok-secrets.secrets.items g c.deref-3.ensures.value lent_again c.in_ok-sent.ensures
+          given_from (skeleton_view c.args.k.now) c.in_ok-places.places.items _ _ c.in_ok-sent.sent.items c.in_ok-secrets.secrets.items g c.deref-2.ensures.value lent_again c.in_ok-sent.ensures
           c.in_ok-secrets.ensures e in
           let both = derivable_at_node (skeleton_view c.args.k.now) (node_view c.args.node) c.in_ok-places.places.items c.requires.ordered c.requires.there before_all g given t in
           (both.1, both.0))
