@@ -50,3 +50,15 @@ pub(crate) fn some_is_closed(
     }
     Ok(false)
 }
+
+/// Whether one of these pairs closes a cycle with the others.
+pub(crate) fn some_closes(alloc: Global, pairs: &[OrderPair]) -> Result<bool, AllocError>
+    ensures { IfOk result (λ found. IsTrue found ↔ Has (λ q. IsClosedAt (map pair_view pairs.now) (pair_view q).earlier) pairs.now) }
+{
+    for pair in pairs {
+        if is_closed_at(alloc, pairs, pair.earlier)? {
+            return Ok(true);
+        }
+    }
+    Ok(false)
+}

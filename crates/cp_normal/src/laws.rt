@@ -1,13 +1,42 @@
 // Laws of the definitions: each stands as the contract of a function that does nothing.
-ghost use Rattle.std.specs.Prelude.{List, []};
-ghost use Rattle.cp_model.specs.Strand.{Protocol};
+ghost use Rattle.std.specs.Prelude.{◌≡◌, List, [], ◌∷◌};
+ghost use Rattle.cp_model.specs.Term.{Term, Substitution, after, value_of};
+ghost use Rattle.cp_model.specs.Strand.{Declaration, Protocol};
+ghost use Rattle.cp_model.specs.Bundle.{Bundle};
 ghost use Rattle.cp_model.specs.Skeleton.{OrderPair, Skeleton, IsSkeleton};
-ghost use Rattle.cp_completeness.specs.Normal.{AddOnlyOriginPairs, LosesNoStanding};
+ghost use Rattle.cp_model.specs.Standing.{Standing, StandsIn};
+ghost use Rattle.cp_model.specs.Homomorphism.{CarriesHomomorphism};
+ghost use Rattle.cp_model.specs.Problem.{IsOwnProblem};
+ghost use Rattle.cp_model.specs.Derivable.{KeepsAssumptions};
+ghost use Rattle.cp_completeness.specs.Normal.{skeleton_under, AddOnlyOriginPairs, LosesNoStanding};
+ghost use Rattle.cp_normal.specs.Agreeing.{SaysTheSame};
 ghost use Rattle.cp_normal.specs.Normalising.{AreNormalPairs, IsContradictory};
+ghost use Rattle.cp_normal.specs.Narrowing.{NarrowsTo, IsNormal, IsNormalFormOf};
 
 /// A skeleton that contradicts itself stands apart in no bundle; and where normalising adds pairs, it adds only such as
 /// lose no standing.
 pub fn contradictory_skeletons_stand_nowhere()
     ensures nowhere { (protocol : Protocol) (k : Skeleton) → IsSkeleton protocol k → IsContradictory k → LosesNoStanding protocol k [] }
     ensures added { (k : Skeleton) (pairs : List OrderPair) → AreNormalPairs k pairs → AddOnlyOriginPairs k pairs }
+{}
+
+/// Skeletons that say the same stand in the same bundles, and none loses a standing of the other; and one that says the
+/// same as a skeleton over a protocol is one.
+pub fn agreeing_skeletons_stand_alike()
+    ensures stands { (k l : Skeleton) (b : Bundle) (h : Standing) → SaysTheSame k l → StandsIn k b h → StandsIn l b h }
+    ensures loses_none { (protocol : Protocol) (k l : Skeleton) → SaysTheSame k l → LosesNoStanding protocol k (l ∷ []) }
+    ensures skeleton { (protocol : Protocol) (k l : Skeleton) → SaysTheSame k l → IsSkeleton protocol k → IsSkeleton protocol l }
+{}
+
+/// A normal form of a skeleton over a protocol is one, and is a normal form of itself; it carries a homomorphism from
+/// the problem where the skeleton does; and where a skeleton is normal its assumptions are true of it. What is narrowed
+/// by steps is the skeleton under one substitution, strand by strand at its place; and where both stand in a bundle by
+/// one standing, that standing solves the substitution: each term keeps its value under it.
+pub fn normal_forms_keep_what_is_stated()
+    ensures skeleton { (protocol : Protocol) (k r : Skeleton) → IsNormalFormOf k r → IsSkeleton protocol k → IsSkeleton protocol r }
+    ensures itself { (k r : Skeleton) → IsNormalFormOf k r → IsNormalFormOf r r }
+    ensures homomorphism { (variables : List Declaration) (problem k r : Skeleton) → IsOwnProblem variables problem → IsNormalFormOf k r → CarriesHomomorphism problem k → CarriesHomomorphism problem r }
+    ensures assumptions { (protocol : Protocol) (k : Skeleton) → IsSkeleton protocol k → IsNormal k → KeepsAssumptions k }
+    ensures substitution { (k l : Skeleton) → NarrowsTo k l → (s : Substitution) × SaysTheSame (skeleton_under s k) l }
+    ensures standing { (k l : Skeleton) (b : Bundle) (h : Standing) → NarrowsTo k l → StandsIn k b h → StandsIn l b h → (s : Substitution) × SaysTheSame (skeleton_under s k) l × ((t : Term) → value_of (after h.values s) t ≡ value_of h.values t) }
 {}

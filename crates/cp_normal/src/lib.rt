@@ -1,16 +1,47 @@
-//! What normalising finds in a skeleton: assumptions that contradict it, and the pairs that its unique values add.
+//! Normal forms of skeletons: assumptions that contradict a skeleton, narrowing where a unique value originates elsewhere
+//! than at its recorded origin, and the pairs that unique values add. Collapses of skeletons: the ways to identify strands
+//! of one role.
 #![tactic(auto)]
 
+mod agreeing;
+mod candidates;
 mod carrying;
+#[cfg(test)]
+mod collapses_tests;
+mod collapsing;
 mod cycles;
 mod events;
+mod examples;
+mod extending;
+#[cfg(test)]
+mod forms_tests;
+mod hearing;
+mod identifying;
+mod images;
 mod laws;
+mod merging;
+mod narrowing;
 mod normal;
+mod normalising;
 mod origins;
 mod pairs;
+mod placing;
+mod same_role;
+mod straying;
+mod substituting;
+#[cfg(test)]
+mod tests;
 
 pub use carrying::carries_non_originating;
-pub use laws::contradictory_skeletons_stand_nowhere;
+pub use collapsing::{collapses_are_determined, collapses_cover};
+pub use examples::{stray_text_example, two_strands_of_one_role_example};
+pub use identifying::collapses;
+pub use laws::{
+    agreeing_skeletons_stand_alike, contradictory_skeletons_stand_nowhere,
+    normal_forms_keep_what_is_stated,
+};
 pub use normal::normal_pairs;
+pub use normalising::normalise;
 pub use origins::{has_two_origins, loses_origin};
 pub use pairs::added_pairs;
+pub use substituting::under;

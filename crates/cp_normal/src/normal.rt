@@ -14,7 +14,7 @@ use cp_skel::{OrderPair, Skeleton};
 use std::alloc::{AllocError, Global};
 
 /// Whether the assumptions contradict what the nodes carry.
-fn is_refuted(alloc: Global, k: &Skeleton) -> Result<bool, AllocError>
+pub(crate) fn is_refuted(alloc: Global, k: &Skeleton) -> Result<bool, AllocError>
     ensures { IfOk result (λ found. IsTrue found ↔ (CarriesNonOriginating (skeleton_view k.now) ⊎ (HasTwoOrigins (skeleton_view k.now) ⊎ LosesOrigin (skeleton_view k.now)))) }
 {
     if carries_non_originating(alloc, k)? {
@@ -31,7 +31,7 @@ fn own_and_added(alloc: Global, k: &Skeleton) -> Result<Vec<OrderPair>, AllocErr
     ensures { IfOk result (λ pairs. AreNormalPairs (skeleton_view k.now) (map pair_view pairs.items)) }
 {
     let added = added_pairs(alloc, k)?;
-    let mut pairs = Vec::from_slice(alloc, &k.pairs)?;
+    let mut pairs = Vec::from_slice(alloc, k.order.pairs())?;
     pairs.extend_from_slice(&added)?;
     Ok(pairs)
 }

@@ -117,7 +117,7 @@ fn is_on_instance(k: &Skeleton, node: Node) -> bool
 }
 
 /// Whether a unique value originates at its recorded origin, where these are the events of the skeleton.
-fn originates(k: &Skeleton, occurrences: &[Occurrence], unique: &UniqueAt) -> bool
+pub(crate) fn originates(k: &Skeleton, occurrences: &[Occurrence], unique: &UniqueAt) -> bool
     requires listed { map occurrence_view occurrences.now ≡ occurrences_from 0 (skeleton_view k.now).strands }
     ensures { IsTrue result ↔ OriginatesAtTerm (skeleton_view k.now) (unique_view unique.now).value (unique_view unique.now).origin }
 {

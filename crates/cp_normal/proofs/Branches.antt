@@ -1,0 +1,45 @@
+-- The branches of a skeleton in which a unique value strays lose no standing.
+use Rattle.std.proofs.Common.{◌≡◌, ◌⊎◌, inl, inr, List, sym}
+use Rattle.cp_model.specs.Message.{atom}
+use Rattle.cp_model.specs.Term.{Variable, AtomTerm, atom_of_variable, atom_term, value_of_atom, after, Assignment, Substitution}
+use Rattle.cp_model.specs.Strand.{Protocol}
+use Rattle.cp_model.specs.Bundle.{Node, Bundle}
+use Rattle.cp_model.specs.Skeleton.{UniqueAt, Skeleton, IsSkeleton}
+use Rattle.cp_model.specs.Standing.{Standing, StandsIn, StandsApart}
+use Rattle.cp_completeness.specs.Normal.{IsHeardBefore, IsSolution, skeleton_under, StandsAmong, LosesNoStanding}
+use Rattle.cp_completeness.proofs.Heard.{heard_before}
+use Rattle.cp_completeness.proofs.Under.{stands_under, apart_under, factors_under, factors_then}
+use Rattle.cp_normal.specs.Narrowing.{IsStray, IsHeardAt, IsMostGeneralFor}
+use Rattle.cp_normal.specs.Branching.{NeverEqual, HasBranch, HasBranches}
+use Rattle.cp_normal.proofs.SameStandings.{same_stands, same_apart, same_factors}
+
+-- An assignment that gives two atoms one value solves every skeleton by their most general unifier.
+solution_of : (k : Skeleton) (a b : AtomTerm) (s : Substitution) (g : Assignment) → IsMostGeneralFor a b s → value_of_atom g a ≡ value_of_atom g b → IsSolution g s k
+solution_of k a b s g m e =
+    let same : (x : Variable) → value_of_atom (after g s) (atom_of_variable x) ≡ value_of_atom g (atom_of_variable x) =
+    λ x. let p : atom (value_of_atom (after g s) (atom_of_variable x)) ≡ atom (value_of_atom g (atom_of_variable x)) = m.general g e (atom_term (atom_of_variable x)) in cc in
+    record { inside = λ x i. same x; of_problem = λ x i. same x }
+
+heard_at : (k : Skeleton) (g : Assignment) (v : AtomTerm) (x : Node) (h : IsHeardBefore k g v x) → IsHeardAt k h.heard x
+heard_at k g v x h = record { index = h.index; earlier = h.earlier; received = h.received; reception = h.reception; carried = h.carried }
+
+module _ (k : Skeleton) (v : AtomTerm) (ls : List Skeleton) (b : Bundle) (h : Standing) (stands : StandsIn k b h) (apart : StandsApart k h) where
+  in_branch : (heard : AtomTerm) → value_of_atom h.values v ≡ value_of_atom h.values heard → HasBranch k v heard ls → StandsAmong ls k b h
+  in_branch heard e r =
+      let solution = solution_of k v heard r.unifier h.values r.most_general e in
+      record {
+        skeleton = r.branch;
+        listed = r.listed;
+        stands = same_stands (skeleton_under r.unifier k) r.branch r.same b h (stands_under r.unifier k b h solution stands);
+        apart = same_apart (skeleton_under r.unifier k) r.branch r.same h (apart_under r.unifier k h apart);
+        factors = factors_then k (skeleton_under r.unifier k) r.branch h h h (factors_under r.unifier k h solution) (same_factors (skeleton_under r.unifier k) r.branch r.same h);
+      }
+
+  in_some : (heard : AtomTerm) → value_of_atom h.values v ≡ value_of_atom h.values heard → NeverEqual v heard ⊎ HasBranch k v heard ls → StandsAmong ls k b h
+  in_some heard e (inl never) = absurd (never h.values e)
+  in_some heard e (inr r) = in_branch heard e r
+
+pub branches_lose_none : (protocol : Protocol) (k : Skeleton) (u : UniqueAt) (x : Node) (ls : List Skeleton) → IsSkeleton protocol k → IsStray k u x → HasBranches k u x ls → LosesNoStanding protocol k ls
+branches_lose_none protocol k u x ls sk stray branches b h is stands apart =
+    let heard : IsHeardBefore k h.values u.value x = heard_before protocol k b h u x sk stray.listed stray.originates stray.elsewhere stands apart in
+    in_some k u.value ls b h stands apart heard.heard (sym heard.equal) (branches heard.heard (heard_at k h.values u.value x heard))

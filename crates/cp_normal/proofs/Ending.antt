@@ -1,0 +1,54 @@
+-- The loop over the partitions of all strands, as the program keeps them.
+use Rattle.std.proofs.Common.{◌≡◌, ◌⊎◌, inl, inr, ℕ, suc, ◌≤◌, ◌+◌, ◌-◌, List, [], ◌∷◌, ◌++◌, Some, length, refl, sym, ap, ◌∙◌, subst, arith}
+use Rattle.cp_model.specs.Lists.{item_at, IsIn}
+use Rattle.cp_model.specs.Skeleton.{Skeleton}
+use Rattle.cp_model.proofs.LawLists.{item_below, in_append}
+use Rattle.cp_skel.specs.declared.skeleton.Skeleton.{Skeleton as Program}
+use Rattle.cp_normal.specs.Collapsing.{IsCollapsed, HasNoCycle, IsImpossible, AreCollapses}
+use Rattle.cp_normal.specs.Extending.{ArePartitionsOfFirst, AreCollapsedTo}
+use Rattle.cp_normal.specs.Partitions.{IsPartition, finest}
+use Rattle.cp_normal.specs.Values.{HasValuesBeside}
+use Rattle.cp_normal.proofs.Collapsed.{finest_first, later_not_finest, none_collapsed, not_collapsed, one_collapsed, all_collapsed}
+use Rattle.cp_normal.proofs.Descending.{only, at_place}
+use Rattle.cp_normal.proofs.Extended.{of_all}
+
+module _ (k : Skeleton) (ps : List (List ℕ)) (are : ArePartitionsOfFirst k (length k.strands) ps) where
+  pub first_done : (ls : List Skeleton) → ls ≡ [] → AreCollapsedTo k ps 1 ls
+  first_done ls e = subst (AreCollapsedTo k ps 1) (sym e) (not_collapsed k ps 0 (finest k) (finest_first k ps are) [] (none_collapsed k ps) (λ ne. absurd (ne refl)))
+
+  pub whole : (i : ℕ) (p : List ℕ) → item_at ps i ≡ Some p → IsPartition k p
+  whole i p at = of_all k p (are.each p (at_place ps i at))
+
+  module _ (i : ℕ) (p : List ℕ) (at : item_at ps i ≡ Some p) (ls : List Skeleton) (so_far : AreCollapsedTo k ps i ls) where
+    pub none_more : IsImpossible k p → AreCollapsedTo k ps (i + 1) ls
+    none_more never = let next : suc i ≡ i + 1 = omega arith in subst (λ (m : ℕ). AreCollapsedTo k ps m ls) next (not_collapsed k ps i p at ls so_far (λ ne. never))
+
+    pub one_more : 1 ≤ i → (l : Skeleton) (new : List Skeleton) → IsCollapsed k p l → HasNoCycle l → new ≡ ls ++ (l ∷ []) → AreCollapsedTo k ps (i + 1) new
+    one_more le l new c none e =
+        let next : suc i ≡ i + 1 = omega arith in
+        let before : i ≡ suc (i - 1) = omega (arith, le) in
+        subst (AreCollapsedTo k ps (i + 1)) (sym e) (subst (λ (m : ℕ). AreCollapsedTo k ps m (ls ++ (l ∷ []))) next
+        (one_collapsed k ps i p at ls so_far l are.descending (record { partition = whole i p at; not_finest = later_not_finest k ps are (i - 1) p (ap (item_at ps) (sym before) ∙ at); collapsed = c; no_cycle = none })))
+
+  pub all_done : (i : ℕ) (ls : List Skeleton) → length ps ≤ i → AreCollapsedTo k ps i ls → AreCollapses k ls
+  all_done i ls done a = all_collapsed k ps ls are (record {
+    partitions = a.partitions;
+    each = a.each;
+    descending = a.descending;
+    from = λ q inq. let r = a.from q inq in (r.0, item_below ps r.0 q r.2, r.2);
+    all = λ j p less at ne. a.all j p (omega (arith, less, done)) at ne;
+  })
+
+-- Each of the program's collapses has its values, and the variables of k.
+abbrev pub HaveValuesBeside : Program → List Program → Type 0
+HaveValuesBeside k ls = (l : Program) → IsIn l ls → HasValuesBeside k l
+
+pub none_beside : (k : Program) (ls : List Program) → ls ≡ [] → HaveValuesBeside k ls
+none_beside k ls e l i = elim (subst (IsIn l) e i) [ ]
+
+pub one_beside : (k : Program) (ls new : List Program) (l : Program) → HaveValuesBeside k ls → HasValuesBeside k l → new ≡ ls ++ (l ∷ []) → HaveValuesBeside k new
+one_beside k ls new l old beside e m i = by (in_append ls (l ∷ []) (subst (IsIn m) e i))
+  where
+    by : IsIn m ls ⊎ IsIn m (l ∷ []) → HasValuesBeside k m
+    by (inl j) = old m j
+    by (inr j) = subst (HasValuesBeside k) (sym (only j)) beside

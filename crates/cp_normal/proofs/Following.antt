@@ -1,0 +1,203 @@
+-- Rounds of narrowing: what takes the place of each candidate.
+use Rattle.std.proofs.Common.{◌≡◌, ◌↔◌, ◌⊎◌, inl, inr, List, [], ◌∷◌, ◌++◌, map, reverse, length, refl, sym, ap, ◌∙◌, subst}
+use Rattle.std.proofs.lemmas.List.{reverse-append, reverse-reverse, map-append, append-nil}
+use Rattle.cp_model.specs.Lists.{IsIn, here, there}
+use Rattle.cp_model.specs.Term.{AtomTerm, atom_term}
+use Rattle.cp_model.specs.Bundle.{Node}
+use Rattle.cp_model.specs.Skeleton.{UniqueAt, Skeleton}
+use Rattle.cp_model.proofs.LawLists.{in_append, in_append_left, in_append_right}
+use Rattle.cp_skel.specs.View.{skeleton_view}
+use Rattle.cp_skel.specs.declared.skeleton.Skeleton.{Skeleton as Program}
+use Rattle.cp_normal.specs.declared.candidates.Candidate.{Candidate}
+use Rattle.cp_normal.specs.declared.candidates.Candidate.TheVariants.{Open, Settled}
+use Rattle.cp_normal.specs.Normalising.{IsContradictory}
+use Rattle.cp_normal.specs.Narrowing.{IsStray, IsHeardAt, IsNarrowed}
+use Rattle.cp_normal.specs.Branching.{NeverEqual, HasBranch, HasBranches, IsSettled, AreNarrowedFrom}
+use Rattle.cp_normal.specs.Branched.{AreInOrder, IsBranch, AreBranchesOf}
+use Rattle.cp_normal.specs.Exact.{IsRefuted, HaveForms, refuted_one, stray_one}
+use Rattle.cp_normal.specs.Hearing.{heard_before}
+use Rattle.cp_normal.specs.Straying.{IsFirstStray}
+use Rattle.cp_normal.specs.Candidates.{candidate_view, IsSound, Follows, TakesPlace, Puts, AllFollow, IsRound}
+use Rattle.cp_normal.specs.Values.{HasItsValues}
+use Rattle.cp_unify.specs.Unifiers.{IsMostGeneral}
+use Rattle.cp_normal.proofs.Having.{IsViewed, in_map}
+use Rattle.cp_normal.proofs.Strayed.{at_is_in}
+use Rattle.cp_normal.proofs.BranchLists.{all_have_branches}
+use Rattle.cp_normal.proofs.Fewer.{narrowed_has_fewer, is_narrowed}
+use Rattle.cp_normal.proofs.Exactly.{placed}
+use Rattle.cp_normal.proofs.Reaching.{dropped, stays, branched}
+
+-- ---- what takes the place of one candidate
+
+refuted : (k : Skeleton) → IsRefuted k → IsContradictory k
+refuted k (inl c) = inl c
+refuted k (inr (inl t)) = inr (inl t)
+refuted k (inr (inr l)) = inr (inr (inl l))
+
+nothing_follows : (k : Program) → IsRefuted (skeleton_view k) → IsContradictory (skeleton_view k) → TakesPlace (Open k) []
+nothing_follows k r c = record {
+  each = λ d i. elim i [ ];
+  narrowed = λ first done rest so_far. subst (λ (ds : List Skeleton). AreNarrowedFrom first (ds ++ rest)) (sym (append-nil done)) (dropped first (skeleton_view k) done rest so_far c);
+  exact = λ rest rs h. refuted_one r h;
+}
+
+pub dropped_place : (k : Program) (old : List Candidate) → IsRefuted (skeleton_view k) → Puts (Open k) old old
+dropped_place k old r = record { added = []; behind = sym (append-nil old); takes_place = nothing_follows k r (refuted (skeleton_view k) r) }
+
+only_one : {A : Type 0} {x y : A} → IsIn y (x ∷ []) → x ≡ y
+only_one here = refl
+only_one (there i) = elim i [ ]
+
+pub settled_place : (k : Program) (old new : List Candidate) → HasItsValues k → IsSettled (skeleton_view k) → new ≡ old ++ Settled k ∷ [] → Puts (Open k) old new
+settled_place k old new values settled e = record {
+  added = Settled k ∷ [];
+  behind = e;
+  takes_place = record {
+    each = λ d i. subst (Follows (Open k)) (only_one i) (record { sound = (values, settled); falls = tt; variables = refl });
+    narrowed = λ first done rest so_far. stays first (skeleton_view k) done rest so_far;
+    exact = λ rest rs h. h;
+  };
+}
+
+same_place : (k : Program) (old new : List Candidate) → HasItsValues k × IsSettled (skeleton_view k) → new ≡ old ++ Settled k ∷ [] → Puts (Settled k) old new
+same_place k old new sound e = record {
+  added = Settled k ∷ [];
+  behind = e;
+  takes_place = record {
+    each = λ d i. subst (Follows (Settled k)) (only_one i) (record { sound = sound; falls = tt; variables = refl });
+    narrowed = λ first done rest so_far. stays first (skeleton_view k) done rest so_far;
+    exact = λ rest rs h. h;
+  };
+}
+
+pub settled_stays : (c : Candidate) (k : Program) (old new : List Candidate) → c ≡ Settled k → IsSound c → new ≡ old ++ Settled k ∷ [] → Puts c old new
+settled_stays c k old new is sound e = subst (λ (d : Candidate). Puts d old new) (sym is) (same_place k old new (subst IsSound is sound) e)
+
+-- ---- a round
+
+-- Of the candidates, which are taken from the end, those that are left are still to be done.
+pub record IsPartWay (all left new : List Candidate) : Type 0 where
+  pub each_left : (c : Candidate) → IsIn c left → IsIn c all
+  pub all_follow : AllFollow all new
+  pub narrowed : (k : Skeleton) → AreNarrowedFrom k (map candidate_view (reverse all)) → AreNarrowedFrom k (map candidate_view new ++ map candidate_view (reverse left))
+  pub exact : (rs : List Skeleton) → HaveForms (map candidate_view new ++ map candidate_view (reverse left)) rs → HaveForms (map candidate_view (reverse all)) rs
+
+pub at_first : (all new : List Candidate) → new ≡ [] → IsPartWay all all new
+at_first all new e = record {
+  each_left = λ c i. i;
+  all_follow = λ d i. elim (subst (IsIn d) e i) [ ];
+  narrowed = λ k so_far. subst (λ (ds : List Candidate). AreNarrowedFrom k (map candidate_view ds ++ map candidate_view (reverse all))) (sym e) so_far;
+  exact = λ rs h. subst (λ (ds : List Candidate). HaveForms (map candidate_view ds ++ map candidate_view (reverse all)) rs) e h;
+}
+
+module _ (all left rest old new : List Candidate) (c : Candidate) (so_far : IsPartWay all left old) (popped : left ≡ rest ++ c ∷ []) (puts : Puts c old new) where
+  next_first : reverse left ≡ c ∷ reverse rest
+  next_first = ap reverse popped ∙ reverse-append rest (c ∷ [])
+
+  is_in_all : IsIn c all
+  is_in_all = so_far.each_left c (subst (IsIn c) (sym popped) (in_append_right rest here))
+
+  follows_either : (d : Candidate) → IsIn d old ⊎ IsIn d puts.added → (b : Candidate) × IsIn b all × Follows b d
+  follows_either d (inl i) = so_far.all_follow d i
+  follows_either d (inr i) = (c, is_in_all, puts.takes_place.each d i)
+
+  behind : map candidate_view new ≡ map candidate_view old ++ map candidate_view puts.added
+  behind = ap (map candidate_view) puts.behind ∙ map-append candidate_view old puts.added
+
+  exact_next : (rs : List Skeleton) → HaveForms (map candidate_view new ++ map candidate_view (reverse rest)) rs → HaveForms (map candidate_view (reverse all)) rs
+  exact_next rs h =
+      so_far.exact rs (subst (λ (ds : List Candidate). HaveForms (map candidate_view old ++ map candidate_view ds) rs) (sym next_first)
+      (placed (candidate_view c) (map candidate_view puts.added) puts.takes_place.exact (map candidate_view old) (map candidate_view (reverse rest)) rs
+      (subst (λ (ds : List Skeleton). HaveForms (ds ++ map candidate_view (reverse rest)) rs) behind h)))
+
+  narrowed_next : (k : Skeleton) → AreNarrowedFrom k (map candidate_view (reverse all)) → AreNarrowedFrom k (map candidate_view new ++ map candidate_view (reverse rest))
+  narrowed_next k first =
+      let before : AreNarrowedFrom k (map candidate_view old ++ candidate_view c ∷ map candidate_view (reverse rest)) = subst (λ (ds : List Candidate). AreNarrowedFrom k (map candidate_view old ++ map candidate_view ds)) next_first (so_far.narrowed k first) in
+      subst (λ (ds : List Skeleton). AreNarrowedFrom k (ds ++ map candidate_view (reverse rest))) (sym behind) (puts.takes_place.narrowed k (map candidate_view old) (map candidate_view (reverse rest)) before)
+
+  pub next_part : IsPartWay all rest new
+  next_part = record {
+    each_left = λ b i. so_far.each_left b (subst (IsIn b) (sym popped) (in_append_left (c ∷ []) i));
+    all_follow = λ d i. follows_either d (in_append old puts.added (subst (IsIn d) puts.behind i));
+    narrowed = narrowed_next;
+    exact = exact_next;
+  }
+
+in_reverse : {A : Type 0} {x : A} (xs : List A) → IsIn x xs → IsIn x (reverse xs)
+in_reverse (y ∷ ys) here = subst (IsIn y) (sym (reverse-append (y ∷ []) ys)) (in_append_right (reverse ys) here)
+in_reverse {A} {x} (y ∷ ys) (there i) = subst (IsIn x) (sym (reverse-append (y ∷ []) ys)) (in_append_left (y ∷ []) (in_reverse ys i))
+in_reverse [] i = elim i [ ]
+
+pub back_of : (candidates : List Candidate) (c : Candidate) → IsIn c (reverse candidates) → IsIn c candidates
+back_of candidates c i = subst (IsIn c) (reverse-reverse candidates) (in_reverse (reverse candidates) i)
+
+pub next_is_in : (candidates all left rest new : List Candidate) (c : Candidate) → all ≡ reverse candidates → IsPartWay all left new → left ≡ rest ++ c ∷ [] → IsIn c candidates
+next_is_in candidates all left rest new c e part popped = back_of candidates c (subst (IsIn c) e (part.each_left c (subst (IsIn c) (sym popped) (in_append_right rest here))))
+
+pub empty_list : {A : Type 0} (xs : List A) → length xs ≡ 0 → xs ≡ []
+empty_list [] e = refl
+empty_list (x ∷ xs) e = absurd (cc)
+
+pub all_done : (candidates all left new : List Candidate) → all ≡ reverse candidates → left ≡ [] → IsPartWay all left new → IsRound candidates new
+all_done candidates all left new e done part = record {
+  all_follow = λ d i. let r = part.all_follow d i in (r.0, back_of candidates r.0 (subst (IsIn r.0) e r.1), r.2);
+  narrowed = λ k first. subst (AreNarrowedFrom k) (append-nil (map candidate_view new))
+      (subst (λ (ds : List Candidate). AreNarrowedFrom k (map candidate_view new ++ map candidate_view (reverse ds))) done
+      (part.narrowed k (subst (λ (ds : List Candidate). AreNarrowedFrom k (map candidate_view ds)) (sym (ap reverse e ∙ reverse-reverse candidates)) first)));
+  exact = λ rs h. subst (λ (ds : List Candidate). HaveForms (map candidate_view ds) rs) (ap reverse e ∙ reverse-reverse candidates)
+      (part.exact rs (subst (λ (ds : List Candidate). HaveForms (map candidate_view new ++ map candidate_view (reverse ds)) rs) (sym done)
+      (subst (λ (ds : List Skeleton). HaveForms ds rs) (sym (append-nil (map candidate_view new))) h)));
+}
+
+-- ---- branches
+
+module _ (k : Program) (v : AtomTerm) (x : Node) (atoms : List AtomTerm) (made : List Program) where
+  module _ (consistent : IsRefuted (skeleton_view k) → ⊥) (stray : IsFirstStray (skeleton_view k) v x) (in_order : atoms ≡ heard_before (skeleton_view k) x) (heard : (a : AtomTerm) → IsIn a atoms ↔ IsHeardAt (skeleton_view k) a x)
+      (are : AreBranchesOf k v atoms made) where
+    abbrev entry : UniqueAt
+    entry = stray.here.entry
+
+    is_stray : IsStray (skeleton_view k) entry x
+    is_stray = record { listed = at_is_in _ stray.here.place entry stray.here.at_place; originates = stray.here.strays.1; elsewhere = stray.here.strays.0 }
+
+    have_branches : HasBranches (skeleton_view k) entry x (map skeleton_view made)
+    have_branches a h = subst (λ (u : AtomTerm). NeverEqual u a ⊎ HasBranch (skeleton_view k) u a (map skeleton_view made)) (sym stray.here.is_value)
+        (all_have_branches (skeleton_view k) v a atoms (map skeleton_view made) are.in_order ((heard a).1 h))
+
+    module _ (l : Program) (b : IsBranch k v atoms l) where
+      most_general : IsMostGeneral (atom_term entry.value) (atom_term b.heard) [] b.bindings
+      most_general = subst (λ (u : AtomTerm). IsMostGeneral (atom_term u) (atom_term b.heard) [] b.bindings) (sym stray.here.is_value) b.most_general
+
+      follows : Follows (Open k) (Open l)
+      follows = record {
+        sound = b.values;
+        falls = narrowed_has_fewer (skeleton_view k) (skeleton_view l) entry x b.heard b.bindings is_stray ((heard b.heard).0 b.listed) most_general b.same;
+        variables = b.variables;
+      }
+
+      narrowed_so : IsNarrowed (skeleton_view k) (skeleton_view l)
+      narrowed_so = is_narrowed (skeleton_view k) (skeleton_view l) entry x b.heard b.bindings is_stray ((heard b.heard).0 b.listed) most_general b.same
+
+    each_follows : (d : Candidate) → IsViewed Open d made → Follows (Open k) d
+    each_follows d r = subst (Follows (Open k)) r.2 (follows r.0 (are.each r.0 r.1))
+
+    each_narrowed : (m : Skeleton) → IsViewed skeleton_view m made → IsNarrowed (skeleton_view k) m
+    each_narrowed m r = subst (IsNarrowed (skeleton_view k)) r.2 (narrowed_so r.0 (are.each r.0 r.1))
+
+    view_open : (ls : List Program) → map candidate_view (map Open ls) ≡ map skeleton_view ls
+    view_open [] = refl
+    view_open (l ∷ ls) = ap (λ ms. skeleton_view l ∷ ms) (view_open ls)
+
+    pub branches_place : (old new : List Candidate) → new ≡ old ++ map Open made → Puts (Open k) old new
+    branches_place old new e = record {
+      added = map Open made;
+      behind = e;
+      takes_place = record {
+        each = λ d i. each_follows d (in_map Open d made i);
+        narrowed = λ first done rest so_far. subst (λ (ms : List Skeleton). AreNarrowedFrom first ((done ++ ms) ++ rest)) (sym (view_open made))
+            (branched first (skeleton_view k) done rest so_far entry x (map skeleton_view made) is_stray have_branches (λ m i. each_narrowed m (in_map skeleton_view m made i)));
+        exact = λ rest rs h.
+            stray_one consistent stray (subst (λ (vs : List AtomTerm). AreInOrder (skeleton_view k) v vs (map skeleton_view made)) in_order are.in_order)
+            (subst (λ (ms : List Skeleton). HaveForms (ms ++ rest) rs) (view_open made) h);
+      };
+    }

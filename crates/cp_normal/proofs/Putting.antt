@@ -1,0 +1,63 @@
+-- Putting images one by one, each once.
+use Rattle.std.proofs.Common.{◌≡◌, inl, inr, ℕ, zero, suc, ◌≤◌, ◌+◌, List, [], ◌∷◌, ◌++◌, Some, map, take, length, refl, sym, ap, ◌∙◌, subst, arith}
+use Rattle.std.proofs.lemmas.List.{map-append}
+use Rattle.cp_model.specs.Lists.{item_at, IsIn, here, there}
+use Rattle.cp_model.specs.Skeleton.{OrderPair}
+use Rattle.cp_normal.specs.Collapsing.{pair_in, LiesOnOne, AreImages, ArePairsIn}
+use Rattle.cp_normal.specs.Events.{Has}
+use Rattle.cp_normal.specs.Merging.{IsPutOnce}
+use Rattle.cp_normal.proofs.Imaging.{images_none, images_more, images_again, pairs_none, pairs_more, pairs_again, pairs_dropped}
+
+take_to : {A : Type 0} (xs : List A) (i : ℕ) (x : A) → item_at xs i ≡ Some x → take (suc i) xs ≡ take i xs ++ (x ∷ [])
+take_to [] i x e = absurd (cc)
+take_to (y ∷ xs) zero x e = let q : y ≡ x = cc in ap (λ z. z ∷ []) q
+take_to (y ∷ xs) (suc i) x e = ap (λ zs. y ∷ zs) (take_to xs i x e)
+
+take_next : {A : Type 0} (xs : List A) (i : ℕ) (x : A) → item_at xs i ≡ Some x → take i xs ++ (x ∷ []) ≡ take (i + 1) xs
+take_next xs i x e = let next : suc i ≡ i + 1 = omega arith in sym (take_to xs i x e) ∙ ap (λ (m : ℕ). take m xs) next
+
+take_whole : {A : Type 0} (xs : List A) (i : ℕ) → length xs ≤ i → take i xs ≡ xs
+take_whole [] zero l = refl
+take_whole [] (suc i) l = refl
+take_whole (x ∷ xs) zero l = absurd (omega (arith, l))
+take_whole (x ∷ xs) (suc i) l = ap (λ zs. x ∷ zs) (take_whole xs i (omega (arith, l)))
+
+in_views : {A B : Type 0} (v : A → B) {x : A} {xs : List A} → IsIn x xs → IsIn (v x) (map v xs)
+in_views v here = here
+in_views v (there i) = there (in_views v i)
+
+-- An item that is listed stays, and another is put.
+pub listed_stays : {A B : Type 0} (v : A → B) (x : B) (old new : List A) → new ≡ old → Has (λ y. v y ≡ x) old → IsPutOnce x (map v old) (map v new)
+listed_stays v x old new e h = inr (ap (map v) e, subst (λ z. IsIn z (map v old)) h.2 (in_views v h.1))
+
+pub other_put : {A B : Type 0} (v : A → B) (x : A) (old new : List A) → new ≡ old ++ (x ∷ []) → IsPutOnce (v x) (map v old) (map v new)
+other_put v x old new e = inl (ap (map v) e ∙ map-append v old (x ∷ []))
+
+pub stays : {A : Type 0} (x : A) (old new : List A) → new ≡ old → Has (λ y. y ≡ x) old → IsPutOnce x old new
+stays x old new e h = inr (e, subst (λ z. IsIn z old) h.2 h.1)
+
+module _ {A B : Type 0} (f : A → B) (xs : List A) where
+  pub images_first : (ys : List B) → ys ≡ [] → AreImages f (take 0 xs) ys
+  images_first ys e = subst (AreImages f []) (sym e) (images_none f)
+
+  pub image_put : (i : ℕ) (x : A) (y : B) (ys new : List B) → item_at xs i ≡ Some x → y ≡ f x → AreImages f (take i xs) ys → IsPutOnce y ys new → AreImages f (take (i + 1) xs) new
+  image_put i x y ys new at e so_far (inl put) = subst (λ zs. AreImages f zs new) (take_next xs i x at) (subst (AreImages f (take i xs ++ (x ∷ []))) (ap (λ z. ys ++ (z ∷ [])) (sym e) ∙ sym put) (images_more f (take i xs) ys x so_far))
+  image_put i x y ys new at e so_far (inr again) = subst (λ zs. AreImages f zs new) (take_next xs i x at) (subst (AreImages f (take i xs ++ (x ∷ []))) (sym again.0) (images_again f (take i xs) ys x so_far (subst (λ z. IsIn z ys) e again.1)))
+
+  pub images_all : (i : ℕ) (ys : List B) → length xs ≤ i → AreImages f (take i xs) ys → AreImages f xs ys
+  images_all i ys l so_far = subst (λ zs. AreImages f zs ys) (take_whole xs i l) so_far
+
+module _ (p : List ℕ) (qs : List OrderPair) where
+  pub pairs_first : (rs : List OrderPair) → rs ≡ [] → ArePairsIn p (take 0 qs) rs
+  pairs_first rs e = subst (ArePairsIn p []) (sym e) (pairs_none p)
+
+  module _ (i : ℕ) (q : OrderPair) (rs : List OrderPair) (at : item_at qs i ≡ Some q) (so_far : ArePairsIn p (take i qs) rs) where
+    pub pair_dropped : LiesOnOne p q → ArePairsIn p (take (i + 1) qs) rs
+    pair_dropped one = subst (λ zs. ArePairsIn p zs rs) (take_next qs i q at) (pairs_dropped p (take i qs) rs q so_far one)
+
+    pub pair_put : (r : OrderPair) (new : List OrderPair) → r ≡ pair_in p q → (LiesOnOne p q → ⊥) → IsPutOnce r rs new → ArePairsIn p (take (i + 1) qs) new
+    pair_put r new e apart (inl put) = subst (λ zs. ArePairsIn p zs new) (take_next qs i q at) (subst (ArePairsIn p (take i qs ++ (q ∷ []))) (ap (λ z. rs ++ (z ∷ [])) (sym e) ∙ sym put) (pairs_more p (take i qs) rs q so_far apart))
+    pair_put r new e apart (inr again) = subst (λ zs. ArePairsIn p zs new) (take_next qs i q at) (subst (ArePairsIn p (take i qs ++ (q ∷ []))) (sym again.0) (pairs_again p (take i qs) rs q so_far (subst (λ z. IsIn z rs) e again.1)))
+
+  pub pairs_all : (i : ℕ) (rs : List OrderPair) → length qs ≤ i → ArePairsIn p (take i qs) rs → ArePairsIn p qs rs
+  pairs_all i rs l so_far = subst (λ zs. ArePairsIn p zs rs) (take_whole qs i l) so_far

@@ -1,0 +1,95 @@
+-- Steps of narrowing, one after the other, and rounds of them: what a skeleton has they keep, and they lose no standing.
+use Rattle.std.proofs.Common.{◌⊎◌, inl, inr, List, [], ◌∷◌, ◌++◌, subst}
+use Rattle.cp_model.specs.Lists.{IsIn, here, there}
+use Rattle.cp_model.specs.Strand.{Protocol}
+use Rattle.cp_model.specs.Bundle.{Node}
+use Rattle.cp_model.specs.Skeleton.{UniqueAt, OrderPair, Skeleton, Before, IsOrderPair, IsOrigin, IsSkeleton}
+use Rattle.cp_model.proofs.LawLists.{in_append, in_append_left, in_append_right}
+use Rattle.cp_completeness.specs.Normal.{unique_under, skeleton_under, LosesNoStanding}
+use Rattle.cp_completeness.proofs.Under.{in_map, before_of_under}
+use Rattle.cp_completeness.proofs.Skeletons.{pair_under, origin_under, skeleton_under_is_skeleton}
+use Rattle.cp_completeness.proofs.Losing.{itself_alone, among_more, through_each}
+use Rattle.cp_normal.specs.Narrowing.{IsNarrowed, NarrowsTo, none, one}
+use Rattle.cp_normal.proofs.SameSkeletons.{same_order_pairs, same_no_cycle, same_origins, same_is_skeleton}
+
+-- ---- narrowing
+
+pub narrows_then : {k l m : Skeleton} → NarrowsTo k l → NarrowsTo l m → NarrowsTo k m
+narrows_then none q = q
+narrows_then (one s p) q = one s (narrows_then p q)
+
+pub narrows_further : {k l m : Skeleton} → NarrowsTo k l → IsNarrowed l m → NarrowsTo k m
+narrows_further p s = narrows_then p (one s none)
+
+abbrev pub HasOrderPairs : Skeleton → Type 0
+HasOrderPairs k = (p : OrderPair) → IsIn p k.pairs → IsOrderPair k p
+
+abbrev pub HasNoCycle : Skeleton → Type 0
+HasNoCycle k = (n : Node) → Before k n n → ⊥
+
+abbrev pub HasOrigins : Skeleton → Type 0
+HasOrigins k = (u : UniqueAt) → IsIn u k.assumptions.uniquely_originating → IsOrigin k u
+
+narrowed_pairs : (k l : Skeleton) → IsNarrowed k l → HasOrderPairs k → HasOrderPairs l
+narrowed_pairs k l s all = same_order_pairs (skeleton_under s.unifier k) l s.same (λ p i. pair_under s.unifier k p (all p i))
+
+narrowed_no_cycle : (k l : Skeleton) → IsNarrowed k l → HasNoCycle k → HasNoCycle l
+narrowed_no_cycle k l s never = same_no_cycle (skeleton_under s.unifier k) l s.same (λ n before. never n (before_of_under s.unifier k before))
+
+narrowed_origins : (k l : Skeleton) → IsNarrowed k l → HasOrigins k → HasOrigins l
+narrowed_origins k l s all = same_origins (skeleton_under s.unifier k) l s.same (λ u i.
+    let m = in_map (unique_under s.unifier) k.assumptions.uniquely_originating u i in
+    subst (IsOrigin (skeleton_under s.unifier k)) m.2 (origin_under s.unifier k m.0 (all m.0 m.1)))
+
+narrowed_is_skeleton : (protocol : Protocol) (k l : Skeleton) → IsNarrowed k l → IsSkeleton protocol k → IsSkeleton protocol l
+narrowed_is_skeleton protocol k l s sk = same_is_skeleton (skeleton_under s.unifier k) l s.same protocol (skeleton_under_is_skeleton protocol s.unifier k sk)
+
+pub narrows_pairs : {k l : Skeleton} → NarrowsTo k l → HasOrderPairs k → HasOrderPairs l
+narrows_pairs none all = all
+narrows_pairs {k} (one {l = m} s p) all = narrows_pairs p (narrowed_pairs k m s all)
+
+pub narrows_no_cycle : {k l : Skeleton} → NarrowsTo k l → HasNoCycle k → HasNoCycle l
+narrows_no_cycle none never = never
+narrows_no_cycle {k} (one {l = m} s p) never = narrows_no_cycle p (narrowed_no_cycle k m s never)
+
+pub narrows_origins : {k l : Skeleton} → NarrowsTo k l → HasOrigins k → HasOrigins l
+narrows_origins none all = all
+narrows_origins {k} (one {l = m} s p) all = narrows_origins p (narrowed_origins k m s all)
+
+pub narrows_is_skeleton : (protocol : Protocol) {k l : Skeleton} → NarrowsTo k l → IsSkeleton protocol k → IsSkeleton protocol l
+narrows_is_skeleton protocol none sk = sk
+narrows_is_skeleton protocol {k} (one {l = m} s p) sk = narrows_is_skeleton protocol p (narrowed_is_skeleton protocol k m s sk)
+
+-- ---- rounds
+
+-- Each skeleton of a list that loses no standing of k leads to skeletons of another: so that one loses none.
+pub round_loses_none : (protocol : Protocol) (k : Skeleton) (ks ls : List Skeleton) → LosesNoStanding protocol k ks →
+    ((l : Skeleton) → IsIn l ks → (own : List Skeleton) × LosesNoStanding protocol l own × ((m : Skeleton) → IsIn m own → IsIn m ls)) → LosesNoStanding protocol k ls
+round_loses_none protocol k ks ls first each = through_each protocol k ks ls first (λ l i. let own = each l i in among_more protocol l own.0 ls own.2 own.1)
+
+-- The same one skeleton after the other: what was done, what it leads to, and what is left.
+module _ (protocol : Protocol) (l : Skeleton) (new left right all : List Skeleton) (own : LosesNoStanding protocol l new)
+    (from_left : (m : Skeleton) → IsIn m left → IsIn m all) (from_new : (m : Skeleton) → IsIn m new → IsIn m all) (from_right : (m : Skeleton) → IsIn m right → IsIn m all) where
+  kept : (m : Skeleton) → IsIn m all → LosesNoStanding protocol m all
+  kept m i = among_more protocol m (m ∷ []) all (λ d j. only m d j i) (itself_alone protocol m)
+    where
+      only : (m d : Skeleton) → IsIn d (m ∷ []) → IsIn m all → IsIn d all
+      only m d here i = i
+      only m d (there j) i = elim j [ ]
+
+  of_next : (m : Skeleton) → IsIn m (l ∷ right) → LosesNoStanding protocol m all
+  of_next m here = among_more protocol l new all from_new own
+  of_next m (there i) = kept m (from_right m i)
+
+  of_each : (m : Skeleton) → IsIn m left ⊎ IsIn m (l ∷ right) → LosesNoStanding protocol m all
+  of_each m (inl i) = kept m (from_left m i)
+  of_each m (inr i) = of_next m i
+
+  pub one_replaced : (k : Skeleton) → LosesNoStanding protocol k (left ++ l ∷ right) → LosesNoStanding protocol k all
+  one_replaced k before = through_each protocol k (left ++ l ∷ right) all before (λ m i. of_each m (in_append left (l ∷ right) i))
+
+-- In a list a skeleton is replaced by a list that loses none of its standings.
+pub round_goes_on : (protocol : Protocol) (k l : Skeleton) (done new rest : List Skeleton) → LosesNoStanding protocol k (done ++ l ∷ rest) → LosesNoStanding protocol l new → LosesNoStanding protocol k ((done ++ new) ++ rest)
+round_goes_on protocol k l done new rest before own =
+    one_replaced protocol l new done rest ((done ++ new) ++ rest) own
+    (λ m i. in_append_left rest (in_append_left new i)) (λ m i. in_append_left rest (in_append_right done i)) (λ m i. in_append_right (done ++ new) i) k before

@@ -1,0 +1,69 @@
+-- A skeleton that says the same as one over a protocol is one.
+use Rattle.std.proofs.Common.{◌≡◌, ℕ, sym, ◌∙◌, subst}
+use Rattle.cp_model.specs.Lists.{IsIn}
+use Rattle.cp_model.specs.Term.{Variable, AtomTerm, Term, IsCarriedByTerm, itself_term, in_left_term, in_right_term, in_plaintext_term, variables_of, variables_of_key, Substitution, apply_to_atom, AgreeOnTerms}
+use Rattle.cp_model.specs.Strand.{send, Role, Protocol, variables_of_prefix, prefix_of, Applies, AppliesAt}
+use Rattle.cp_model.specs.Bundle.{Node, node_at}
+use Rattle.cp_model.specs.Skeleton.{UniqueAt, Assumptions, OrderPair, Skeleton, Before, IsOrderPair, IsOrigin, GivesAssumptions, IsSkeleton}
+use Rattle.cp_model.proofs.LawLists.{in_append_left, in_append_right, take_of_item}
+use Rattle.cp_completeness.proofs.Values.{in_trace}
+use Rattle.cp_completeness.proofs.Mapped.{agree_atom}
+use Rattle.cp_normal.specs.Agreeing.{SaysTheSame}
+use Rattle.cp_normal.proofs.SameStrands.{all_same_back, instance_at}
+use Rattle.cp_normal.proofs.SameFacts.{says_back, same_event, same_before}
+
+-- The variables of what a term carries occur in the term.
+pub carried_variables : {v t : Term} → IsCarriedByTerm v t → (x : Variable) → IsIn x (variables_of v) → IsIn x (variables_of t)
+carried_variables itself_term x i = i
+carried_variables (in_left_term {b = b} p) x i = in_append_left (variables_of b) (carried_variables p x i)
+carried_variables (in_right_term {a = a} p) x i = in_append_right (variables_of a) (carried_variables p x i)
+carried_variables (in_plaintext_term {k = k} p) x i = in_append_left (variables_of_key k) (carried_variables p x i)
+
+-- An assumption of unique origination that applies has its variables in the prefix.
+pub applies_at : (role : Role) (height : ℕ) (v : AtomTerm) (i : ℕ) → AppliesAt role height v i → Applies role height v
+applies_at role height v i a x inx = in_trace (prefix_of role height) i (send a.0.sent) x (take_of_item height role.trace i (send a.0.sent) a.1 a.0.transmission) (carried_variables a.0.carried x inx)
+
+module _ (k l : Skeleton) (s : SaysTheSame k l) where
+  pub same_order_pair : (p : OrderPair) → IsOrderPair k p → IsOrderPair l p
+  same_order_pair p o = record {
+    sent = o.sent;
+    received = o.received;
+    transmission = sym (same_event k l s p.earlier) ∙ o.transmission;
+    reception = sym (same_event k l s p.later) ∙ o.reception;
+    between_strands = o.between_strands;
+  }
+
+  pub same_order_pairs : ((p : OrderPair) → IsIn p k.pairs → IsOrderPair k p) → (p : OrderPair) → IsIn p l.pairs → IsOrderPair l p
+  same_order_pairs all p i = same_order_pair p (all p (subst (IsIn p) (sym s.pairs) i))
+
+  pub same_no_cycle : ((n : Node) → Before k n n → ⊥) → (n : Node) → Before l n n → ⊥
+  same_no_cycle never n before = never n (same_before l k (says_back k l s) before)
+
+  pub same_origin : (u : UniqueAt) → IsOrigin k u → IsOrigin l u
+  same_origin u o =
+      let i = instance_at (all_same_back s.strands) u.origin.strand o.role o.height o.terms o.on_instance in
+      record { role = o.role; height = o.height; terms = i.0; on_instance = i.1; sent = o.sent; transmission = sym (same_event k l s u.origin) ∙ o.transmission; carried = o.carried }
+
+  pub same_origins : ((u : UniqueAt) → IsIn u k.assumptions.uniquely_originating → IsOrigin k u) → (u : UniqueAt) → IsIn u l.assumptions.uniquely_originating → IsOrigin l u
+  same_origins all u i = same_origin u (all u (subst (λ (a : Assumptions). IsIn u a.uniquely_originating) (sym s.assumptions) i))
+
+  same_given : (a : ℕ) (role : Role) (height : ℕ) (own terms : Substitution) → AgreeOnTerms (variables_of_prefix role height) own terms → GivesAssumptions k a role height own → GivesAssumptions l a role height terms
+  same_given a role height own terms agree gives =
+      let same : (v : AtomTerm) → Applies role height v → apply_to_atom own v ≡ apply_to_atom terms v = λ v applies. agree_atom own terms v (λ x i. agree x (applies x i)) in
+      record {
+        non = λ v inv applies. subst (λ (c : Assumptions). IsIn (apply_to_atom terms v) c.non_originating) s.assumptions (subst (λ (w : AtomTerm). IsIn w k.assumptions.non_originating) (same v applies) (gives.non v inv applies));
+        penetrator_non = λ v inv applies. subst (λ (c : Assumptions). IsIn (apply_to_atom terms v) c.penetrator_non_originating) s.assumptions (subst (λ (w : AtomTerm). IsIn w k.assumptions.penetrator_non_originating) (same v applies) (gives.penetrator_non v inv applies));
+        unique = λ v i inv applies.
+            subst (λ (c : Assumptions). IsIn (record { value = apply_to_atom terms v; origin = node_at a i }) c.uniquely_originating) s.assumptions
+            (subst (λ (w : AtomTerm). IsIn (record { value = w; origin = node_at a i }) k.assumptions.uniquely_originating) (same v (applies_at role height v i applies)) (gives.unique v i inv applies));
+      }
+
+  pub same_is_skeleton : (protocol : Protocol) → IsSkeleton protocol k → IsSkeleton protocol l
+  same_is_skeleton protocol sk = record {
+    of_role = λ a role height terms at. let i = instance_at s.strands a role height terms at in sk.of_role a role height i.0 i.1;
+    heights = λ a role height terms at. let i = instance_at s.strands a role height terms at in sk.heights a role height i.0 i.1;
+    order_pairs = same_order_pairs sk.order_pairs;
+    no_cycle = same_no_cycle sk.no_cycle;
+    origins = same_origins sk.origins;
+    given = λ a role height terms at. let i = instance_at s.strands a role height terms at in same_given a role height i.0 terms i.2 (sk.given a role height i.0 i.1);
+  }

@@ -1,0 +1,173 @@
+-- The first of the unique values that stray.
+use Rattle.std.proofs.Common.{◌≡◌, ◌⊎◌, inl, inr, ℕ, zero, suc, ◌+◌, ◌<◌, ◌≤◌, List, [], ◌∷◌, ◌++◌, length, get_or, map, Some, refl, sym, ap, ◌∙◌, subst, arith}
+use Rattle.cp_model.specs.Lists.{item_at, IsIn, here, there}
+use Rattle.cp_model.specs.Term.{AtomTerm, Term, atom_term, IsCarriedByTerm}
+use Rattle.cp_model.specs.Strand.{Event, send, payload}
+use Rattle.cp_model.specs.Bundle.{Node, node_at}
+use Rattle.cp_model.specs.Skeleton.{SkeletonStrand, skeleton_trace, term_event_at, UniqueAt, Skeleton}
+use Rattle.cp_normal.specs.Events.{Occurrence, occurrences_on, occurrences_from}
+use Rattle.cp_normal.specs.Narrowing.{IsStray}
+use Rattle.cp_normal.specs.Branching.{IsSettled}
+use Rattle.cp_normal.specs.Straying.{Strays, StraysOne, NoneBefore, IsFirstAt, IsEarlier, IsFirstStray}
+use Rattle.cp_normal.proofs.Having.{item_is_in}
+use Rattle.cp_normal.proofs.Listing.{event_of_listed, listed_of_event}
+
+-- ---- loops that find the first
+
+pub viewed_at : {A B : Type 0} (f : A → B) (xs : List A) (i : ℕ) (x d : A) → i < length xs → x ≡ get_or xs i d → item_at (map f xs) i ≡ Some (f x)
+viewed_at f [] i x d h e = absurd (omega arith)
+viewed_at f (y ∷ ys) zero x d h e = ap (λ z. Some (f z)) (sym e)
+viewed_at f (y ∷ ys) (suc i) x d h e = viewed_at f ys i x d (omega arith) e
+
+past_end : {A B : Type 0} (f : A → B) (xs : List A) (i : ℕ) (y : B) → length xs ≤ i → item_at (map f xs) i ≡ Some y → ⊥
+past_end f [] i y h e = cc
+past_end f (x ∷ xs) zero y h e = omega arith
+past_end f (x ∷ xs) (suc i) y h e = past_end f xs i y (omega arith) e
+
+place_of : {A : Type 0} {x : A} (xs : List A) → IsIn x xs → (j : ℕ) × (item_at xs j ≡ Some x)
+place_of (x ∷ xs) here = (0, refl)
+place_of (x ∷ xs) (there h) = let r = place_of xs h in (suc r.0, r.1)
+place_of [] h = elim h [ ]
+
+pub at_is_in : {A : Type 0} (xs : List A) (n : ℕ) (x : A) → item_at xs n ≡ Some x → IsIn x xs
+at_is_in [] n x e = absurd (cc)
+at_is_in (y ∷ ys) zero x e = let q : y ≡ x = cc in subst (λ z. IsIn x (z ∷ ys)) (sym q) here
+at_is_in (y ∷ ys) (suc n) x e = there (at_is_in ys n x e)
+
+module _ {A B : Type 0} (has : B → Type 0) (f : A → B) (xs : List A) (i : ℕ) where
+  pub none_at_first : NoneBefore has (map f xs) 0
+  none_at_first j x l e h = omega arith
+
+  split : (j : ℕ) → j < i + 1 → (j < i) ⊎ (j ≡ i)
+  split j l = grind arith
+
+  none_next_at : (x d : A) (j : ℕ) (y : B) → i < length xs → x ≡ get_or xs i d → (has (f x) → ⊥) → NoneBefore has (map f xs) i → (j < i) ⊎ (j ≡ i) → item_at (map f xs) j ≡ Some y → has y → ⊥
+  none_next_at x d j y l e not inv (inl m) at h = inv j y m at h
+  none_next_at x d j y l e not inv (inr q) at h =
+      let s : item_at (map f xs) i ≡ Some y = subst (λ n. item_at (map f xs) n ≡ Some y) q at in
+      let t : item_at (map f xs) i ≡ Some (f x) = viewed_at f xs i x d l e in
+      let r : y ≡ f x = cc in
+      not (subst has r h)
+
+  pub none_next : (x d : A) → i < length xs → x ≡ get_or xs i d → (has (f x) → ⊥) → NoneBefore has (map f xs) i → NoneBefore has (map f xs) (i + 1)
+  none_next x d l e not inv j y m at h = none_next_at x d j y l e not inv (split j m) at h
+
+  before_or_past : (j : ℕ) → length xs ≤ i → (j < i) ⊎ (length xs ≤ j)
+  before_or_past j l = grind arith
+
+  none_of : (y : B) (j : ℕ) → NoneBefore has (map f xs) i → (j < i) ⊎ (length xs ≤ j) → item_at (map f xs) j ≡ Some y → has y → ⊥
+  none_of y j inv (inl m) at h = inv j y m at h
+  none_of y j inv (inr m) at h = past_end f xs j y m at
+
+  pub none_at_all : length xs ≤ i → NoneBefore has (map f xs) i → (y : B) → IsIn y (map f xs) → has y → ⊥
+  none_at_all l inv y m h = let r = place_of (map f xs) m in none_of y r.0 inv (before_or_past r.0 l) r.1 h
+
+-- ---- one event
+
+pub not_carried : (k : Skeleton) (o : Occurrence) (u : UniqueAt) → IsIn o (occurrences_from 0 k.strands) → (IsCarriedByTerm (atom_term u.value) (payload o.event) → ⊥) → Strays k o.node u → ⊥
+not_carried k o u inside not s =
+    let at : term_event_at k.strands o.node ≡ Some o.event = event_of_listed k.strands o inside in
+    let sent : term_event_at k.strands o.node ≡ Some (send s.1.1.sent) = s.1.1.transmission in
+    let same : send s.1.1.sent ≡ o.event = cc in
+    not (subst (λ (e : Event Term). IsCarriedByTerm (atom_term u.value) (payload e)) same s.1.1.carried)
+
+pub first_found : {A : Type 0} (f : A → UniqueAt) (k : Skeleton) (x : Node) (xs : List A) (i : ℕ) (u d : A) (v : AtomTerm) → i < length xs → u ≡ get_or xs i d → Strays k x (f u) → (f u).value ≡ v →
+    NoneBefore (Strays k x) (map f xs) i → IsFirstAt k x (map f xs) v
+first_found f k x xs i u d v l e s q inv = record { place = i; entry = f u; at_place = viewed_at f xs i u d l e; strays = s; is_value = q; first = inv }
+
+pub none_of_entries : (k : Skeleton) (o : Occurrence) (us : List UniqueAt) → us ≡ k.assumptions.uniquely_originating → ((u : UniqueAt) → IsIn u us → Strays k o.node u → ⊥) → StraysOne k o → ⊥
+none_of_entries k o us same none h = none h.0 (subst (IsIn h.0) (sym same) h.1) h.2
+
+-- ---- the order of the events
+
+-- An item of two lists strung together is in the first or in the second.
+at_append : {A : Type 0} (xs ys : List A) (i : ℕ) (z : A) → item_at (xs ++ ys) i ≡ Some z → ((item_at xs i ≡ Some z) × (i < length xs)) ⊎ ((j : ℕ) × (i ≡ length xs + j) × (item_at ys j ≡ Some z))
+at_append [] ys i z e = inr (i, omega arith, e)
+at_append (x ∷ xs) ys zero z e = inl (e, omega arith)
+at_append {A} (x ∷ xs) ys (suc i) z e = elim (at_append xs ys i z e) as (λ _. ((item_at (x ∷ xs) (suc i) ≡ Some z) × (suc i < length (x ∷ xs))) ⊎ ((j : ℕ) × (suc i ≡ length (x ∷ xs) + j) × (item_at ys j ≡ Some z))) [
+  | inl p ↦ inl (p.0, omega (arith, p.1))
+  | inr p ↦ inr (p.0, omega (arith, p.1), p.2)
+]
+
+on_place : (s b : ℕ) (es : List (Event Term)) (i : ℕ) (o : Occurrence) → item_at (occurrences_on s b es) i ≡ Some o → o.node ≡ node_at s (b + i)
+on_place s b [] i o e = absurd (cc)
+on_place s b (x ∷ es) zero o e =
+    let q : record { node = node_at s b; event = x } ≡ o = cc in
+    let z : b ≡ b + 0 = omega arith in
+    sym (ap (λ (p : Occurrence). p.node) q) ∙ ap (node_at s) z
+on_place s b (x ∷ es) (suc i) o e = let z : suc b + i ≡ b + suc i = omega arith in on_place s (suc b) es i o e ∙ ap (node_at s) z
+
+from_strand : (s : ℕ) (xs : List SkeletonStrand) (i : ℕ) (o : Occurrence) → item_at (occurrences_from s xs) i ≡ Some o → s ≤ o.node.strand
+from_strand s [] i o e = absurd (cc)
+from_strand s (x ∷ xs) i o e = elim (at_append (occurrences_on s 0 (skeleton_trace x)) (occurrences_from (suc s) xs) i o e) as (λ _. s ≤ o.node.strand) [
+  | inl p ↦ let q : o.node.strand ≡ s = ap (λ (n : Node). n.strand) (on_place s 0 (skeleton_trace x) i o p.0) in omega (arith, q)
+  | inr p ↦ let q : suc s ≤ o.node.strand = from_strand (suc s) xs p.0 o p.2 in omega (arith, q)
+]
+
+module _ (s : ℕ) (es : List (Event Term)) (i j : ℕ) (o p : Occurrence) where
+  earlier_index : o.node ≡ node_at s (0 + i) → p.node ≡ node_at s (0 + j) → IsEarlier p.node o.node → j < i
+  earlier_index a b (inl l) =
+      let c : o.node.strand ≡ s = ap (λ (n : Node). n.strand) a in
+      let d : p.node.strand ≡ s = ap (λ (n : Node). n.strand) b in
+      absurd (omega (arith, l, c, d))
+  earlier_index a b (inr l) =
+      let c : o.node.index ≡ 0 + i = ap (λ (n : Node). n.index) a in
+      let d : p.node.index ≡ 0 + j = ap (λ (n : Node). n.index) b in
+      omega (arith, l.1, c, d)
+
+  not_earlier : o.node.strand ≡ s → suc s ≤ p.node.strand → IsEarlier p.node o.node → ⊥
+  not_earlier a b (inl l) = omega (arith, a, b, l)
+  not_earlier a b (inr l) = omega (arith, a, b, l.0)
+
+abbrev InFrom : ℕ → SkeletonStrand → List SkeletonStrand → ℕ → Occurrence → Type 0
+InFrom s x xs i o = ((item_at (occurrences_on s 0 (skeleton_trace x)) i ≡ Some o) × (i < length (occurrences_on s 0 (skeleton_trace x)))) ⊎ ((j : ℕ) × (i ≡ length (occurrences_on s 0 (skeleton_trace x)) + j) × (item_at (occurrences_from (suc s) xs) j ≡ Some o))
+
+module _ (s : ℕ) (x : SkeletonStrand) (xs : List SkeletonStrand) (i j : ℕ) (o p : Occurrence) (earlier : IsEarlier p.node o.node)
+    (more : (i j : ℕ) → item_at (occurrences_from (suc s) xs) i ≡ Some o → item_at (occurrences_from (suc s) xs) j ≡ Some p → j < i) where
+  order_of : InFrom s x xs i o → InFrom s x xs j p → j < i
+  order_of (inl a) (inl b) = earlier_index s (skeleton_trace x) i j o p (on_place s 0 (skeleton_trace x) i o a.0) (on_place s 0 (skeleton_trace x) j p b.0) earlier
+  order_of (inl a) (inr b) =
+      let q : o.node.strand ≡ s = ap (λ (n : Node). n.strand) (on_place s 0 (skeleton_trace x) i o a.0) in
+      absurd (not_earlier s (skeleton_trace x) i j o p q (from_strand (suc s) xs b.0 p b.2) earlier)
+  order_of (inr a) (inl b) = omega (arith, a.1, b.1)
+  order_of (inr a) (inr b) = let l : b.0 < a.0 = more a.0 b.0 a.2 b.2 in omega (arith, l, a.1, b.1)
+
+-- An event at an earlier node stands before another in the list.
+in_order : (s : ℕ) (xs : List SkeletonStrand) (i j : ℕ) (o p : Occurrence) → IsEarlier p.node o.node → item_at (occurrences_from s xs) i ≡ Some o → item_at (occurrences_from s xs) j ≡ Some p → j < i
+in_order s [] i j o p earlier a b = absurd (cc)
+in_order s (x ∷ xs) i j o p earlier a b =
+    let first = occurrences_on s 0 (skeleton_trace x) in
+    let rest = occurrences_from (suc s) xs in
+    order_of s x xs i j o p earlier (λ n m. in_order (suc s) xs n m o p earlier) (at_append first rest i o a) (at_append first rest j p b)
+
+-- ---- all events
+
+module _ {A : Type 0} (f : A → Occurrence) (k : Skeleton) (xs : List A) (listed : map f xs ≡ occurrences_from 0 k.strands) where
+  stray_listed : (u : UniqueAt) (y : Node) (stray : IsStray k u y) → IsIn (record { node = y; event = send stray.originates.1.sent }) (map f xs)
+  stray_listed u y stray = subst (IsIn (record { node = y; event = send stray.originates.1.sent })) (sym listed) (listed_of_event k.strands y (send stray.originates.1.sent) stray.originates.1.transmission)
+
+  pub none_strays : (i : ℕ) → length xs ≤ i → NoneBefore (StraysOne k) (map f xs) i → IsSettled k
+  none_strays i l inv u y stray =
+      none_at_all (StraysOne k) f xs i l inv (record { node = y; event = send stray.originates.1.sent }) (stray_listed u y stray) (u, stray.listed, (stray.elsewhere, stray.originates))
+
+  pub event_listed : (i : ℕ) (x : A) → i < length xs → x ≡ get_or xs i x → IsIn (f x) (occurrences_from 0 k.strands)
+  event_listed i x l e = subst (IsIn (f x)) listed (into (item_is_in xs i x l e))
+    where
+      into : {x : A} {xs : List A} → IsIn x xs → IsIn (f x) (map f xs)
+      into here = here
+      into (there p) = there (into p)
+
+  pub earliest_found : (i : ℕ) (x d : A) → i < length xs → x ≡ get_or xs i d → NoneBefore (StraysOne k) (map f xs) i → (u : UniqueAt) (y : Node) → IsStray k u y → IsEarlier y (f x).node → ⊥
+  earliest_found i x d l e inv u y stray earlier =
+      let o : Occurrence = record { node = y; event = send stray.originates.1.sent } in
+      let r = place_of (map f xs) (stray_listed u y stray) in
+      let at_o : item_at (occurrences_from 0 k.strands) r.0 ≡ Some o = subst (λ (os : List Occurrence). item_at os r.0 ≡ Some o) listed r.1 in
+      let at_x : item_at (occurrences_from 0 k.strands) i ≡ Some (f x) = subst (λ (os : List Occurrence). item_at os i ≡ Some (f x)) listed (viewed_at f xs i x d l e) in
+      inv r.0 o (in_order 0 k.strands i r.0 (f x) o earlier at_x at_o) r.1 (u, stray.listed, (stray.elsewhere, stray.originates))
+
+  pub first_stray_found : (i : ℕ) (x d : A) (v : AtomTerm) (us : List UniqueAt) → us ≡ k.assumptions.uniquely_originating → i < length xs → x ≡ get_or xs i d → NoneBefore (StraysOne k) (map f xs) i →
+      IsFirstAt k (f x).node us v → IsFirstStray k v (f x).node
+  first_stray_found i x d v us same l e inv found = record {
+    here = subst (λ (ws : List UniqueAt). IsFirstAt k (f x).node ws v) same found;
+    earliest = earliest_found i x d l e inv;
+  }

@@ -1,0 +1,8 @@
+use Rattle.cp_normal.proofs.Determined.{collapse_is_possible, partitions_determined}
+use Rattle.cp_normal.proofs.collapsing.collapses_are_determined.Goals as goal
+
+pub returns-clause-possible : goal.returns-clause-possible
+returns-clause-possible c = collapse_is_possible
+
+pub returns-clause-partitions : goal.returns-clause-partitions
+returns-clause-partitions c = partitions_determined

@@ -1,0 +1,30 @@
+use Rattle.std.proofs.Common.{sym, subst, ◌∙◌}
+use Rattle.cp_skel.specs.View.{skeleton_view}
+use Rattle.cp_skel.specs.declared.skeleton.Skeleton.{Skeleton}
+use Rattle.cp_normal.specs.Candidates.{IsInOrder, PutsForm}
+use Rattle.cp_normal.specs.Values.{HasItsValues}
+use Rattle.cp_normal.proofs.Following.{empty_list}
+use Rattle.cp_normal.proofs.Gathered.{none_so_far, next_form, all_forms, form_in, sound_values}
+use Rattle.cp_normal.proofs.normalising.forms_of.Goals as goal
+
+pub loop-candidate-init : goal.loop-candidate-init
+loop-candidate-init c = none_so_far _ _ c.new-forms.ensures.items
+
+pub add_form-requires-clause-values : goal.add_form-requires-clause-values
+add_form-requires-clause-values c =
+    let i = form_in c.args.candidates.items _ _ _ _ c.in-Some.candidate c.reverse.ensures.items c.loop-candidate.invariant c.in-Some.ensures.items in
+    subst (λ (k : Skeleton). HasItsValues k) (sym c.into_skeleton.ensures) (sound_values c.in-Some.candidate (c.requires.sound c.in-Some.candidate i))
+
+pub add_form-requires-clause-in_order : goal.add_form-requires-clause-in_order
+add_form-requires-clause-in_order c =
+    let i = form_in c.args.candidates.items _ _ _ _ c.in-Some.candidate c.reverse.ensures.items c.loop-candidate.invariant c.in-Some.ensures.items in
+    subst (λ (k : Skeleton). IsInOrder (skeleton_view k)) (sym c.into_skeleton.ensures) (c.requires.in_order c.in-Some.candidate i)
+
+pub loop-candidate-preserved : goal.loop-candidate-preserved
+loop-candidate-preserved c =
+    next_form _ _ _ _ _ c.in-Some.candidate c.loop-candidate.invariant c.in-Some.ensures.items
+    (subst (λ (k : Skeleton). PutsForm k c.loop-candidate.forms.items c.add_form.new.forms.items) c.into_skeleton.ensures c.in_ok-add_form.ensures)
+
+pub returns : goal.returns
+returns c =
+    all_forms c.args.candidates.items _ c.loop-candidate.rest.items _ c.reverse.ensures.items (empty_list c.loop-candidate.rest.items (sym c.loop-candidate.rest.ok.0 ∙ c.in_default.ensures.cases.0)) c.loop-candidate.invariant

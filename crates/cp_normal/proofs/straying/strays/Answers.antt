@@ -1,0 +1,13 @@
+use Rattle.std.proofs.Common.{refl}
+use Rattle.cp_skel.specs.View.{unique_view, skeleton_view}
+use Rattle.cp_normal.specs.Events.{occurrence_view}
+use Rattle.cp_normal.proofs.Having.{not_both}
+use Rattle.cp_normal.proofs.Strayed.{not_carried}
+use Rattle.cp_normal.proofs.straying.strays.Goals as goal
+
+pub returns-then-not-carries_value : goal.returns-then-not-carries_value
+returns-then-not-carries_value c = (
+  λ r. absurd (not_both refl r),
+  λ s. absurd (not_carried (skeleton_view c.args.k.now) (occurrence_view c.args.occurrence.now) (unique_view c.args.unique.now) c.requires.is_there
+      (λ h. not_both c.if-not-carries_value.true (c.carries_value.ensures.1 h)) s),
+)

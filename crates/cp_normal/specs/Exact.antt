@@ -1,0 +1,25 @@
+-- The normal forms that the rules give, in their order.
+use Rattle.std.specs.Prelude.{◌⊎◌, List, [], ◌∷◌, ◌++◌}
+use Rattle.cp_model.specs.Term.{AtomTerm}
+use Rattle.cp_model.specs.Bundle.{Node}
+use Rattle.cp_model.specs.Skeleton.{OrderPair, Skeleton}
+use Rattle.cp_completeness.specs.Normal.{with_pairs}
+use Rattle.cp_normal.specs.Normalising.{CarriesNonOriginating, HasTwoOrigins, LosesOrigin, AreNormalPairs, IsContradictory}
+use Rattle.cp_normal.specs.Branching.{IsSettled}
+use Rattle.cp_normal.specs.Branched.{AreInOrder}
+use Rattle.cp_normal.specs.Hearing.{heard_before}
+use Rattle.cp_normal.specs.Straying.{IsFirstStray}
+
+-- The skeleton's assumptions contradict what its nodes carry.
+abbrev pub IsRefuted : Skeleton → Type 0
+IsRefuted k = CarriesNonOriginating k ⊎ (HasTwoOrigins k ⊎ LosesOrigin k)
+
+-- The second list are the normal forms of the skeletons of the first, one after the other. One that is refuted has none;
+-- else the branches of one in which a unique value strays, by the first that does, stand in its place; else it has none
+-- where it contradicts itself, and is one with its normal pairs where it does not.
+pub data HaveForms : List Skeleton → List Skeleton → Type 0 where
+  no_skeletons : HaveForms [] []
+  refuted_one : {k : Skeleton} {ks rs : List Skeleton} → IsRefuted k → HaveForms ks rs → HaveForms (k ∷ ks) rs
+  stray_one : {k : Skeleton} {v : AtomTerm} {x : Node} {branches ks rs : List Skeleton} → (IsRefuted k → ⊥) → IsFirstStray k v x → AreInOrder k v (heard_before k x) branches → HaveForms (branches ++ ks) rs → HaveForms (k ∷ ks) rs
+  cyclic_one : {k : Skeleton} {ks rs : List Skeleton} → IsSettled k → IsContradictory k → HaveForms ks rs → HaveForms (k ∷ ks) rs
+  normal_one : {k : Skeleton} {pairs : List OrderPair} {ks rs : List Skeleton} → IsSettled k → AreNormalPairs k pairs → (IsContradictory k → ⊥) → HaveForms ks rs → HaveForms (k ∷ ks) (with_pairs k pairs ∷ rs)

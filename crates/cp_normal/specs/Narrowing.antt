@@ -1,0 +1,63 @@
+-- Narrowing by unique values that originate elsewhere than at their recorded origins, and normal forms.
+use Rattle.std.specs.Prelude.{◌≡◌, ◌≢◌, ℕ, ◌<◌, Some}
+use Rattle.cp_model.specs.Lists.{IsIn}
+use Rattle.cp_model.specs.Term.{AtomTerm, Term, atom_term, IsCarriedByTerm, Assignment, value_of_atom, value_of, after, Substitution, apply_to_atom}
+use Rattle.cp_model.specs.Strand.{recv}
+use Rattle.cp_model.specs.Bundle.{Node, node_at}
+use Rattle.cp_model.specs.Skeleton.{UniqueAt, OrderPair, Skeleton, term_event_at, Before}
+use Rattle.cp_model.specs.Derivable.{OriginatesAtTerm}
+use Rattle.cp_completeness.specs.Normal.{skeleton_under, with_pairs}
+use Rattle.cp_normal.specs.Normalising.{IsAddedPair, AreNormalPairs, IsContradictory}
+use Rattle.cp_normal.specs.Agreeing.{SaysTheSame}
+
+-- A unique value originates at a node of a role strand that is not its recorded origin.
+pub record IsStray (k : Skeleton) (u : UniqueAt) (x : Node) : Type 0 where
+  pub listed : IsIn u k.assumptions.uniquely_originating
+  pub originates : OriginatesAtTerm k u.value x
+  pub elsewhere : x ≢ u.origin
+
+-- A reception before node x on its strand carries the atom.
+pub record IsHeardAt (k : Skeleton) (a : AtomTerm) (x : Node) : Type 0 where
+  pub index : ℕ
+  pub earlier : index < x.index
+  pub received : Term
+  pub reception : term_event_at k.strands (node_at x.strand index) ≡ Some (recv received)
+  pub carried : IsCarriedByTerm (atom_term a) received
+
+-- s is a most general unifier of two atoms: it makes them one, and every assignment that gives them one value gives each
+-- term the value of that term under s.
+pub record IsMostGeneralFor (a b : AtomTerm) (s : Substitution) : Type 0 where
+  pub unifies : apply_to_atom s a ≡ apply_to_atom s b
+  pub general : (g : Assignment) → value_of_atom g a ≡ value_of_atom g b → (t : Term) → value_of (after g s) t ≡ value_of g t
+
+-- One step of narrowing: l says the same as k under a most general unifier of a stray unique value and an atom that was
+-- heard before the node where it originates.
+pub record IsNarrowed (k l : Skeleton) : Type 0 where
+  pub entry : UniqueAt
+  pub node : Node
+  pub heard : AtomTerm
+  pub unifier : Substitution
+  pub stray : IsStray k entry node
+  pub heard_before : IsHeardAt k heard node
+  pub most_general : IsMostGeneralFor entry.value heard unifier
+  pub same : SaysTheSame (skeleton_under unifier k) l
+
+-- Narrowing by steps, none or more, leads from k to m.
+pub data NarrowsTo : Skeleton → Skeleton → Type 0 where
+  none : {k : Skeleton} → NarrowsTo k k
+  one : {k l m : Skeleton} → IsNarrowed k l → NarrowsTo l m → NarrowsTo k m
+
+-- None of the rules changes the skeleton: it does not contradict itself, each unique value originates at its recorded
+-- origin alone, and the pairs that unique values add are in its order.
+pub record IsNormal (k : Skeleton) : Type 0 where
+  pub consistent : IsContradictory k → ⊥
+  pub no_stray : (u : UniqueAt) (x : Node) → IsStray k u x → ⊥
+  pub ordered : (p : OrderPair) → IsAddedPair k p → Before k p.earlier p.later
+
+-- r is a normal form of k: narrowed from it by steps, with the pairs that unique values add, and normal.
+pub record IsNormalFormOf (k r : Skeleton) : Type 0 where
+  pub narrowed : Skeleton
+  pub by_steps : NarrowsTo k narrowed
+  pub pairs : AreNormalPairs narrowed r.pairs
+  pub same : r ≡ with_pairs narrowed r.pairs
+  pub normal : IsNormal r

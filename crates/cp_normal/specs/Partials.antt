@@ -1,0 +1,69 @@
+-- Partitions of the first strands with bindings that identify their blocks, as the program keeps them, and what
+-- unification answers beside bindings.
+use Rattle.std.specs.Prelude.{◌≡◌, ◌||◌, ℕ, List, [], ◌∷◌, ◌++◌, Bool, map}
+use Rattle.cp_model.specs.Lists.{IsIn}
+use Rattle.cp_model.specs.Term.{Variable, text_sort, datum_sort, name_sort, skey_sort, akey_sort, Assignment, after}
+use Rattle.cp_model.specs.Homomorphism.{substitution_by}
+use Rattle.cp_model.specs.Skeleton.{Skeleton}
+use Rattle.cp_unify.specs.Bindings.{Binding, Meets, as_substitution}
+use Rattle.cp_skel.specs.Occurring.{has_variable}
+use Rattle.cp_skel.specs.View.{role_view}
+use Rattle.cp_skel.specs.declared.skeleton.Instance.{Instance}
+use Rattle.cp_normal.specs.Events.{Has}
+use Rattle.cp_normal.specs.Partitions.{HaveEqualValues, IdentifiesValues}
+use Rattle.cp_normal.specs.Collapsing.{IsNeverIdentified}
+use Rattle.cp_normal.specs.Extending.{ArePartitionsOfFirst, MayHave, AreExtendedTo, IsExactFor}
+use Rattle.cp_normal.specs.declared.extending.Partial.{Partial}
+
+-- One of the variables has this number.
+abbrev pub HasNumber : List Variable → ℕ → Type 0
+HasNumber xs n = Has (λ x. x.number ≡ n) xs
+
+-- Whether one of the variables, of any sort, has this number.
+abbrev pub has_number : List Variable → ℕ → Bool
+has_number xs n =
+    has_variable xs (record { sort = text_sort; number = n }) || has_variable xs (record { sort = datum_sort; number = n })
+    || has_variable xs (record { sort = name_sort; number = n }) || has_variable xs (record { sort = skey_sort; number = n })
+    || has_variable xs (record { sort = akey_sort; number = n })
+
+-- The bindings are solved: whatever an assignment gives to the variables that are not bound, they give one that meets
+-- them.
+abbrev pub AreSolved : List Binding → Type 0
+AreSolved r = (g : Assignment) → Meets (after g (as_substitution r)) r
+
+-- An assignment meets the bindings and gives two instances equal values.
+abbrev pub AlsoEqual : List Binding → Instance → Instance → Assignment → Type 0
+AlsoEqual given a b g = Meets g given × HaveEqualValues (role_view a.role.value) a.height (substitution_by a.values.items) b.height (substitution_by b.values.items) g
+
+-- The fact is true of no assignment.
+abbrev pub IsNever : (Assignment → Type 0) → Type 0
+IsNever fact = (g : Assignment) → fact g → ⊥
+
+-- The partitions of partial ones.
+abbrev pub lists : List Partial → List (List ℕ)
+lists partials = map (λ p. p.lowest.items) partials
+
+-- The bindings of a partial partition are met by exactly the assignments that give the strands of each block equal values.
+abbrev pub IsExact : Skeleton → Partial → Type 0
+IsExact k p = IsExactFor (IdentifiesValues k p.lowest.items) p.bindings.value
+
+-- These are the partial partitions of the first n strands.
+pub record ArePartials (k : Skeleton) (n : ℕ) (partials : List Partial) : Type 0 where
+  pub partitions : ArePartitionsOfFirst k n (lists partials)
+  pub exact : (p : Partial) → IsIn p partials → IsExact k p
+
+-- Of the partitions ps of the first n strands those before number i are extended by each entry, and number i by each from
+-- m on.
+pub record ArePartlyExtended (k : Skeleton) (n : ℕ) (ps : List (List ℕ)) (i m : ℕ) (partials : List Partial) : Type 0 where
+  pub extended : AreExtendedTo k n ps i m (lists partials)
+  pub exact : (p : Partial) → IsIn p partials → IsExact k p
+
+-- The partial partition is p with the entry l for strand n, which it may have.
+pub record Joins (k : Skeleton) (n : ℕ) (p : List ℕ) (l : ℕ) (partial : Partial) : Type 0 where
+  pub extended : partial.lowest.items ≡ p ++ (l ∷ [])
+  pub may_have : MayHave k p n l
+  pub exact : IsExact k partial
+
+-- Strand n may not have the entry l beside p, or the blocks then never have equal values.
+abbrev pub MayNotJoin : Skeleton → ℕ → List ℕ → ℕ → Type 0
+MayNotJoin k n p l = MayHave k p n l → IsNeverIdentified k (p ++ (l ∷ []))

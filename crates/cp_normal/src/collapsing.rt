@@ -1,0 +1,20 @@
+// Laws of collapses: each stands as the contract of a function that does nothing.
+ghost use Rattle.std.specs.Prelude.{◌≡◌, ℕ, List, ◌∷◌};
+ghost use Rattle.cp_model.specs.Strand.{Protocol};
+ghost use Rattle.cp_model.specs.Skeleton.{Skeleton, IsSkeleton};
+ghost use Rattle.cp_model.specs.Homomorphism.{IsHomomorphism, IsCompleteList};
+ghost use Rattle.cp_normal.specs.Collapsing.{onto_blocks, IsCollapsed, HasNoCycle, IsImpossible, IsCollapse, AreCollapses};
+
+/// A skeleton over a protocol whose strands are merged by a partition is one, where the merged order has no cycle, and
+/// its way onto the blocks is a homomorphism; and a skeleton and its collapses are a complete list for it.
+pub fn collapses_cover()
+    ensures skeleton { (protocol : Protocol) (k l : Skeleton) (p : List ℕ) → IsSkeleton protocol k → IsCollapsed k p l → HasNoCycle l → IsSkeleton protocol l }
+    ensures homomorphism { (protocol : Protocol) (k l : Skeleton) (p : List ℕ) → IsSkeleton protocol k → (c : IsCollapsed k p l) → IsHomomorphism k l (onto_blocks p c.unifier) }
+    ensures covers { (protocol : Protocol) (k : Skeleton) (ls : List Skeleton) → IsSkeleton protocol k → AreCollapses k ls → IsCompleteList protocol k (k ∷ ls) }
+{}
+
+/// No collapse is by an impossible partition, so all lists of the collapses of a skeleton are by the same partitions.
+pub fn collapses_are_determined()
+    ensures possible { (k l : Skeleton) (p : List ℕ) → IsCollapse k p l → IsImpossible k p → ⊥ }
+    ensures partitions { (k : Skeleton) (ls ms : List Skeleton) → (a : AreCollapses k ls) → (b : AreCollapses k ms) → a.partitions ≡ b.partitions }
+{}

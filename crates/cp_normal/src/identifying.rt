@@ -1,0 +1,89 @@
+// The collapses of a skeleton.
+ghost use Rattle.std.specs.Prelude.{◌≡◌, ◌<◌, ◌∷◌, map, IfOk, MatchOption};
+ghost use Rattle.cp_model.specs.Homomorphism.{IsCompleteList};
+ghost use Rattle.cp_model.specs.Lists.{IsIn};
+ghost use Rattle.cp_model.specs.Skeleton.{OrderPair as Pair, IsOrderPair, IsSkeleton};
+ghost use Rattle.cp_model.specs.Strand.{Protocol};
+ghost use Rattle.cp_skel.specs.View.{skeleton_view};
+ghost use Rattle.cp_skel.specs.declared.skeleton.Skeleton as program;
+ghost use Rattle.cp_normal.specs.Collapsing.{LiesOnOne, IsCollapsed, HasNoCycle, IsImpossible, AreCollapses};
+ghost use Rattle.cp_normal.specs.Partials.{IsExact};
+ghost use Rattle.cp_normal.specs.Partitions.{IsPartition};
+ghost use Rattle.cp_normal.specs.Values.{HasItsValues, HasValuesBeside};
+
+use crate::cycles::some_closes;
+use crate::extending::{Partial, partitions};
+use crate::images::{assumption_images, from_problem_image, pair_images, some_lies_backward};
+use crate::merging::merged_strands;
+use cp_skel::{Order, Skeleton};
+use std::alloc::{AllocError, Global};
+
+/// The skeleton with the strands of each block merged, where no pair comes to lie backward.
+fn merged(alloc: Global, k: &Skeleton, partial: &Partial) -> Result<Skeleton, AllocError>
+    requires values { HasItsValues k.now }
+    requires partition { IsPartition (skeleton_view k.now) partial.now.lowest.items }
+    requires exact { IsExact (skeleton_view k.now) partial.now }
+    requires forward { (q : Pair) → IsIn q (skeleton_view k.now).pairs → LiesOnOne partial.now.lowest.items q → q.earlier.index < q.later.index }
+    ensures collapsed { IfOk result (λ l. IsCollapsed (skeleton_view k.now) partial.now.lowest.items (skeleton_view l)) }
+    ensures values { IfOk result (λ l. HasItsValues l) }
+    ensures variables { IfOk result (λ l. l.variables ≡ k.now.variables) }
+{
+    let lowest = &partial.lowest;
+    let bindings = &partial.bindings;
+    Ok(Skeleton {
+        variables: k.variables.copy()?,
+        strands: merged_strands(alloc, k, partial)?,
+        order: Order::of(pair_images(alloc, k.order.pairs(), lowest)?),
+        assumptions: assumption_images(alloc, &k.assumptions, bindings, lowest)?,
+        from_problem: from_problem_image(alloc, &k.from_problem, bindings, lowest)?,
+    })
+}
+
+/// The collapse by a partition; none where a pair comes to lie backward, or the merged order has a cycle.
+fn collapse(alloc: Global, k: &Skeleton, partial: &Partial) -> Result<Option<Skeleton>, AllocError>
+    requires values { HasItsValues k.now }
+    requires partition { IsPartition (skeleton_view k.now) partial.now.lowest.items }
+    requires exact { IsExact (skeleton_view k.now) partial.now }
+    requires order_pairs { (q : Pair) → IsIn q (skeleton_view k.now).pairs → IsOrderPair (skeleton_view k.now) q }
+    ensures { IfOk result (λ found. MatchOption found
+        (IsImpossible (skeleton_view k.now) partial.now.lowest.items)
+        (λ l. IsCollapsed (skeleton_view k.now) partial.now.lowest.items (skeleton_view l) × HasNoCycle (skeleton_view l) × HasValuesBeside k.now l)) }
+{
+    if some_lies_backward(k.order.pairs(), &partial.lowest) {
+        return Ok(None);
+    }
+    let merged = merged(alloc, k, partial)?;
+    if some_closes(alloc, merged.order.pairs())? {
+        return Ok(None);
+    }
+    Ok(Some(merged))
+}
+
+/// The collapses of a skeleton, one for each way to identify strands of one role: each partition of the strands into
+/// blocks of instances of one role, other than the finest, whose blocks unify and whose merged order has no cycle. A
+/// block takes its lowest place and its greatest height; places are then numbered without gaps. A partition is written
+/// as the list of each strand's lowest strand in its block, and the collapses come in descending order of these lists. A
+/// pair that comes to lie forward on one strand is dropped.
+///
+/// Each instance has to have a term of its sort for each variable of its prefix, and so have those of the collapses; the
+/// skeleton's pairs have to be between nodes that are there. The error is that memory ran out.
+pub fn collapses(alloc: Global, k: &Skeleton) -> Result<Vec<Skeleton>, AllocError>
+    requires values { HasItsValues k.now }
+    requires order_pairs { (q : Pair) → IsIn q (skeleton_view k.now).pairs → IsOrderPair (skeleton_view k.now) q }
+    ensures exact { IfOk result (λ ls. AreCollapses (skeleton_view k.now) (map skeleton_view ls.items)) }
+    ensures covers { IfOk result (λ ls. (protocol : Protocol) → IsSkeleton protocol (skeleton_view k.now) → IsCompleteList protocol (skeleton_view k.now) (skeleton_view k.now ∷ map skeleton_view ls.items)) }
+    ensures values { IfOk result (λ ls. (l : program.Skeleton) → IsIn l ls.items → HasItsValues l) }
+    ensures variables { IfOk result (λ ls. (l : program.Skeleton) → IsIn l ls.items → l.variables ≡ k.now.variables) }
+{
+    let partials = partitions(alloc, k)?;
+    let mut collapses = Vec::new(alloc);
+    // The first partition is the finest.
+    for number in 1..partials.len() {
+        let collapsed = match collapse(alloc, k, &partials[number])? {
+            Some(collapsed) => collapsed,
+            None => continue,
+        };
+        collapses.push(collapsed)?;
+    }
+    Ok(collapses)
+}

@@ -1,0 +1,226 @@
+// The images of assumptions and pairs where the strands of each block are merged, each once.
+ghost use Rattle.std.specs.Prelude.{◌≡◌, ◌↔◌, ◌≤◌, map, IsTrue, IfOk, OnOk};
+ghost use Rattle.cp_model.specs.Term.{apply_to_atom};
+ghost use Rattle.cp_unify.specs.Bindings.{as_substitution};
+ghost use Rattle.cp_skel.specs.View.{unique_view, pair_view, assumptions_view, from_problem_view};
+ghost use Rattle.cp_normal.specs.Collapsing.{AreImages, unique_in, ArePairsIn, AreAssumptionsIn, IsFromProblemIn, LiesOnOne};
+ghost use Rattle.cp_normal.specs.Events.{Has};
+ghost use Rattle.cp_normal.specs.Merging.{IsPutOnce};
+ghost use Rattle.cp_normal.specs.Partitions.{place_in};
+
+use crate::origins::is_same_node;
+use crate::placing::{node_in, pair_in, place_in};
+use crate::substituting::{atom_under, terms_under};
+use cp_skel::{Assumptions, Atom, FromProblem, OrderPair, UniqueAt};
+use cp_unify::Subst;
+use std::alloc::{AllocError, Global};
+
+/// Whether an atom is one of these.
+fn is_listed_atom(atom: &Atom, atoms: &[Atom]) -> bool
+    ensures { IsTrue result ↔ Has (λ other. other ≡ atom.now) atoms.now }
+{
+    for other in atoms {
+        if other.same(atom) {
+            return true;
+        }
+    }
+    false
+}
+
+/// Puts an atom behind others, if it is not one of them.
+fn put_atom(atom: Atom, atoms: &mut Vec<Atom>) -> Result<(), AllocError>
+    ensures { OnOk result (IsPutOnce atom atoms.old.items atoms.new.items) }
+{
+    if is_listed_atom(&atom, atoms) {
+        return Ok(());
+    }
+    atoms.push(atom)?;
+    Ok(())
+}
+
+/// The atoms under a substitution, each once.
+fn atom_images(alloc: Global, atoms: &[Atom], s: &Subst) -> Result<Vec<Atom>, AllocError>
+    ensures { IfOk result (λ v. AreImages (apply_to_atom (as_substitution s.now)) atoms.now v.items) }
+{
+    let mut images = Vec::new(alloc);
+    for atom in atoms {
+        put_atom(atom_under(alloc, atom, s)?, &mut images)?;
+    }
+    Ok(images)
+}
+
+fn is_same_unique(first: &UniqueAt, second: &UniqueAt) -> bool
+    ensures { IsTrue result ↔ (unique_view first.now ≡ unique_view second.now) }
+{
+    first.value.same(&second.value) && is_same_node(first.origin, second.origin)
+}
+
+/// Whether a unique value with its recorded origin is one of these.
+fn is_listed_unique(unique: &UniqueAt, uniques: &[UniqueAt]) -> bool
+    ensures { IsTrue result ↔ Has (λ other. unique_view other ≡ unique_view unique.now) uniques.now }
+{
+    for other in uniques {
+        if is_same_unique(other, unique) {
+            return true;
+        }
+    }
+    false
+}
+
+/// Puts a unique value with its recorded origin behind others, if it is not one of them.
+fn put_unique(unique: UniqueAt, uniques: &mut Vec<UniqueAt>) -> Result<(), AllocError>
+    ensures { OnOk result (IsPutOnce (unique_view unique) (map unique_view uniques.old.items) (map unique_view uniques.new.items)) }
+{
+    if is_listed_unique(&unique, uniques) {
+        return Ok(());
+    }
+    uniques.push(unique)?;
+    Ok(())
+}
+
+/// A unique value under a substitution, with its recorded origin at the place of its strand's block.
+fn unique_image(
+    alloc: Global,
+    unique: &UniqueAt,
+    s: &Subst,
+    lowest: &[usize],
+) -> Result<UniqueAt, AllocError>
+    ensures { IfOk result (λ u. unique_view u ≡ unique_in lowest.now (as_substitution s.now) (unique_view unique.now)) }
+{
+    Ok(UniqueAt {
+        value: atom_under(alloc, &unique.value, s)?,
+        origin: node_in(lowest, unique.origin),
+    })
+}
+
+/// The images of unique values, each once.
+fn unique_images(
+    alloc: Global,
+    uniques: &[UniqueAt],
+    s: &Subst,
+    lowest: &[usize],
+) -> Result<Vec<UniqueAt>, AllocError>
+    ensures { IfOk result (λ v. AreImages (unique_in lowest.now (as_substitution s.now)) (map unique_view uniques.now) (map unique_view v.items)) }
+{
+    let mut images = Vec::new(alloc);
+    for unique in uniques {
+        put_unique(unique_image(alloc, unique, s, lowest)?, &mut images)?;
+    }
+    Ok(images)
+}
+
+fn is_same_pair(first: &OrderPair, second: &OrderPair) -> bool
+    ensures { IsTrue result ↔ (pair_view first.now ≡ pair_view second.now) }
+{
+    is_same_node(first.earlier, second.earlier) && is_same_node(first.later, second.later)
+}
+
+/// Whether a pair is one of these.
+fn is_listed_pair(pair: &OrderPair, pairs: &[OrderPair]) -> bool
+    ensures { IsTrue result ↔ Has (λ other. pair_view other ≡ pair_view pair.now) pairs.now }
+{
+    for other in pairs {
+        if is_same_pair(other, pair) {
+            return true;
+        }
+    }
+    false
+}
+
+/// Puts a pair behind others, if it is not one of them.
+fn put_pair(pair: OrderPair, pairs: &mut Vec<OrderPair>) -> Result<(), AllocError>
+    ensures { OnOk result (IsPutOnce (pair_view pair) (map pair_view pairs.old.items) (map pair_view pairs.new.items)) }
+{
+    if is_listed_pair(&pair, pairs) {
+        return Ok(());
+    }
+    pairs.push(pair)?;
+    Ok(())
+}
+
+/// Whether a pair comes to lie on one strand.
+fn lies_on_one(pair: &OrderPair, lowest: &[usize]) -> bool
+    ensures { IsTrue result ↔ LiesOnOne lowest.now (pair_view pair.now) }
+{
+    place_in(lowest, pair.earlier.strand) == place_in(lowest, pair.later.strand)
+}
+
+/// The images of pairs, each once; those that come to lie on one strand are dropped.
+pub(crate) fn pair_images(
+    alloc: Global,
+    pairs: &[OrderPair],
+    lowest: &[usize],
+) -> Result<Vec<OrderPair>, AllocError>
+    ensures { IfOk result (λ v. ArePairsIn lowest.now (map pair_view pairs.now) (map pair_view v.items)) }
+{
+    let mut images = Vec::new(alloc);
+    for pair in pairs {
+        if lies_on_one(pair, lowest) {
+            continue;
+        }
+        put_pair(pair_in(lowest, pair), &mut images)?;
+    }
+    Ok(images)
+}
+
+/// Whether a pair comes to lie backward on one strand, or on one node.
+fn lies_backward(pair: &OrderPair, lowest: &[usize]) -> bool
+    ensures { IsTrue result ↔ (LiesOnOne lowest.now (pair_view pair.now) × ((pair_view pair.now).later.index ≤ (pair_view pair.now).earlier.index)) }
+{
+    lies_on_one(pair, lowest) && pair.later.index <= pair.earlier.index
+}
+
+/// Whether some pair comes to lie backward on one strand, or on one node.
+pub(crate) fn some_lies_backward(pairs: &[OrderPair], lowest: &[usize]) -> bool
+    ensures { IsTrue result ↔ Has (λ q. LiesOnOne lowest.now (pair_view q) × ((pair_view q).later.index ≤ (pair_view q).earlier.index)) pairs.now }
+{
+    for pair in pairs {
+        if lies_backward(pair, lowest) {
+            return true;
+        }
+    }
+    false
+}
+
+/// The images of assumptions, each once.
+pub(crate) fn assumption_images(
+    alloc: Global,
+    assumptions: &Assumptions,
+    s: &Subst,
+    lowest: &[usize],
+) -> Result<Assumptions, AllocError>
+    ensures { IfOk result (λ a. AreAssumptionsIn lowest.now (as_substitution s.now) (assumptions_view assumptions.now) (assumptions_view a)) }
+{
+    Ok(Assumptions {
+        non_originating: atom_images(alloc, &assumptions.non_originating, s)?,
+        penetrator_non_originating: atom_images(alloc, &assumptions.penetrator_non_originating, s)?,
+        uniquely_originating: unique_images(alloc, &assumptions.uniquely_originating, s, lowest)?,
+    })
+}
+
+fn places_of(alloc: Global, strands: &[usize], lowest: &[usize]) -> Result<Vec<usize>, AllocError>
+    ensures { IfOk result (λ v. v.items ≡ map (place_in lowest.now) strands.now) }
+{
+    let mut places = Vec::new(alloc);
+    for strand in strands {
+        places.push(place_in(lowest, *strand))?;
+    }
+    Ok(places)
+}
+
+/// The way from a problem, followed by the way onto the blocks.
+pub(crate) fn from_problem_image(
+    alloc: Global,
+    from_problem: &FromProblem,
+    s: &Subst,
+    lowest: &[usize],
+) -> Result<FromProblem, AllocError>
+    ensures { IfOk result (λ p. IsFromProblemIn lowest.now (as_substitution s.now) (from_problem_view from_problem.now) (from_problem_view p)) }
+{
+    Ok(FromProblem {
+        strands: places_of(alloc, &from_problem.strands, lowest)?,
+        values: terms_under(alloc, &from_problem.values, s)?,
+        assumptions: assumption_images(alloc, &from_problem.assumptions, s, lowest)?,
+        pairs: pair_images(alloc, &from_problem.pairs, lowest)?,
+    })
+}

@@ -1,0 +1,97 @@
+// Unique values that originate elsewhere than at their recorded origins.
+ghost use Rattle.std.specs.Prelude.{◌≡◌, ◌↔◌, map, IsTrue, IfOk, MatchOption};
+ghost use Rattle.cp_model.specs.Lists.{IsIn, item_at};
+ghost use Rattle.cp_model.specs.Skeleton.{UniqueAt as Plain};
+ghost use Rattle.cp_skel.specs.View.{node_view, unique_view, skeleton_view};
+ghost use Rattle.cp_normal.specs.Branching.{IsSettled};
+ghost use Rattle.cp_normal.specs.Events.{occurrence_view, occurrences_from};
+ghost use Rattle.cp_normal.specs.Straying.{Strays, IsFirstAt, IsFirstStray};
+
+use crate::carrying::carries_value;
+use crate::events::{Occurrence, occurrences};
+use crate::origins::{is_same_node, originates};
+use cp_skel::{Atom, Node, Skeleton, UniqueAt};
+use std::alloc::{AllocError, Global};
+
+/// A unique value, and a node of a role strand where it originates and that is not its recorded origin.
+#[derive(Drop)]
+pub(crate) struct Stray {
+    pub(crate) value: Atom,
+    pub(crate) node: Node,
+}
+
+/// Whether a unique value strays at one of the events of the skeleton, where these are its events.
+fn strays(
+    k: &Skeleton,
+    occurrences: &[Occurrence],
+    occurrence: &Occurrence,
+    unique: &UniqueAt,
+) -> Result<bool, AllocError>
+    requires listed { map occurrence_view occurrences.now ≡ occurrences_from 0 (skeleton_view k.now).strands }
+    requires is_there { IsIn (occurrence_view occurrence.now) (occurrences_from 0 (skeleton_view k.now).strands) }
+    ensures { IfOk result (λ found. IsTrue found ↔ Strays (skeleton_view k.now) (node_view occurrence.now.node) (unique_view unique.now)) }
+{
+    if is_same_node(occurrence.node, unique.origin) {
+        return Ok(false);
+    }
+    if !carries_value(occurrence, &unique.value) {
+        return Ok(false);
+    }
+    let here = UniqueAt {
+        value: unique.value.copy()?,
+        origin: occurrence.node,
+    };
+    Ok(originates(k, occurrences, &here))
+}
+
+/// The value of the first of the entries that strays at one of the events of the skeleton, where these are its events.
+fn first_at(
+    k: &Skeleton,
+    occurrences: &[Occurrence],
+    occurrence: &Occurrence,
+    uniques: &[UniqueAt],
+) -> Result<Option<Atom>, AllocError>
+    requires listed { map occurrence_view occurrences.now ≡ occurrences_from 0 (skeleton_view k.now).strands }
+    requires is_there { IsIn (occurrence_view occurrence.now) (occurrences_from 0 (skeleton_view k.now).strands) }
+    ensures { IfOk result (λ found. MatchOption found
+        ((u : Plain) → IsIn u (map unique_view uniques.now) → Strays (skeleton_view k.now) (node_view occurrence.now.node) u → ⊥)
+        (λ v. IsFirstAt (skeleton_view k.now) (node_view occurrence.now.node) (map unique_view uniques.now) v)) }
+{
+    for unique in uniques {
+        if strays(k, occurrences, occurrence, unique)? {
+            return Ok(Some(unique.value.copy()?));
+        }
+    }
+    Ok(None)
+}
+
+/// The first unique value that strays, where these are the events of the skeleton.
+fn first_among(k: &Skeleton, occurrences: &[Occurrence]) -> Result<Option<Stray>, AllocError>
+    requires listed { map occurrence_view occurrences.now ≡ occurrences_from 0 (skeleton_view k.now).strands }
+    ensures { IfOk result (λ found. MatchOption found
+        (IsSettled (skeleton_view k.now))
+        (λ s. IsFirstStray (skeleton_view k.now) s.value (node_view s.node))) }
+{
+    for occurrence in occurrences {
+        let uniques = &k.assumptions.uniquely_originating;
+        match first_at(k, occurrences, occurrence, uniques)? {
+            Some(value) => {
+                let node = occurrence.node;
+                return Ok(Some(Stray { value, node }));
+            }
+            None => {}
+        }
+    }
+    Ok(None)
+}
+
+/// The first unique value that strays: by the strand and then the index of the node where it does, and then by its place
+/// in the list of unique values.
+pub(crate) fn first_stray(alloc: Global, k: &Skeleton) -> Result<Option<Stray>, AllocError>
+    ensures { IfOk result (λ found. MatchOption found
+        (IsSettled (skeleton_view k.now))
+        (λ s. IsFirstStray (skeleton_view k.now) s.value (node_view s.node))) }
+{
+    let occurrences = occurrences(alloc, k)?;
+    first_among(k, &occurrences)
+}

@@ -1,0 +1,145 @@
+// Skeletons under substitutions.
+ghost use Rattle.std.specs.Prelude.{◌≡◌, map, IfOk};
+ghost use Rattle.cp_model.specs.Term.{apply_to, apply_to_atom};
+ghost use Rattle.cp_completeness.specs.Normal.{unique_under, assumptions_under, from_problem_under, skeleton_under};
+ghost use Rattle.cp_unify.specs.Bindings.{as_substitution};
+ghost use Rattle.cp_skel.specs.View.{unique_view, assumptions_view, from_problem_view, skeleton_view};
+ghost use Rattle.cp_normal.specs.Agreeing.{SaysTheSame};
+ghost use Rattle.cp_normal.specs.Values.{listed_view_of, listed_view, listed_under, HasItsValues};
+
+use cp_skel::{Assumptions, Atom, FromProblem, Instance, Skeleton, Strand, UniqueAt};
+use cp_term::Term;
+use cp_unify::{Subst, apply};
+use std::alloc::{AllocError, Global};
+
+/// Terms under a substitution.
+pub(crate) fn terms_under(alloc: Global, terms: &[Term], s: &Subst) -> Result<Vec<Term>, AllocError>
+    ensures { IfOk result (λ v. v.items ≡ map (apply_to (as_substitution s.now)) terms.now) }
+{
+    let mut changed = Vec::new(alloc);
+    for term in terms {
+        changed.push(apply(alloc, s, term)?)?;
+    }
+    Ok(changed)
+}
+
+/// An atom under a substitution.
+pub(crate) fn atom_under(alloc: Global, atom: &Atom, s: &Subst) -> Result<Atom, AllocError>
+    ensures { IfOk result (λ a. a ≡ apply_to_atom (as_substitution s.now) atom.now) }
+{
+    match Atom::new(apply(alloc, s, atom.as_term())?) {
+        Some(atom) => Ok(atom),
+        None => unreachable!(),
+    }
+}
+
+fn atoms_under(alloc: Global, atoms: &[Atom], s: &Subst) -> Result<Vec<Atom>, AllocError>
+    ensures { IfOk result (λ v. v.items ≡ map (apply_to_atom (as_substitution s.now)) atoms.now) }
+{
+    let mut changed = Vec::new(alloc);
+    for atom in atoms {
+        changed.push(atom_under(alloc, atom, s)?)?;
+    }
+    Ok(changed)
+}
+
+/// A unique value under a substitution; its recorded origin stays.
+fn unique_under(alloc: Global, unique: &UniqueAt, s: &Subst) -> Result<UniqueAt, AllocError>
+    ensures { IfOk result (λ u. unique_view u ≡ unique_under (as_substitution s.now) (unique_view unique.now)) }
+{
+    Ok(UniqueAt {
+        value: atom_under(alloc, &unique.value, s)?,
+        origin: unique.origin,
+    })
+}
+
+fn uniques_under(
+    alloc: Global,
+    uniques: &[UniqueAt],
+    s: &Subst,
+) -> Result<Vec<UniqueAt>, AllocError>
+    ensures { IfOk result (λ v. map unique_view v.items ≡ map (unique_under (as_substitution s.now)) (map unique_view uniques.now)) }
+{
+    let mut changed = Vec::new(alloc);
+    for unique in uniques {
+        changed.push(unique_under(alloc, unique, s)?)?;
+    }
+    Ok(changed)
+}
+
+fn assumptions_under(
+    alloc: Global,
+    assumptions: &Assumptions,
+    s: &Subst,
+) -> Result<Assumptions, AllocError>
+    ensures { IfOk result (λ a. assumptions_view a ≡ assumptions_under (as_substitution s.now) (assumptions_view assumptions.now)) }
+{
+    Ok(Assumptions {
+        non_originating: atoms_under(alloc, &assumptions.non_originating, s)?,
+        penetrator_non_originating: atoms_under(alloc, &assumptions.penetrator_non_originating, s)?,
+        uniquely_originating: uniques_under(alloc, &assumptions.uniquely_originating, s)?,
+    })
+}
+
+/// The way from a problem, followed by a substitution.
+fn from_problem_under(
+    alloc: Global,
+    from_problem: &FromProblem,
+    s: &Subst,
+) -> Result<FromProblem, AllocError>
+    ensures { IfOk result (λ p. from_problem_view p ≡ from_problem_under (as_substitution s.now) (from_problem_view from_problem.now)) }
+{
+    Ok(FromProblem {
+        strands: Vec::from_slice(alloc, &from_problem.strands)?,
+        values: terms_under(alloc, &from_problem.values, s)?,
+        assumptions: assumptions_under(alloc, &from_problem.assumptions, s)?,
+        pairs: Vec::from_slice(alloc, &from_problem.pairs)?,
+    })
+}
+
+fn instance_under(alloc: Global, instance: &Instance, s: &Subst) -> Result<Instance, AllocError>
+    ensures { IfOk result (λ i. listed_view_of i ≡ listed_under (as_substitution s.now) (listed_view_of instance.now)) }
+{
+    Ok(Instance {
+        role: instance.role.clone()?,
+        height: instance.height,
+        values: terms_under(alloc, &instance.values, s)?,
+    })
+}
+
+/// A strand under a substitution: each term of an instance, and the message of a listener.
+pub(crate) fn strand_under(alloc: Global, strand: &Strand, s: &Subst) -> Result<Strand, AllocError>
+    ensures { IfOk result (λ t. listed_view t ≡ listed_under (as_substitution s.now) (listed_view strand.now)) }
+{
+    match strand {
+        Strand::Instance(instance) => Ok(Strand::Instance(instance_under(alloc, instance, s)?)),
+        Strand::Listener(message) => Ok(Strand::Listener(apply(alloc, s, message)?)),
+    }
+}
+
+fn strands_under(alloc: Global, strands: &[Strand], s: &Subst) -> Result<Vec<Strand>, AllocError>
+    ensures { IfOk result (λ v. map listed_view v.items ≡ map (listed_under (as_substitution s.now)) (map listed_view strands.now)) }
+{
+    let mut changed = Vec::new(alloc);
+    for strand in strands {
+        changed.push(strand_under(alloc, strand, s)?)?;
+    }
+    Ok(changed)
+}
+
+/// The skeleton under a substitution: each of its terms is, and strands, nodes and pairs stay where they are. Each instance
+/// has to have a term of its sort for each variable of its prefix, and has one then too. The error is that memory ran out.
+pub fn under(alloc: Global, k: &Skeleton, s: &Subst) -> Result<Skeleton, AllocError>
+    requires { HasItsValues k.now }
+    ensures same { IfOk result (λ l. SaysTheSame (skeleton_under (as_substitution s.now) (skeleton_view k.now)) (skeleton_view l)) }
+    ensures values { IfOk result (λ l. HasItsValues l) }
+    ensures variables { IfOk result (λ l. l.variables ≡ k.now.variables) }
+{
+    Ok(Skeleton {
+        variables: k.variables.copy()?,
+        strands: strands_under(alloc, &k.strands, s)?,
+        order: k.order.copy(alloc)?,
+        assumptions: assumptions_under(alloc, &k.assumptions, s)?,
+        from_problem: from_problem_under(alloc, &k.from_problem, s)?,
+    })
+}
