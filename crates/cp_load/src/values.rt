@@ -20,7 +20,9 @@ use crate::terms::variable_term;
 use cp_base::Code;
 use cp_forms::{FirstFault, ItemHead, headed, item_head, items_behind, place_of};
 use cp_sexpr::Form;
-use cp_skel::{Assumptions, Atom, Declaration, FromProblem, OrderPair, Skeleton, Strand, UniqueAt};
+use cp_skel::{
+    Assumptions, Atom, Declaration, FromProblem, Order, OrderPair, Skeleton, Strand, UniqueAt,
+};
 use cp_term::{Term, VarTable};
 use std::alloc::{AllocError, Global};
 
@@ -166,7 +168,7 @@ pub(crate) fn own_skeleton(
     let pairs = pairs_of(alloc, body)?;
     Ok(Skeleton {
         variables: table_of(alloc, all)?,
-        pairs: Vec::from_slice(alloc, &pairs)?,
+        order: Order::of(Vec::from_slice(alloc, &pairs)?),
         assumptions,
         from_problem: FromProblem {
             strands: numbers_of(alloc, &strands)?,

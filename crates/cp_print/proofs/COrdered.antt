@@ -93,7 +93,7 @@ is_zero : (n : ℕ) → (n == 0) ≡ true → n ≡ 0
 is_zero n e = grind (arith, nat_tests)
 
 -- without pairs nothing is covered
-pub none_ordered : {X : Type 0} (f : X → OrderPair) (ps qs : List X) (nodes : List Node) → qs ≡ ps → (length qs == 0) ≡ true → covering_from (map f ps) nodes nodes ≡ []
-none_ordered f ps qs nodes same e =
-    let none : ps ≡ [] = sym same ∙ nil_from_length qs (is_zero (length qs) e) in
-    ap (λ rs. covering_from (map f rs) nodes nodes) none ∙ none_cover nodes
+pub none_ordered : {X : Type 0} (f : X → OrderPair) (qs : List X) (pairs : List OrderPair) (nodes : List Node) → map f qs ≡ pairs → (length qs == 0) ≡ true → covering_from pairs nodes nodes ≡ []
+none_ordered f qs pairs nodes same e =
+    let none : qs ≡ [] = nil_from_length qs (is_zero (length qs) e) in
+    ap (λ ps. covering_from ps nodes nodes) (sym same ∙ ap (map f) none) ∙ none_cover nodes

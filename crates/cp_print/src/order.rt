@@ -205,7 +205,7 @@ fn covered(alloc: Global, all: &[Ordered]) -> Result<Vec<Form>, AllocError>
 pub(crate) fn covering_pairs(alloc: Global, skeleton: &Skeleton) -> Result<Vec<Form>, AllocError>
     ensures { IfOk result (λ fs. map view fs.items ≡ covering_pairs (skeleton_view skeleton.now)) }
 {
-    let pairs: &[OrderPair] = &skeleton.pairs;
+    let pairs = skeleton.order.pairs();
     if pairs.is_empty() {
         return Ok(Vec::new(alloc));
     }

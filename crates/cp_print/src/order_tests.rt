@@ -1,7 +1,7 @@
 // The covering pairs of four listeners, worked out by hand.
 use crate::order::covering_pairs;
 use cp_sexpr::write;
-use cp_skel::{Assumptions, FromProblem, Node, OrderPair, Skeleton, Strand};
+use cp_skel::{Assumptions, FromProblem, Node, Order, OrderPair, Skeleton, Strand};
 use cp_term::{Sort, VarId, VarTable, var};
 use std::alloc::{AllocError, Global};
 use std::test::Fail;
@@ -26,7 +26,7 @@ fn skeleton(alloc: Global, pairs: &[OrderPair]) -> Result<Skeleton, AllocError> 
     Ok(Skeleton {
         variables: VarTable::new(alloc),
         strands: listeners(alloc)?,
-        pairs: Vec::from_slice(alloc, pairs)?,
+        order: Order::of(Vec::from_slice(alloc, pairs)?),
         assumptions: no_assumptions(alloc),
         from_problem: FromProblem {
             strands: Vec::new(alloc),

@@ -4,7 +4,8 @@ use cp_base::Place;
 use cp_load::{Input, Problem};
 use cp_sexpr::Form;
 use cp_skel::{
-    Assumptions, FromProblem, Mark, Operation, Outcome, Protocol, Skeleton, Strand, Tree, TreeNode,
+    Assumptions, FromProblem, Mark, Operation, Order, Outcome, Protocol, Skeleton, Strand, Tree,
+    TreeNode,
 };
 use cp_term::{Sort, Text, VarId, VarTable, var};
 use std::alloc::{AllocError, Global};
@@ -33,7 +34,7 @@ fn skeleton(alloc: Global) -> Result<Skeleton, AllocError> {
     Ok(Skeleton {
         variables,
         strands,
-        pairs: Vec::new(alloc),
+        order: Order::of(Vec::new(alloc)),
         assumptions: no_assumptions(alloc),
         from_problem: FromProblem {
             strands: numbers,

@@ -11,7 +11,7 @@ use Rattle.cp_model.specs.Tree.{Mark, shape, dead, limit_steps, limit_strands, O
 use Rattle.cp_completeness.specs.Normal.{with_pairs}
 use Rattle.cp_skel.specs.View.{node_view}
 use Rattle.cp_skel.specs.declared.skeleton.Node.{Node as Plain}
-use Rattle.cp_derive.specs.Before.{IsOrdered}
+use Rattle.cp_skel.specs.Ordered.{IsOrdered}
 use Rattle.cp_derive.specs.Unrealised.{IsUnrealisedAt, ListsUnrealised}
 use Rattle.cp_normal.specs.Normalising.{AreNormalPairs, IsContradictory}
 use Rattle.cp_search.specs.Unexpanded.{HasOneInstance, tree_of_one, Ends, as_shape, above_bound, within_bound, IsUnexpanded, dead_problem, normal_form, IsTreeOfNormal}

@@ -6,13 +6,13 @@ ghost use Rattle.cp_model.specs.Tree.{IsTrueOf};
 ghost use Rattle.cp_completeness.specs.Normal.{with_pairs};
 ghost use Rattle.cp_skel.specs.View.{node_view, pair_view, protocol_view, skeleton_view};
 ghost use Rattle.cp_skel.specs.Trees.{variables_view, limits_view, mark_view, outcome_view, tree_view};
-ghost use Rattle.cp_derive.specs.Before.{IsOrdered};
+ghost use Rattle.cp_skel.specs.Ordered.{IsOrdered};
 ghost use Rattle.cp_search.specs.Unexpanded.{HasOneInstance, tree_of_one, Ends, IsTreeOfNormal, IsUnexpanded};
 
 use cp_derive::unrealised;
 use cp_normal::normal_pairs;
 use cp_skel::{
-    Limits, Mark, Node, Operation, OrderPair, Outcome, Protocol, Skeleton, Tree, TreeNode,
+    Limits, Mark, Node, Operation, Order, OrderPair, Outcome, Protocol, Skeleton, Tree, TreeNode,
 };
 use std::alloc::{AllocError, Global};
 
@@ -76,7 +76,7 @@ fn with_pairs(mut skeleton: Skeleton, pairs: Vec<OrderPair>) -> Skeleton
     ensures skeleton { skeleton_view result ≡ with_pairs (skeleton_view skeleton) (map pair_view pairs.items) }
     ensures variables { result.variables ≡ skeleton.variables }
 {
-    skeleton.pairs = pairs;
+    skeleton.order = Order::of(pairs);
     skeleton
 }
 
