@@ -1,0 +1,92 @@
+-- The words of a command are read as the limits that they ask for.
+use Rattle.std.proofs.Common.{◌≡◌, ◌∙◌, ◌&&◌, ◌==◌, ℕ, List, [], ◌∷◌, ◌++◌, Bool, true, false, Option, Some, None, refl, sym, subst, ap, ap₂, codes, nat_le, if◌then◌else◌, option_and_then}
+use Rattle.std.proofs.lemmas.List.{append-nil}
+use Rattle.std.specs.Str.{bytes_eq}
+use Rattle.clap.specs.Words.{Text}
+use Rattle.clap.specs.Takes.{use_passes}
+use Rattle.clap.specs.Walk.{nothing_held}
+use Rattle.cp_model.specs.Tree.{Limits}
+use Rattle.cp_words.specs.Command.{number_of, Setting, first_setting, limits_of, limits_set, limits_behind_both, limits_behind, command_of}
+use Rattle.cp_words.specs.Parsed.{IsParsedAs}
+use Rattle.cp_words.proofs.Options.{Named, limit_named, bound_named, rule_named}
+use Rattle.cp_words.proofs.Steps.{Reads, Adds, reads_both, rows_with}
+use Rattle.cp_words.proofs.Spelled.{IsSpelled, setting_by, name_is, spelled_first}
+use Rattle.cp_words.proofs.Reading.{adds_front, parsed_by, limit_valid, limit_texts, limit_first_valid, limit_first_texts, bound_first_valid, bound_first_texts, first_fits, bound_fits, limit_fits}
+
+limits_are : (a b : ℕ) (l : Limits) → limits_of a b ≡ Some l → (a ≡ l.steps) × (b ≡ l.strands)
+limits_are a b l e = go ((a == 0) && (nat_le 1 b && nat_le b 32)) e
+  where
+    go : (ok : Bool) → (if ok then Some (record { steps = a; strands = b }) else None) ≡ Some l → (a ≡ l.steps) × (b ≡ l.strands)
+    go false f = absurd (cc)
+    go true f = let same : ◌≡◌ {A = Limits} (record { steps = a; strands = b }) l = cc in (ap (λ (x : Limits). x.steps) same, ap (λ (x : Limits). x.strands) same)
+
+-- ---- one option
+
+reads_one : (words : List Text) (s : Setting) (is : IsSpelled words s []) → Reads nothing_held words (rows_with is.which is.text [])
+reads_one words s is =
+    let first = adds_front is.which is.text is.number [] is.front is.reads (first_fits is.which is.text) is.spelled in
+    subst (λ w. Reads nothing_held w (rows_with is.which is.text [])) (sym (is.parts ∙ append-nil is.front)) (first nothing_held refl refl)
+
+one_by : (program : Text) (words : List Text) (o : Named) (text : Text) (k : ℕ) (l : Limits) → Reads nothing_held words (rows_with o text []) → number_of text ≡ Some k → limits_set (setting_by o k) None ≡ Some l
+    → IsParsedAs (program ∷ codes "analyse" ∷ words) l
+one_by program words limit_named text k l r number set =
+    let are = limits_are k 8 l set in
+    parsed_by program words _ l text (codes "8") r (limit_valid text) (limit_texts text) (number ∙ ap Some are.0) (ap Some are.1)
+one_by program words bound_named text k l r number set = absurd (cc)
+
+parsed_one : (program : Text) (words : List Text) (s : Setting) (l : Limits) → IsSpelled words s [] → limits_set s None ≡ Some l → IsParsedAs (program ∷ codes "analyse" ∷ words) l
+parsed_one program words s l is set = one_by program words is.which is.text is.number l (reads_one words s is) is.reads (ap (λ x. limits_set x None) (sym is.same) ∙ set)
+
+-- ---- two options
+
+reads_two : (words rest : List Text) (s t : Setting) (is : IsSpelled words s rest) (other : IsSpelled rest t [])
+    → use_passes false (rule_named other.which) (other.text ∷ []) (rows_with is.which is.text []) ≡ true
+    → Reads nothing_held words (rows_with other.which other.text (rows_with is.which is.text []))
+reads_two words rest s t is other fits =
+    let some = rows_with is.which is.text [] in
+    let more = rows_with other.which other.text some in
+    let first : Adds [] is.front some = adds_front is.which is.text is.number [] is.front is.reads (first_fits is.which is.text) is.spelled in
+    let second : Adds some other.front more = adds_front other.which other.text other.number some other.front other.reads fits other.spelled in
+    let parts : words ≡ is.front ++ other.front = is.parts ∙ ap (λ x. is.front ++ x) (other.parts ∙ append-nil other.front) in
+    subst (λ w. Reads nothing_held w more) (sym parts) (reads_both nothing_held is.front other.front some more (first nothing_held refl refl) second)
+
+two_by : (program : Text) (words : List Text) (o p : Named) (n m : Text) (k j : ℕ) (l : Limits)
+    → (use_passes false (rule_named p) (m ∷ []) (rows_with o n []) ≡ true → Reads nothing_held words (rows_with p m (rows_with o n [])))
+    → number_of n ≡ Some k → number_of m ≡ Some j → limits_set (setting_by o k) (Some (setting_by p j)) ≡ Some l → IsParsedAs (program ∷ codes "analyse" ∷ words) l
+two_by program words limit_named limit_named n m k j l reads number other set = absurd (cc)
+two_by program words bound_named bound_named n m k j l reads number other set = absurd (cc)
+two_by program words limit_named bound_named n m k j l reads number other set =
+    let are = limits_are k j l set in
+    parsed_by program words _ l n m (reads (bound_fits n m)) (limit_first_valid n m) (limit_first_texts n m) (number ∙ ap Some are.0) (other ∙ ap Some are.1)
+two_by program words bound_named limit_named n m k j l reads number other set =
+    let are = limits_are j k l set in
+    parsed_by program words _ l m n (reads (limit_fits m n)) (bound_first_valid m n) (bound_first_texts m n) (other ∙ ap Some are.0) (number ∙ ap Some are.1)
+
+parsed_two : (program : Text) (words rest : List Text) (s t : Setting) (l : Limits) → IsSpelled words s rest → IsSpelled rest t [] → limits_set s (Some t) ≡ Some l → IsParsedAs (program ∷ codes "analyse" ∷ words) l
+parsed_two program words rest s t l is other set =
+    two_by program words is.which other.which is.text other.text is.number other.number l (reads_two words rest s t is other) is.reads other.reads (ap₂ (λ x y. limits_set x (Some y)) (sym is.same) (sym other.same) ∙ set)
+
+-- ---- the command
+
+behind_both : (first : Setting) (l : Limits) (words : List Text) (o : Option (Setting × List Text)) → first_setting words ≡ o → option_and_then (limits_behind_both first) o ≡ Some l
+    → (second : Setting) × (first_setting words ≡ Some (second, [])) × (limits_set first (Some second) ≡ Some l)
+behind_both first l words None is e = absurd (cc)
+behind_both first l words (Some (second, [])) is e = (second, is, e)
+behind_both first l words (Some (second, w ∷ ws)) is e = absurd (cc)
+
+behind_first : (program : Text) (l : Limits) (options : List Text) (o : Option (Setting × List Text)) → first_setting options ≡ o → option_and_then limits_behind o ≡ Some l → IsParsedAs (program ∷ codes "analyse" ∷ options) l
+behind_first program l options None is e = absurd (cc)
+behind_first program l options (Some (first, [])) is e = parsed_one program options first l (spelled_first options first [] is) e
+behind_first program l options (Some (first, w ∷ ws)) is e =
+    let both = behind_both first l (w ∷ ws) (first_setting (w ∷ ws)) refl e in
+    parsed_two program options (w ∷ ws) first both.0 l (spelled_first options first (w ∷ ws) is) (spelled_first (w ∷ ws) both.0 [] both.1) both.2
+
+-- the parser reads the words of a command as its limits
+pub command_parsed : (words : List Text) (l : Limits) → command_of words ≡ Some l → IsParsedAs words l
+command_parsed [] l e = absurd (cc)
+command_parsed (program ∷ []) l e = absurd (cc)
+command_parsed (program ∷ command ∷ options) l e = go (bytes_eq command (codes "analyse")) refl e
+  where
+    go : (b : Bool) → bytes_eq command (codes "analyse") ≡ b → (if b then option_and_then limits_behind (first_setting options) else None) ≡ Some l → IsParsedAs (program ∷ command ∷ options) l
+    go false p f = absurd (cc)
+    go true p f = subst (λ c. IsParsedAs (program ∷ c ∷ options) l) (sym (name_is command (codes "analyse") p)) (behind_first program l options (first_setting options) refl f)

@@ -1,0 +1,58 @@
+-- Of words that the parser of command lines takes, it fails for want of memory alone.
+use Rattle.std.proofs.Common.{◌≡◌, ◌∙◌, ◌↔◌, ℕ, List, true, Option, Some, None, Result, Ok, Err, IfOk, IfErr, IsErrAnd, refl, ap, sym, option_map, option_and_then, is_some}
+use Rattle.std.specs.Result.{result_ok}
+use Rattle.clap.specs.declared.parser.matches.Found.{Found}
+use Rattle.clap.proofs.WalkLemmas.{first_value-rows}
+use Rattle.clap.specs.Words.{App, Row, Text, first_value, rows_of, subcommand_of, takes}
+use Rattle.clap.specs.declared.error.kind.ErrorKind.{ErrorKind}
+use Rattle.clap.specs.declared.error.kind.ErrorKind.TheVariants.{OutOfMemory}
+use Rattle.cp_model.specs.Tree.{Limits}
+use Rattle.cp_words.specs.Command.{command_of, number_of}
+use Rattle.cp_words.specs.Description.{described}
+use Rattle.cp_words.specs.Parsed.{cause_of, limits_found, number_in}
+use Rattle.cp_words.specs.declared.error.WordsError.{WordsError}
+use Rattle.cp_words.specs.declared.error.WordsError.TheVariants.{Usage, Memory}
+use Rattle.cp_words.proofs.Commands.{command_parsed}
+
+pub memory_only : {T : Type 0} (r : Result T WordsError) (kind : ErrorKind) (a : App) (words : List Text) → a ≡ described → (takes a words ≡ true → kind ≡ OutOfMemory)
+    → IsErrAnd r (λ e. e ≡ cause_of kind) → IfErr r (λ e. takes described words ≡ true → e ≡ Memory)
+memory_only (Ok x) kind a words is passes cause = tt
+memory_only (Err e) kind a words is passes cause = λ t. cause ∙ ap cause_of (passes (ap (λ b. takes b words) is ∙ t))
+
+pub failed : {X : Type 0} (r : Result X WordsError) (e : WordsError) (words : List Text) → (takes described words ≡ true → e ≡ Memory) → IsErrAnd r (λ y. y ≡ e)
+    → (l : Limits) → command_of words ≡ Some l → IfErr r (λ y. y ≡ Memory)
+failed (Ok x) e words memory is l h = tt
+failed (Err y) e words memory is l h = is ∙ memory (command_parsed words l h).taken
+
+-- ---- what the parser found
+
+pub no_number : (f : Found) (name : Text) (r : Option ℕ) → None ≡ first_value f name → r ≡ None → r ≡ number_in name (rows_of f)
+no_number f name r found is = is ∙ ap (option_and_then number_of) (found ∙ first_value-rows f name)
+
+pub a_number : (f : Found) (name text : Text) (r : Option ℕ) → Some text ≡ first_value f name → r ≡ number_of text → r ≡ number_in name (rows_of f)
+a_number f name text r found is = is ∙ ap (option_and_then number_of) (found ∙ first_value-rows f name)
+
+module _ {X : Type 0} (view : X → Limits) (words : List Text) (rows : Option (Text × List Row)) (same : rows ≡ subcommand_of described words) where
+  some_found : (o : Option X) → option_map view o ≡ limits_found rows → (l : Limits) → command_of words ≡ Some l → option_map view o ≡ Some l
+  some_found o found l h = found ∙ ap limits_found same ∙ (command_parsed words l h).found
+
+  pub limits_are_found : (r : Result X WordsError) → option_map view (result_ok r) ≡ limits_found rows → (l : Limits) → command_of words ≡ Some l → IfOk r (λ x. view x ≡ l)
+  limits_are_found (Ok x) found l h = let e : Some (view x) ≡ Some l = some_found (Some x) found l h in cc
+  limits_are_found (Err e) found l h = tt
+
+  pub none_is_memory : (r : Result X WordsError) → option_map view (result_ok r) ≡ limits_found rows → (l : Limits) → command_of words ≡ Some l → IfErr r (λ e. e ≡ Memory)
+  none_is_memory (Ok x) found l h = tt
+  none_is_memory (Err e) found l h = let bad : None ≡ Some l = some_found None found l h in absurd (cc)
+
+-- ---- the answer
+
+module _ {X : Type 0} (view : X → Limits) where
+  pub limits_where_some : (o : Option Limits) (r : Result X WordsError) → is_some o ≡ true → ((l : Limits) → o ≡ Some l → IfOk r (λ x. view x ≡ l)) → IfOk r (λ x. o ≡ Some (view x))
+  limits_where_some None r e read = absurd (cc)
+  limits_where_some (Some l) (Ok x) e read = ap Some (sym (read l refl))
+  limits_where_some (Some l) (Err w) e read = tt
+
+  pub memory_where_some : (o : Option Limits) (r : Result X WordsError) → is_some o ≡ true → ((l : Limits) → o ≡ Some l → IfErr r (λ w. w ≡ Memory)) → IfErr r (λ w. (w ≡ Usage) ↔ (o ≡ None))
+  memory_where_some None r e read = absurd (cc)
+  memory_where_some (Some l) (Ok x) e read = tt
+  memory_where_some (Some l) (Err w) e read = let is : w ≡ Memory = read l refl in (λ u. absurd (cc), λ n. absurd (cc))

@@ -1,0 +1,10 @@
+pub mod Refused
+pub mod Cutting
+pub mod Numerals
+pub mod Shapes
+pub mod Options
+pub mod Steps
+pub mod Spelled
+pub mod Reading
+pub mod Commands
+pub mod Failing

@@ -1,0 +1,18 @@
+-- What the parser of command lines is told of a command.
+use Rattle.std.specs.Prelude.{true, [], ◌∷◌, Some, codes}
+use Rattle.clap.specs.Words.{App, Rule, new_app, new_rule, with_rule, with_subcommand}
+
+-- The limit has to stand.
+abbrev pub limit_rule : Rule
+limit_rule = record (new_rule (codes "limit")) { long = Some (codes "limit"); required = true }
+
+-- The bound is 8 where it does not stand.
+abbrev pub bound_rule : Rule
+bound_rule = record (new_rule (codes "bound")) { long = Some (codes "bound"); defaults = codes "8" ∷ [] }
+
+abbrev pub analyse : App
+analyse = with_rule (with_rule (new_app (codes "analyse")) limit_rule) bound_rule
+
+-- A command is `analyse` with the two options.
+abbrev pub described : App
+described = with_subcommand (new_app (codes "cpsa")) analyse.top

@@ -1,0 +1,4 @@
+pub mod Command
+pub mod Settings
+pub mod Description
+pub mod Parsed

@@ -1,0 +1,111 @@
+// The words that are a command.
+ghost use Rattle.std.specs.Prelude.{◌≡◌, is_some, map, option_map, string_bytes};
+ghost use Rattle.cp_words.specs.Command.{number_of, setting_of, name_and_value, first_setting, limits_of, limits_set, limits_behind, command_of};
+ghost use Rattle.cp_words.specs.Settings.{setting_view};
+ghost use Rattle.cp_skel.specs.Trees.{limits_view};
+
+use cp_skel::Limits;
+
+/// The bound on the number of strands where the words give none.
+const DEFAULT_BOUND: u32 = 8;
+
+/// An option, with its value.
+#[derive(Clone, Copy)]
+enum Setting {
+    Limit(u32),
+    Bound(u32),
+}
+
+// The number that a text is read as.
+pub(crate) fn number(text: &str) -> Option<u32>
+    ensures { result ≡ number_of text.now }
+{
+    text.parse().ok()
+}
+
+/// The option of this name, with the number that the text is read as.
+fn setting_of(name: &str, value: &str) -> Option<Setting>
+    ensures { option_map setting_view result ≡ setting_of name.now value.now }
+{
+    let number = number(value)?;
+    match name {
+        "--limit" => Some(Setting::Limit(number)),
+        "--bound" => Some(Setting::Bound(number)),
+        _ => None,
+    }
+}
+
+/// The name and the value of an option in one word.
+fn name_and_value(word: &str) -> Option<(&str, &str)>
+    ensures { option_map (λ p. (p.0.now, p.1.now)) result ≡ name_and_value word.now }
+{
+    word.split_once('=')
+}
+
+/// The option that the words begin with, in one word or in two, and the words behind it.
+fn first_setting(words: &[String]) -> Option<(Setting, &[String])>
+    ensures { option_map (λ x. (setting_view x.0, map string_bytes x.1.now)) result ≡ first_setting (map string_bytes words.now) }
+{
+    let (word, rest) = words.split_first()?;
+    if let Some((name, value)) = name_and_value(word.as_str()) {
+        return Some((setting_of(name, value)?, rest));
+    }
+    let (value, rest) = rest.split_first()?;
+    Some((setting_of(word.as_str(), value.as_str())?, rest))
+}
+
+/// The limits of these numbers, where the command may have them.
+fn limits_of(steps: u32, strands: u32) -> Option<Limits>
+    ensures { option_map limits_view result ≡ limits_of steps strands }
+{
+    (steps == 0 && (1..=32).contains(&strands)).then_some(Limits { steps, strands })
+}
+
+/// The limits that one option or two set.
+fn limits_set(first: Setting, second: Option<Setting>) -> Option<Limits>
+    ensures { option_map limits_view result ≡ limits_set (setting_view first) (option_map setting_view second) }
+{
+    match (first, second) {
+        (Setting::Limit(steps), None) => limits_of(steps, DEFAULT_BOUND),
+        (Setting::Limit(steps), Some(Setting::Bound(strands)))
+        | (Setting::Bound(strands), Some(Setting::Limit(steps))) => limits_of(steps, strands),
+        _ => None,
+    }
+}
+
+/// The limits that the options set, of which this is the first.
+fn limits_behind(first: Setting, rest: &[String]) -> Option<Limits>
+    ensures { option_map limits_view result ≡ limits_behind (setting_view first, map string_bytes rest.now) }
+{
+    if rest.is_empty() {
+        return limits_set(first, None);
+    }
+    let (second, rest) = first_setting(rest)?;
+    if rest.is_empty() {
+        limits_set(first, Some(second))
+    } else {
+        None
+    }
+}
+
+/// The limits of the command that the words are: a name for the program, `analyse`, and its options, `--limit` with
+/// the number 0 and perhaps `--bound` with a number of 1 to 32; `None` of any other words.
+fn command(words: &[String]) -> Option<Limits>
+    ensures { option_map limits_view result ≡ command_of (map string_bytes words.now) }
+{
+    let [_, command, options @ ..] = words else {
+        return None;
+    };
+    if command.as_str() != "analyse" {
+        return None;
+    }
+    let (first, rest) = first_setting(options)?;
+    limits_behind(first, rest)
+}
+
+/// Whether the words are a command.
+pub(crate) fn is_command(words: &[String]) -> bool
+    ensures { result ≡ is_some (command_of (map string_bytes words.now)) }
+{
+    command(words).is_some()
+}

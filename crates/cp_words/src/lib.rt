@@ -1,0 +1,13 @@
+//! The words of the command line: which are a command, and what it asks for.
+#![tactic(auto)]
+
+mod accepted;
+mod command;
+mod error;
+mod parsing;
+
+pub use command::read_command;
+pub use error::WordsError;
+
+#[cfg(test)]
+mod tests;
