@@ -1,8 +1,5 @@
 pub mod Putting
 pub mod Taking
-pub mod Refused
-pub mod Cutting
-pub mod Numerals
 pub mod NotYet
 pub mod OneInstance
 pub mod Trees

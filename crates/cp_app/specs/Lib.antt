@@ -1,6 +1,4 @@
 pub mod Profile
-pub mod Command
-pub mod Settings
 pub mod Headline
 pub mod Steps
 pub mod Loading

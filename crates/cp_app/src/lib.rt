@@ -6,7 +6,6 @@ mod profile;
 mod reading;
 mod running;
 mod stopped;
-mod words;
 mod writing;
 
 pub use running::run;

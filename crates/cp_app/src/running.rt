@@ -1,6 +1,5 @@
 // The top call.
 ghost use Rattle.std.specs.Prelude.{◌≡◌, ◌≢◌, ◌≤◌, ◌<◌, ◌⊎◌, ◌↔◌, ℕ, List, [], length, map, string_bytes, true, None, Some, IfOk, IfErr};
-ghost use Rattle.cp_app.specs.Command.{command_of};
 ghost use Rattle.cp_app.specs.Headline.{most_bytes, IsAccepted, IsRefusedFor, IsAnalysed, puts_nothing, status_line, HasReported, HasBrokenOff, HasRefused, WasTooLong, TookAtMost, HasLine};
 ghost use Rattle.cp_app.specs.Steps.{IsCauseFor, HasStopped, IsWholeReport, outcomes_status, HasEnded, HasExecuted};
 ghost use Rattle.cp_app.specs.declared.stopped.Stopped.TheVariants as stopped;
@@ -10,17 +9,18 @@ ghost use Rattle.cp_base.specs.declared.status.Status.TheVariants.{Usage, Refuse
 ghost use Rattle.cp_model.specs.Tree.{Limits as LimitsData};
 ghost use Rattle.cp_sexpr.specs.Syntax.{Forms};
 ghost use Rattle.cp_skel.specs.Trees.{limits_view};
+ghost use Rattle.cp_words.specs.Command.{command_of};
 
 use crate::analysing::{are_complete, trees_of};
 use crate::profile::load_accepted;
 use crate::reading::read_all;
 use crate::stopped::Stopped;
-use crate::words::command;
 use crate::writing::{put_line, put_pieces};
 use cp_base::{Sink, Source, Status};
 use cp_print::print_pieces;
 use cp_sexpr::read;
 use cp_skel::Limits;
+use cp_words::{WordsError, read_command};
 use std::alloc::Global;
 
 // The text of a report, where each of its top forms ends, and whether every outcome in it is complete.
@@ -111,9 +111,10 @@ fn execute<S: Source, O: Sink>(
     ensures write_fault { result ≡ WriteFault → Rose (O.faults out.old) (O.faults out.new) }
     ensures nothing_put { puts_nothing result ≡ true → out.new ≡ out.old }
 {
-    match command(words) {
-        Some(limits) => analyse(alloc, limits, source, out),
-        None => Status::Usage,
+    match read_command(alloc, words) {
+        Ok(limits) => analyse(alloc, limits, source, out),
+        Err(WordsError::Usage) => Status::Usage,
+        Err(WordsError::Memory) => Status::Memory,
     }
 }
 

@@ -1,5 +1,0 @@
-use Rattle.cp_app.proofs.Cutting.{word_cut}
-use Rattle.cp_app.proofs.words.name_and_value.Goals as goal
-
-pub returns : goal.returns
-returns c = word_cut c.args.word.now c.split_once.result c.split_once.ensures.cases
