@@ -1,6 +1,7 @@
 // The words of the input language.
 ghost use Rattle.std.specs.Prelude.{◌≡◌, ◌||◌, codes};
-ghost use Rattle.cp_language.specs.Words.{same_text, is_one_of, heads_out_of_profile, state_heads, other_operations, other_sorts, sort_word, term_head, event_head, item_head, top_head};
+ghost use Rattle.cp_model.specs.Same.{same_text};
+ghost use Rattle.cp_language.specs.Words.{is_one_of, heads_out_of_profile, state_heads, other_operations, other_sorts, sort_word, term_head, event_head, item_head, top_head};
 ghost use Rattle.cp_forms.specs.Heads.{sort_word_view, term_head_view, event_head_view, item_head_view, top_head_view};
 
 use cp_term::Sort;

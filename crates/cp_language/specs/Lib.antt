@@ -1,5 +1,4 @@
 pub mod Words
-pub mod Same
 pub mod Faults
 pub mod Terms
 pub mod Roles

@@ -4,7 +4,7 @@ use Rattle.cp_base.specs.declared.place.Place.{Place}
 use Rattle.cp_model.specs.Term.{Sort, text_sort, datum_sort, name_sort, skey_sort, akey_sort, Variable, SymmetricTerm, skey_variable, ltk_term, PairTerm, akey_variable, pubk_term, KeyTerm, symmetric_term, asymmetric_term, AtomTerm, text_variable, datum_variable, name_variable, key_term, Term, tag_term, atom_term, pair_term, enc_term, variables_of}
 use Rattle.cp_model.specs.Tree.{Pattern}
 use Rattle.cp_sexpr.specs.Syntax.{Form, symbol, string, number, list, Forms, none, more, forms_of, append}
-use Rattle.cp_language.specs.Same.{has_variable}
+use Rattle.cp_model.specs.Same.{has_variable}
 use Rattle.cp_language.specs.Names.{sort_text}
 
 -- The forms of a report have no places of their own.

@@ -3,15 +3,16 @@ use Rattle.std.specs.Prelude.{◌==◌, ◌&&◌, ◌||◌, nat_lt, nat_le, ℕ,
 use Rattle.cp_base.specs.declared.place.Place.{Place}
 use Rattle.cp_base.specs.declared.place.Code.TheVariants.{UnknownForm, OutOfProfile, BadShape, UnknownProtocol, UnknownRole, DuplicateVar, BadHeight, UnknownVar, NotInPrefix, UniqNowhere, BadNode, CyclicOrder}
 use Rattle.cp_base.specs.declared.place.Refusal.{Refusal}
-use Rattle.cp_model.specs.Term.{Sort, Variable, atom_of_variable, AtomTerm, Term, tag_term, atom_term, variables_of_atom, Substitution, apply_to_atom}
+use Rattle.cp_model.specs.Term.{Sort, Variable, atom_of_variable, AtomTerm, Term, tag_term, atom_term}
 use Rattle.cp_model.specs.Strand.{Event, send, recv, Declaration, Role, Protocol, variables_of_prefix}
 use Rattle.cp_model.specs.Bundle.{Node, node_at}
 use Rattle.cp_model.specs.Skeleton.{SkeletonStrand, instance, listener, skeleton_trace, term_event_at, UniqueAt, Assumptions, OrderPair, Skeleton}
 use Rattle.cp_model.specs.Homomorphism.{substitution_by}
 use Rattle.cp_model.specs.Problem.{numbers_from, variable_terms}
 use Rattle.cp_sexpr.specs.Syntax.{Form, symbol, number, list}
-use Rattle.cp_language.specs.Words.{same_text, is_one_of, ItemHead, role_item, non_item, penetrator_non_item, unique_item, strand_item, listener_item, precedes_item, comment_item, item_out_of_profile, no_item}
-use Rattle.cp_language.specs.Same.{same_atom, same_node, origin_in, has_variable, has_variables}
+use Rattle.cp_model.specs.Given.{atoms_onto, uniques_onto, with_given}
+use Rattle.cp_model.specs.Same.{same_text, origin_in, has_variable}
+use Rattle.cp_language.specs.Words.{is_one_of, ItemHead, role_item, non_item, penetrator_non_item, unique_item, strand_item, listener_item, precedes_item, comment_item, item_out_of_profile, no_item}
 use Rattle.cp_language.specs.Faults.{fault, fault_unless, place_of, items_of}
 use Rattle.cp_language.specs.Terms.{variable_named, lacks, exceeds, sort_faults, term_faults, atom_faults, term_of, as_atom}
 use Rattle.cp_language.specs.Roles.{headed, text_of_symbol, list_items, item_or_none, items_behind, vars_faults, declarations_of, unless_faulty, each_faults, item_faults, forms_under, is_non_item, is_penetrator_non_item, is_unique_item, atoms_in}
@@ -396,54 +397,6 @@ problem_faults above at _ = fault at BadShape
 
 -- ---- what a problem stands for
 
--- Each value once, the first time that it stands.
-abbrev pub has_atom : List AtomTerm → AtomTerm → Bool
-has_atom [] v = false
-has_atom (w ∷ ws) v = same_atom w v || has_atom ws v
-
-abbrev pub atoms_onto : List AtomTerm → List AtomTerm → List AtomTerm
-atoms_onto before [] = before
-atoms_onto before (v ∷ vs) = atoms_onto (if has_atom before v then before else before ++ v ∷ []) vs
-
-abbrev pub has_unique : List UniqueAt → UniqueAt → Bool
-has_unique [] u = false
-has_unique (w ∷ ws) u = (same_atom w.value u.value && same_node w.origin u.origin) || has_unique ws u
-
-abbrev pub uniques_onto : List UniqueAt → List UniqueAt → List UniqueAt
-uniques_onto before [] = before
-uniques_onto before (u ∷ us) = uniques_onto (if has_unique before u then before else before ++ u ∷ []) us
-
--- The values of a role's assumptions that apply to an instance.
-abbrev pub applying : Role → ℕ → Substitution → List AtomTerm → List AtomTerm
-applying role height terms [] = []
-applying role height terms (v ∷ vs) =
-    if has_variables (variables_of_prefix role height) (variables_of_atom v) then apply_to_atom terms v ∷ applying role height terms vs else applying role height terms vs
-
-abbrev pub unique_if_below : ℕ → ℕ → AtomTerm → Option ℕ → List UniqueAt
-unique_if_below height s v None = []
-unique_if_below height s v (Some i) = if nat_lt i height then record { value = v; origin = node_at s i } ∷ [] else []
-
-abbrev pub applying_uniques : Role → ℕ → Substitution → ℕ → List AtomTerm → List UniqueAt
-applying_uniques role height terms s [] = []
-applying_uniques role height terms s (v ∷ vs) =
-    unique_if_below height s (apply_to_atom terms v) (origin_in role.trace (atom_term v)) ++ applying_uniques role height terms s vs
-
--- The assumptions that the strands' roles give, in the order of the strands.
-abbrev pub given_non : List SkeletonStrand → List AtomTerm
-given_non [] = []
-given_non (listener t ∷ ks) = given_non ks
-given_non (instance role height terms ∷ ks) = applying role height terms role.non_originating ++ given_non ks
-
-abbrev pub given_penetrator_non : List SkeletonStrand → List AtomTerm
-given_penetrator_non [] = []
-given_penetrator_non (listener t ∷ ks) = given_penetrator_non ks
-given_penetrator_non (instance role height terms ∷ ks) = applying role height terms role.penetrator_non_originating ++ given_penetrator_non ks
-
-abbrev pub given_uniques : ℕ → List SkeletonStrand → List UniqueAt
-given_uniques s [] = []
-given_uniques s (listener t ∷ ks) = given_uniques (suc s) ks
-given_uniques s (instance role height terms ∷ ks) = applying_uniques role height terms s role.uniquely_originating ++ given_uniques (suc s) ks
-
 -- The recorded origins of a problem's unique values: all nodes of its instances at which they originate.
 abbrev pub own_uniques : List SkeletonStrand → List AtomTerm → List UniqueAt
 own_uniques strands [] = []
@@ -455,14 +408,6 @@ own_assumptions ds strands body = record {
   non_originating = atoms_onto [] (atoms_in ds (forms_under is_non_item body));
   penetrator_non_originating = atoms_onto [] (atoms_in ds (forms_under is_penetrator_non_item body));
   uniquely_originating = uniques_onto [] (own_uniques strands (atoms_in ds (forms_under is_unique_item body)));
-}
-
--- First the problem's own assumptions, and then those of the strands, each once.
-abbrev pub with_given : List SkeletonStrand → Assumptions → Assumptions
-with_given strands own = record {
-  non_originating = atoms_onto own.non_originating (given_non strands);
-  penetrator_non_originating = atoms_onto own.penetrator_non_originating (given_penetrator_non strands);
-  uniquely_originating = uniques_onto own.uniquely_originating (given_uniques 0 strands);
 }
 
 abbrev pub own_skeleton : List Declaration → List SkeletonStrand → List Form → List Declaration → Skeleton

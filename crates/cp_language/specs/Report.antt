@@ -9,7 +9,7 @@ use Rattle.cp_model.specs.Problem.{IsDeclared, variables_of_skeleton}
 use Rattle.cp_model.specs.Tree.{Operation, by_problem, by_collapse, by_contraction, by_displacement, by_added_strand, by_added_listener, by_generalising, Mark, shape, dead, seen, instance_of, limit_steps, limit_strands, Outcome, complete, at_step_limit, at_strand_limit, Pattern, Test, Label, Tree, expanded_count, shape_count}
 use Rattle.cp_sexpr.specs.Syntax.{Form}
 use Rattle.cp_sexpr.specs.Spelling.{top_spelling}
-use Rattle.cp_language.specs.Same.{same_node, has_variable}
+use Rattle.cp_model.specs.Same.{same_node, has_variable}
 use Rattle.cp_language.specs.Problems.{Problem, reaches}
 use Rattle.cp_language.specs.Input.{Entry}
 use Rattle.cp_language.specs.Names.{problem_names, label_names, has_number, sort_text}

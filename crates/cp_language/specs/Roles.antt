@@ -6,8 +6,8 @@ use Rattle.cp_base.specs.declared.place.Refusal.{Refusal}
 use Rattle.cp_model.specs.Term.{Sort, text_sort, AtomTerm, Term, tag_term}
 use Rattle.cp_model.specs.Strand.{Event, send, recv, Declaration, Role, Protocol}
 use Rattle.cp_sexpr.specs.Syntax.{Form, symbol, list, more}
-use Rattle.cp_language.specs.Words.{same_text, is_one_of, heads_out_of_profile, SortWord, of_sort, of_messages, sort_out_of_profile, no_sort, sort_word, EventHead, sending, receiving, event_out_of_profile, no_event, event_head, ItemHead, role_item, non_item, penetrator_non_item, unique_item, strand_item, listener_item, precedes_item, comment_item, item_out_of_profile, no_item, item_head}
-use Rattle.cp_language.specs.Same.{origin_in}
+use Rattle.cp_model.specs.Same.{same_text, origin_in}
+use Rattle.cp_language.specs.Words.{is_one_of, heads_out_of_profile, SortWord, of_sort, of_messages, sort_out_of_profile, no_sort, sort_word, EventHead, sending, receiving, event_out_of_profile, no_event, event_head, ItemHead, role_item, non_item, penetrator_non_item, unique_item, strand_item, listener_item, precedes_item, comment_item, item_out_of_profile, no_item, item_head}
 use Rattle.cp_language.specs.Faults.{fault, fault_unless, place_of, items_of}
 use Rattle.cp_language.specs.Terms.{lacks, term_faults, atom_faults, term_of, as_atom}
 

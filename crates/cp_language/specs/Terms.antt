@@ -6,8 +6,8 @@ use Rattle.cp_base.specs.declared.place.Refusal.{Refusal}
 use Rattle.cp_model.specs.Term.{Sort, name_sort, skey_sort, akey_sort, Variable, atom_of_variable, skey_variable, ltk_term, pubk_term, KeyTerm, symmetric_term, asymmetric_term, inverse_term, AtomTerm, text_variable, name_variable, key_term, Term, tag_term, atom_term, pair_term, enc_term}
 use Rattle.cp_model.specs.Strand.{Declaration}
 use Rattle.cp_sexpr.specs.Syntax.{Form, symbol, string, number, list, Forms, none, more}
-use Rattle.cp_language.specs.Words.{same_text, TermHead, cat, encrypt, long_term_key, public_key, private_key, inverse_key, operation_out_of_profile, no_operation, term_head}
-use Rattle.cp_language.specs.Same.{same_sort}
+use Rattle.cp_model.specs.Same.{same_text, same_sort}
+use Rattle.cp_language.specs.Words.{TermHead, cat, encrypt, long_term_key, public_key, private_key, inverse_key, operation_out_of_profile, no_operation, term_head}
 use Rattle.cp_language.specs.Faults.{fault, fault_unless, place_of, items_of}
 
 -- ---- identifiers

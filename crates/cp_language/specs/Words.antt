@@ -1,13 +1,7 @@
 -- The words of the input language.
-use Rattle.std.specs.Prelude.{ℕ, List, [], ◌∷◌, ◌==◌, ◌&&◌, ◌||◌, Bool, true, false, codes, if◌then◌else◌}
+use Rattle.std.specs.Prelude.{ℕ, List, [], ◌∷◌, ◌||◌, Bool, false, codes, if◌then◌else◌}
 use Rattle.cp_model.specs.Term.{Sort, text_sort, datum_sort, name_sort, skey_sort, akey_sort}
-
--- The texts are equal.
-abbrev pub same_text : List ℕ → List ℕ → Bool
-same_text [] [] = true
-same_text [] (y ∷ ys) = false
-same_text (x ∷ xs) [] = false
-same_text (x ∷ xs) (y ∷ ys) = (x == y) && same_text xs ys
+use Rattle.cp_model.specs.Same.{same_text}
 
 -- The text is one of these.
 abbrev pub is_one_of : List ℕ → List (List ℕ) → Bool

@@ -17,3 +17,4 @@ pub mod Paired
 pub mod RunLinks
 pub mod FirstCarrying
 pub mod OriginTrail
+pub mod SameTests

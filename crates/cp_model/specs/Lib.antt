@@ -23,3 +23,5 @@ pub mod FormLeaves
 pub mod RunView
 pub mod Linking
 pub mod Carrying
+pub mod Same
+pub mod Given

@@ -6,9 +6,9 @@ use Rattle.cp_model.specs.Term.{Variable, AtomTerm, variables_of_atom, Substitut
 use Rattle.cp_model.specs.Strand.{Declaration, Role, Applies, variables_of_prefix}
 use Rattle.cp_model.specs.Skeleton.{SkeletonStrand, instance, listener}
 use Rattle.cp_model.proofs.LawLists.{in_append, in_append_left, in_append_right}
-use Rattle.cp_language.specs.Same.{same_atom, has_variable, has_variables}
-use Rattle.cp_language.specs.Problems.{has_atom, atoms_onto, applying, given_non, given_penetrator_non}
-use Rattle.cp_language.proofs.ValidTests.{atom_is, variable_in, in_has_variable}
+use Rattle.cp_model.specs.Same.{same_atom, has_variable, has_variables}
+use Rattle.cp_model.specs.Given.{has_atom, atoms_onto, applying, given_non, given_penetrator_non}
+use Rattle.cp_model.proofs.SameTests.{atom_is, variable_in, in_has_variable}
 use Rattle.cp_wellformed.proofs.Terms.{AreDeclared}
 use Rattle.cp_wellformed.proofs.Values.{AtomsDeclared, and_these}
 use Rattle.cp_wellformed.proofs.Instances.{TakesToDeclared, atom_taken}

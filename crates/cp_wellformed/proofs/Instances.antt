@@ -12,11 +12,12 @@ use Rattle.cp_model.specs.Problem.{declared_sort, IsDeclared}
 use Rattle.cp_model.proofs.LawLists.{in_append_left, in_append_right}
 use Rattle.cp_sexpr.specs.Syntax.{Form, symbol, string, number, list, none, more}
 use Rattle.cp_language.specs.Words.{is_one_of}
-use Rattle.cp_language.specs.Same.{has_variable}
+use Rattle.cp_model.specs.Same.{has_variable}
 use Rattle.cp_language.specs.Faults.{fault, fault_unless, place_of}
 use Rattle.cp_language.specs.Terms.{variable_named, is_sort, sort_of, sort_faults, term_faults, term_of}
 use Rattle.cp_language.specs.Problems.{is_known, role_variable_faults, mapped_faults, maplet_faults, mapped_identifier, maplets_faults, term_mapped, Instantiated, is_fresh, term_or_fresh, instantiated, instance_of_role}
-use Rattle.cp_language.proofs.ValidTests.{one_of, in_has_variable}
+use Rattle.cp_model.proofs.SameTests.{in_has_variable}
+use Rattle.cp_language.proofs.ValidTests.{one_of}
 use Rattle.cp_wellformed.proofs.Terms.{none_before, none_behind, none_of_four, holds, AreDeclared, none_declared, both_declared, IsOfSort, variable_of_sort, variable_declared, term_variables_declared, term_of_sort}
 use Rattle.cp_wellformed.proofs.Names.{named_itself}
 use Rattle.cp_wellformed.proofs.Roles.{IsSoundRole, prefix_declared}

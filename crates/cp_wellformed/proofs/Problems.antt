@@ -12,7 +12,8 @@ use Rattle.cp_sexpr.specs.Syntax.{Form, Forms}
 use Rattle.cp_language.specs.Words.{TopHead, protocol_form, problem_form, free_form, top_out_of_profile, no_top, top_head}
 use Rattle.cp_language.specs.Faults.{fault_unless, place_of, items_of}
 use Rattle.cp_language.specs.Roles.{Headed, headed, text_of_symbol, vars_faults, declarations_of, forms_under, is_non_item, is_penetrator_non_item, is_unique_item, atoms_in, protocol_of}
-use Rattle.cp_language.specs.Problems.{protocol_named, Stage, body_faults, has_strand, before_items, roles_of, protocol_name_faults, problem_strands, problem_faults, given_non, given_penetrator_non, given_uniques, own_uniques, own_assumptions, with_given, own_skeleton, Problem, protocol_or_none, problem_with, problem_of}
+use Rattle.cp_model.specs.Given.{given_non, given_penetrator_non, given_uniques, with_given}
+use Rattle.cp_language.specs.Problems.{protocol_named, Stage, body_faults, has_strand, before_items, roles_of, protocol_name_faults, problem_strands, problem_faults, own_uniques, own_assumptions, own_skeleton, Problem, protocol_or_none, problem_with, problem_of}
 use Rattle.cp_language.specs.Input.{protocol_names, top_faults, headed_top_faults, protocols_onto, protocols_behind, faults_from, faults_of, Entry, problem_by, stated_problem, entries_from, input_of}
 use Rattle.cp_wellformed.proofs.Terms.{none_before, none_behind, none_of_four, AreDeclared, none_declared, both_declared}
 use Rattle.cp_wellformed.specs.Role.{IsWellFormedRole}

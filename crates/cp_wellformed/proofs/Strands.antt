@@ -9,7 +9,8 @@ use Rattle.cp_model.specs.Term.{variables_of}
 use Rattle.cp_model.specs.Strand.{Declaration, Role, Protocol, IsHeight, variables_of_prefix}
 use Rattle.cp_model.specs.Skeleton.{SkeletonStrand, instance, listener}
 use Rattle.cp_sexpr.specs.Syntax.{Form, symbol, string, number, list}
-use Rattle.cp_language.specs.Words.{same_text, ItemHead, role_item, non_item, penetrator_non_item, unique_item, strand_item, listener_item, precedes_item, comment_item, item_out_of_profile, no_item}
+use Rattle.cp_model.specs.Same.{same_text}
+use Rattle.cp_language.specs.Words.{ItemHead, role_item, non_item, penetrator_non_item, unique_item, strand_item, listener_item, precedes_item, comment_item, item_out_of_profile, no_item}
 use Rattle.cp_language.specs.Terms.{term_faults}
 use Rattle.cp_language.specs.Roles.{headed, text_of_symbol, item_or_none, items_behind}
 use Rattle.cp_language.specs.Problems.{protocol_named, role_named, is_known, role_name_faults, height_faults, number_of, maplets_faults_of, instance_faults, listener_faults, Strands, instance_by, strand_by, fresh_of, with_strand, strands_from}

@@ -11,10 +11,11 @@ use Rattle.cp_model.specs.Strand.{Declaration}
 use Rattle.cp_model.specs.Problem.{declared_sort, IsDeclared}
 use Rattle.cp_model.proofs.LawLists.{in_append}
 use Rattle.cp_sexpr.specs.Syntax.{Form, symbol, string, number, list, Forms, none, more}
-use Rattle.cp_language.specs.Words.{same_text, TermHead, cat, encrypt, long_term_key, public_key, private_key, inverse_key, operation_out_of_profile, no_operation, term_head}
+use Rattle.cp_model.specs.Same.{same_text}
+use Rattle.cp_language.specs.Words.{TermHead, cat, encrypt, long_term_key, public_key, private_key, inverse_key, operation_out_of_profile, no_operation, term_head}
 use Rattle.cp_language.specs.Faults.{fault, fault_unless, place_of, items_of}
 use Rattle.cp_language.specs.Terms.{variable_from, variable_named, TermSort, of_atoms, of_all, sort_of_variable, sort_of_cat, sort_by_head, sort_of, sorts_of, is_sort, sort_faults, lacks, first_faults, all_faults, last_key_faults, operation_faults, name_faults, applied_faults, undeclared, term_faults, each_term_faults, term_of_variable, paired, all_but_last, last_of, as_key, as_name, key_as_term, long_term, inverted, key_of_name, applied, term_of, terms_of}
-use Rattle.cp_language.proofs.ValidTests.{sort_is}
+use Rattle.cp_model.proofs.SameTests.{sort_is}
 
 -- ---- no fault in two lists of faults is none in each
 

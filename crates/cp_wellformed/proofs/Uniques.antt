@@ -8,9 +8,10 @@ use Rattle.cp_model.specs.Bundle.{Node, node_at}
 use Rattle.cp_model.specs.Skeleton.{SkeletonStrand, instance, listener, skeleton_trace, skeleton_trace_or_none, UniqueAt, Skeleton, IsOrigin}
 use Rattle.cp_model.specs.Problem.{variables_of_uniques}
 use Rattle.cp_model.proofs.LawLists.{in_append, in_append_left, in_append_right, take_of_item, map_of_item}
-use Rattle.cp_language.specs.Same.{same_atom, same_node, origin_in}
-use Rattle.cp_language.specs.Problems.{origins_on, origins_from, has_unique, uniques_onto, unique_if_below, applying_uniques, given_uniques, own_uniques}
-use Rattle.cp_language.proofs.ValidTests.{atom_is, node_is, origin_found, finds_origin}
+use Rattle.cp_model.specs.Same.{same_atom, same_node, origin_in}
+use Rattle.cp_model.specs.Given.{has_unique, uniques_onto, unique_if_below, applying_uniques, given_uniques}
+use Rattle.cp_language.specs.Problems.{origins_on, origins_from, own_uniques}
+use Rattle.cp_model.proofs.SameTests.{atom_is, node_is, origin_found, finds_origin}
 use Rattle.cp_wellformed.proofs.Terms.{AreDeclared, none_declared, both_declared}
 
 -- ---- what a term carries, under a substitution

@@ -7,11 +7,11 @@ use Rattle.cp_model.specs.Term.{Sort, text_sort, datum_sort, name_sort, skey_sor
 use Rattle.cp_model.specs.Strand.{Event, OriginatesInTerms, Declaration}
 use Rattle.cp_model.specs.Problem.{variables_of_atoms}
 use Rattle.cp_sexpr.specs.Syntax.{Form}
-use Rattle.cp_language.specs.Same.{origin_in}
+use Rattle.cp_model.specs.Same.{origin_in}
 use Rattle.cp_language.specs.Faults.{fault_unless, place_of}
 use Rattle.cp_language.specs.Terms.{TermSort, of_atoms, of_all, sort_of, is_atom, term_faults, atom_faults, term_of, as_atom}
 use Rattle.cp_language.specs.Roles.{is_somewhere, role_unique_faults, each_faults, atoms_in}
-use Rattle.cp_language.proofs.ValidTests.{origin_found}
+use Rattle.cp_model.proofs.SameTests.{origin_found}
 use Rattle.cp_wellformed.proofs.Terms.{none_before, none_behind, holds, AreDeclared, none_declared, both_declared, IsOfSort, IsSound, term_is_sound}
 use Rattle.cp_wellformed.proofs.Items.{unless_parts}
 
