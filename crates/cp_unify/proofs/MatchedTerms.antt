@@ -13,7 +13,8 @@ use Rattle.cp_model.proofs.LawTerms.{flag_last, atom_unchanged}
 use Rattle.cp_term.specs.Same.{same_flag, same_atom, is_same}
 use Rattle.cp_term.proofs.SameTerms.{bytes_Decides, flag_Decides, purpose_Decides, atom_Decides, same_Decides}
 use Rattle.cp_unify.specs.Bindings.{Binding, sort_of, variable_of, put_term, as_substitution}
-use Rattle.cp_unify.specs.Matched.{bound_term, is_same_sort, matched_local, matched_variable, matched_names, matched_symmetric, matched_pairs, matched_keys, matched_atoms, matched}
+use Rattle.cp_unify.specs.Beside.{Agrees, MatchesBeside, NeverMatchesBeside}
+use Rattle.cp_unify.specs.Matched.{is_listed, bound_term, is_same_sort, matched_local, matched_variable, matched_names, matched_symmetric, matched_pairs, matched_keys, matched_atoms, matched}
 use Rattle.cp_unify.specs.Matching.{ChangesOnly, BindsOnly, IsMatch, HasNoMatch}
 use Rattle.cp_unify.specs.Atoms.{IsAtom, atom_of}
 use Rattle.cp_term.specs.Keys.{key_as_term, IsKey}
@@ -23,27 +24,31 @@ use Rattle.cp_term.specs.declared.variable.Sort.TheVariants.{Text, Datum, Name, 
 use Rattle.cp_unify.proofs.Found.{swap}
 use Rattle.cp_unify.proofs.Occurring.{bound, other}
 
--- The substitution gives each variable of the bindings its term.
-abbrev pub Agrees : Substitution → List Binding → Type 0
-Agrees s [] = Unit {0}
-Agrees s (b ∷ bs) = (apply_to_atom s (atom_of_variable (variable_of b)) ≡ b.term) × Agrees s bs
+-- The substitution changes only is_local.
+abbrev pub ChangesLocals : (ℕ → Bool) → Substitution → Type 0
+ChangesLocals is_local s = (x : Variable) → is_local x.number ≡ false → apply_to_atom s (atom_of_variable x) ≡ atom_of_variable x
 
--- q are bindings beside r with which, and with which alone, a substitution that changes only locals meets an equation.
-pub record MatchesBeside (locals : List ℕ) (equation : Substitution → Type 0) (r q : List Binding) : Type 0 where
+-- The bindings are of locals.
+abbrev pub BindsLocals : (ℕ → Bool) → List Binding → Type 0
+BindsLocals is_local [] = Unit {0}
+BindsLocals is_local (b ∷ bs) = (is_local b.number ≡ true) × BindsLocals is_local bs
+
+-- q are bindings beside r with which, and with which alone, a substitution that changes only is_local meets an equation.
+pub record MeetsBeside (is_local : ℕ → Bool) (equation : Substitution → Type 0) (r q : List Binding) : Type 0 where
   pub extends : (s : Substitution) → Agrees s q → Agrees s r
-  pub sound : (s : Substitution) → ChangesOnly locals s → Agrees s q → equation s
-  pub general : (s : Substitution) → ChangesOnly locals s → Agrees s r → equation s → Agrees s q
+  pub sound : (s : Substitution) → ChangesLocals is_local s → Agrees s q → equation s
+  pub general : (s : Substitution) → ChangesLocals is_local s → Agrees s r → equation s → Agrees s q
   pub own : Agrees (as_substitution r) r → Agrees (as_substitution q) q
-  pub only : BindsOnly locals r → BindsOnly locals q
+  pub only : BindsLocals is_local r → BindsLocals is_local q
 
-abbrev pub Outcome : List ℕ → (Substitution → Type 0) → List Binding → Option (List Binding) → Type 0
-Outcome locals equation r answer =
-    MatchOption answer ((s : Substitution) → ChangesOnly locals s → Agrees s r → equation s → ⊥) (λ q. MatchesBeside locals equation r q)
+abbrev pub Outcome : (ℕ → Bool) → (Substitution → Type 0) → List Binding → Option (List Binding) → Type 0
+Outcome is_local equation r answer =
+    MatchOption answer ((s : Substitution) → ChangesLocals is_local s → Agrees s r → equation s → ⊥) (λ q. MeetsBeside is_local equation r q)
 
-outcome_like : (locals : List ℕ) (e f : Substitution → Type 0) (r : List Binding) (answer : Option (List Binding)) →
-    ((s : Substitution) → e s → f s) → ((s : Substitution) → f s → e s) → Outcome locals e r answer → Outcome locals f r answer
-outcome_like locals e f r None up down h = λ s c a w. h s c a (down s w)
-outcome_like locals e f r (Some q) up down h = record {
+outcome_like : (is_local : ℕ → Bool) (e f : Substitution → Type 0) (r : List Binding) (answer : Option (List Binding)) →
+    ((s : Substitution) → e s → f s) → ((s : Substitution) → f s → e s) → Outcome is_local e r answer → Outcome is_local f r answer
+outcome_like is_local e f r None up down h = λ s c a w. h s c a (down s w)
+outcome_like is_local e f r (Some q) up down h = record {
   extends = h.extends;
   sound = λ s c a. up s (h.sound s c a);
   general = λ s c a w. h.general s c a (down s w);
@@ -51,11 +56,11 @@ outcome_like locals e f r (Some q) up down h = record {
   only = h.only;
 }
 
-both_beside : (locals : List ℕ) (e1 e2 e : Substitution → Type 0) (r q : List Binding) (answer : Option (List Binding)) →
+both_beside : (is_local : ℕ → Bool) (e1 e2 e : Substitution → Type 0) (r q : List Binding) (answer : Option (List Binding)) →
     ((s : Substitution) → e1 s → e2 s → e s) → ((s : Substitution) → e s → e1 s) → ((s : Substitution) → e s → e2 s) →
-    MatchesBeside locals e1 r q → Outcome locals e2 q answer → Outcome locals e r answer
-both_beside locals e1 e2 e r q None up d1 d2 h k = λ s c a w. k s c (h.general s c a (d1 s w)) (d2 s w)
-both_beside locals e1 e2 e r q (Some p) up d1 d2 h k = record {
+    MeetsBeside is_local e1 r q → Outcome is_local e2 q answer → Outcome is_local e r answer
+both_beside is_local e1 e2 e r q None up d1 d2 h k = λ s c a w. k s c (h.general s c a (d1 s w)) (d2 s w)
+both_beside is_local e1 e2 e r q (Some p) up d1 d2 h k = record {
   extends = λ s a. h.extends s (k.extends s a);
   sound = λ s c a. up s (h.sound s c (k.extends s a)) (k.sound s c a);
   general = λ s c a w. k.general s c (h.general s c a (d1 s w)) (d2 s w);
@@ -63,27 +68,27 @@ both_beside locals e1 e2 e r q (Some p) up d1 d2 h k = record {
   only = λ o. k.only (h.only o);
 }
 
-outcome_both : (locals : List ℕ) (e1 e2 e : Substitution → Type 0) (r : List Binding) (first : Option (List Binding)) (next : List Binding → Option (List Binding)) →
+outcome_both : (is_local : ℕ → Bool) (e1 e2 e : Substitution → Type 0) (r : List Binding) (first : Option (List Binding)) (next : List Binding → Option (List Binding)) →
     ((s : Substitution) → e1 s → e2 s → e s) → ((s : Substitution) → e s → e1 s) → ((s : Substitution) → e s → e2 s) →
-    Outcome locals e1 r first → ((q : List Binding) → Outcome locals e2 q (next q)) → Outcome locals e r (option_and_then next first)
-outcome_both locals e1 e2 e r None next up d1 d2 h k = λ s c a w. h s c a (d1 s w)
-outcome_both locals e1 e2 e r (Some q) next up d1 d2 h k = both_beside locals e1 e2 e r q (next q) up d1 d2 h (k q)
+    Outcome is_local e1 r first → ((q : List Binding) → Outcome is_local e2 q (next q)) → Outcome is_local e r (option_and_then next first)
+outcome_both is_local e1 e2 e r None next up d1 d2 h k = λ s c a w. h s c a (d1 s w)
+outcome_both is_local e1 e2 e r (Some q) next up d1 d2 h k = both_beside is_local e1 e2 e r q (next q) up d1 d2 h (k q)
 
 -- What holds anyway, or never.
-outcome_choice : (locals : List ℕ) (e : Substitution → Type 0) (r : List Binding) (b : Bool) →
-    (b ≡ true → (s : Substitution) → ChangesOnly locals s → Agrees s r → e s) → (b ≡ false → (s : Substitution) → ChangesOnly locals s → Agrees s r → e s → ⊥) →
-    Outcome locals e r (if b then Some r else None)
-outcome_choice locals e r true up down = record {
+outcome_choice : (is_local : ℕ → Bool) (e : Substitution → Type 0) (r : List Binding) (b : Bool) →
+    (b ≡ true → (s : Substitution) → ChangesLocals is_local s → Agrees s r → e s) → (b ≡ false → (s : Substitution) → ChangesLocals is_local s → Agrees s r → e s → ⊥) →
+    Outcome is_local e r (if b then Some r else None)
+outcome_choice is_local e r true up down = record {
   extends = λ s a. a;
   sound = λ s c a. up refl s c a;
   general = λ s c a w. a;
   own = λ o. o;
   only = λ o. o;
 }
-outcome_choice locals e r false up down = λ s c a w. down refl s c a w
+outcome_choice is_local e r false up down = λ s c a w. down refl s c a w
 
 -- A number is listed.
-listed : (locals : List ℕ) (m : ℕ) → list_any (λ n. n == m) locals ≡ true → IsIn m locals
+listed : (ns : List ℕ) (m : ℕ) → list_any (λ n. n == m) ns ≡ true → IsIn m ns
 listed [] m e = absurd (let f : false ≡ true = e in cc)
 listed (n ∷ ns) m e = choose (n == m) (eqb-true n m) e (listed ns m)
   where
@@ -91,17 +96,24 @@ listed (n ∷ ns) m e = choose (n == m) (eqb-true n m) e (listed ns m)
     choose true p f rest = subst (λ (k : ℕ). IsIn k (n ∷ ns)) (p refl) here
     choose false p f rest = there (rest f)
 
-is_listed : (locals : List ℕ) (m : ℕ) → IsIn m locals → list_any (λ n. n == m) locals ≡ true
-is_listed [] m h = elim h [ ]
-is_listed (n ∷ ns) m here = rw (eq-eqb n n refl) refl
-is_listed (n ∷ ns) m (there h) = choose (n == m) (is_listed ns m h)
+in_list : (ns : List ℕ) (m : ℕ) → IsIn m ns → list_any (λ n. n == m) ns ≡ true
+in_list [] m h = elim h [ ]
+in_list (n ∷ ns) m here = rw (eq-eqb n n refl) refl
+in_list (n ∷ ns) m (there h) = choose (n == m) (in_list ns m h)
   where
     choose : (b : Bool) → list_any (λ k. k == m) ns ≡ true → (b || list_any (λ k. k == m) ns) ≡ true
     choose true e = refl
     choose false e = e
 
-not_listed : (locals : List ℕ) (m : ℕ) → list_any (λ n. n == m) locals ≡ false → IsIn m locals → ⊥
-not_listed locals m e h = let f = is_listed locals m h in cc
+not_listed : (ns : List ℕ) (m : ℕ) → list_any (λ n. n == m) ns ≡ false → IsIn m ns → ⊥
+not_listed ns m e h = let f = in_list ns m h in cc
+
+is_in_none : (ns : List ℕ) (m : ℕ) → (IsIn m ns → ⊥) → list_any (λ n. n == m) ns ≡ false
+is_in_none ns m apart = choose (list_any (λ n. n == m) ns) (listed ns m)
+  where
+    choose : (b : Bool) → (b ≡ true → IsIn m ns) → b ≡ false
+    choose true p = absurd (apart (p refl))
+    choose false p = refl
 
 -- The term of a bound variable; and that one that is not bound is that of no binding.
 agrees_bound : (s : Substitution) (r : List Binding) (x t : AtomTerm) → Agrees s r → bound_term r (atom_term x) ≡ Some t → apply_to_atom s x ≡ t
@@ -155,9 +167,9 @@ abbrev Stands : AtomTerm → AtomTerm → Substitution → Type 0
 Stands x v s = apply_to_atom s x ≡ v
 
 -- A local that is not bound yet.
-new_local : (locals : List ℕ) (k : Sort) (m : ℕ) (v : AtomTerm) (r : List Binding) → sort_of v ≡ k → IsIn m locals → bound_term r (atom_term (at_sort k m)) ≡ None →
-    MatchesBeside locals (Stands (at_sort k m) v) r (record { number = m; term = v } ∷ r)
-new_local locals k m v r sort is_local free =
+new_local : (is_local : ℕ → Bool) (k : Sort) (m : ℕ) (v : AtomTerm) (r : List Binding) → sort_of v ≡ k → is_local m ≡ true → bound_term r (atom_term (at_sort k m)) ≡ None →
+    MeetsBeside is_local (Stands (at_sort k m) v) r (record { number = m; term = v } ∷ r)
+new_local is_local k m v r sort one free =
     let b : Binding = record { number = m; term = v } in
     let x_is : at_sort k m ≡ atom_of_variable (variable_of b) = ap (λ (j : Sort). at_sort j m) (sym sort) in
     record {
@@ -165,31 +177,31 @@ new_local locals k m v r sort is_local free =
       sound = λ s c a. ap (apply_to_atom s) x_is ∙ a.0;
       general = λ s c a w. (sym (ap (apply_to_atom s) x_is) ∙ w, a);
       own = λ o. (bound b (as_substitution r), unbound_apart r b (subst (λ (x : AtomTerm). bound_term r (atom_term x) ≡ None) x_is free) (as_substitution r) o);
-      only = λ o. (is_local, o);
+      only = λ o. (one, o);
     }
 
-local_found : (locals : List ℕ) (k : Sort) (m : ℕ) (v : AtomTerm) (r : List Binding) → sort_of v ≡ k → IsIn m locals → (o : Option AtomTerm) →
-    bound_term r (atom_term (at_sort k m)) ≡ o → Outcome locals (Stands (at_sort k m) v) r (matched_local m v r o)
-local_found locals k m v r sort is_local None e = new_local locals k m v r sort is_local e
-local_found locals k m v r sort is_local (Some t) e =
-    outcome_choice locals (Stands (at_sort k m) v) r (same_atom t v)
+local_found : (is_local : ℕ → Bool) (k : Sort) (m : ℕ) (v : AtomTerm) (r : List Binding) → sort_of v ≡ k → is_local m ≡ true → (o : Option AtomTerm) →
+    bound_term r (atom_term (at_sort k m)) ≡ o → Outcome is_local (Stands (at_sort k m) v) r (matched_local m v r o)
+local_found is_local k m v r sort one None e = new_local is_local k m v r sort one e
+local_found is_local k m v r sort one (Some t) e =
+    outcome_choice is_local (Stands (at_sort k m) v) r (same_atom t v)
     (λ f s c a. agrees_bound s r (at_sort k m) t a e ∙ (atom_Decides t v).0 f)
     (λ f s c a w. let g : same_atom t v ≡ true = (atom_Decides t v).1 (sym (agrees_bound s r (at_sort k m) t a e) ∙ w) in cc)
 
-variable_matched : (locals : List ℕ) (k : Sort) (m : ℕ) (v : AtomTerm) (r : List Binding) → Outcome locals (Stands (at_sort k m) v) r (matched_variable locals m (at_sort k m) v r)
-variable_matched locals k m v r = by_sort (is_same_sort (at_sort k m) v) refl
+variable_matched : (is_local : ℕ → Bool) (k : Sort) (m : ℕ) (v : AtomTerm) (r : List Binding) → Outcome is_local (Stands (at_sort k m) v) r (matched_variable is_local m (at_sort k m) v r)
+variable_matched is_local k m v r = by_sort (is_same_sort (at_sort k m) v) refl
   where
-    by_local : sort_of v ≡ k → (c : Bool) → list_any (λ n. n == m) locals ≡ c →
-        Outcome locals (Stands (at_sort k m) v) r (if c then matched_local m v r (bound_term r (atom_term (at_sort k m))) else (if same_atom (at_sort k m) v then Some r else None))
-    by_local sort true e = local_found locals k m v r sort (listed locals m e) (bound_term r (atom_term (at_sort k m))) refl
+    by_local : sort_of v ≡ k → (c : Bool) → is_local m ≡ c →
+        Outcome is_local (Stands (at_sort k m) v) r (if c then matched_local m v r (bound_term r (atom_term (at_sort k m))) else (if same_atom (at_sort k m) v then Some r else None))
+    by_local sort true e = local_found is_local k m v r sort e (bound_term r (atom_term (at_sort k m))) refl
     by_local sort false e =
-        outcome_choice locals (Stands (at_sort k m) v) r (same_atom (at_sort k m) v)
-        (λ f s c a. c (record { sort = k; number = m }) (not_listed locals m e) ∙ (atom_Decides (at_sort k m) v).0 f)
-        (λ f s c a w. let g : same_atom (at_sort k m) v ≡ true = (atom_Decides (at_sort k m) v).1 (sym (c (record { sort = k; number = m }) (not_listed locals m e)) ∙ w) in cc)
+        outcome_choice is_local (Stands (at_sort k m) v) r (same_atom (at_sort k m) v)
+        (λ f s c a. c (record { sort = k; number = m }) e ∙ (atom_Decides (at_sort k m) v).0 f)
+        (λ f s c a w. let g : same_atom (at_sort k m) v ≡ true = (atom_Decides (at_sort k m) v).1 (sym (c (record { sort = k; number = m }) e) ∙ w) in cc)
 
     by_sort : (b : Bool) → is_same_sort (at_sort k m) v ≡ b →
-        Outcome locals (Stands (at_sort k m) v) r (if b then (if list_any (λ n. n == m) locals then matched_local m v r (bound_term r (atom_term (at_sort k m))) else (if same_atom (at_sort k m) v then Some r else None)) else None)
-    by_sort true e = by_local (same_sort_of k m v e) (list_any (λ n. n == m) locals) refl
+        Outcome is_local (Stands (at_sort k m) v) r (if b then (if is_local m then matched_local m v r (bound_term r (atom_term (at_sort k m))) else (if same_atom (at_sort k m) v then Some r else None)) else None)
+    by_sort true e = by_local (same_sort_of k m v e) (is_local m) refl
     by_sort false e = λ s c a w. let f : is_same_sort (at_sort k m) v ≡ true = subst (λ (u : AtomTerm). is_same_sort (at_sort k m) u ≡ true) w (sort_matches s k m) in cc
 
 -- Keys.
@@ -199,15 +211,15 @@ symmetric_atom k = key_term (symmetric_term k)
 abbrev asymmetric_atom : Bool → PairTerm → AtomTerm
 asymmetric_atom f k = key_term (asymmetric_term f k)
 
-symmetric_matched : (locals : List ℕ) (k j : SymmetricTerm) (r : List Binding) → Outcome locals (Stands (symmetric_atom k) (symmetric_atom j)) r (matched_symmetric locals k j r)
-symmetric_matched locals (skey_variable m) j r = variable_matched locals skey_sort m (symmetric_atom j) r
-symmetric_matched locals (ltk_term a b) (skey_variable n) r = λ s c g w. cc
-symmetric_matched locals (ltk_term a b) (ltk_term c d) r =
-    outcome_both locals (Stands (name_variable a) (name_variable c)) (Stands (name_variable b) (name_variable d)) (Stands (symmetric_atom (ltk_term a b)) (symmetric_atom (ltk_term c d))) r
-    (matched_names locals a c r) (matched_names locals b d)
+symmetric_matched : (is_local : ℕ → Bool) (k j : SymmetricTerm) (r : List Binding) → Outcome is_local (Stands (symmetric_atom k) (symmetric_atom j)) r (matched_symmetric is_local k j r)
+symmetric_matched is_local (skey_variable m) j r = variable_matched is_local skey_sort m (symmetric_atom j) r
+symmetric_matched is_local (ltk_term a b) (skey_variable n) r = λ s c g w. cc
+symmetric_matched is_local (ltk_term a b) (ltk_term c d) r =
+    outcome_both is_local (Stands (name_variable a) (name_variable c)) (Stands (name_variable b) (name_variable d)) (Stands (symmetric_atom (ltk_term a b)) (symmetric_atom (ltk_term c d))) r
+    (matched_names is_local a c r) (matched_names is_local b d)
     (λ s e f. let e' : s.names a ≡ c = cc in let f' : s.names b ≡ d = cc in ap₂ (λ (m n : ℕ). symmetric_atom (ltk_term m n)) e' f')
     (λ s w. let e : s.names a ≡ c = cc in ap name_variable e) (λ s w. let e : s.names b ≡ d = cc in ap name_variable e)
-    (variable_matched locals name_sort a (name_variable c) r) (λ q. variable_matched locals name_sort b (name_variable d) q)
+    (variable_matched is_local name_sort a (name_variable c) r) (λ q. variable_matched is_local name_sort b (name_variable d) q)
 
 back_sum : (f x : Bool) → flag_of f (flag_of f x) ≡ x
 back_sum true true = refl
@@ -220,93 +232,125 @@ akey_up f g x e = ap (flag_of f) e ∙ back_sum f g
 akey_down : (f g x : Bool) → flag_of f x ≡ g → x ≡ flag_of f g
 akey_down f g x e = swap f g x false (e ∙ sym (flag_last g)) ∙ flag_last (flag_of f g)
 
-akey_matched : (locals : List ℕ) (f : Bool) (m : ℕ) (g : Bool) (j : PairTerm) (r : List Binding) →
-    Outcome locals (Stands (asymmetric_atom f (akey_variable m)) (asymmetric_atom g j)) r (matched_pairs locals f (akey_variable m) g j r)
-akey_matched locals f m g j r =
-    outcome_like locals (Stands (at_sort akey_sort m) (asymmetric_atom (flag_of f g) j)) (Stands (asymmetric_atom f (akey_variable m)) (asymmetric_atom g j)) r
-    (matched_pairs locals f (akey_variable m) g j r)
+akey_matched : (is_local : ℕ → Bool) (f : Bool) (m : ℕ) (g : Bool) (j : PairTerm) (r : List Binding) →
+    Outcome is_local (Stands (asymmetric_atom f (akey_variable m)) (asymmetric_atom g j)) r (matched_pairs is_local f (akey_variable m) g j r)
+akey_matched is_local f m g j r =
+    outcome_like is_local (Stands (at_sort akey_sort m) (asymmetric_atom (flag_of f g) j)) (Stands (asymmetric_atom f (akey_variable m)) (asymmetric_atom g j)) r
+    (matched_pairs is_local f (akey_variable m) g j r)
     (λ s w. let e0 : (s.akeys m).0 ≡ flag_of f g = cc in let e1 : (s.akeys m).1 ≡ j = cc in ap₂ asymmetric_atom (akey_up f g (s.akeys m).0 e0) e1)
     (λ s w. let e0 : flag_of f (s.akeys m).0 ≡ g = cc in let e1 : (s.akeys m).1 ≡ j = cc in ap₂ asymmetric_atom (akey_down f g (s.akeys m).0 e0) e1)
-    (variable_matched locals akey_sort m (asymmetric_atom (flag_of f g) j) r)
+    (variable_matched is_local akey_sort m (asymmetric_atom (flag_of f g) j) r)
 
-pubk_matched : (locals : List ℕ) (f g : Bool) (p q : Option (List ℕ)) (a b : ℕ) (r : List Binding) (c : Bool) → Decides c ((f ≡ g) × (p ≡ q)) →
-    Outcome locals (Stands (asymmetric_atom f (pubk_term p a)) (asymmetric_atom g (pubk_term q b))) r (if c then matched_names locals a b r else None)
-pubk_matched locals f g p q a b r true d =
+pubk_matched : (is_local : ℕ → Bool) (f g : Bool) (p q : Option (List ℕ)) (a b : ℕ) (r : List Binding) (c : Bool) → Decides c ((f ≡ g) × (p ≡ q)) →
+    Outcome is_local (Stands (asymmetric_atom f (pubk_term p a)) (asymmetric_atom g (pubk_term q b))) r (if c then matched_names is_local a b r else None)
+pubk_matched is_local f g p q a b r true d =
     let e : (f ≡ g) × (p ≡ q) = d.0 refl in
-    outcome_like locals (Stands (name_variable a) (name_variable b)) (Stands (asymmetric_atom f (pubk_term p a)) (asymmetric_atom g (pubk_term q b))) r (matched_names locals a b r)
+    outcome_like is_local (Stands (name_variable a) (name_variable b)) (Stands (asymmetric_atom f (pubk_term p a)) (asymmetric_atom g (pubk_term q b))) r (matched_names is_local a b r)
     (λ s w. let w' : s.names a ≡ b = cc in ap₂ asymmetric_atom e.0 (ap₂ pubk_term e.1 w'))
     (λ s w. let w' : s.names a ≡ b = cc in ap name_variable w')
-    (variable_matched locals name_sort a (name_variable b) r)
-pubk_matched locals f g p q a b r false d = λ s c x w. let e0 : f ≡ g = cc in let e1 : p ≡ q = cc in let e : false ≡ true = d.1 (e0, e1) in cc
+    (variable_matched is_local name_sort a (name_variable b) r)
+pubk_matched is_local f g p q a b r false d = λ s c x w. let e0 : f ≡ g = cc in let e1 : p ≡ q = cc in let e : false ≡ true = d.1 (e0, e1) in cc
 
-pairs_matched : (locals : List ℕ) (f : Bool) (k : PairTerm) (g : Bool) (j : PairTerm) (r : List Binding) →
-    Outcome locals (Stands (asymmetric_atom f k) (asymmetric_atom g j)) r (matched_pairs locals f k g j r)
-pairs_matched locals f (akey_variable m) g j r = akey_matched locals f m g j r
-pairs_matched locals f (pubk_term p a) g (akey_variable n) r = λ s c x w. cc
-pairs_matched locals f (pubk_term p a) g (pubk_term q b) r =
-    pubk_matched locals f g p q a b r (same_flag f g && option_eq (pointwise nat_eq) p q) (Decides-and _ _ (flag_Decides f g) (purpose_Decides p q))
+pairs_matched : (is_local : ℕ → Bool) (f : Bool) (k : PairTerm) (g : Bool) (j : PairTerm) (r : List Binding) →
+    Outcome is_local (Stands (asymmetric_atom f k) (asymmetric_atom g j)) r (matched_pairs is_local f k g j r)
+pairs_matched is_local f (akey_variable m) g j r = akey_matched is_local f m g j r
+pairs_matched is_local f (pubk_term p a) g (akey_variable n) r = λ s c x w. cc
+pairs_matched is_local f (pubk_term p a) g (pubk_term q b) r =
+    pubk_matched is_local f g p q a b r (same_flag f g && option_eq (pointwise nat_eq) p q) (Decides-and _ _ (flag_Decides f g) (purpose_Decides p q))
 
-keys_matched : (locals : List ℕ) (k j : KeyTerm) (r : List Binding) → Outcome locals (Stands (key_term k) (key_term j)) r (matched_keys locals k j r)
-keys_matched locals (symmetric_term k) (symmetric_term j) r = symmetric_matched locals k j r
-keys_matched locals (asymmetric_term f k) (asymmetric_term g j) r = pairs_matched locals f k g j r
-keys_matched locals (symmetric_term k) (asymmetric_term g j) r = λ s c x w. cc
-keys_matched locals (asymmetric_term f k) (symmetric_term j) r = λ s c x w. cc
+keys_matched : (is_local : ℕ → Bool) (k j : KeyTerm) (r : List Binding) → Outcome is_local (Stands (key_term k) (key_term j)) r (matched_keys is_local k j r)
+keys_matched is_local (symmetric_term k) (symmetric_term j) r = symmetric_matched is_local k j r
+keys_matched is_local (asymmetric_term f k) (asymmetric_term g j) r = pairs_matched is_local f k g j r
+keys_matched is_local (symmetric_term k) (asymmetric_term g j) r = λ s c x w. cc
+keys_matched is_local (asymmetric_term f k) (symmetric_term j) r = λ s c x w. cc
 
-atoms_matched : (locals : List ℕ) (u v : AtomTerm) (r : List Binding) → Outcome locals (Stands u v) r (matched_atoms locals u v r)
-atoms_matched locals (text_variable m) v r = variable_matched locals text_sort m v r
-atoms_matched locals (datum_variable m) v r = variable_matched locals datum_sort m v r
-atoms_matched locals (name_variable m) v r = variable_matched locals name_sort m v r
-atoms_matched locals (key_term k) (key_term j) r = keys_matched locals k j r
-atoms_matched locals (key_term k) _ r = λ s c x w. cc
+atoms_matched : (is_local : ℕ → Bool) (u v : AtomTerm) (r : List Binding) → Outcome is_local (Stands u v) r (matched_atoms is_local u v r)
+atoms_matched is_local (text_variable m) v r = variable_matched is_local text_sort m v r
+atoms_matched is_local (datum_variable m) v r = variable_matched is_local datum_sort m v r
+atoms_matched is_local (name_variable m) v r = variable_matched is_local name_sort m v r
+atoms_matched is_local (key_term k) (key_term j) r = keys_matched is_local k j r
+atoms_matched is_local (key_term k) _ r = λ s c x w. cc
 
 -- Terms.
 abbrev pub IsMade : Term → Term → Substitution → Type 0
 IsMade p t s = apply_to s p ≡ t
 
-tags_matched : (locals : List ℕ) (x y : List ℕ) (r : List Binding) (b : Bool) → Decides b (x ≡ y) → Outcome locals (IsMade (tag_term x) (tag_term y)) r (if b then Some r else None)
-tags_matched locals x y r b d =
-    outcome_choice locals (IsMade (tag_term x) (tag_term y)) r b (λ f s c a. ap tag_term (d.0 f)) (λ f s c a w. let e : x ≡ y = cc in let g : b ≡ true = d.1 e in cc)
+tags_matched : (is_local : ℕ → Bool) (x y : List ℕ) (r : List Binding) (b : Bool) → Decides b (x ≡ y) → Outcome is_local (IsMade (tag_term x) (tag_term y)) r (if b then Some r else None)
+tags_matched is_local x y r b d =
+    outcome_choice is_local (IsMade (tag_term x) (tag_term y)) r b (λ f s c a. ap tag_term (d.0 f)) (λ f s c a w. let e : x ≡ y = cc in let g : b ≡ true = d.1 e in cc)
 
-pub terms_matched : (locals : List ℕ) (p t : Term) (r : List Binding) → Outcome locals (IsMade p t) r (matched locals p t r)
-terms_matched locals (tag_term x) (tag_term y) r = tags_matched locals x y r (pointwise nat_eq x y) (bytes_Decides x y)
-terms_matched locals (atom_term u) (atom_term v) r =
-    outcome_like locals (Stands u v) (IsMade (atom_term u) (atom_term v)) r (matched_atoms locals u v r)
-    (λ s w. ap atom_term w) (λ s w. cc) (atoms_matched locals u v r)
-terms_matched locals (pair_term a b) (pair_term c d) r =
-    outcome_both locals (IsMade a c) (IsMade b d) (IsMade (pair_term a b) (pair_term c d)) r (matched locals a c r) (matched locals b d)
-    (λ s e f. ap₂ pair_term e f) (λ s w. cc) (λ s w. cc) (terms_matched locals a c r) (λ q. terms_matched locals b d q)
-terms_matched locals (enc_term a k) (enc_term b j) r =
-    outcome_both locals (Stands (key_term k) (key_term j)) (IsMade a b) (IsMade (enc_term a k) (enc_term b j)) r (matched_keys locals k j r) (matched locals a b)
+pub terms_matched : (is_local : ℕ → Bool) (p t : Term) (r : List Binding) → Outcome is_local (IsMade p t) r (matched is_local p t r)
+terms_matched is_local (tag_term x) (tag_term y) r = tags_matched is_local x y r (pointwise nat_eq x y) (bytes_Decides x y)
+terms_matched is_local (atom_term u) (atom_term v) r =
+    outcome_like is_local (Stands u v) (IsMade (atom_term u) (atom_term v)) r (matched_atoms is_local u v r)
+    (λ s w. ap atom_term w) (λ s w. cc) (atoms_matched is_local u v r)
+terms_matched is_local (pair_term a b) (pair_term c d) r =
+    outcome_both is_local (IsMade a c) (IsMade b d) (IsMade (pair_term a b) (pair_term c d)) r (matched is_local a c r) (matched is_local b d)
+    (λ s e f. ap₂ pair_term e f) (λ s w. cc) (λ s w. cc) (terms_matched is_local a c r) (λ q. terms_matched is_local b d q)
+terms_matched is_local (enc_term a k) (enc_term b j) r =
+    outcome_both is_local (Stands (key_term k) (key_term j)) (IsMade a b) (IsMade (enc_term a k) (enc_term b j)) r (matched_keys is_local k j r) (matched is_local a b)
     (λ s e f. let e' : apply_to_key s k ≡ j = cc in ap₂ enc_term f e') (λ s w. let e : apply_to_key s k ≡ j = cc in ap key_term e) (λ s w. cc)
-    (keys_matched locals k j r) (λ q. terms_matched locals a b q)
-terms_matched locals _ _ r = λ s c x w. cc
+    (keys_matched is_local k j r) (λ q. terms_matched is_local a b q)
+terms_matched is_local _ _ r = λ s c x w. cc
 
 -- The bindings change only the locals that they are of.
-changes_only : (locals : List ℕ) (r : List Binding) → BindsOnly locals r → ChangesOnly locals (as_substitution r)
-changes_only locals [] h x apart = atom_unchanged (atom_of_variable x)
-changes_only locals (b ∷ bs) h x apart =
-    other b (as_substitution bs) x (λ e. apart (subst (λ (n : ℕ). IsIn n locals) (sym (ap (λ (y : Variable). y.number) e)) h.0)) ∙ changes_only locals bs h.1 x apart
+changes_only : (is_local : ℕ → Bool) (r : List Binding) → BindsLocals is_local r → ChangesLocals is_local (as_substitution r)
+changes_only is_local [] h x apart = atom_unchanged (atom_of_variable x)
+changes_only is_local (b ∷ bs) h x apart =
+    other b (as_substitution bs) x (λ e. let n : x.number ≡ b.number = ap (λ (y : Variable). y.number) e in let f : is_local x.number ≡ true = ap is_local n ∙ h.0 in cc)
+    ∙ changes_only is_local bs h.1 x apart
 
-answer_some : (p t : Term) (locals : List ℕ) (answer : Option (List Binding)) → Outcome locals (IsMade p t) [] answer → IfSome answer (λ r. IsMatch p t locals r)
+-- Locals that are listed, and those that are not.
+binds_listed : (locals : List ℕ) (r : List Binding) → BindsLocals (is_listed (Some locals)) r → BindsOnly locals r
+binds_listed locals [] h = tt
+binds_listed locals (b ∷ bs) h = (listed locals b.number h.0, binds_listed locals bs h.1)
+
+changes_listed : (locals : List ℕ) (s : Substitution) → ChangesOnly locals s → ChangesLocals (is_listed (Some locals)) s
+changes_listed locals s c x e = c x (not_listed locals x.number e)
+
+changes_any : (s : Substitution) → ChangesLocals (is_listed None) s
+changes_any s x e = absurd (let f : true ≡ false = e in cc)
+
+answer_some : (p t : Term) (locals : List ℕ) (answer : Option (List Binding)) → Outcome (is_listed (Some locals)) (IsMade p t) [] answer → IfSome answer (λ r. IsMatch p t locals r)
 answer_some p t locals None h = tt
 answer_some p t locals (Some q) h =
-    let only : BindsOnly locals q = h.only tt in
-    record { binds_locals = only; matches = h.sound (as_substitution q) (changes_only locals q only) (h.own tt) }
+    let only : BindsLocals (is_listed (Some locals)) q = h.only tt in
+    record { binds_locals = binds_listed locals q only; matches = h.sound (as_substitution q) (changes_only (is_listed (Some locals)) q only) (h.own tt) }
 
-answer_none : (p t : Term) (locals : List ℕ) (answer : Option (List Binding)) → Outcome locals (IsMade p t) [] answer → IfNone answer (HasNoMatch p t locals)
-answer_none p t locals None h = λ s c w. h s c tt w
+answer_none : (p t : Term) (locals : List ℕ) (answer : Option (List Binding)) → Outcome (is_listed (Some locals)) (IsMade p t) [] answer → IfNone answer (HasNoMatch p t locals)
+answer_none p t locals None h = λ s c w. h s (changes_listed locals s c) tt w
 answer_none p t locals (Some q) h = tt
 
-outcome_of : (p t : Term) (locals : List ℕ) (given : List Binding) (answer : Option (List Binding)) → given ≡ [] → answer ≡ matched locals p t given →
-    Outcome locals (IsMade p t) [] answer
-outcome_of p t locals given answer none e =
-    subst (Outcome locals (IsMade p t) []) (sym (e ∙ ap (matched locals p t) none)) (terms_matched locals p t [])
+-- A match where each variable is a local.
+pub beside_some : (p t : Term) (r : List Binding) (answer : Option (List Binding)) → answer ≡ matched (is_listed None) p t r → IfSome answer (MatchesBeside p t r)
+beside_some p t r answer e = choose answer (subst (Outcome (is_listed None) (IsMade p t) r) (sym e) (terms_matched (is_listed None) p t r))
+  where
+    choose : (found : Option (List Binding)) → Outcome (is_listed None) (IsMade p t) r found → IfSome found (MatchesBeside p t r)
+    choose None h = tt
+    choose (Some q) h = record {
+      extends = h.extends;
+      sound = λ s a. h.sound s (changes_any s) a;
+      general = λ s a w. h.general s (changes_any s) a w;
+      own = h.own;
+    }
 
-pub match_some : (p t : Term) (locals : List ℕ) (given : List Binding) (answer : Option (List Binding)) → given ≡ [] → answer ≡ matched locals p t given →
+pub beside_none : (p t : Term) (r : List Binding) (answer : Option (List Binding)) → answer ≡ matched (is_listed None) p t r → IfNone answer (NeverMatchesBeside p t r)
+beside_none p t r answer e = choose answer (subst (Outcome (is_listed None) (IsMade p t) r) (sym e) (terms_matched (is_listed None) p t r))
+  where
+    choose : (found : Option (List Binding)) → Outcome (is_listed None) (IsMade p t) r found → IfNone found (NeverMatchesBeside p t r)
+    choose None h = λ s a w. h s (changes_any s) a w
+    choose (Some q) h = tt
+
+outcome_of : (p t : Term) (locals : List ℕ) (given : List Binding) (answer : Option (List Binding)) → given ≡ [] → answer ≡ matched (is_listed (Some locals)) p t given →
+    Outcome (is_listed (Some locals)) (IsMade p t) [] answer
+outcome_of p t locals given answer none e =
+    subst (Outcome (is_listed (Some locals)) (IsMade p t) []) (sym (e ∙ ap (matched (is_listed (Some locals)) p t) none)) (terms_matched (is_listed (Some locals)) p t [])
+
+pub match_some : (p t : Term) (locals : List ℕ) (given : List Binding) (answer : Option (List Binding)) → given ≡ [] → answer ≡ matched (is_listed (Some locals)) p t given →
     IfSome answer (λ r. IsMatch p t locals r)
 match_some p t locals given answer none e = answer_some p t locals answer (outcome_of p t locals given answer none e)
 
-pub match_none : (p t : Term) (locals : List ℕ) (given : List Binding) (answer : Option (List Binding)) → given ≡ [] → answer ≡ matched locals p t given →
+pub match_none : (p t : Term) (locals : List ℕ) (given : List Binding) (answer : Option (List Binding)) → given ≡ [] → answer ≡ matched (is_listed (Some locals)) p t given →
     IfNone answer (HasNoMatch p t locals)
 match_none p t locals given answer none e = answer_none p t locals answer (outcome_of p t locals given answer none e)
 
@@ -330,29 +374,29 @@ asymmetric_of t b yes_b is_atom sort =
     let e' : true ≡ is_same_sort (at_sort akey_sort 0) a.atom = e ∙ ap (λ (u : Term). is_same_sort (at_sort akey_sort 0) (atom_of u)) a.is_atom in
     subst IsAsymmetric (sym a.is_atom) (asymmetric_atom_term a.atom e')
 
-not_akey_atom : (u : AtomTerm) (m : ℕ) (locals : List ℕ) (r : List Binding) → false ≡ is_same_sort (at_sort akey_sort 0) u → None ≡ matched_atoms locals (asymmetric_atom true (akey_variable m)) u r
-not_akey_atom (key_term (asymmetric_term f k)) m locals r e = absurd (let g : false ≡ true = e in cc)
-not_akey_atom (key_term (symmetric_term k)) m locals r e = refl
-not_akey_atom (text_variable n) m locals r e = refl
-not_akey_atom (datum_variable n) m locals r e = refl
-not_akey_atom (name_variable n) m locals r e = refl
+not_akey_atom : (u : AtomTerm) (m : ℕ) (is_local : ℕ → Bool) (r : List Binding) → false ≡ is_same_sort (at_sort akey_sort 0) u → None ≡ matched_atoms is_local (asymmetric_atom true (akey_variable m)) u r
+not_akey_atom (key_term (asymmetric_term f k)) m is_local r e = absurd (let g : false ≡ true = e in cc)
+not_akey_atom (key_term (symmetric_term k)) m is_local r e = refl
+not_akey_atom (text_variable n) m is_local r e = refl
+not_akey_atom (datum_variable n) m is_local r e = refl
+not_akey_atom (name_variable n) m is_local r e = refl
 
-pub not_akey : (t : Term) (m : ℕ) (locals : List ℕ) (r : List Binding) (b : Bool) → b ≡ false → (IsAtom t → (n : ℕ) → b ≡ is_same_sort (at_sort akey_sort n) (atom_of t)) →
-    None ≡ matched locals (atom_term (asymmetric_atom true (akey_variable m))) t r
-not_akey (tag_term x) m locals r b e sort = refl
-not_akey (pair_term a c) m locals r b e sort = refl
-not_akey (enc_term a k) m locals r b e sort = refl
-not_akey (atom_term u) m locals r b e sort = not_akey_atom u m locals r (sym e ∙ sort (record { atom = u; is_atom = refl }) 0)
+pub not_akey : (t : Term) (m : ℕ) (is_local : ℕ → Bool) (r : List Binding) (b : Bool) → b ≡ false → (IsAtom t → (n : ℕ) → b ≡ is_same_sort (at_sort akey_sort n) (atom_of t)) →
+    None ≡ matched is_local (atom_term (asymmetric_atom true (akey_variable m))) t r
+not_akey (tag_term x) m is_local r b e sort = refl
+not_akey (pair_term a c) m is_local r b e sort = refl
+not_akey (enc_term a k) m is_local r b e sort = refl
+not_akey (atom_term u) m is_local r b e sort = not_akey_atom u m is_local r (sym e ∙ sort (record { atom = u; is_atom = refl }) 0)
 
 pub asymmetric_is_key : (t : Term) → IsAsymmetric t → IsKey t
 asymmetric_is_key t h = record { key = asymmetric_term h.flag h.half; is_key = h.is_asymmetric }
 
-pub inverse_matched : (t inverse : Term) (m : ℕ) (locals : List ℕ) (r : List Binding) (answer : Option (List Binding)) → IsAsymmetric t →
-    ((k : KeyTerm) → t ≡ key_as_term k → inverse ≡ key_as_term (inverse_term k)) → answer ≡ matched locals (atom_term (at_sort akey_sort m)) inverse r →
-    answer ≡ matched locals (atom_term (asymmetric_atom true (akey_variable m))) t r
-inverse_matched t inverse m locals r answer h made e =
-    e ∙ ap (λ (u : Term). matched locals (atom_term (at_sort akey_sort m)) u r) (made (asymmetric_term h.flag h.half) h.is_asymmetric)
-    ∙ sym (ap (λ (u : Term). matched locals (atom_term (asymmetric_atom true (akey_variable m))) u r) h.is_asymmetric)
+pub inverse_matched : (t inverse : Term) (m : ℕ) (is_local : ℕ → Bool) (r : List Binding) (answer : Option (List Binding)) → IsAsymmetric t →
+    ((k : KeyTerm) → t ≡ key_as_term k → inverse ≡ key_as_term (inverse_term k)) → answer ≡ matched is_local (atom_term (at_sort akey_sort m)) inverse r →
+    answer ≡ matched is_local (atom_term (asymmetric_atom true (akey_variable m))) t r
+inverse_matched t inverse m is_local r answer h made e =
+    e ∙ ap (λ (u : Term). matched is_local (atom_term (at_sort akey_sort m)) u r) (made (asymmetric_term h.flag h.half) h.is_asymmetric)
+    ∙ sym (ap (λ (u : Term). matched is_local (atom_term (asymmetric_atom true (akey_variable m))) u r) h.is_asymmetric)
 
 -- A variable that is no local matches itself.
 own_choice : (b c : Bool) (found : Option (List Binding)) (r : List Binding) → b ≡ false → c ≡ true → Some r ≡ (if b then found else (if c then Some r else None))
@@ -360,16 +404,16 @@ own_choice true c found r e f = absurd (let g : true ≡ false = e in cc)
 own_choice false true found r e f = refl
 own_choice false false found r e f = absurd (let g : false ≡ true = f in cc)
 
-own_match : (sort : ProgramSort) (n : ℕ) (locals : List ℕ) (r : List Binding) → sort ≢ Mesg → list_any (λ k. k == n) locals ≡ false →
-    Some r ≡ matched locals (variable_term sort n) (variable_term sort n) r
-own_match Text n locals r h e = own_choice _ (n == n) _ r e (eq-eqb n n refl)
-own_match Datum n locals r h e = own_choice _ (n == n) _ r e (eq-eqb n n refl)
-own_match Name n locals r h e = own_choice _ (n == n) _ r e (eq-eqb n n refl)
-own_match Skey n locals r h e = own_choice _ (n == n) _ r e (eq-eqb n n refl)
-own_match Akey n locals r h e = own_choice _ (n == n) _ r e (eq-eqb n n refl)
-own_match Mesg n locals r h e = absurd (h refl)
+own_match : (sort : ProgramSort) (n : ℕ) (is_local : ℕ → Bool) (r : List Binding) → sort ≢ Mesg → is_local n ≡ false →
+    Some r ≡ matched is_local (variable_term sort n) (variable_term sort n) r
+own_match Text n is_local r h e = own_choice _ (n == n) _ r e (eq-eqb n n refl)
+own_match Datum n is_local r h e = own_choice _ (n == n) _ r e (eq-eqb n n refl)
+own_match Name n is_local r h e = own_choice _ (n == n) _ r e (eq-eqb n n refl)
+own_match Skey n is_local r h e = own_choice _ (n == n) _ r e (eq-eqb n n refl)
+own_match Akey n is_local r h e = own_choice _ (n == n) _ r e (eq-eqb n n refl)
+own_match Mesg n is_local r h e = absurd (h refl)
 
-pub variable_matches_itself : (sort : ProgramSort) (n : ℕ) (t : Term) (locals : List ℕ) (r : List Binding) (listed : Bool) → sort ≢ Mesg → t ≡ variable_term sort n →
-    listed ≡ list_any (λ k. k == n) locals → listed ≡ false → Some r ≡ matched locals (variable_term sort n) t r
-variable_matches_itself sort n t locals r listed h e is f =
-    own_match sort n locals r h (sym is ∙ f) ∙ sym (ap (λ (u : Term). matched locals (variable_term sort n) u r) e)
+pub variable_matches_itself : (sort : ProgramSort) (n : ℕ) (t : Term) (is_local : ℕ → Bool) (r : List Binding) (listed : Bool) → sort ≢ Mesg → t ≡ variable_term sort n →
+    listed ≡ is_local n → listed ≡ false → Some r ≡ matched is_local (variable_term sort n) t r
+variable_matches_itself sort n t is_local r listed h e is f =
+    own_match sort n is_local r h (sym is ∙ f) ∙ sym (ap (λ (u : Term). matched is_local (variable_term sort n) u r) e)

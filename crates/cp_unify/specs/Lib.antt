@@ -1,4 +1,5 @@
 pub mod Atoms
+pub mod Beside
 pub mod Bindings
 pub mod Differences
 pub mod Joined

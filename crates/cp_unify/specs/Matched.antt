@@ -1,4 +1,5 @@
--- The bindings of locals that make a pattern a term, beside some that there are already.
+-- The bindings of variables that make a pattern a term, beside some that there are already. A test says which variables are
+-- local, and may become other terms.
 use Rattle.std.specs.Prelude.{ℕ, Bool, true, false, List, [], ◌∷◌, Option, Some, None, ◌==◌, ◌&&◌, nat_eq, if◌then◌else◌, option_and_then}
 use Rattle.std.specs.List.{list_any}
 use Rattle.std.specs.Cmp.Lexicographic.{pointwise}
@@ -6,6 +7,11 @@ use Rattle.std.specs.Option.{option_eq}
 use Rattle.cp_model.specs.Term.{SymmetricTerm, skey_variable, ltk_term, PairTerm, akey_variable, pubk_term, KeyTerm, symmetric_term, asymmetric_term, AtomTerm, text_variable, datum_variable, name_variable, key_term, Term, tag_term, atom_term, pair_term, enc_term, atom_of_variable, flag_of}
 use Rattle.cp_term.specs.Same.{same_flag, same_atom, is_same}
 use Rattle.cp_unify.specs.Bindings.{Binding, variable_of}
+
+-- The test whether a number is listed; where there is no list, each is.
+abbrev pub is_listed : Option (List ℕ) → ℕ → Bool
+is_listed None m = true
+is_listed (Some ns) m = list_any (λ n. n == m) ns
 
 -- The term of the first binding of a variable, which is given as a term.
 abbrev pub bound_term : List Binding → Term → Option AtomTerm
@@ -32,49 +38,49 @@ matched_local m v r None = Some (record { number = m; term = v } ∷ r)
 matched_local m v r (Some t) = if same_atom t v then Some r else None
 
 -- The variable x of number m and the term v: a local may stand for any term of its sort, another variable for itself.
-abbrev pub matched_variable : List ℕ → ℕ → AtomTerm → AtomTerm → List Binding → Option (List Binding)
-matched_variable locals m x v r =
+abbrev pub matched_variable : (ℕ → Bool) → ℕ → AtomTerm → AtomTerm → List Binding → Option (List Binding)
+matched_variable is_local m x v r =
     if is_same_sort x v
-    then (if list_any (λ n. n == m) locals then matched_local m v r (bound_term r (atom_term x)) else (if same_atom x v then Some r else None))
+    then (if is_local m then matched_local m v r (bound_term r (atom_term x)) else (if same_atom x v then Some r else None))
     else None
 
 -- A name and a name.
-abbrev pub matched_names : List ℕ → ℕ → ℕ → List Binding → Option (List Binding)
-matched_names locals a b r = matched_variable locals a (name_variable a) (name_variable b) r
+abbrev pub matched_names : (ℕ → Bool) → ℕ → ℕ → List Binding → Option (List Binding)
+matched_names is_local a b r = matched_variable is_local a (name_variable a) (name_variable b) r
 
 -- A symmetric key and another.
-abbrev pub matched_symmetric : List ℕ → SymmetricTerm → SymmetricTerm → List Binding → Option (List Binding)
-matched_symmetric locals (skey_variable m) j r = matched_variable locals m (key_term (symmetric_term (skey_variable m))) (key_term (symmetric_term j)) r
-matched_symmetric locals (ltk_term a b) (skey_variable n) r = None
-matched_symmetric locals (ltk_term a b) (ltk_term c d) r = option_and_then (matched_names locals b d) (matched_names locals a c r)
+abbrev pub matched_symmetric : (ℕ → Bool) → SymmetricTerm → SymmetricTerm → List Binding → Option (List Binding)
+matched_symmetric is_local (skey_variable m) j r = matched_variable is_local m (key_term (symmetric_term (skey_variable m))) (key_term (symmetric_term j)) r
+matched_symmetric is_local (ltk_term a b) (skey_variable n) r = None
+matched_symmetric is_local (ltk_term a b) (ltk_term c d) r = option_and_then (matched_names is_local b d) (matched_names is_local a c r)
 
 -- An asymmetric key and another; the flags say which are inverses.
-abbrev pub matched_pairs : List ℕ → Bool → PairTerm → Bool → PairTerm → List Binding → Option (List Binding)
-matched_pairs locals f (akey_variable m) g j r =
-    matched_variable locals m (key_term (asymmetric_term false (akey_variable m))) (key_term (asymmetric_term (flag_of f g) j)) r
-matched_pairs locals f (pubk_term p a) g (akey_variable n) r = None
-matched_pairs locals f (pubk_term p a) g (pubk_term q b) r =
-    if same_flag f g && option_eq (pointwise nat_eq) p q then matched_names locals a b r else None
+abbrev pub matched_pairs : (ℕ → Bool) → Bool → PairTerm → Bool → PairTerm → List Binding → Option (List Binding)
+matched_pairs is_local f (akey_variable m) g j r =
+    matched_variable is_local m (key_term (asymmetric_term false (akey_variable m))) (key_term (asymmetric_term (flag_of f g) j)) r
+matched_pairs is_local f (pubk_term p a) g (akey_variable n) r = None
+matched_pairs is_local f (pubk_term p a) g (pubk_term q b) r =
+    if same_flag f g && option_eq (pointwise nat_eq) p q then matched_names is_local a b r else None
 
 -- A key and a key.
-abbrev pub matched_keys : List ℕ → KeyTerm → KeyTerm → List Binding → Option (List Binding)
-matched_keys locals (symmetric_term k) (symmetric_term j) r = matched_symmetric locals k j r
-matched_keys locals (asymmetric_term f k) (asymmetric_term g j) r = matched_pairs locals f k g j r
-matched_keys locals (symmetric_term k) (asymmetric_term g j) r = None
-matched_keys locals (asymmetric_term f k) (symmetric_term j) r = None
+abbrev pub matched_keys : (ℕ → Bool) → KeyTerm → KeyTerm → List Binding → Option (List Binding)
+matched_keys is_local (symmetric_term k) (symmetric_term j) r = matched_symmetric is_local k j r
+matched_keys is_local (asymmetric_term f k) (asymmetric_term g j) r = matched_pairs is_local f k g j r
+matched_keys is_local (symmetric_term k) (asymmetric_term g j) r = None
+matched_keys is_local (asymmetric_term f k) (symmetric_term j) r = None
 
 -- Two terms of atom sorts.
-abbrev pub matched_atoms : List ℕ → AtomTerm → AtomTerm → List Binding → Option (List Binding)
-matched_atoms locals (text_variable m) v r = matched_variable locals m (text_variable m) v r
-matched_atoms locals (datum_variable m) v r = matched_variable locals m (datum_variable m) v r
-matched_atoms locals (name_variable m) v r = matched_variable locals m (name_variable m) v r
-matched_atoms locals (key_term k) (key_term j) r = matched_keys locals k j r
-matched_atoms locals (key_term k) v r = None
+abbrev pub matched_atoms : (ℕ → Bool) → AtomTerm → AtomTerm → List Binding → Option (List Binding)
+matched_atoms is_local (text_variable m) v r = matched_variable is_local m (text_variable m) v r
+matched_atoms is_local (datum_variable m) v r = matched_variable is_local m (datum_variable m) v r
+matched_atoms is_local (name_variable m) v r = matched_variable is_local m (name_variable m) v r
+matched_atoms is_local (key_term k) (key_term j) r = matched_keys is_local k j r
+matched_atoms is_local (key_term k) v r = None
 
 -- A pattern and a term. The key of an encryption comes before its plaintext.
-abbrev pub matched : List ℕ → Term → Term → List Binding → Option (List Binding)
-matched locals (tag_term x) (tag_term y) r = if pointwise nat_eq x y then Some r else None
-matched locals (atom_term u) (atom_term v) r = matched_atoms locals u v r
-matched locals (pair_term a b) (pair_term c d) r = option_and_then (matched locals b d) (matched locals a c r)
-matched locals (enc_term a k) (enc_term b j) r = option_and_then (matched locals a b) (matched_keys locals k j r)
-matched locals _ _ r = None
+abbrev pub matched : (ℕ → Bool) → Term → Term → List Binding → Option (List Binding)
+matched is_local (tag_term x) (tag_term y) r = if pointwise nat_eq x y then Some r else None
+matched is_local (atom_term u) (atom_term v) r = matched_atoms is_local u v r
+matched is_local (pair_term a b) (pair_term c d) r = option_and_then (matched is_local b d) (matched is_local a c r)
+matched is_local (enc_term a k) (enc_term b j) r = option_and_then (matched is_local a b) (matched_keys is_local k j r)
+matched is_local _ _ r = None

@@ -14,6 +14,6 @@ mod unifying;
 pub use applying::apply;
 pub use binding::Binding;
 pub use composing::compose;
-pub use matcher::matching;
+pub use matcher::{matching, matching_beside};
 pub use subst::Subst;
 pub use unifying::unify;

@@ -1,14 +1,14 @@
 // Matching: values of local variables that make a pattern a term.
 ghost use Rattle.std.specs.Prelude.{◌≡◌, ◌≢◌, ◌↔◌, ◌==◌, ℕ, [], true, IsTrue, IfSome, IfNone, IfOk};
 ghost use Rattle.std.specs.Option.{option_map};
-ghost use Rattle.std.specs.List.{list_any};
 ghost use Rattle.cp_model.specs.Term.{AtomTerm, atom_term, ltk_term, pubk_term, symmetric_term, asymmetric_term, tag_term};
 ghost use Rattle.cp_term.specs.Keys.{key_as_term};
 ghost use Rattle.cp_term.specs.Same.{same_atom};
 ghost use Rattle.cp_term.specs.Variables.{variable_term};
 ghost use Rattle.cp_unify.specs.Atoms.{IsAtom, atom_of};
 ghost use Rattle.cp_unify.specs.Differences.{akey_atom};
-ghost use Rattle.cp_unify.specs.Matched.{bound_term, is_same_sort, matched, matched_names};
+ghost use Rattle.cp_unify.specs.Beside.{MatchesBeside, NeverMatchesBeside};
+ghost use Rattle.cp_unify.specs.Matched.{is_listed, bound_term, is_same_sort, matched, matched_names};
 ghost use Rattle.cp_unify.specs.Matching.{IsMatch, HasNoMatch};
 ghost use Rattle.cp_unify.specs.Spines.{HasTail};
 
@@ -19,10 +19,14 @@ use crate::subst::Subst;
 use cp_term::{Shape, Sort, Term, VarId, invert, var};
 use std::alloc::{AllocError, Global};
 
-fn is_local(locals: &[VarId], variable: VarId) -> bool
-    ensures { result ≡ list_any (λ n. n == variable) locals.now }
+/// Whether a variable is one of the locals; where there is no list, each is.
+fn is_local(locals: Option<&[VarId]>, variable: VarId) -> bool
+    ensures { result ≡ is_listed (option_map (λ ns. ns.now) locals.entry) variable }
 {
-    locals.contains(&variable)
+    match locals {
+        Some(locals) => locals.contains(&variable),
+        None => true,
+    }
 }
 
 /// Whether a term has this sort, which is not that of all messages.
@@ -69,11 +73,12 @@ fn variable_match(
     variable: VarId,
     sort: Sort,
     term: &Term,
-    locals: &[VarId],
+    locals: Option<&[VarId]>,
     given: Subst,
 ) -> Result<Option<Subst>, AllocError>
     requires { sort ≢ Sort.Mesg }
-    ensures { IfOk result (λ found. found ≡ matched locals.now (variable_term sort variable) term.now given) }
+    ensures { IfOk result (λ found. found
+        ≡ matched (is_listed (option_map (λ ns. ns.now) locals.entry)) (variable_term sort variable) term.now given) }
 {
     if !is_of_sort(term, sort) {
         return Ok(None);
@@ -100,18 +105,19 @@ fn name_match(
     alloc: Global,
     a: VarId,
     b: VarId,
-    locals: &[VarId],
+    locals: Option<&[VarId]>,
     given: Subst,
 ) -> Result<Option<Subst>, AllocError>
-    ensures { IfOk result (λ found. found ≡ matched_names locals.now a b given) }
+    ensures { IfOk result (λ found. found
+        ≡ matched_names (is_listed (option_map (λ ns. ns.now) locals.entry)) a b given) }
 {
     let name = var(alloc, b, Sort::Name)?;
     variable_match(a, Sort::Name, &name, locals, given)
 }
 
 /// Matches a tag with a term.
-fn tag_match(text: &str, term: &Term, locals: &[VarId], given: Subst) -> Option<Subst>
-    ensures { result ≡ matched locals.now (tag_term text.now) term.now given }
+fn tag_match(text: &str, term: &Term, locals: Option<&[VarId]>, given: Subst) -> Option<Subst>
+    ensures { result ≡ matched (is_listed (option_map (λ ns. ns.now) locals.entry)) (tag_term text.now) term.now given }
 {
     match term.shape() {
         Shape::Tag(other) => { if text == other { Some(given) } else { None } }
@@ -124,10 +130,11 @@ fn inverse_match(
     alloc: Global,
     variable: VarId,
     term: &Term,
-    locals: &[VarId],
+    locals: Option<&[VarId]>,
     given: Subst,
 ) -> Result<Option<Subst>, AllocError>
-    ensures { IfOk result (λ found. found ≡ matched locals.now (atom_term (akey_atom true variable)) term.now given) }
+    ensures { IfOk result (λ found. found
+        ≡ matched (is_listed (option_map (λ ns. ns.now) locals.entry)) (atom_term (akey_atom true variable)) term.now given) }
 {
     if !is_of_sort(term, Sort::Akey) {
         return Ok(None);
@@ -142,11 +149,11 @@ fn ltk_match(
     a: VarId,
     b: VarId,
     term: &Term,
-    locals: &[VarId],
+    locals: Option<&[VarId]>,
     given: Subst,
 ) -> Result<Option<Subst>, AllocError>
     ensures { IfOk result (λ found. found
-        ≡ matched locals.now (key_as_term (symmetric_term (ltk_term a b))) term.now given) }
+        ≡ matched (is_listed (option_map (λ ns. ns.now) locals.entry)) (key_as_term (symmetric_term (ltk_term a b))) term.now given) }
 {
     match term.shape() {
         Shape::Ltk(c, d) => match name_match(alloc, a, c, locals, given)? {
@@ -164,10 +171,10 @@ fn pubk_match(
     purpose: Option<&str>,
     a: VarId,
     term: &Term,
-    locals: &[VarId],
+    locals: Option<&[VarId]>,
     given: Subst,
 ) -> Result<Option<Subst>, AllocError>
-    ensures { IfOk result (λ found. found ≡ matched locals.now
+    ensures { IfOk result (λ found. found ≡ matched (is_listed (option_map (λ ns. ns.now) locals.entry))
         (key_as_term (asymmetric_term flag (pubk_term (option_map (λ s. s.now) purpose.entry) a))) term.now given) }
 {
     match term.shape() {
@@ -187,11 +194,12 @@ fn leaf_match(
     alloc: Global,
     pattern: &Term,
     term: &Term,
-    locals: &[VarId],
+    locals: Option<&[VarId]>,
     given: Subst,
 ) -> Result<Option<Subst>, AllocError>
     requires { ¬ HasTail pattern.now }
-    ensures { IfOk result (λ found. found ≡ matched locals.now pattern.now term.now given) }
+    ensures { IfOk result (λ found. found
+        ≡ matched (is_listed (option_map (λ ns. ns.now) locals.entry)) pattern.now term.now given) }
 {
     match pattern.shape() {
         Shape::Tag(text) => Ok(tag_match(text, term, locals, given)),
@@ -208,10 +216,11 @@ fn match_beside(
     alloc: Global,
     pattern: &Term,
     term: &Term,
-    locals: &[VarId],
+    locals: Option<&[VarId]>,
     given: Subst,
 ) -> Result<Option<Subst>, AllocError>
-    ensures { IfOk result (λ found. found ≡ matched locals.now pattern.now term.now given) }
+    ensures { IfOk result (λ found. found
+        ≡ matched (is_listed (option_map (λ ns. ns.now) locals.entry)) pattern.now term.now given) }
 {
     let mut left = pattern;
     let mut right = term;
@@ -255,5 +264,19 @@ pub fn matching(
     ensures some { IfOk result (λ answer. IfSome answer (λ r. IsMatch pattern.now term.now locals.now r)) }
     ensures none { IfOk result (λ answer. IfNone answer (HasNoMatch pattern.now term.now locals.now)) }
 {
-    match_beside(alloc, pattern, term, locals, Subst::new(alloc))
+    match_beside(alloc, pattern, term, Some(locals), Subst::new(alloc))
+}
+
+/// Values of the pattern's variables that make it the term, beside those that are given; none exactly where none do. All
+/// variables of the pattern may have values, and they stand apart from those of the term.
+pub fn matching_beside(
+    alloc: Global,
+    pattern: &Term,
+    term: &Term,
+    given: Subst,
+) -> Result<Option<Subst>, AllocError>
+    ensures some { IfOk result (λ answer. IfSome answer (MatchesBeside pattern.now term.now given)) }
+    ensures none { IfOk result (λ answer. IfNone answer (NeverMatchesBeside pattern.now term.now given)) }
+{
+    match_beside(alloc, pattern, term, None, given)
 }

@@ -56,6 +56,17 @@ impl Subst {
         Ok(Subst { bindings })
     }
 
+    /// The same substitution again.
+    pub fn copy(&self, alloc: Global) -> Result<Subst, AllocError>
+        ensures { IfOk result (λ s. s ≡ self.now) }
+    {
+        let mut bindings = Vec::new(alloc);
+        for binding in self.bindings() {
+            bindings.push(binding.copy()?)?;
+        }
+        Ok(Subst { bindings })
+    }
+
     /// The substitution of these bindings.
     pub(crate) fn made(bindings: Vec<Binding>) -> Subst
         ensures { result ≡ bindings.items }

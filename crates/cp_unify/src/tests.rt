@@ -122,6 +122,24 @@ fn locals(rt: HostRuntime) -> Result<(), Fail> {
     Ok(())
 }
 
+// The variables of a pattern stand apart from those of the term, and what is given is kept.
+#[test]
+fn variables_apart(rt: HostRuntime) -> Result<(), Fail> {
+    let mut table = VarTable::new(rt.alloc());
+    let x = table.fresh("x", Sort::Text)?;
+    let y = table.fresh("y", Sort::Text)?;
+    let first = var(rt.alloc(), x, Sort::Text)?;
+    let second = var(rt.alloc(), y, Sort::Text)?;
+    let found = matching_beside(rt.alloc(), &first, &second, Subst::new(rt.alloc()))?;
+    assert!(rt; binds(&found, x, &second));
+    if let Some(given) = found {
+        let again = matching_beside(rt.alloc(), &first, &second, given.copy(rt.alloc())?)?;
+        assert!(rt; binds(&again, x, &second));
+        assert!(rt; matching_beside(rt.alloc(), &first, &first, given)?.is_none());
+    }
+    Ok(())
+}
+
 /// Pairs of a term and a pair and so on, this many deep.
 fn chain(alloc: Global, term: &Term, len: u32) -> Result<Term, AllocError> {
     let mut chain = term.copy()?;

@@ -1,19 +1,20 @@
 use Rattle.std.proofs.Common.{◌≡◌}
 use Rattle.std.proofs.lemmas.Result.{IfOk-weaker}
+use Rattle.std.specs.Option.{option_map}
 use Rattle.cp_term.specs.Variables.{variable_term}
 use Rattle.cp_term.specs.declared.variable.Sort.TheVariants.{Akey}
-use Rattle.cp_unify.specs.Matched.{matched}
+use Rattle.cp_unify.specs.Matched.{is_listed, matched}
 use Rattle.cp_unify.proofs.MatchedTerms.{asymmetric_of, not_akey, asymmetric_is_key, inverse_matched}
 use Rattle.cp_unify.proofs.matcher.inverse_match.Goals as goal
 
 pub returns-then-not-is_of_sort : goal.returns-then-not-is_of_sort
-returns-then-not-is_of_sort c = not_akey c.args.term.now c.args.variable c.args.locals.now c.args.given _ c.if-not-is_of_sort.true c.is_of_sort.ensures.sort
+returns-then-not-is_of_sort c = not_akey c.args.term.now c.args.variable (is_listed (option_map (λ ns. ns.now) c.args.locals)) c.args.given _ c.if-not-is_of_sort.true c.is_of_sort.ensures.sort
 
 pub invert-requires : goal.invert-requires
 invert-requires c = asymmetric_is_key _ (asymmetric_of _ _ c.if-not-is_of_sort.false c.is_of_sort.ensures.atom c.is_of_sort.ensures.sort)
 
 pub returns : goal.returns
 returns c =
-    IfOk-weaker c.variable_match.result (λ found. found ≡ matched c.args.locals.now (variable_term Akey c.args.variable) c.in_ok-inverse.inverse c.args.given) _
-    (λ found. inverse_matched _ _ c.args.variable c.args.locals.now c.args.given found (asymmetric_of _ _ c.if-not-is_of_sort.false c.is_of_sort.ensures.atom c.is_of_sort.ensures.sort) c.in_ok-inverse.ensures.plain)
+    IfOk-weaker c.variable_match.result (λ found. found ≡ matched (is_listed (option_map (λ ns. ns.now) c.args.locals)) (variable_term Akey c.args.variable) c.in_ok-inverse.inverse c.args.given) _
+    (λ found. inverse_matched _ _ c.args.variable (is_listed (option_map (λ ns. ns.now) c.args.locals)) c.args.given found (asymmetric_of _ _ c.if-not-is_of_sort.false c.is_of_sort.ensures.atom c.is_of_sort.ensures.sort) c.in_ok-inverse.ensures.plain)
     c.variable_match.ensures

@@ -1,15 +1,15 @@
-use Rattle.std.proofs.Common.{◌≡◌}
+use Rattle.std.proofs.Common.{◌≡◌, Some}
 use Rattle.std.proofs.lemmas.Result.{IfOk-weaker}
-use Rattle.cp_unify.specs.Matched.{matched}
+use Rattle.cp_unify.specs.Matched.{is_listed, matched}
 use Rattle.cp_unify.proofs.MatchedTerms.{match_some, match_none}
 use Rattle.cp_unify.proofs.matcher.matching.Goals as goal
 
 pub returns-clause-some : goal.returns-clause-some
 returns-clause-some c =
-    IfOk-weaker c.match_beside.result (λ found. found ≡ matched c.args.locals.now c.args.pattern.now c.args.term.now c.new.result) _
+    IfOk-weaker c.match_beside.result (λ found. found ≡ matched (is_listed (Some c.args.locals.now)) c.args.pattern.now c.args.term.now c.new.result) _
     (λ found. match_some _ _ _ _ found c.new.ensures) c.match_beside.ensures
 
 pub returns-clause-none : goal.returns-clause-none
 returns-clause-none c =
-    IfOk-weaker c.match_beside.result (λ found. found ≡ matched c.args.locals.now c.args.pattern.now c.args.term.now c.new.result) _
+    IfOk-weaker c.match_beside.result (λ found. found ≡ matched (is_listed (Some c.args.locals.now)) c.args.pattern.now c.args.term.now c.new.result) _
     (λ found. match_none _ _ _ _ found c.new.ensures) c.match_beside.ensures
