@@ -29,10 +29,6 @@ only_item : {A : Type 0} {x y : A} → IsIn x (y ∷ []) → x ≡ y
 only_item here = refl
 only_item (there m) = elim m [ ]
 
-by_bool : (b : Bool) → (b ≡ true) ⊎ (b ≡ false)
-by_bool true = inl refl
-by_bool false = inr refl
-
 -- ---- pairs behind others
 
 abbrev kept_if : Bool → List OrderPair → OrderPair → List OrderPair

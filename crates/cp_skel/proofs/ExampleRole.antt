@@ -7,7 +7,8 @@ use Rattle.cp_model.specs.Strand.{Role, variables_of_trace, IsHeight}
 use Rattle.cp_model.specs.Skeleton.{instance, Skeleton}
 use Rattle.cp_model.specs.Problem.{IsDeclared}
 use Rattle.std.specs.List.{filter}
-use Rattle.cp_skel.specs.Occurring.{has_variable, is_added, declared_variables, prefix_variables, added_variables, AreTermsFor}
+use Rattle.cp_model.specs.Same.{has_variable}
+use Rattle.cp_skel.specs.Occurring.{is_added, declared_variables, prefix_variables, added_variables, AreTermsFor}
 use Rattle.cp_skel.specs.Changing.{AddsStrand, CanExtend}
 use Rattle.cp_skel.specs.Example.{example_variables, example_trace, IsExample, example_values, added_values}
 use Rattle.cp_skel.proofs.StaySkeletons.{item-last}

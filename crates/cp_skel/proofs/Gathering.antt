@@ -9,6 +9,7 @@ use Rattle.cp_model.specs.Bundle.{Node}
 use Rattle.cp_model.specs.Skeleton.{OrderPair}
 use Rattle.cp_model.specs.Order.{IsAtOrAfter, LeadsTo, on_strand, over_pair}
 use Rattle.cp_skel.specs.Leading.{Tops, is_within, is_below, AreTops, is_at_or_before, is_reached, reached, Takes, waiting, IsGathered, tops_of}
+use Rattle.cp_skel.proofs.AlongPairs.{after_leads}
 
 -- ---- tests
 
@@ -51,12 +52,6 @@ and_both : (b c : Bool) → b ≡ true → c ≡ false → (b && not c) ≡ true
 and_both true false e f = refl
 and_both true true e f = absurd (cc)
 and_both false c e f = absurd (cc)
-
--- ---- leading
-
-pub leads_from_before : (pairs : List OrderPair) (x y z : Node) → IsAtOrAfter x y → LeadsTo pairs y z → LeadsTo pairs x z
-leads_from_before pairs x y z a (on_strand b) = on_strand (a.0 ∙ b.0, omega (arith, a.1, b.1))
-leads_from_before pairs x y z a (over_pair m b l) = over_pair m (a.0 ∙ b.0, omega (arith, a.1, b.1)) l
 
 -- ---- what is reached
 
@@ -162,12 +157,12 @@ module _ (pairs : List OrderPair) (y n : Node) (old new : Tops) (rest more : Lis
 
   leads_below : (x : Node) → (is_below old x ≡ true) ⊎ ((is_below old x ≡ false) × (is_at_or_before x n ≡ true)) → LeadsTo pairs x y
   leads_below x (inl h) = g.below x h
-  leads_below x (inr h) = leads_from_before pairs x n y (before_after x n h.1) n_leads
+  leads_below x (inr h) = after_leads pairs x n y (before_after x n h.1) n_leads
 
   leads_by : (x : Node) → (p : OrderPair) × IsIn p pairs × (is_reached (old n.strand) n p ≡ true) × (p.earlier ≡ x) → LeadsTo pairs x y
   leads_by x h =
       let before : is_at_or_before h.0.later n ≡ true = and_left (is_at_or_before h.0.later n) (not (is_within (old n.strand) h.0.later.index)) h.2 in
-      subst (λ (z : Node). LeadsTo pairs z y) h.3 (over_pair h.1 (refl, omega arith) (leads_from_before pairs h.0.later n y (before_after h.0.later n before) n_leads))
+      subst (λ (z : Node). LeadsTo pairs z y) h.3 (over_pair h.1 (refl, omega arith) (after_leads pairs h.0.later n y (before_after h.0.later n before) n_leads))
 
   leads_more : (x : Node) → IsIn x more → LeadsTo pairs x y
   leads_more x m = elim (in_append rest (reached (old n.strand) n pairs) (subst (IsIn x) t.added m)) as (λ _. LeadsTo pairs x y) [

@@ -4,7 +4,7 @@ use Rattle.std.proofs.lemmas.List.{map_more}
 use Rattle.cp_model.specs.Lists.{item_at, IsIn}
 use Rattle.cp_model.specs.Term.{AtomTerm, Substitution}
 use Rattle.cp_model.specs.Strand.{Role}
-use Rattle.cp_model.specs.Skeleton.{SkeletonStrand, instance, listener}
+use Rattle.cp_model.specs.Skeleton.{SkeletonStrand, instance}
 use Rattle.cp_model.proofs.LawLists.{in_append, in_append_left}
 use Rattle.cp_skel.specs.Given.{IsGivenFrom, AddsOnce}
 use Rattle.cp_skel.proofs.Items.{item-there}
@@ -36,10 +36,6 @@ adds_given stated strand role height terms xs old more is same a v = (
         (subst (λ m. IsGivenFrom (stated role) role m g.terms v) n
         (subst (λ q. IsGivenFrom (stated q) q g.height g.terms v) r g.given)) in
         a.all v (subst (λ ys. IsGivenFrom ys role height terms v) (sym same) h)
-
--- A listener gives nothing.
-pub listener_gives : (stated : Role → List AtomTerm) (strand : SkeletonStrand) (t : _) (v : AtomTerm) → strand ≡ listener t → GivesFrom stated strand v → ⊥
-listener_gives stated strand t v is g = let e : listener t ≡ instance g.role g.height g.terms = sym is ∙ g.is_instance in cc
 
 item_behind : {A : Type 0} (xs : List A) (x y : A) (n : ℕ) → item_at (xs ++ x ∷ []) n ≡ Some y → (item_at xs n ≡ Some y) ⊎ ((n ≡ length xs) × (x ≡ y))
 item_behind [] x y zero e = inr (refl, cc)

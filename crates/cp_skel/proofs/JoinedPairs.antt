@@ -3,7 +3,7 @@ use Rattle.std.proofs.Common.{◌≡◌, ◌↔◌, ◌⊎◌, inl, inr, ℕ, ze
 use Rattle.cp_model.specs.Lists.{IsIn, here, there}
 use Rattle.cp_model.specs.Bundle.{Node}
 use Rattle.cp_model.specs.Skeleton.{OrderPair}
-use Rattle.cp_model.specs.Order.{IsAtOrAfter, LeadsTo, on_strand, over_pair}
+use Rattle.cp_model.specs.Order.{IsAtOrAfter, LeadsTo}
 use Rattle.cp_skel.specs.declared.skeleton.OrderPair as program
 use Rattle.cp_skel.specs.View.{pair_view}
 use Rattle.cp_skel.specs.Leading.{is_at_or_before}
@@ -161,23 +161,6 @@ module _ (q : OrderPair) (old new rest : List OrderPair) (keeps : KeepsOrder (q 
 
   pub keeps_next : (whole qs : List OrderPair) → qs ≡ q ∷ rest → KeepsOrder whole (old ++ qs) → KeepsOrder whole (new ++ rest)
   keeps_next whole qs e h = keeps_both whole (old ++ (q ∷ rest)) (new ++ rest) (subst (λ (ps : List OrderPair). KeepsOrder whole (old ++ ps)) e h) keeps_behind
-
-behind_none : (ps : List OrderPair) → ps ++ [] ≡ ps
-behind_none [] = refl
-behind_none (p ∷ ps) = ap (λ qs. p ∷ qs) (behind_none ps)
-
-pub keeps_all : (whole last rest : List OrderPair) → rest ≡ [] → KeepsOrder whole (last ++ rest) → KeepsOrder whole last
-keeps_all whole last rest e h = subst (KeepsOrder whole) (ap (λ ps. last ++ ps) e ∙ behind_none last) h
-
-pub closed_none : (ps : List OrderPair) → ps ≡ [] → IsClosed ps
-closed_none ps e = subst IsClosed (sym e) none
-  where
-    none : IsClosed []
-    none x y (on_strand a) = inl a
-    none x y (over_pair m a l) = elim m [ ]
-
-pub keeps_first : (whole none : List OrderPair) → none ≡ [] → KeepsOrder whole (none ++ whole)
-keeps_first whole none e = subst (λ (ps : List OrderPair). KeepsOrder whole (ps ++ whole)) (sym e) (keeps_same whole)
 
 pub keeps_item : (whole : List OrderPair) (pairs old items last : List program.OrderPair) (k : ℕ) (d : program.OrderPair) → k < length pairs → items ≡ old → KeepsOrder (pair_view (get_or pairs k d) ∷ map pair_view items) (map pair_view last)
     → KeepsOrder whole (map pair_view old ++ map pair_view (drop k pairs)) → KeepsOrder whole (map pair_view last ++ map pair_view (drop (k + 1) pairs))

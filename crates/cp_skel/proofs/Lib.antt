@@ -10,12 +10,12 @@ mod OrderWithout
 mod PairsWithout
 mod SkeletonWithout
 pub mod OrderKept
+pub mod SameNode
 mod SortedPairs
 pub mod Spinewise
 pub mod Items
 pub mod Occurrences
 pub mod Once
-pub mod UnderWay
 pub mod GivenParts
 pub mod FirstOrigins
 pub mod ValuedItems
@@ -28,3 +28,7 @@ pub mod StaySkeletons
 pub mod ExampleRole
 pub mod PrefixVariables
 mod TwoStrands
+pub mod EachOnce
+pub mod StrandsGive
+pub mod SameLists
+pub mod DeclaredRoles

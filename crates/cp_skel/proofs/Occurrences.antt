@@ -2,7 +2,7 @@
 use Rattle.std.proofs.Common.{◌≡◌, ℕ, ◌+◌, ◌<◌, List, [], ◌∷◌, ◌++◌, ◌||◌, ◌&&◌, ◌==◌, length, get_or, drop, map, Bool, true, false, refl, sym, ap, ◌∙◌}
 use Rattle.cp_model.specs.Term.{Variable, KeyTerm, Term, pair_term, enc_term, variables_of, variables_of_key}
 use Rattle.cp_model.specs.Strand.{payload, variables_of_trace}
-use Rattle.cp_skel.specs.Occurring.{same_sort, has_variable}
+use Rattle.cp_model.specs.Same.{same_sort, has_variable}
 use Rattle.cp_term.specs.Keys.{key_as_term}
 use Rattle.cp_skel.specs.View.{event_view}
 use Rattle.cp_skel.specs.declared.protocol.Event.{Event}

@@ -9,15 +9,15 @@ either : {A B C : Type 0} → (A → C) → (B → C) → A ⊎ B → C
 either f g (inl a) = f a
 either f g (inr b) = g b
 
-once-append : {A : Type 0} (xs ys : List A) → IsEachOnce xs → IsEachOnce ys → ((x : A) → IsIn x xs → IsIn x ys → ⊥) → IsEachOnce (xs ++ ys)
+pub once-append : {A : Type 0} (xs ys : List A) → IsEachOnce xs → IsEachOnce ys → ((x : A) → IsIn x xs → IsIn x ys → ⊥) → IsEachOnce (xs ++ ys)
 once-append [] ys p q apart = q
 once-append (x ∷ xs) ys p q apart =
     ((λ i. either p.0 (apart x here) (in_append xs ys i)), once-append xs ys p.1 q (λ z i. apart z (there i)))
 
-none-in : {A : Type 0} {x : A} → IsIn x [] → ⊥
+pub none-in : {A : Type 0} {x : A} → IsIn x [] → ⊥
 none-in p = elim p [ ]
 
-only : {A : Type 0} (x a : A) → IsIn x (a ∷ []) → x ≡ a
+pub only : {A : Type 0} (x a : A) → IsIn x (a ∷ []) → x ≡ a
 only x a here = refl
 only x a (there p) = absurd (none-in p)
 
@@ -72,15 +72,3 @@ adds-same P R a b f g p = record {
   once = p.once;
   all = λ x r. p.all x (g x r);
 }
-
--- Behind more, which stands behind the old.
-pub known-first : {A : Type 0} (a : A) (old more : List A) → IsIn a old → AddsOnce (λ x. x ≡ a) (old ++ more) (old ++ more)
-known-first a old more h = adds-known a (old ++ more) (in_append_left more h)
-
-pub known-later : {A : Type 0} (a : A) (old more : List A) → IsIn a more → AddsOnce (λ x. x ≡ a) (old ++ more) (old ++ more)
-known-later a old more h = adds-known a (old ++ more) (in_append_right old h)
-
-pub pushed-once : {A : Type 0} (a : A) (old more new : List A) → (IsIn a old → ⊥) → (IsIn a more → ⊥) → new ≡ more ++ a ∷ [] → AddsOnce (λ x. x ≡ a) (old ++ more) (old ++ new)
-pushed-once a old more new f g e =
-    subst (AddsOnce (λ x. x ≡ a) (old ++ more)) (append_assoc old more (a ∷ []) ∙ ap (λ xs. old ++ xs) (sym e))
-    (adds-one a (old ++ more) (λ i. either f g (in_append old more i)))

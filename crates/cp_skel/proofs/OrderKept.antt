@@ -17,10 +17,21 @@ use Rattle.cp_skel.proofs.AlongPairs.{pair_led}
 pub not_both : {b : Bool} → b ≡ false → b ≡ true → ⊥
 not_both e f = cc
 
-pub asked_before : (k : Skeleton) (x y : Node) (same leads : Bool) → IsOrdered k → IsNodeOf k.strands y → (same ≡ true) ↔ (x ≡ y) → same ≡ false → (leads ≡ true) ↔ LeadsTo k.pairs x y → (leads ≡ true) ↔ Before k x y
-asked_before k x y same leads ordered at s other l =
+pub asked_before : (k : Skeleton) (x y : Node) (leads : Bool) → IsOrdered k → IsNodeOf k.strands y → (x ≡ y → ⊥) → (leads ≡ true) ↔ LeadsTo k.pairs x y → (leads ≡ true) ↔ Before k x y
+asked_before k x y leads ordered at other l =
     let law = before_by_pairs k ordered.order_pairs ordered.no_cycle x y at in
-    (λ h. law.1 (l.0 h, λ e. not_both other (s.1 e)), λ b. l.1 (law.0 b).0)
+    (λ h. law.1 (l.0 h, other), λ b. l.1 (law.0 b).0)
+
+-- Whether a pair's later node is before its earlier one.
+asked_back : (k : Skeleton) (p : OrderPair) (leads : Bool) → IsOrdered k → IsOrderPair k p → (leads ≡ true) ↔ LeadsTo k.pairs p.later p.earlier → (leads ≡ true) ↔ Before k p.later p.earlier
+asked_back k p leads ordered pair l =
+    asked_before k p.later p.earlier leads ordered (send pair.sent, pair.transmission) (λ e. pair.between_strands (sym (ap (λ (n : Node). n.strand) e))) l
+
+pub leads_back : (k : Skeleton) (p : OrderPair) (leads : Bool) → IsOrdered k → IsOrderPair k p → (leads ≡ true) ↔ LeadsTo k.pairs p.later p.earlier → leads ≡ true → Before k p.later p.earlier
+leads_back k p leads ordered pair l h = (asked_back k p leads ordered pair l).0 h
+
+pub leads_not_back : (k : Skeleton) (p : OrderPair) (leads : Bool) → IsOrdered k → IsOrderPair k p → (leads ≡ true) ↔ LeadsTo k.pairs p.later p.earlier → leads ≡ false → Before k p.later p.earlier → ⊥
+leads_not_back k p leads ordered pair l h b = not_both h ((asked_back k p leads ordered pair l).1 b)
 
 -- ---- pairs that order in the same way
 

@@ -1,5 +1,5 @@
 -- The order of a skeleton without one of its strands is that of the others.
-use Rattle.std.proofs.Common.{◌≡◌, ◌≢◌, ◌⊎◌, inl, inr, ℕ, suc, ◌<◌, ◌≤◌, List, [], Some, Bool, true, false, refl, sym, ap, ◌∙◌, subst, arith}
+use Rattle.std.proofs.Common.{◌≡◌, ◌≢◌, ◌↔◌, ◌⊎◌, inl, inr, ℕ, suc, ◌<◌, ◌≤◌, List, [], Some, Bool, true, false, refl, sym, ap, ◌∙◌, subst, arith}
 use Rattle.std.specs.Prelude.{◌==◌, nat_lt}
 use Rattle.std.specs.List.{remove}
 use Rattle.std.proofs.lemmas.Bool.Decides.{nat_tests}
@@ -11,10 +11,13 @@ use Rattle.cp_model.specs.Skeleton.{term_event_at, IsNodeOf, OrderPair, Skeleton
 use Rattle.cp_model.specs.Order.{IsAtOrAfter, LeadsTo, on_strand, over_pair}
 use Rattle.cp_model.proofs.LawLists.{in_append, in_append_left, in_append_right, steps_append}
 use Rattle.cp_model.proofs.LawOrder.{before_leads, leads_before}
-use Rattle.cp_skel.specs.Ordered.{IsOrdered}
+use Rattle.cp_skel.specs.Closed.{KeepsOrder}
+use Rattle.cp_skel.specs.Ordered.{IsOrdered, ordered_by}
 use Rattle.cp_skel.specs.Deleting.{node_renumbered, renumbered, pair_renumbered, IsPairOn, KeepsOrderOfOthers}
 use Rattle.cp_skel.specs.Bridging.{bridge, bridges, IsWithoutStrand}
 use Rattle.cp_skel.proofs.Numbering.{node_restored, node_again, renumbered_apart, event_without, event_kept}
+use Rattle.cp_skel.proofs.AlongPairs.{after_leads}
+use Rattle.cp_skel.proofs.OrderKept.{kept_ordered, kept_before}
 use Rattle.cp_skel.proofs.PairsWithout.{in_left, was_left, in_bridges, of_bridges, IsBridge, WasLeft, through_says, says_through}
 
 same_or_other : (s t : ℕ) → (s ≡ t) ⊎ (s ≢ t)
@@ -30,10 +33,6 @@ less_or_not i j = by_test (nat_lt i j) refl
     by_test : (b : Bool) → nat_lt i j ≡ b → (i < j) ⊎ (j ≤ i)
     by_test true e = inl (grind (arith, nat_tests))
     by_test false e = inr (grind (arith, nat_tests))
-
-after_leads : (pairs : List OrderPair) (x y z : Node) → IsAtOrAfter x y → LeadsTo pairs y z → LeadsTo pairs x z
-after_leads pairs x y z a (on_strand b) = on_strand (a.0 ∙ b.0, omega (arith, a.1, b.1))
-after_leads pairs x y z a (over_pair {p} m b l) = over_pair m (a.0 ∙ b.0, omega (arith, a.1, b.1)) l
 
 -- The last node of a way is there.
 pub way_ends : (k : Skeleton) (x y : Node) → ((p : OrderPair) → IsIn p k.pairs → IsOrderPair k p) → Before k x y → IsNodeOf k.strands y
@@ -214,6 +213,25 @@ module _ (old new : Skeleton) (d : ℕ) (strands : new.strands ≡ remove old.st
 
   pub keeps_order : KeepsOrderOfOthers d old new
   keeps_order x y hx hy = (there_before x y hx hy, before_kept x y hx hy)
+
+-- The same where other pairs order the nodes that are left as the pairs without the strand do.
+module _ (old new : Skeleton) (d : ℕ) (pairs : List OrderPair) (strands : new.strands ≡ remove old.strands d) (without : IsWithoutStrand d old.pairs pairs) (keeps : KeepsOrder pairs new.pairs)
+    (ordered : IsOrdered old) where
+  abbrev between : Skeleton
+  between = ordered_by new pairs
+
+  between_ordered : IsOrdered between
+  between_ordered = is_ordered old between d strands without ordered
+
+  pub is_ordered_anew : IsOrdered new
+  is_ordered_anew = kept_ordered between between_ordered new.pairs keeps
+
+  pub keeps_order_anew : KeepsOrderOfOthers d old new
+  keeps_order_anew x y hx hy =
+      let kept : Before new (node_renumbered d x) (node_renumbered d y) ↔ Before between (node_renumbered d x) (node_renumbered d y) =
+      kept_before between between_ordered new.pairs keeps (node_renumbered d x) (node_renumbered d y) in
+      let others : Before between (node_renumbered d x) (node_renumbered d y) ↔ Before old x y = keeps_order old between d strands without ordered x y hx hy in
+      (λ b. others.0 (kept.0 b), λ b. kept.1 (others.1 b))
 
 -- A skeleton without pairs is ordered.
 rises_alone : (k : Skeleton) → ((p : OrderPair) → IsIn p k.pairs → ⊥) → (x y : Node) → Before k x y → x.index < y.index

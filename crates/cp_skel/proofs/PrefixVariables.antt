@@ -6,7 +6,8 @@ use Rattle.cp_model.specs.Lists.{item_at, IsIn, here, there}
 use Rattle.cp_model.specs.Term.{Variable}
 use Rattle.cp_model.specs.Strand.{Declaration, Role, variables_of_prefix}
 use Rattle.cp_model.specs.Problem.{declared_sort, IsDeclared}
-use Rattle.cp_skel.specs.Occurring.{has_variable, declared_variables, prefix_variables, is_added, added_variables}
+use Rattle.cp_model.specs.Same.{has_variable}
+use Rattle.cp_skel.specs.Occurring.{declared_variables, prefix_variables, is_added, added_variables}
 use Rattle.cp_skel.proofs.GivenParts.{has-in, in-has}
 
 -- ---- filters

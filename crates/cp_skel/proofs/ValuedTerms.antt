@@ -8,7 +8,8 @@ use Rattle.cp_model.specs.Strand.{Declaration, Role, variables_of_prefix}
 use Rattle.cp_model.specs.Problem.{declared_sort, IsDeclared}
 use Rattle.cp_model.specs.Homomorphism.{substitution_by}
 use Rattle.cp_model.proofs.LawLists.{variables_of_higher}
-use Rattle.cp_skel.specs.Occurring.{has_variable, declared_variables, prefix_variables, is_added, added_variables, AreTermsFor, terms_of}
+use Rattle.cp_model.specs.Same.{has_variable}
+use Rattle.cp_skel.specs.Occurring.{declared_variables, prefix_variables, is_added, added_variables, AreTermsFor, terms_of}
 use Rattle.cp_skel.specs.Valued.{term_or, valued}
 use Rattle.cp_skel.specs.Changing.{IsClosedPrefix}
 use Rattle.cp_skel.proofs.GivenParts.{in-has}

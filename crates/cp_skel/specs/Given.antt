@@ -1,10 +1,11 @@
 -- What roles give to the assumptions of skeletons, and lists that grow by what is missing in them.
-use Rattle.std.specs.Prelude.{◌≡◌, ℕ, List, [], ◌∷◌, ◌++◌}
+use Rattle.std.specs.Prelude.{◌≡◌, ◌↔◌, ℕ, List, [], ◌∷◌, ◌++◌}
 use Rattle.cp_model.specs.Lists.{IsIn}
 use Rattle.cp_model.specs.Term.{AtomTerm, Substitution, apply_to_atom}
 use Rattle.cp_model.specs.Strand.{Role, Applies, AppliesAt}
 use Rattle.cp_model.specs.Bundle.{node_at}
-use Rattle.cp_model.specs.Skeleton.{UniqueAt, Assumptions}
+use Rattle.cp_model.specs.Skeleton.{SkeletonStrand, UniqueAt, Assumptions}
+use Rattle.cp_model.specs.Given.{atoms_onto, uniques_onto, given_non, given_penetrator_non, given_uniques}
 
 -- One of these atoms of a role applies to an instance of this height, and is v under the instance's terms.
 pub record IsGivenFrom (stated : List AtomTerm) (role : Role) (height : ℕ) (terms : Substitution) (v : AtomTerm) : Type 0 where
@@ -53,3 +54,16 @@ pub record AddsGiven (role : Role) (height : ℕ) (terms : Substitution) (s : �
   pub non : AddsOnce (IsGivenNon role height terms) old.non_originating new.non_originating
   pub penetrator_non : AddsOnce (IsGivenPenetratorNon role height terms) old.penetrator_non_originating new.penetrator_non_originating
   pub unique : AddsOnce (IsGivenUnique role height terms s) old.uniquely_originating new.uniquely_originating
+
+-- The new list has the items of the old, and each once.
+pub record HasEachOnce {A : Type 0} (old new : List A) : Type 0 where
+  pub same : (x : A) → IsIn x new ↔ IsIn x old
+  pub once : IsEachOnce new
+
+-- Assumptions, and behind them those that the strands give, the first of which has number s, each once.
+abbrev pub with_given_from : ℕ → List SkeletonStrand → Assumptions → Assumptions
+with_given_from s strands own = record {
+  non_originating = atoms_onto own.non_originating (given_non strands);
+  penetrator_non_originating = atoms_onto own.penetrator_non_originating (given_penetrator_non strands);
+  uniquely_originating = uniques_onto own.uniquely_originating (given_uniques s strands);
+}

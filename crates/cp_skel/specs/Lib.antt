@@ -9,6 +9,7 @@ pub mod Originating
 pub mod Given
 pub mod Occurring
 pub mod Changing
+pub mod DeclaredPrefixes
 pub mod Valued
 pub mod Joining
 pub mod Ordered

@@ -1,26 +1,9 @@
 -- The variables of a role that occur in its prefixes, and terms for them.
-use Rattle.std.specs.Prelude.{◌≡◌, ◌==◌, ◌&&◌, ◌||◌, ℕ, suc, List, [], ◌∷◌, map, Bool, true, false, not}
+use Rattle.std.specs.Prelude.{◌≡◌, ◌&&◌, ℕ, suc, List, [], ◌∷◌, map, Bool, true, false, not}
 use Rattle.std.specs.List.{filter}
 use Rattle.cp_model.specs.Term.{Sort, text_sort, datum_sort, name_sort, skey_sort, akey_sort, Variable, symmetric_term, asymmetric_term, text_variable, datum_variable, name_variable, key_term, Term, atom_term, atom_of_variable, Substitution, apply_to_atom}
 use Rattle.cp_model.specs.Strand.{Declaration, Role, variables_of_prefix}
-
-abbrev pub same_sort : Sort → Sort → Bool
-same_sort text_sort text_sort = true
-same_sort datum_sort datum_sort = true
-same_sort name_sort name_sort = true
-same_sort skey_sort skey_sort = true
-same_sort akey_sort akey_sort = true
-same_sort _ _ = false
-
--- The variable is one of these.
-abbrev pub has_variable : List Variable → Variable → Bool
-has_variable [] y = false
-has_variable (x ∷ xs) y = (same_sort x.sort y.sort && (x.number == y.number)) || has_variable xs y
-
--- All of the variables on the right are among those on the left.
-abbrev pub has_variables : List Variable → List Variable → Bool
-has_variables xs [] = true
-has_variables xs (y ∷ ys) = has_variable xs y && has_variables xs ys
+use Rattle.cp_model.specs.Same.{has_variable}
 
 -- The declared variables, the first of which has number n.
 abbrev pub declared_variables : ℕ → List Declaration → List Variable

@@ -6,7 +6,7 @@ use Rattle.cp_model.specs.Skeleton.{OrderPair, Skeleton, Before, IsOrderPair}
 use Rattle.cp_skel.specs.View.{skeleton_view}
 use Rattle.cp_skel.specs.declared.skeleton.Skeleton as program
 
--- The pairs of the skeleton are between nodes that are there, and its order has no cycle.
+-- Each pair of the skeleton goes from a transmission to a reception of another strand, and its order has no cycle.
 pub record IsOrdered (k : Skeleton) : Type 0 where
   pub order_pairs : (p : OrderPair) → IsIn p k.pairs → IsOrderPair k p
   pub no_cycle : (n : Node) → Before k n n → ⊥

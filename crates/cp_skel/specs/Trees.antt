@@ -4,7 +4,8 @@ use Rattle.cp_model.specs.Strand as strand
 use Rattle.cp_model.specs.Tree as tree
 use Rattle.cp_term.specs.Table.{Declared}
 use Rattle.cp_term.specs.Patterns.{pattern_of}
-use Rattle.cp_skel.specs.View.{sort_view, node_view, skeleton_view}
+use Rattle.cp_model.specs.RunView.{node_view}
+use Rattle.cp_skel.specs.View.{sort_view, skeleton_view}
 use Rattle.cp_skel.specs.declared.tree.Limits.{Limits}
 use Rattle.cp_skel.specs.declared.tree.Operation.{Operation}
 use Rattle.cp_skel.specs.declared.tree.Operation.TheVariants as operations

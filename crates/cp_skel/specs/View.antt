@@ -2,7 +2,7 @@
 use Rattle.std.specs.Prelude.{map}
 use Rattle.cp_model.specs.Term as model
 use Rattle.cp_model.specs.Strand as strand
-use Rattle.cp_model.specs.Bundle as bundle
+use Rattle.cp_model.specs.RunView.{node_view}
 use Rattle.cp_model.specs.Skeleton as skeleton
 use Rattle.cp_model.specs.Homomorphism.{substitution_by}
 use Rattle.cp_term.specs.declared.variable.Sort.{Sort}
@@ -12,7 +12,6 @@ use Rattle.cp_skel.specs.declared.protocol.Event.{Event}
 use Rattle.cp_skel.specs.declared.protocol.Event.TheVariants as events
 use Rattle.cp_skel.specs.declared.protocol.Role.{Role}
 use Rattle.cp_skel.specs.declared.protocol.Protocol.{Protocol}
-use Rattle.cp_skel.specs.declared.skeleton.Node.{Node}
 use Rattle.cp_skel.specs.declared.skeleton.OrderPair.{OrderPair}
 use Rattle.cp_skel.specs.declared.skeleton.Instance.{Instance}
 use Rattle.cp_skel.specs.declared.skeleton.Strand.{Strand}
@@ -50,9 +49,6 @@ role_view r = record {
 
 abbrev pub protocol_view : Protocol → strand.Protocol
 protocol_view p = record { name = p.name; roles = map (λ r. role_view r.value) p.roles.items }
-
-abbrev pub node_view : Node → bundle.Node
-node_view n = bundle.node_at n.strand n.index
 
 abbrev pub pair_view : OrderPair → skeleton.OrderPair
 pair_view p = record { earlier = node_view p.earlier; later = node_view p.later }

@@ -14,6 +14,7 @@ use cp_term::Term;
 use std::alloc::{AllocError, Global};
 
 /// A role's term under the terms of an instance: variable number i becomes the i-th of these, where that is of its sort.
+/// The error is that memory ran out.
 pub fn applied(alloc: Global, values: &[Term], term: &Term) -> Result<Term, AllocError>
     ensures { IfOk result (λ t. t ≡ apply_to (substitution_by values.now) term.now) }
 {
@@ -67,7 +68,7 @@ fn listener_event(message: &Term, index: usize) -> Result<Option<Event>, AllocEr
 }
 
 impl Strand {
-    /// The event at a place of the strand, counted from 0.
+    /// The event at a place of the strand, counted from 0. The error is that memory ran out.
     pub fn event(&self, alloc: Global, index: usize) -> Result<Option<Event>, AllocError>
         ensures { IfOk result (λ e. option_map event_view e ≡ item_at (skeleton_trace (strand_view self.now)) index) }
     {

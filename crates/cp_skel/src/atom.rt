@@ -63,7 +63,7 @@ impl Atom {
         self.as_term().same(other.as_term())
     }
 
-    /// Another handle to the same atom.
+    /// Another handle to the same atom. The error is that memory ran out.
     pub fn copy(&self) -> Result<Atom, AllocError>
         ensures { IfOk result (λ a. a ≡ self.now) }
     {

@@ -27,9 +27,10 @@ impl Skeleton {
         Ok(strand)
     }
 
-    /// Adds an instance of a role behind the strands, and answers its number. There is a value for each variable of
-    /// the prefix, in the order of their declarations. What the role gives the instance is added to the assumptions.
-    /// The error is that memory ran out; then nothing changes.
+    /// Adds an instance of a role behind the strands, and answers its number. The height is at least 1 and at most the
+    /// length of the role's trace. There is a value for each variable of the prefix, of the variable's sort, in the order
+    /// of their declarations. What the role gives the instance is added to the assumptions. The error is that memory ran
+    /// out; then nothing changes.
     pub fn add_strand(
         &mut self,
         alloc: Global,
@@ -53,8 +54,9 @@ impl Skeleton {
         Ok(number)
     }
 
-    /// Lets an instance grow to a height, which is not less than its own. There is a value for each variable that the
-    /// longer prefix adds, in the order of their declarations. What the role then gives the instance is added to the
+    /// Lets an instance grow to a height, which is not less than its own and at most the length of its role's trace. The
+    /// role declares all variables that occur in the longer prefix, and there is a value for each that this adds, of the
+    /// variable's sort, in the order of their declarations. What the role then gives the instance is added to the
     /// assumptions. The error is that memory ran out; then nothing changes.
     pub fn extend(
         &mut self,

@@ -2,7 +2,8 @@
 ghost use Rattle.std.specs.Prelude.{◌≡◌, ◌∷◌, map, IfOk, OnOk};
 ghost use Rattle.cp_skel.specs.Closed.{IsClosed, KeepsOrder};
 ghost use Rattle.cp_skel.specs.Composed.{joined, all_joined, pairs_from, composed};
-ghost use Rattle.cp_skel.specs.View.{node_view, pair_view};
+ghost use Rattle.cp_model.specs.RunView.{node_view};
+ghost use Rattle.cp_skel.specs.View.{pair_view};
 
 use crate::leading::is_at_or_before;
 use crate::skeleton::{Node, OrderPair};

@@ -29,7 +29,7 @@ pub(crate) fn copy_atoms(alloc: Global, atoms: &[Atom]) -> Result<Vec<Atom>, All
 
 impl UniqueAt {
     /// The same value with the same origin again.
-    fn copy(&self) -> Result<UniqueAt, AllocError>
+    pub(crate) fn copy(&self) -> Result<UniqueAt, AllocError>
         ensures { IfOk result (λ u. unique_view u ≡ unique_view self.now) }
     {
         Ok(UniqueAt {
@@ -50,7 +50,7 @@ fn copy_uniques(alloc: Global, uniques: &[UniqueAt]) -> Result<Vec<UniqueAt>, Al
 }
 
 impl Assumptions {
-    /// The same assumptions again.
+    /// The same assumptions again. The error is that memory ran out.
     pub fn copy(&self, alloc: Global) -> Result<Assumptions, AllocError>
         ensures { IfOk result (λ a. assumptions_view a ≡ assumptions_view self.now) }
     {
@@ -90,7 +90,7 @@ impl Instance {
 }
 
 impl Strand {
-    /// The same strand again.
+    /// The same strand again. The error is that memory ran out.
     pub fn copy(&self, alloc: Global) -> Result<Strand, AllocError>
         ensures { IfOk result (λ s. strand_view s ≡ strand_view self.now) }
     {
@@ -112,7 +112,7 @@ fn copy_strands(alloc: Global, strands: &[Strand]) -> Result<Vec<Strand>, AllocE
 }
 
 impl Skeleton {
-    /// The same skeleton again.
+    /// The same skeleton again. The error is that memory ran out.
     pub fn copy(&self, alloc: Global) -> Result<Skeleton, AllocError>
         ensures same { IfOk result (λ k. skeleton_view k ≡ skeleton_view self.now) }
         ensures variables { IfOk result (λ k. k.variables ≡ self.now.variables) }

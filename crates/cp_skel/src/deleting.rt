@@ -2,6 +2,7 @@
 ghost use Rattle.std.specs.Prelude.{◌≡◌, ◌<◌, length, IfOk, OnOk, OnErr};
 ghost use Rattle.std.specs.List.{remove};
 ghost use Rattle.cp_model.specs.Lists.{IsIn};
+ghost use Rattle.cp_skel.specs.Closed.{IsClosed};
 ghost use Rattle.cp_skel.specs.View.{assumptions_view, from_problem_view, skeleton_view};
 ghost use Rattle.cp_skel.specs.Ordered.{IsOrdered};
 ghost use Rattle.cp_skel.specs.Deleting.{ForgetsAssumptions, KeepsFromProblem, KeepsOrderOfOthers};
@@ -37,15 +38,18 @@ fn from_problem_without(
 }
 
 impl Skeleton {
-    /// Deletes a strand that is no image of a strand of the problem. The strands above it fall by one. The nodes of the
-    /// others are ordered as they were, also where the order went through the strand. What its role alone gave is
-    /// forgotten, unless the problem itself states it. On an error, which is that memory ran out, nothing has changed.
+    /// Deletes a strand that is there and is no image of a strand of the problem. The skeleton's pairs have to go from a
+    /// transmission to a reception of another strand and to close no cycle. The strands above the deleted one fall by one.
+    /// The nodes of the others are ordered as they were, also where the order went through the strand, and the order is
+    /// closed. What its role alone gave is forgotten, unless the problem itself states it. On an error, which is that
+    /// memory ran out, nothing has changed.
     pub fn delete_strand(&mut self, alloc: Global, strand: usize) -> Result<(), AllocError>
         requires there_is { strand < length (skeleton_view self.old).strands }
         requires no_image { IsIn strand (skeleton_view self.old).from_problem.strands → ⊥ }
         requires ordered { IsOrdered (skeleton_view self.old) }
         ensures strands { OnOk result ((skeleton_view self.new).strands ≡ remove (skeleton_view self.old).strands strand) }
         ensures order { OnOk result (KeepsOrderOfOthers strand (skeleton_view self.old) (skeleton_view self.new)) }
+        ensures closed { OnOk result (IsClosed (skeleton_view self.new).pairs) }
         ensures is_ordered { OnOk result (IsOrdered (skeleton_view self.new)) }
         ensures assumptions { OnOk result (ForgetsAssumptions strand (skeleton_view self.old) (skeleton_view self.new).assumptions) }
         ensures from_problem { OnOk result (KeepsFromProblem strand (skeleton_view self.old).from_problem (skeleton_view self.new).from_problem) }
@@ -53,10 +57,12 @@ impl Skeleton {
         ensures unchanged { OnErr result (self.new ≡ self.old) }
     {
         let pairs = pairs_without(alloc, strand, self.order.pairs())?;
+        let mut order = Order::of(pairs);
+        order.close(alloc)?;
         let assumptions = assumptions_without(alloc, self, strand)?;
         let from_problem = from_problem_without(alloc, &self.from_problem, strand)?;
         self.strands.remove(strand);
-        self.order = Order::of(pairs);
+        self.order = order;
         self.assumptions = assumptions;
         self.from_problem = from_problem;
         Ok(())

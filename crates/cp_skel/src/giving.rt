@@ -1,12 +1,13 @@
 // The assumptions that roles give to their instances.
-ghost use Rattle.std.specs.Prelude.{◌≡◌, ◌↔◌, ◌++◌, map, IsTrue, IfSome, IfNone, IfOk, OnOk, ℕ};
+ghost use Rattle.std.specs.Prelude.{◌≡◌, ◌↔◌, ◌∷◌, [], ◌++◌, map, IsTrue, IfSome, IfNone, IfOk, OnOk, ℕ};
 ghost use Rattle.cp_model.specs.Lists.{IsIn};
 ghost use Rattle.cp_model.specs.Term.{apply_to_atom};
 ghost use Rattle.cp_model.specs.Strand.{OriginatesInTerms};
 ghost use Rattle.cp_model.specs.Homomorphism.{substitution_by};
-ghost use Rattle.cp_skel.specs.Given.{IsGivenFrom, IsOriginFrom, AddsOnce, AddsGiven};
+ghost use Rattle.cp_model.specs.Given.{applying, applying_uniques, atoms_onto, uniques_onto};
+ghost use Rattle.cp_skel.specs.Given.{AddsGiven, with_given_from};
 ghost use Rattle.cp_skel.specs.Joining.{joined};
-ghost use Rattle.cp_skel.specs.View.{event_view, role_view, node_view, unique_view, assumptions_view};
+ghost use Rattle.cp_skel.specs.View.{event_view, role_view, instance_view, unique_view, assumptions_view};
 
 use crate::applying::applied;
 use crate::atom::Atom;
@@ -32,7 +33,7 @@ pub fn origin(events: &[Event], value: &Term) -> Option<usize>
     None
 }
 
-/// An atom of a role under the terms of an instance.
+/// An atom of a role under the terms of an instance. The error is that memory ran out.
 pub fn applied_atom(alloc: Global, values: &[Term], atom: &Atom) -> Result<Atom, AllocError>
     ensures { IfOk result (λ a. a ≡ apply_to_atom (substitution_by values.now) atom.now) }
 {
@@ -54,18 +55,11 @@ pub fn has_atom(atoms: &[Atom], atom: &Atom) -> bool
     false
 }
 
-/// Whether the nodes are the same.
-fn is_same_node(first: Node, second: Node) -> bool
-    ensures { IsTrue result ↔ (node_view first ≡ node_view second) }
-{
-    first.strand == second.strand && first.index == second.index
-}
-
 /// Whether one unique value with its origin is the other.
 fn is_same_unique(first: &UniqueAt, second: &UniqueAt) -> bool
     ensures { IsTrue result ↔ (unique_view first.now ≡ unique_view second.now) }
 {
-    first.value.same(&second.value) && is_same_node(first.origin, second.origin)
+    first.value.same(&second.value) && first.origin == second.origin
 }
 
 /// Whether the unique value, with this origin, is one of these.
@@ -82,7 +76,7 @@ pub fn has_unique(uniques: &[UniqueAt], unique: &UniqueAt) -> bool
 
 /// Puts an atom behind more, if it is neither there nor among the others.
 fn push_missing(old: &[Atom], more: &mut Vec<Atom>, atom: Atom) -> Result<(), AllocError>
-    ensures { OnOk result (AddsOnce (λ a. a ≡ atom) (old.now ++ more.old.items) (old.now ++ more.new.items)) }
+    ensures { OnOk result (old.now ++ more.new.items ≡ atoms_onto (old.now ++ more.old.items) (atom ∷ [])) }
 {
     if has_atom(old, &atom) || has_atom(more, &atom) {
         return Ok(());
@@ -97,8 +91,8 @@ fn push_missing_unique(
     more: &mut Vec<UniqueAt>,
     unique: UniqueAt,
 ) -> Result<(), AllocError>
-    ensures { OnOk result (AddsOnce (λ u. u ≡ unique_view unique)
-        (map unique_view old.now ++ map unique_view more.old.items) (map unique_view old.now ++ map unique_view more.new.items)) }
+    ensures { OnOk result (map unique_view old.now ++ map unique_view more.new.items
+        ≡ uniques_onto (map unique_view old.now ++ map unique_view more.old.items) (unique_view unique ∷ [])) }
 {
     if has_unique(old, &unique) || has_unique(more, &unique) {
         return Ok(());
@@ -114,9 +108,8 @@ pub(crate) fn missing_atoms(
     stated: &[Atom],
     old: &[Atom],
 ) -> Result<Vec<Atom>, AllocError>
-    ensures { IfOk result (λ more. AddsOnce
-        (IsGivenFrom stated.now (role_view instance.now.role.value) instance.now.height (substitution_by instance.now.values.items))
-        old.now (old.now ++ more.items)) }
+    ensures { IfOk result (λ more. old.now ++ more.items ≡ atoms_onto old.now
+        (applying (role_view instance.now.role.value) instance.now.height (substitution_by instance.now.values.items) stated.now)) }
 {
     let prefix = prefix_of(&instance.role, instance.height);
     let mut more = Vec::new(alloc);
@@ -139,9 +132,8 @@ fn missing_uniques(
     stated: &[Atom],
     old: &[UniqueAt],
 ) -> Result<Vec<UniqueAt>, AllocError>
-    ensures { IfOk result (λ more. AddsOnce
-        (IsOriginFrom stated.now (role_view instance.now.role.value) instance.now.height (substitution_by instance.now.values.items) strand)
-        (map unique_view old.now) (map unique_view old.now ++ map unique_view more.items)) }
+    ensures { IfOk result (λ more. map unique_view old.now ++ map unique_view more.items ≡ uniques_onto (map unique_view old.now)
+        (applying_uniques (role_view instance.now.role.value) instance.now.height (substitution_by instance.now.values.items) strand stated.now)) }
 {
     let mut more = Vec::new(alloc);
     for atom in stated {
@@ -158,15 +150,16 @@ fn missing_uniques(
     Ok(more)
 }
 
-/// What an instance, which is the strand of this number, gives and the assumptions lack, each once.
-pub fn missing(
+/// What an instance, which is the strand of this number, gives and the assumptions lack, in the order in which its role
+/// states it.
+pub(crate) fn lacking(
     alloc: Global,
     strand: usize,
     instance: &Instance,
     assumptions: &Assumptions,
 ) -> Result<Assumptions, AllocError>
-    ensures { IfOk result (λ more. AddsGiven (role_view instance.now.role.value) instance.now.height (substitution_by instance.now.values.items) strand
-        (assumptions_view assumptions.now) (joined (assumptions_view assumptions.now) (assumptions_view more))) }
+    ensures { IfOk result (λ more. joined (assumptions_view assumptions.now) (assumptions_view more)
+        ≡ with_given_from strand (instance_view instance.now ∷ []) (assumptions_view assumptions.now)) }
 {
     let role = &*instance.role;
     let a = &assumptions.non_originating;
@@ -191,4 +184,18 @@ pub fn missing(
         penetrator_non_originating,
         uniquely_originating,
     })
+}
+
+/// What an instance, which is the strand of this number, gives and the assumptions lack, each once. The error is that
+/// memory ran out.
+pub fn missing(
+    alloc: Global,
+    strand: usize,
+    instance: &Instance,
+    assumptions: &Assumptions,
+) -> Result<Assumptions, AllocError>
+    ensures { IfOk result (λ more. AddsGiven (role_view instance.now.role.value) instance.now.height (substitution_by instance.now.values.items) strand
+        (assumptions_view assumptions.now) (joined (assumptions_view assumptions.now) (assumptions_view more))) }
+{
+    lacking(alloc, strand, instance, assumptions)
 }

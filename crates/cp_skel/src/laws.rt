@@ -2,11 +2,15 @@
 ghost use Rattle.std.specs.Prelude.{◌≡◌, ◌↔◌, ℕ, List, IsTrue};
 ghost use Rattle.std.specs.List.{remove};
 ghost use Rattle.cp_model.specs.Lists.{IsIn};
-ghost use Rattle.cp_model.specs.Term.{Variable, Term};
-ghost use Rattle.cp_model.specs.Strand.{Role, Protocol, variables_of_prefix, IsHeight};
-ghost use Rattle.cp_model.specs.Skeleton.{Skeleton, IsSkeleton};
+ghost use Rattle.cp_model.specs.Term.{Variable, AtomTerm, Term};
+ghost use Rattle.cp_model.specs.Strand.{Role, Protocol, variables_of_trace, variables_of_prefix, IsHeight};
+ghost use Rattle.cp_model.specs.Skeleton.{UniqueAt, Skeleton, IsSkeleton};
 ghost use Rattle.cp_model.specs.Problem.{IsDeclared};
-ghost use Rattle.cp_skel.specs.Occurring.{has_variable, prefix_variables, added_variables};
+ghost use Rattle.cp_model.specs.Same.{has_variable};
+ghost use Rattle.cp_model.specs.Given.{atoms_onto, uniques_onto, listed_atoms, listed_uniques, listed};
+ghost use Rattle.cp_skel.specs.DeclaredPrefixes.{HasDeclaredPrefixes};
+ghost use Rattle.cp_skel.specs.Given.{IsEachOnce, HasEachOnce};
+ghost use Rattle.cp_skel.specs.Occurring.{prefix_variables, added_variables};
 ghost use Rattle.cp_skel.specs.Ordered.{IsOrdered};
 ghost use Rattle.cp_skel.specs.Deleting.{ForgetsAssumptions};
 ghost use Rattle.cp_skel.specs.Changing.{AddsListener, AddsStrand, CanExtend, Extends};
@@ -16,7 +20,8 @@ pub fn listener_keeps_skeletons()
     ensures { (protocol : Protocol) (t : Term) (old new : Skeleton) → IsSkeleton protocol old → AddsListener t old new → IsSkeleton protocol new }
 {}
 
-/// A skeleton over a protocol stays one when an instance of a role of the protocol is added.
+/// A skeleton over a protocol stays one when an instance of a role of the protocol is added, of a height that the role
+/// has.
 pub fn strand_keeps_skeletons()
     ensures { (protocol : Protocol) (role : Role) (height : ℕ) (values : List Term) (old new : Skeleton) → IsIn role protocol.roles → IsHeight role height
         → IsSkeleton protocol old → AddsStrand role height values old new → IsSkeleton protocol new }
@@ -28,7 +33,8 @@ pub fn extending_keeps_skeletons()
         → IsSkeleton protocol old → Extends s height values old new → IsSkeleton protocol new }
 {}
 
-/// A skeleton over a protocol from which a strand is deleted stays one.
+/// A skeleton over a protocol from which a strand is deleted stays one, where each pair that is left goes from a
+/// transmission to a reception of another strand and its order has no cycle.
 pub fn deleting_keeps_skeletons()
     ensures { (protocol : Protocol) (d : ℕ) (old new : Skeleton) → IsSkeleton protocol old → new.strands ≡ remove old.strands d
         → ForgetsAssumptions d old new.assumptions → IsOrdered new → IsSkeleton protocol new }
@@ -46,4 +52,27 @@ pub fn variables_of_prefixes()
 /// The test whether a variable is one of a list's is exact.
 pub fn test_of_variables()
     ensures { (xs : List Variable) (x : Variable) → IsTrue (has_variable xs x) ↔ IsIn x xs }
+{}
+
+/// Assumptions in the order of the report are the same: each list has the items that it had, and each once. Listed
+/// again, they stay as they are.
+pub fn listed_assumptions_are_the_same()
+    ensures non { (k : Skeleton) → HasEachOnce k.assumptions.non_originating (listed k).non_originating }
+    ensures penetrator_non { (k : Skeleton) → HasEachOnce k.assumptions.penetrator_non_originating (listed k).penetrator_non_originating }
+    ensures unique { (k : Skeleton) → HasEachOnce k.assumptions.uniquely_originating (listed k).uniquely_originating }
+    ensures again { (k : Skeleton) → listed (record k { assumptions = listed k }) ≡ listed k }
+{}
+
+/// The assumptions of a problem, its own and behind them those that its strands give, are in the order of the report.
+pub fn given_behind_own_is_listed()
+    ensures atoms { (own given : List AtomTerm) → IsEachOnce own → listed_atoms own given (atoms_onto own given) ≡ atoms_onto own given }
+    ensures uniques { (own given : List UniqueAt) → IsEachOnce own → listed_uniques own given (uniques_onto own given) ≡ uniques_onto own given }
+{}
+
+/// Where the roles of a protocol declare the variables of their events, as those of well-formed input do, the role of each
+/// instance of a skeleton over it declares the variables of the instance's prefix.
+#[tactic(auto, using(crate::proofs::DeclaredRoles::declared_prefixes))]
+pub fn skeletons_have_declared_prefixes()
+    ensures { (protocol : Protocol) (k : Skeleton) → ((role : Role) → IsIn role protocol.roles → (x : Variable) → IsIn x (variables_of_trace role.trace) → IsDeclared role.variables x)
+        → IsSkeleton protocol k → HasDeclaredPrefixes k }
 {}

@@ -1,7 +1,8 @@
 // The nodes that lead to a node.
 ghost use Rattle.std.specs.Prelude.{◌≡◌, ◌↔◌, ◌++◌, map, IsTrue, IfOk, OnOk};
 ghost use Rattle.cp_model.specs.Order.{LeadsTo};
-ghost use Rattle.cp_skel.specs.View.{node_view, pair_view};
+ghost use Rattle.cp_model.specs.RunView.{node_view};
+ghost use Rattle.cp_skel.specs.View.{pair_view};
 ghost use Rattle.cp_skel.specs.Leading.{AreTops, tops_of, Takes, is_within, is_at_or_before, reached};
 ghost use Rattle.cp_skel.specs.Sorted.{AreSorted, is_passed, first_nodes};
 ghost use Rattle.std.specs.List.Sorted.{IsPermutation};
@@ -22,7 +23,8 @@ pub struct Leading {
 
 impl Model for Leading {
     ghost use Rattle.std.specs.Prelude.{map};
-    ghost use Rattle.cp_skel.specs.View.{node_view, pair_view};
+    ghost use Rattle.cp_model.specs.RunView.{node_view};
+    ghost use Rattle.cp_skel.specs.View.{pair_view};
     ghost use Rattle.cp_skel.specs.Leading.{Target, AreTops, tops_of};
 
     ghost Value = { Target };

@@ -1,7 +1,7 @@
 // What leads to nodes of three strands, worked out by hand.
 ghost use Rattle.std.specs.Prelude.{◌≡◌};
 ghost use Rattle.cp_model.specs.Bundle.{node_at};
-ghost use Rattle.cp_skel.specs.View.{node_view};
+ghost use Rattle.cp_model.specs.RunView.{node_view};
 
 use super::{Leading, Node, OrderPair};
 use std::test::Fail;

@@ -1,6 +1,7 @@
 //! Protocols, skeletons and derivation trees as the program keeps them. Contracts see them as plain data.
 #![tactic(auto)]
 
+mod adding;
 mod applying;
 mod atom;
 mod bridging;
@@ -8,6 +9,7 @@ mod changing;
 #[cfg(test)]
 mod changing_tests;
 mod closing;
+mod collecting;
 mod comparing;
 mod copying;
 mod deleting;
@@ -20,6 +22,9 @@ mod laws;
 mod leading;
 #[cfg(test)]
 mod leading_tests;
+mod listing;
+#[cfg(test)]
+mod listing_tests;
 mod occurring;
 mod order;
 #[cfg(test)]
@@ -32,6 +37,7 @@ mod originating;
 mod originating_tests;
 mod protocol;
 mod renumbering;
+mod same_role;
 mod skeleton;
 mod substituting;
 #[cfg(test)]
@@ -40,17 +46,22 @@ mod tree;
 mod valuing;
 mod ways;
 
+pub use adding::add_given;
 pub use applying::applied;
 pub use atom::Atom;
+pub use collecting::{add_atom, add_atoms, add_unique};
 pub use giving::{applied_atom, has_atom, has_unique, missing, origin};
 pub use laws::{
-    deleting_keeps_skeletons, extending_keeps_skeletons, listener_keeps_skeletons,
+    deleting_keeps_skeletons, extending_keeps_skeletons, given_behind_own_is_listed,
+    listed_assumptions_are_the_same, listener_keeps_skeletons, skeletons_have_declared_prefixes,
     strand_keeps_skeletons, test_of_variables, variables_of_prefixes,
 };
 pub use leading::Leading;
+pub use listing::listed;
 pub use occurring::{all_occur, occurs, prefix_of};
 pub use order::Order;
 pub use protocol::{Declaration, Event, Protocol, Role};
+pub use same_role::is_same_role;
 pub use skeleton::{
     Assumptions, FromProblem, Instance, Node, OrderPair, Skeleton, Strand, UniqueAt,
 };

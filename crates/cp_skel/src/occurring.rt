@@ -2,7 +2,8 @@
 ghost use Rattle.std.specs.Prelude.{◌≡◌, ◌≢◌, ◌&&◌, ◌==◌, map};
 ghost use Rattle.cp_model.specs.Term.{variables_of, variables_of_atom};
 ghost use Rattle.cp_model.specs.Strand.{variables_of_trace, prefix_of};
-ghost use Rattle.cp_skel.specs.Occurring.{same_sort, has_variable, has_variables, is_added};
+ghost use Rattle.cp_model.specs.Same.{same_sort, has_variable, has_variables};
+ghost use Rattle.cp_skel.specs.Occurring.{is_added};
 ghost use Rattle.cp_skel.specs.View.{sort_view, event_view, role_view};
 
 use crate::atom::Atom;

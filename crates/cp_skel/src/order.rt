@@ -3,9 +3,11 @@ ghost use Rattle.std.specs.Prelude.{◌≡◌, ◌↔◌, ◌∷◌, map, IsTrue
 ghost use Rattle.cp_model.specs.Bundle.{Node as PlainNode};
 ghost use Rattle.cp_model.specs.Order.{LeadsTo};
 ghost use Rattle.cp_skel.specs.Closed.{IsClosed, KeepsOrder};
-ghost use Rattle.cp_skel.specs.View.{node_view, pair_view};
+ghost use Rattle.cp_model.specs.RunView.{node_view};
+ghost use Rattle.cp_skel.specs.View.{pair_view};
 
 use crate::closing::{closure, with_pair};
+use crate::leading::Leading;
 use crate::skeleton::{Node, OrderPair};
 use crate::ways::{leads_along_one, leads_within};
 use std::alloc::{AllocError, Global};
@@ -62,6 +64,18 @@ impl Order {
         }
     }
 
+    /// Whether x leads to y along strands and pairs. Of an order that was closed this takes one pass over its pairs; of
+    /// another it gathers the nodes that lead to y, each once. The error is that memory ran out.
+    pub fn leads_to_with_memory(&self, alloc: Global, x: Node, y: Node) -> Result<bool, AllocError>
+        ensures { IfOk result (λ leads. IsTrue leads ↔ LeadsTo self.now (node_view x) (node_view y)) }
+    {
+        if self.is_closed {
+            return Ok(self.leads_to(x, y));
+        }
+        let leading = Leading::new(alloc, &self.pairs, y)?;
+        Ok(leading.has(x))
+    }
+
     /// Closes the order: what leads where stays the same, and is then found in one pass over the pairs. The error is
     /// that memory ran out.
     pub fn close(&mut self, alloc: Global) -> Result<(), AllocError>
@@ -94,7 +108,7 @@ impl Order {
         }
     }
 
-    /// The same order again.
+    /// The same order again. The error is that memory ran out.
     pub fn copy(&self, alloc: Global) -> Result<Order, AllocError>
         ensures { IfOk result (λ o. o ≡ self.now) }
     {

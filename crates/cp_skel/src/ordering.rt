@@ -2,44 +2,44 @@
 ghost use Rattle.std.specs.Prelude.{◌≡◌, ◌↔◌, ◌∷◌, true, false, IsTrue, IfOk, OnOk, OnErr};
 ghost use Rattle.cp_model.specs.Bundle.{Node as PlainNode};
 ghost use Rattle.cp_model.specs.Skeleton.{IsNodeOf, Before, IsOrderPair};
+ghost use Rattle.cp_skel.specs.Closed.{IsClosed};
 ghost use Rattle.cp_skel.specs.Ordered.{IsOrdered, ordered_by, ChangesOrderOnly};
-ghost use Rattle.cp_skel.specs.View.{node_view, pair_view, skeleton_view};
+ghost use Rattle.cp_model.specs.RunView.{node_view};
+ghost use Rattle.cp_skel.specs.View.{pair_view, skeleton_view};
 
 use crate::skeleton::{Node, OrderPair, Skeleton};
 use std::alloc::{AllocError, Global};
 
-/// Whether the nodes are the same.
-fn is_same_node(x: Node, y: Node) -> bool
-    ensures { IsTrue result ↔ (node_view x ≡ node_view y) }
-{
-    x.strand == y.strand && x.index == y.index
-}
-
 impl Skeleton {
-    /// Whether n is before m in the skeleton's order.
+    /// Whether n is before m in the skeleton's order. Both nodes have to be there; and the skeleton has to be ordered: each
+    /// of its pairs goes from a transmission to a reception of another strand, and its order has no cycle.
     pub fn before(&self, n: Node, m: Node) -> bool
         requires ordered { IsOrdered (skeleton_view self.now) }
         requires first { IsNodeOf (skeleton_view self.now).strands (node_view n) }
         requires second { IsNodeOf (skeleton_view self.now).strands (node_view m) }
         ensures { IsTrue result ↔ Before (skeleton_view self.now) (node_view n) (node_view m) }
     {
-        !is_same_node(n, m) && self.order.leads_to(n, m)
+        n != m && self.order.leads_to(n, m)
     }
 
-    /// Closes the order: what is before what stays the same, and is then found in one pass over the pairs. The error is
-    /// that memory ran out.
+    /// Closes the order of an ordered skeleton, whose pairs go from a transmission to a reception of another strand and
+    /// close no cycle: what is before what stays the same, and is then found in one pass over the pairs. The error is
+    /// that memory ran out; then nothing changes.
     pub fn order_close(&mut self, alloc: Global) -> Result<(), AllocError>
         requires { IsOrdered (skeleton_view self.old) }
         ensures rest { OnOk result (ChangesOrderOnly self.old self.new) }
         ensures ordered { OnOk result (IsOrdered (skeleton_view self.new)) }
         ensures before { OnOk result ((x y : PlainNode) → Before (skeleton_view self.new) x y ↔ Before (skeleton_view self.old) x y) }
+        ensures closed { OnOk result (IsClosed (skeleton_view self.new).pairs) }
         ensures unchanged { OnErr result (self.new ≡ self.old) }
     {
         self.order.close(alloc)
     }
 
     /// Puts n, a transmission, before m, a reception of another strand, and answers true; where m is before n, and the
-    /// pair would close a cycle, it changes nothing and answers false. The error is that memory ran out.
+    /// pair would close a cycle, it changes nothing and answers false. The skeleton's own pairs have to go from a
+    /// transmission to a reception of another strand and to close no cycle; that holds of the new ones too. The error is
+    /// that memory ran out; then nothing changes.
     pub fn add_order(&mut self, alloc: Global, n: Node, m: Node) -> Result<bool, AllocError>
         requires ordered { IsOrdered (skeleton_view self.old) }
         requires pair { IsOrderPair (skeleton_view self.old) (record { earlier = node_view n; later = node_view m }) }
@@ -51,7 +51,7 @@ impl Skeleton {
             → Before (skeleton_view self.new) x y ↔ Before (ordered_by (skeleton_view self.old) (record { earlier = node_view n; later = node_view m } ∷ (skeleton_view self.old).pairs)) x y) }
         ensures unchanged { OnErr result (self.new ≡ self.old) }
     {
-        if self.before(m, n) {
+        if self.order.leads_to_with_memory(alloc, m, n)? {
             return Ok(false);
         }
         let (earlier, later) = (n, m);

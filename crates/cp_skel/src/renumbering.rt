@@ -1,6 +1,7 @@
 // Nodes, pairs and recorded origins where a strand is gone.
 ghost use Rattle.std.specs.Prelude.{◌≡◌, ◌↔◌, map, IsTrue, IfOk};
-ghost use Rattle.cp_skel.specs.View.{node_view, pair_view, unique_view};
+ghost use Rattle.cp_model.specs.RunView.{node_view};
+ghost use Rattle.cp_skel.specs.View.{pair_view, unique_view};
 ghost use Rattle.cp_skel.specs.Deleting.{renumbered, node_renumbered, pair_renumbered, unique_renumbered, IsPairOn, IsOriginOn, LeavesOut};
 
 use crate::skeleton::{Node, OrderPair, UniqueAt};

@@ -2,17 +2,12 @@
 use crate::atom::Atom;
 use crate::order::Order;
 use crate::protocol::Role;
+pub use cp_model::Node;
 use cp_term::{Term, VarTable};
 use std::rc::Rc;
 
-/// A node: the number of a strand, and the place of the event on it, both from 0.
-#[derive(Clone, Copy, Debug, PartialEq, Eq)]
-pub struct Node {
-    pub strand: usize,
-    pub index: usize,
-}
-
-/// A pair of the order: its nodes are on different strands.
+/// A pair of the order: the earlier node comes before the later one. In an ordered skeleton they are a transmission and a
+/// reception of different strands.
 #[derive(Clone, Copy, Debug, PartialEq, Eq)]
 pub struct OrderPair {
     pub earlier: Node,

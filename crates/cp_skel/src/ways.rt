@@ -1,7 +1,8 @@
 // Ways from node to node along strands and pairs.
 ghost use Rattle.std.specs.Prelude.{◌≡◌, map};
 ghost use Rattle.cp_skel.specs.Composed.{some_pair, is_between, leads_along_one, leads_within};
-ghost use Rattle.cp_skel.specs.View.{node_view, pair_view};
+ghost use Rattle.cp_model.specs.RunView.{node_view};
+ghost use Rattle.cp_skel.specs.View.{pair_view};
 
 use crate::leading::is_at_or_before;
 use crate::skeleton::{Node, OrderPair};

@@ -1,16 +1,20 @@
-use Rattle.std.proofs.Common.{Vec, Global, ap, ◌∙◌}
+use Rattle.std.proofs.Common.{Vec, Global, sym, ap, ◌∙◌, subst}
 use Rattle.std.proofs.lemmas.Result.{IfOk-weaker}
 use Rattle.cp_model.specs.Homomorphism.{substitution_by}
 use Rattle.cp_skel.specs.View.{role_view, strand_view}
 use Rattle.cp_skel.specs.Kinds.{stated_as}
 use Rattle.cp_skel.specs.declared.atom.Atom.{Atom}
+use Rattle.cp_skel.specs.Given.{IsGivenFrom, AddsOnce}
 use Rattle.cp_skel.proofs.GivenElsewhere.{adds_given}
+use Rattle.cp_skel.proofs.GivenParts.{atoms-given}
 use Rattle.cp_skel.proofs.forgetting.given_by.Goals as goal
 
 pub returns-in-Instance : goal.returns-in-Instance
 returns-in-Instance c =
     let i = c.in-Instance.instance in
     IfOk-weaker c.missing_atoms.result _ _
-    (λ (more : Vec Atom Global) added. adds_given (stated_as c.args.kind) (strand_view c.args.strand.now) (role_view i.role.value) i.height (substitution_by i.values.items) c.stated.result.now c.args.given.now more.items
-    (ap strand_view c.in-Instance.is) (c.stated.ensures ∙ ap (λ r. stated_as c.args.kind (role_view r)) c.deref.ensures) added)
+    (λ (more : Vec Atom Global) e. adds_given (stated_as c.args.kind) (strand_view c.args.strand.now) (role_view i.role.value) i.height (substitution_by i.values.items) c.stated.result.now c.args.given.now more.items
+    (ap strand_view c.in-Instance.is) (c.stated.ensures ∙ ap (λ r. stated_as c.args.kind (role_view r)) c.deref.ensures)
+    (subst (AddsOnce (IsGivenFrom c.stated.result.now (role_view i.role.value) i.height (substitution_by i.values.items)) c.args.given.now) (sym e)
+    (atoms-given (role_view i.role.value) i.height (substitution_by i.values.items) c.stated.result.now c.args.given.now)))
     c.missing_atoms.ensures

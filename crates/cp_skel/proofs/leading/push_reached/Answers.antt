@@ -1,7 +1,8 @@
 use Rattle.std.proofs.Common.{rules, ◌≡◌, ◌++◌, List, map, OnOk, subst}
 use Rattle.std.proofs.lemmas.List.Sorted.{IsPartitionPoint-from_clause}
 use Rattle.cp_model.specs.Bundle.{Node}
-use Rattle.cp_skel.specs.View.{node_view, pair_view}
+use Rattle.cp_model.specs.RunView.{node_view}
+use Rattle.cp_skel.specs.View.{pair_view}
 use Rattle.cp_skel.specs.Sorted.{is_passed}
 use Rattle.cp_skel.proofs.SortedPairs.{partitioned, reached-together}
 use Rattle.cp_skel.proofs.leading.push_reached.Goals as goal

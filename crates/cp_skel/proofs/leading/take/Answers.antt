@@ -1,5 +1,6 @@
 use Rattle.std.proofs.Common.{map, sym, ap, ◌∙◌}
-use Rattle.cp_skel.specs.View.{node_view, pair_view}
+use Rattle.cp_model.specs.RunView.{node_view}
+use Rattle.cp_skel.specs.View.{pair_view}
 use Rattle.cp_skel.specs.Leading.{tops_of, is_within}
 use Rattle.cp_skel.proofs.Gathering.{takes_nothing}
 use Rattle.cp_skel.proofs.leading.take.Goals as goal

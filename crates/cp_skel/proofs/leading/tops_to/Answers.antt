@@ -1,7 +1,8 @@
 use Rattle.std.proofs.Common.{◌≡◌, ◌++◌, ◌∷◌, [], List, map, sym, ap, ◌∙◌}
-use Rattle.cp_skel.specs.View.{node_view, pair_view}
+use Rattle.cp_model.specs.RunView.{node_view}
+use Rattle.cp_skel.specs.View.{pair_view}
 use Rattle.cp_skel.specs.Leading.{tops_of}
-use Rattle.cp_skel.specs.declared.skeleton.Node.{Node}
+use Rattle.cp_model.specs.declared.strand.Node.{Node}
 use Rattle.cp_skel.proofs.Gathering.{gathered_first, gathered_next, gathered_less, gathered_all, empty_list}
 use Rattle.cp_skel.proofs.leading.tops_to.Goals as goal
 

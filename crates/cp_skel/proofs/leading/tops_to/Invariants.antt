@@ -1,5 +1,6 @@
 use Rattle.std.proofs.Common.{◌+◌, map, length}
-use Rattle.cp_skel.specs.View.{node_view, pair_view}
+use Rattle.cp_model.specs.RunView.{node_view}
+use Rattle.cp_skel.specs.View.{pair_view}
 use Rattle.cp_skel.specs.Leading.{tops_of, waiting, IsGathered}
 use Rattle.cp_skel.proofs.leading.tops_to.Given as goal
 

@@ -1,6 +1,6 @@
 use Rattle.std.proofs.Common.{◌≡◌, ◌≤◌}
 use Rattle.cp_model.specs.Term.{variables_of}
-use Rattle.cp_skel.specs.Occurring.{has_variable}
+use Rattle.cp_model.specs.Same.{has_variable}
 use Rattle.cp_term.specs.Size.{term_size}
 use Rattle.cp_skel.specs.View.{sort_view}
 use Rattle.cp_skel.proofs.occurring.+occurs_in.Given as goal

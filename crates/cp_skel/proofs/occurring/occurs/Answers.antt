@@ -1,6 +1,6 @@
 use Rattle.std.proofs.Common.{sym, ap, ◌∙◌}
 use Rattle.cp_model.specs.Term.{Variable, variables_of}
-use Rattle.cp_skel.specs.Occurring.{has_variable}
+use Rattle.cp_model.specs.Same.{has_variable}
 use Rattle.cp_skel.specs.View.{sort_view}
 use Rattle.cp_skel.proofs.Occurrences.{in_event, not_in_event}
 use Rattle.cp_skel.proofs.occurring.occurs.Goals as goal

@@ -1,6 +1,6 @@
 use Rattle.std.proofs.Common.{◌≡◌, map, drop}
 use Rattle.cp_model.specs.Strand.{variables_of_trace}
-use Rattle.cp_skel.specs.Occurring.{has_variable}
+use Rattle.cp_model.specs.Same.{has_variable}
 use Rattle.cp_skel.specs.View.{sort_view, event_view}
 use Rattle.cp_skel.proofs.occurring.occurs.Given as goal
 

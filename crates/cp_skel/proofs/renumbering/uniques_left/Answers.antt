@@ -1,6 +1,7 @@
 use Rattle.std.proofs.Common.{◌≡◌, [], map, subst, sym, ap, ◌∙◌}
 use Rattle.std.proofs.lemmas.List.{map-append}
-use Rattle.cp_skel.specs.View.{unique_view, node_view}
+use Rattle.cp_model.specs.RunView.{node_view}
+use Rattle.cp_skel.specs.View.{unique_view}
 use Rattle.cp_skel.specs.Deleting.{IsOriginOn, node_renumbered, unique_renumbered, LeavesOut, all_left}
 use Rattle.cp_skel.proofs.Leaving.{next_gone, next_left, all_taken}
 use Rattle.cp_skel.proofs.renumbering.uniques_left.Goals as goal

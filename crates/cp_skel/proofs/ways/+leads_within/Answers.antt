@@ -1,5 +1,5 @@
 use Rattle.std.proofs.Common.{sym, ◌∙◌}
-use Rattle.cp_skel.specs.View.{node_view}
+use Rattle.cp_model.specs.RunView.{node_view}
 use Rattle.cp_skel.proofs.JoinedPairs.{within_found, within_none}
 use Rattle.cp_skel.proofs.ways.+leads_within.Goals as goal
 

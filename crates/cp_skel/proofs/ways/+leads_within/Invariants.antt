@@ -1,5 +1,6 @@
 use Rattle.std.proofs.Common.{◌≡◌, ◌-◌, ◌&&◌, map, drop}
-use Rattle.cp_skel.specs.View.{node_view, pair_view}
+use Rattle.cp_model.specs.RunView.{node_view}
+use Rattle.cp_skel.specs.View.{pair_view}
 use Rattle.cp_skel.specs.Leading.{is_at_or_before}
 use Rattle.cp_skel.specs.Composed.{some_pair, leads_within}
 use Rattle.cp_skel.proofs.ways.+leads_within.Given as goal

@@ -1,6 +1,7 @@
 use Rattle.std.proofs.Common.{List, map, sym, subst}
 use Rattle.std.specs.List.Sorted.{IsPermutation}
-use Rattle.cp_skel.specs.View.{node_view, pair_view}
+use Rattle.cp_model.specs.RunView.{node_view}
+use Rattle.cp_skel.specs.View.{pair_view}
 use Rattle.cp_skel.specs.Leading.{AreTops, tops_of}
 use Rattle.cp_skel.specs.declared.skeleton.OrderPair.{OrderPair}
 use Rattle.cp_skel.proofs.SortedPairs.{tops-permuted}

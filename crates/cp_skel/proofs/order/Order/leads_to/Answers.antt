@@ -1,5 +1,5 @@
 use Rattle.std.proofs.Common.{sym, ◌∙◌}
-use Rattle.cp_skel.specs.View.{node_view}
+use Rattle.cp_model.specs.RunView.{node_view}
 use Rattle.cp_skel.proofs.JoinedPairs.{asked_closed, asked_open}
 use Rattle.cp_skel.proofs.order.Order.leads_to.Goals as goal
 

@@ -1,0 +1,315 @@
+-- Lists that are gathered so that each item stands once, and the order in which a report lists assumptions.
+use Rattle.std.proofs.Common.{◌≡◌, List, [], ◌∷◌, ◌++◌, Bool, true, false, ◌&&◌, if◌then◌else◌, refl, sym, ap, ◌∙◌, subst, ◌⊎◌, inl, inr, ⊎_elim, append_assoc}
+use Rattle.std.specs.Cmp.{both_ways as same_by}
+use Rattle.std.specs.List.{filter}
+use Rattle.std.proofs.lemmas.Bool.{and_parts, and_from, or_cases, or_left, or_right, both_ways, false_from_ne_true}
+use Rattle.std.proofs.lemmas.List.{append-nil}
+use Rattle.std.proofs.lemmas.List.Elements.{filter-append}
+use Rattle.cp_model.specs.Lists.{IsIn, here, there}
+use Rattle.cp_model.specs.Term.{AtomTerm}
+use Rattle.cp_model.specs.Skeleton.{UniqueAt, Assumptions, Skeleton}
+use Rattle.cp_model.specs.Same.{same_atom, same_node}
+use Rattle.cp_model.specs.Given.{has_atom, atoms_onto, has_unique, uniques_onto, given_non, given_penetrator_non, given_uniques, with_given, listed}
+use Rattle.cp_model.proofs.LawLists.{in_append, in_append_left, in_append_right}
+use Rattle.cp_model.proofs.SameTests.{atom_is, same_atom_itself, node_is, is_node}
+use Rattle.cp_skel.specs.Given.{IsEachOnce, AddsOnce, HasEachOnce}
+use Rattle.cp_skel.proofs.Once.{once-append, none-in, only, adds-none, adds-known, adds-one, adds-then}
+
+-- ---- what is kept of a list
+
+in-filter : {A : Type 0} (p : A → Bool) (xs : List A) (v : A) → IsIn v xs → p v ≡ true → IsIn v (filter p xs)
+in-filter p [] v i e = elim i [ ]
+in-filter p (x ∷ xs) v here e = subst (λ b. IsIn x (if b then x ∷ filter p xs else filter p xs)) (sym e) here
+in-filter p (x ∷ xs) v (there i) e = by_test (p x) (in-filter p xs v i e)
+  where
+    by_test : (b : Bool) → IsIn v (filter p xs) → IsIn v (if b then x ∷ filter p xs else filter p xs)
+    by_test true j = there j
+    by_test false j = j
+
+at-head : {A : Type 0} (p : A → Bool) (xs : List A) (x v : A) → p x ≡ true → IsIn v (x ∷ filter p xs) → (IsIn v (filter p xs) → IsIn v xs × (p v ≡ true)) → IsIn v (x ∷ xs) × (p v ≡ true)
+at-head p xs x v e here rest = (here, e)
+at-head p xs x v e (there j) rest = (there (rest j).0, (rest j).1)
+
+by-test : {A : Type 0} (p : A → Bool) (xs : List A) (x v : A) (b : Bool) → p x ≡ b → IsIn v (if b then x ∷ filter p xs else filter p xs) → (IsIn v (filter p xs) → IsIn v xs × (p v ≡ true)) → IsIn v (x ∷ xs) × (p v ≡ true)
+by-test p xs x v true e j rest = at-head p xs x v e j rest
+by-test p xs x v false e j rest = (there (rest j).0, (rest j).1)
+
+filter-in : {A : Type 0} (p : A → Bool) (xs : List A) (v : A) → IsIn v (filter p xs) → IsIn v xs × (p v ≡ true)
+filter-in p [] v i = elim i [ ]
+filter-in p (x ∷ xs) v i = by-test p xs x v (p x) refl i (λ j. filter-in p xs v j)
+
+filter-all : {A : Type 0} (p : A → Bool) (xs : List A) → ((v : A) → IsIn v xs → p v ≡ true) → filter p xs ≡ xs
+filter-all p [] h = refl
+filter-all p (x ∷ xs) h = ap (λ b. if b then x ∷ filter p xs else filter p xs) (h x here) ∙ ap (λ ys. x ∷ ys) (filter-all p xs (λ v i. h v (there i)))
+
+pub first-or-later : {A : Type 0} (y x : A) (xs : List A) → IsIn y (x ∷ xs) → (y ≡ x) ⊎ IsIn y xs
+first-or-later y x xs here = inl refl
+first-or-later y x xs (there i) = inr i
+
+-- ---- gathering
+
+-- The one tells whether an item is in a list, and the other puts items behind a list, each that is not there yet.
+pub record IsGathering {A : Type 0} (has : List A → A → Bool) (onto : List A → List A → List A) : Type 0 where
+  pub found : (xs : List A) (v : A) → has xs v ≡ true → IsIn v xs
+  pub finds : (xs : List A) (v : A) → IsIn v xs → has xs v ≡ true
+  pub ends : (before : List A) → onto before [] ≡ before
+  pub goes : (before : List A) (v : A) (vs : List A) → onto before (v ∷ vs) ≡ onto (if has before v then before else before ++ v ∷ []) vs
+
+module _ {A : Type 0} {has : List A → A → Bool} {onto : List A → List A → List A} (g : IsGathering has onto) where
+  pub onto-append : (before xs ys : List A) → onto before (xs ++ ys) ≡ onto (onto before xs) ys
+  onto-append before [] ys = ap (λ b. onto b ys) (sym (g.ends before))
+  onto-append before (x ∷ xs) ys =
+      g.goes before x (xs ++ ys) ∙ onto-append (if has before x then before else before ++ x ∷ []) xs ys ∙ ap (λ b. onto b ys) (sym (g.goes before x xs))
+
+  step-keeps : (before : List A) (x v : A) (b : Bool) → IsIn v before → IsIn v (if b then before else before ++ x ∷ [])
+  step-keeps before x v true i = i
+  step-keeps before x v false i = in_append_left (x ∷ []) i
+
+  pub onto-keeps : (before xs : List A) (v : A) → IsIn v before → IsIn v (onto before xs)
+  onto-keeps before [] v i = subst (IsIn v) (sym (g.ends before)) i
+  onto-keeps before (x ∷ xs) v i = subst (IsIn v) (sym (g.goes before x xs)) (onto-keeps (if has before x then before else before ++ x ∷ []) xs v (step-keeps before x v (has before x) i))
+
+  step-takes : (before : List A) (x : A) (b : Bool) → has before x ≡ b → IsIn x (if b then before else before ++ x ∷ [])
+  step-takes before x true e = g.found before x e
+  step-takes before x false e = in_append_right before here
+
+  pub onto-takes : (before xs : List A) (v : A) → IsIn v xs → IsIn v (onto before xs)
+  onto-takes before [] v i = elim i [ ]
+  onto-takes before (x ∷ xs) v here = subst (IsIn x) (sym (g.goes before x xs)) (onto-keeps (if has before x then before else before ++ x ∷ []) xs x (step-takes before x (has before x) refl))
+  onto-takes before (x ∷ xs) v (there i) = subst (IsIn v) (sym (g.goes before x xs)) (onto-takes (if has before x then before else before ++ x ∷ []) xs v i)
+
+  step-only : (before xs : List A) (x v : A) (b : Bool) → IsIn v (if b then before else before ++ x ∷ []) ⊎ IsIn v xs → IsIn v before ⊎ IsIn v (x ∷ xs)
+  step-only before xs x v true (inl i) = inl i
+  step-only before xs x v false (inl i) = ⊎_elim (λ j. inl j) (λ j. inr (subst (λ y. IsIn y (x ∷ xs)) (sym (only v x j)) here)) (in_append before (x ∷ []) i)
+  step-only before xs x v b (inr i) = inr (there i)
+
+  pub onto-only : (before xs : List A) (v : A) → IsIn v (onto before xs) → IsIn v before ⊎ IsIn v xs
+  onto-only before [] v i = inl (subst (IsIn v) (g.ends before) i)
+  onto-only before (x ∷ xs) v i =
+      step-only before xs x v (has before x) (onto-only (if has before x then before else before ++ x ∷ []) xs v (subst (IsIn v) (g.goes before x xs) i))
+
+  pub onto-known : (before xs : List A) → ((v : A) → IsIn v xs → IsIn v before) → onto before xs ≡ before
+  onto-known before [] h = g.ends before
+  onto-known before (x ∷ xs) h =
+      g.goes before x xs ∙ ap (λ b. onto (if b then before else before ++ x ∷ []) xs) (g.finds before x (h x here)) ∙ onto-known before xs (λ v i. h v (there i))
+
+  is-new : (before : List A) (x : A) → (IsIn x before → ⊥) → has before x ≡ false
+  is-new before x apart = false_from_ne_true (has before x) (λ e. apart (g.found before x e))
+
+  apart-next : (before xs : List A) (x : A) → (IsIn x xs → ⊥) → ((v : A) → IsIn v (x ∷ xs) → IsIn v before → ⊥) → (v : A) → IsIn v xs → IsIn v (before ++ x ∷ []) → ⊥
+  apart-next before xs x first apart v i j =
+      ⊎_elim (λ k. apart v (there i) k) (λ k. first (subst (λ y. IsIn y xs) (only v x k) i)) (in_append before (x ∷ []) j)
+
+  pub onto-new : (before xs : List A) → IsEachOnce xs → ((v : A) → IsIn v xs → IsIn v before → ⊥) → onto before xs ≡ before ++ xs
+  onto-new before [] once apart = g.ends before ∙ sym (append-nil before)
+  onto-new before (x ∷ xs) once apart =
+      g.goes before x xs ∙ ap (λ b. onto (if b then before else before ++ x ∷ []) xs) (is-new before x (apart x here))
+      ∙ onto-new (before ++ x ∷ []) xs once.1 (apart-next before xs x once.0 apart) ∙ append_assoc before (x ∷ []) xs
+
+  step-once : (before : List A) (x : A) (b : Bool) → has before x ≡ b → IsEachOnce before → IsEachOnce (if b then before else before ++ x ∷ [])
+  step-once before x true e once = once
+  step-once before x false e once =
+      once-append before (x ∷ []) once ((λ i. none-in i), tt) (λ v i j. both_ways (has before x) e (g.finds before x (subst (λ y. IsIn y before) (only v x j) i)))
+
+  pub once-onto : (before xs : List A) → IsEachOnce before → IsEachOnce (onto before xs)
+  once-onto before [] once = subst IsEachOnce (sym (g.ends before)) once
+  once-onto before (x ∷ xs) once =
+      subst IsEachOnce (sym (g.goes before x xs)) (once-onto (if has before x then before else before ++ x ∷ []) xs (step-once before x (has before x) refl once))
+
+  -- ---- one item more
+
+  pub put-known : (xs ys : List A) (v : A) (r : Bool) → ys ≡ xs → (r ≡ true → IsIn v ys) → r ≡ true → xs ≡ onto xs (v ∷ [])
+  put-known xs ys v r e test h =
+      let i : IsIn v xs = subst (IsIn v) e (test h) in
+      sym (onto-known xs (v ∷ []) (λ w j. subst (λ y. IsIn y xs) (sym (only w v j)) i))
+
+  pub put-new : (xs ys new : List A) (v : A) (r : Bool) → ys ≡ xs → (IsIn v ys → r ≡ true) → r ≡ false → new ≡ xs ++ v ∷ [] → new ≡ onto xs (v ∷ [])
+  put-new xs ys new v r e test h is =
+      let never : IsIn v xs → ⊥ = λ i. both_ways r h (test (subst (IsIn v) (sym e) i)) in
+      is ∙ sym (onto-new xs (v ∷ []) ((λ i. none-in i), tt) (λ w i j. never (subst (λ y. IsIn y xs) (only w v i) j)))
+
+  pub put-behind : (old more pushed : List A) (v : A) → (IsIn v old → ⊥) → (IsIn v more → ⊥) → pushed ≡ more ++ v ∷ [] → old ++ pushed ≡ onto (old ++ more) (v ∷ [])
+  put-behind old more pushed v first later is =
+      put-new (old ++ more) (old ++ more) (old ++ pushed) v false refl (λ i. absurd (⊎_elim first later (in_append old more i))) refl
+      (ap (λ ys. old ++ ys) is ∙ sym (append_assoc old more (v ∷ [])))
+
+  pub put-nowhere : (old more : List A) (v : A) → IsIn v old ⊎ IsIn v more → old ++ more ≡ onto (old ++ more) (v ∷ [])
+  put-nowhere old more v i = put-known (old ++ more) (old ++ more) v true refl (λ e. ⊎_elim (λ j. in_append_left more j) (λ j. in_append_right old j) i) refl
+
+  -- ---- what is put behind a list
+
+  adds-step : (old : List A) (x : A) (b : Bool) → has old x ≡ b → AddsOnce (λ y. y ≡ x) old (if b then old else old ++ x ∷ [])
+  adds-step old x true e = adds-known x old (g.found old x e)
+  adds-step old x false e = adds-one x old (λ i. both_ways (has old x) e (g.finds old x i))
+
+  pub adds-onto : (old xs : List A) → AddsOnce (λ y. IsIn y xs) old (onto old xs)
+  adds-onto old [] = subst (AddsOnce (λ y. IsIn y []) old) (sym (g.ends old)) (adds-none (λ y. IsIn y []) old (λ y i. absurd (none-in i)))
+  adds-onto old (x ∷ xs) =
+      let step = if has old x then old else old ++ x ∷ [] in
+      subst (AddsOnce (λ y. IsIn y (x ∷ xs)) old) (sym (g.goes old x xs))
+      (adds-then (λ y. y ≡ x) (λ y. IsIn y xs) (λ y. IsIn y (x ∷ xs)) old step (onto step xs) (λ y e. subst (λ z. IsIn z (x ∷ xs)) (sym e) here) (λ y i. there i) (λ y i. first-or-later y x xs i)
+      (adds-step old x (has old x) refl) (adds-onto step xs))
+
+  -- ---- gathered once and then kept in part, or kept in part at once
+
+  known-first : (p : A → Bool) (all xs : List A) (x : A) (b : Bool) → p x ≡ b → (p x ≡ true → IsIn x all) → onto all (filter p xs) ≡ onto all (if b then x ∷ filter p xs else filter p xs)
+  known-first p all xs x true e i =
+      ap (λ c. onto (if c then all else all ++ x ∷ []) (filter p xs)) (sym (g.finds all x (i e))) ∙ sym (g.goes all x (filter p xs))
+  known-first p all xs x false e i = refl
+
+  known-between : (p : A → Bool) (before acc xs : List A) (x : A) → IsIn x acc → onto before (filter p (acc ++ xs)) ≡ onto before (filter p (acc ++ x ∷ xs))
+  known-between p before acc xs x i =
+      let all = onto before (filter p acc) in
+      ap (onto before) (filter-append p acc xs) ∙ onto-append before (filter p acc) (filter p xs)
+      ∙ known-first p all xs x (p x) refl (λ e. onto-takes before (filter p acc) x (in-filter p acc x i e))
+      ∙ sym (onto-append before (filter p acc) (filter p (x ∷ xs))) ∙ ap (onto before) (sym (filter-append p acc (x ∷ xs)))
+
+  kept-next : (p : A → Bool) (before acc xs : List A) (x : A) (b : Bool) → has acc x ≡ b → onto before (filter p ((if b then acc else acc ++ x ∷ []) ++ xs)) ≡ onto before (filter p (acc ++ x ∷ xs))
+  kept-next p before acc xs x true e = known-between p before acc xs x (g.found acc x e)
+  kept-next p before acc xs x false e = ap (λ ys. onto before (filter p ys)) (append_assoc acc (x ∷ []) xs)
+
+  kept-onto : (p : A → Bool) (before acc xs : List A) → onto before (filter p (onto acc xs)) ≡ onto before (filter p (acc ++ xs))
+  kept-onto p before acc [] = ap (λ ys. onto before (filter p ys)) (g.ends acc ∙ sym (append-nil acc))
+  kept-onto p before acc (x ∷ xs) =
+      ap (λ ys. onto before (filter p ys)) (g.goes acc x xs) ∙ kept-onto p before (if has acc x then acc else acc ++ x ∷ []) xs ∙ kept-next p before acc xs x (has acc x) refl
+
+  -- ---- the order of the report
+
+  pub listed-stated : (own given old : List A) → onto [] (filter (has old) (onto own given) ++ old) ≡ onto [] (filter (has old) (own ++ given) ++ old)
+  listed-stated own given old =
+      onto-append [] (filter (has old) (onto own given)) old ∙ ap (λ b. onto b old) (kept-onto (has old) [] own given) ∙ sym (onto-append [] (filter (has old) (own ++ given)) old)
+
+  listed-in : (stated old : List A) (v : A) → IsIn v (onto [] (filter (has old) stated ++ old)) → IsIn v old
+  listed-in stated old v i =
+      ⊎_elim (λ j. absurd (none-in j))
+      (λ j. ⊎_elim (λ k. g.found old v (filter-in (has old) stated v k).1) (λ k. k) (in_append (filter (has old) stated) old j))
+      (onto-only [] (filter (has old) stated ++ old) v i)
+
+  same-each-once : (stated old : List A) → HasEachOnce old (onto [] (filter (has old) stated ++ old))
+  same-each-once stated old = record {
+    same = λ v. (listed-in stated old v, λ i. onto-takes [] (filter (has old) stated ++ old) v (in_append_right (filter (has old) stated) i));
+    once = once-onto [] (filter (has old) stated ++ old) tt;
+  }
+
+  same-test : (xs ys : List A) (v : A) → (IsIn v xs → IsIn v ys) → (IsIn v ys → IsIn v xs) → has xs v ≡ has ys v
+  same-test xs ys v f h = same_by (has xs v) (has ys v) (λ e. g.finds ys v (f (g.found xs v e))) (λ e. g.finds xs v (h (g.found ys v e)))
+
+  -- Gathered once or twice, a list gives the same.
+  onto-onto : (before acc xs : List A) → onto before (onto acc xs) ≡ onto before (acc ++ xs)
+  onto-onto before acc xs =
+      ap (onto before) (sym (filter-all (λ v. true) (onto acc xs) (λ v i. refl))) ∙ kept-onto (λ v. true) before acc xs
+      ∙ ap (onto before) (filter-all (λ v. true) (acc ++ xs) (λ v i. refl))
+
+  onto-twice : (kept old : List A) → onto [] (kept ++ onto [] (kept ++ old)) ≡ onto [] (kept ++ old)
+  onto-twice kept old =
+      let first = onto [] kept in
+      onto-append [] kept (onto [] (kept ++ old)) ∙ onto-onto first [] (kept ++ old) ∙ onto-append first kept old
+      ∙ ap (λ b. onto b old) (onto-known first kept (λ v i. onto-takes [] kept v i)) ∙ sym (onto-append [] kept old)
+
+  -- What is listed is listed again as it is.
+  listed-again : (stated old : List A) → onto [] (filter (has (onto [] (filter (has old) stated ++ old))) stated ++ onto [] (filter (has old) stated ++ old)) ≡ onto [] (filter (has old) stated ++ old)
+  listed-again stated old =
+      let new = onto [] (filter (has old) stated ++ old) in
+      ap (λ xs. onto [] (xs ++ new)) (λ i. filter (λ v. same-test new old v (listed-in stated old v) (λ j. onto-takes [] (filter (has old) stated ++ old) v (in_append_right (filter (has old) stated) j)) i) stated)
+      ∙ onto-twice (filter (has old) stated) old
+
+  pub listed-loaded : (own given : List A) → IsEachOnce own → onto [] (filter (has (onto own given)) (own ++ given) ++ onto own given) ≡ onto own given
+  listed-loaded own given once =
+      let old = onto own given in
+      ap (λ ys. onto [] (ys ++ old)) (filter-all (has old) (own ++ given) (λ v i. g.finds old v (⊎_elim (onto-keeps own given v) (onto-takes own given v) (in_append own given i))))
+      ∙ onto-append [] (own ++ given) old ∙ ap (λ b. onto b old) (onto-append [] own given ∙ ap (λ b. onto b given) (onto-new [] own once (λ v i j. none-in j)))
+      ∙ onto-known old old (λ v i. i)
+
+  -- A loop over what is stated keeps the items that are among the old ones.
+  module _ (old left rest xs ws all : List A) (v : A) (next : left ≡ v ∷ rest) (so-far : onto xs (filter (has old) left) ≡ all) where
+    taken : (b : Bool) → has old v ≡ b → onto xs (if b then v ∷ filter (has old) rest else filter (has old) rest) ≡ all
+    taken b e = ap (λ c. onto xs (if c then v ∷ filter (has old) rest else filter (has old) rest)) (sym e) ∙ ap (λ l. onto xs (filter (has old) l)) (sym next) ∙ so-far
+
+    pub kept-taken : IsIn v old → ws ≡ onto xs (v ∷ []) → onto ws (filter (has old) rest) ≡ all
+    kept-taken i e = ap (λ l. onto l (filter (has old) rest)) e ∙ sym (onto-append xs (v ∷ []) (filter (has old) rest)) ∙ taken true (g.finds old v i)
+
+    pub kept-left : (IsIn v old → ⊥) → ws ≡ xs → onto ws (filter (has old) rest) ≡ all
+    kept-left apart e = ap (λ l. onto l (filter (has old) rest)) e ∙ taken false (is-new old v apart)
+
+  pub kept-end : (old stated left xs new : List A) → left ≡ [] → onto xs (filter (has old) left) ≡ onto [] (filter (has old) stated) → new ≡ onto xs old
+      → new ≡ onto [] (filter (has old) stated ++ old)
+  kept-end old stated left xs new end so-far e =
+      e ∙ ap (λ l. onto l old) (sym (g.ends xs) ∙ ap (λ l. onto xs (filter (has old) l)) (sym end) ∙ so-far) ∙ sym (onto-append [] (filter (has old) stated) old)
+
+-- ---- values, and unique values with their origins
+
+atom-found : (xs : List AtomTerm) (v : AtomTerm) → has_atom xs v ≡ true → IsIn v xs
+atom-found [] v e = absurd (cc)
+atom-found (x ∷ xs) v e =
+    ⊎_elim (λ h. subst (λ y. IsIn y (x ∷ xs)) (atom_is x v h) here) (λ h. there (atom-found xs v h)) (or_cases (same_atom x v) (has_atom xs v) e)
+
+finds-atom : (xs : List AtomTerm) (v : AtomTerm) → IsIn v xs → has_atom xs v ≡ true
+finds-atom [] v i = elim i [ ]
+finds-atom (x ∷ xs) v here = or_left (same_atom v v) (has_atom xs v) (same_atom_itself v)
+finds-atom (x ∷ xs) v (there i) = or_right (same_atom x v) (has_atom xs v) (finds-atom xs v i)
+
+pub atoms : IsGathering has_atom atoms_onto
+atoms = record { found = atom-found; finds = finds-atom; ends = λ before. refl; goes = λ before v vs. refl }
+
+unique-is : (u w : UniqueAt) → (same_atom u.value w.value && same_node u.origin w.origin) ≡ true → u ≡ w
+unique-is u w e =
+    let h = and_parts (same_atom u.value w.value) (same_node u.origin w.origin) e in
+    let v : u.value ≡ w.value = atom_is u.value w.value h.0 in
+    let o : u.origin ≡ w.origin = node_is u.origin w.origin h.1 in
+    λ i. record { value = v i; origin = o i }
+
+unique-itself : (u : UniqueAt) → (same_atom u.value u.value && same_node u.origin u.origin) ≡ true
+unique-itself u = and_from (same_atom u.value u.value) (same_node u.origin u.origin) (same_atom_itself u.value) (is_node u.origin u.origin refl)
+
+unique-found : (us : List UniqueAt) (u : UniqueAt) → has_unique us u ≡ true → IsIn u us
+unique-found [] u e = absurd (cc)
+unique-found (w ∷ us) u e =
+    ⊎_elim (λ h. subst (λ y. IsIn y (w ∷ us)) (unique-is w u h) here) (λ h. there (unique-found us u h))
+    (or_cases (same_atom w.value u.value && same_node w.origin u.origin) (has_unique us u) e)
+
+finds-unique : (us : List UniqueAt) (u : UniqueAt) → IsIn u us → has_unique us u ≡ true
+finds-unique [] u i = elim i [ ]
+finds-unique (w ∷ us) u here = or_left (same_atom u.value u.value && same_node u.origin u.origin) (has_unique us u) (unique-itself u)
+finds-unique (w ∷ us) u (there i) = or_right (same_atom w.value u.value && same_node w.origin u.origin) (has_unique us u) (finds-unique us u i)
+
+pub uniques : IsGathering has_unique uniques_onto
+uniques = record { found = unique-found; finds = finds-unique; ends = λ before. refl; goes = λ before u us. refl }
+
+-- ---- whole assumptions
+
+-- What is stated and was there, and then the rest.
+abbrev pub stated_first : Assumptions → Assumptions → Assumptions
+stated_first stated old = record {
+  non_originating = atoms_onto [] (filter (has_atom old.non_originating) stated.non_originating ++ old.non_originating);
+  penetrator_non_originating = atoms_onto [] (filter (has_atom old.penetrator_non_originating) stated.penetrator_non_originating ++ old.penetrator_non_originating);
+  uniquely_originating = uniques_onto [] (filter (has_unique old.uniquely_originating) stated.uniquely_originating ++ old.uniquely_originating);
+}
+
+pub listed-given : (k : Skeleton) → stated_first (with_given k.strands k.from_problem.assumptions) k.assumptions ≡ listed k
+listed-given k =
+    let own = k.from_problem.assumptions in
+    λ i. record {
+      non_originating = listed-stated atoms own.non_originating (given_non k.strands) k.assumptions.non_originating i;
+      penetrator_non_originating = listed-stated atoms own.penetrator_non_originating (given_penetrator_non k.strands) k.assumptions.penetrator_non_originating i;
+      uniquely_originating = listed-stated uniques own.uniquely_originating (given_uniques 0 k.strands) k.assumptions.uniquely_originating i;
+    }
+
+pub listed-non : (k : Skeleton) → HasEachOnce k.assumptions.non_originating (listed k).non_originating
+listed-non k = same-each-once atoms (k.from_problem.assumptions.non_originating ++ given_non k.strands) k.assumptions.non_originating
+
+pub listed-penetrator-non : (k : Skeleton) → HasEachOnce k.assumptions.penetrator_non_originating (listed k).penetrator_non_originating
+listed-penetrator-non k =
+    same-each-once atoms (k.from_problem.assumptions.penetrator_non_originating ++ given_penetrator_non k.strands) k.assumptions.penetrator_non_originating
+
+pub listed-unique : (k : Skeleton) → HasEachOnce k.assumptions.uniquely_originating (listed k).uniquely_originating
+listed-unique k =
+    same-each-once uniques (k.from_problem.assumptions.uniquely_originating ++ given_uniques 0 k.strands) k.assumptions.uniquely_originating
+
+pub stays-listed : (k : Skeleton) → listed (record k { assumptions = listed k }) ≡ listed k
+stays-listed k =
+    let own = k.from_problem.assumptions in
+    λ i. record {
+      non_originating = listed-again atoms (own.non_originating ++ given_non k.strands) k.assumptions.non_originating i;
+      penetrator_non_originating = listed-again atoms (own.penetrator_non_originating ++ given_penetrator_non k.strands) k.assumptions.penetrator_non_originating i;
+      uniquely_originating = listed-again uniques (own.uniquely_originating ++ given_uniques 0 k.strands) k.assumptions.uniquely_originating i;
+    }
