@@ -1,31 +1,16 @@
 -- The steps by which it is decided whether a term can be built: what is left to decide is as good as the whole.
-use Rattle.std.proofs.Common.{ℕ, List, ◌≡◌, inl, inr, sym, subst}
+use Rattle.std.proofs.Common.{List, ◌≡◌, inl, inr, sym, subst}
 use Rattle.cp_model.specs.Lists.{IsIn}
-use Rattle.cp_model.specs.Term.{AtomTerm, KeyTerm, Term, tag_term, atom_term, pair_term, enc_term}
+use Rattle.cp_model.specs.Term.{AtomTerm, KeyTerm, Term, atom_term, enc_term}
 use Rattle.cp_term.specs.Keys.{key_as_term}
 use Rattle.cp_derive.specs.Building.{IsAtHand, Builds}
 
 module _ (secrets held : List Term) (whole rest : Term) where
-  pub tag_builds : (bytes : List ℕ) → rest ≡ tag_term bytes → (Builds secrets held rest → Builds secrets held whole) → Builds secrets held whole
-  tag_builds bytes e up = up (subst (Builds secrets held) (sym e) tt)
-
   pub atom_builds : (a : AtomTerm) → rest ≡ atom_term a → (Builds secrets held rest → Builds secrets held whole) → IsAtHand secrets held rest → Builds secrets held whole
   atom_builds a e up h = up (subst (Builds secrets held) (sym e) (subst (IsAtHand secrets held) e h))
 
   pub atom_at_hand : (a : AtomTerm) → rest ≡ atom_term a → (Builds secrets held whole → Builds secrets held rest) → Builds secrets held whole → IsAtHand secrets held rest
   atom_at_hand a e down h = subst (IsAtHand secrets held) (sym e) (subst (Builds secrets held) e (down h))
-
-  pub left_builds : (a b : Term) → rest ≡ pair_term a b → (Builds secrets held whole → Builds secrets held rest) → Builds secrets held whole → Builds secrets held a
-  left_builds a b e down h = (subst (Builds secrets held) e (down h)).0
-
-  pub pair_up : (a b : Term) → rest ≡ pair_term a b → Builds secrets held a → (Builds secrets held rest → Builds secrets held whole) → Builds secrets held b → Builds secrets held whole
-  pair_up a b e first up second = up (subst (Builds secrets held) (sym e) (first, second))
-
-  pub pair_down : (a b : Term) → rest ≡ pair_term a b → (Builds secrets held whole → Builds secrets held rest) → Builds secrets held whole → Builds secrets held b
-  pair_down a b e down h = (subst (Builds secrets held) e (down h)).1
-
-  pub held_builds : (a : Term) (k : KeyTerm) → rest ≡ enc_term a k → IsIn rest held → (Builds secrets held rest → Builds secrets held whole) → Builds secrets held whole
-  held_builds a k e h up = up (subst (Builds secrets held) (sym e) (inl (subst (λ t. IsIn t held) e h)))
 
   pub enc_up : (a key : Term) (k : KeyTerm) → key ≡ key_as_term k → rest ≡ enc_term a k → IsAtHand secrets held key → (Builds secrets held rest → Builds secrets held whole) → Builds secrets held a → Builds secrets held whole
   enc_up a key k is e hand up first = up (subst (Builds secrets held) (sym e) (inr (first, subst (IsAtHand secrets held) is hand)))

@@ -1,6 +1,5 @@
 -- What was sent, opened piece by piece.
-use Rattle.std.proofs.Common.{ℕ, ◌+◌, ◌<◌, ◌≤◌, List, [], ◌∷◌, ◌++◌, ◌≡◌, ◌⊎◌, inl, inr, length, get_or, drop, refl, sym, subst, ap, ◌∙◌}
-use Rattle.std.proofs.lemmas.List.{append-nil, drop_all}
+use Rattle.std.proofs.Common.{ℕ, ◌+◌, ◌<◌, ◌≤◌, List, [], ◌∷◌, ◌++◌, ◌≡◌, ◌⊎◌, inl, inr, length, get_or, drop, refl, sym, subst}
 use Rattle.cp_model.specs.Lists.{IsIn, there}
 use Rattle.cp_model.specs.Term.{Term, enc_term}
 use Rattle.cp_derive.specs.From.{was_sent}
@@ -78,6 +77,3 @@ opened_more sent more all secrets lent_secrets lent_more o n same_secrets same_m
     let before : IsOpened sent lent_secrets o = subst (λ s. IsOpened sent s o) (sym same_secrets) h in
     subst (λ s. IsOpened s secrets n) (sym whole)
     (subst (λ m. IsOpened (sent ++ m) secrets n) same_more (subst (λ s. IsOpened (sent ++ lent_more) s n) same_secrets (step sent before)))
-
-pub all_moved : (old new more : List Term) (i : ℕ) → length more ≤ i → new ++ drop i more ≡ old ++ more → new ≡ old ++ more
-all_moved old new more i past e = sym (append-nil new) ∙ ap (λ rest. new ++ rest) (sym (drop_all i more past)) ∙ e

@@ -4,8 +4,9 @@ use Rattle.std.specs.Prelude.{◌↔◌, option_map}
 use Rattle.std.proofs.Math.Seq.{drop-cons}
 use Rattle.std.proofs.lemmas.List.{append-nil, drop_all, map-append}
 use Rattle.cp_skel.specs.Ordered.{IsOrdered}
-use Rattle.cp_skel.specs.View.{node_view, event_view}
-use Rattle.cp_skel.specs.declared.skeleton.Node.{Node as ProgramNode}
+use Rattle.cp_model.specs.RunView.{node_view}
+use Rattle.cp_skel.specs.View.{event_view}
+use Rattle.cp_model.specs.declared.strand.Node.{Node as ProgramNode}
 use Rattle.cp_skel.specs.declared.protocol.Event.{Event as ProgramEvent}
 use Rattle.cp_skel.specs.declared.protocol.Event.TheVariants.{Send, Receive}
 use Rattle.cp_derive.specs.declared.occurrence.Occurrence as program
@@ -21,8 +22,6 @@ use Rattle.cp_derive.specs.From.{IsSentBefore}
 use Rattle.cp_derive.specs.Given.{Given, IsDerivable, IsGivenAt}
 use Rattle.cp_derive.specs.Occurrences.{occurrence_view, occurrences_from, Transmission}
 use Rattle.cp_derive.specs.Before.{LeadsToOther, ArePlacesBefore, messages_at, transmissions_of, given_by}
-use Rattle.cp_term.specs.declared.path.Step.{Step}
-use Rattle.cp_derive.specs.Components.{components_of, IsFirstUnderivable}
 use Rattle.cp_derive.specs.Unrealised.{IsUnrealisedAt, IsRealisedAt, ListsUnrealised}
 use Rattle.cp_derive.proofs.FromLaw.{given_at}
 use Rattle.cp_derive.proofs.EventLists.{listed_event, transmission_listed, listed_on_role, listed_transmission}
@@ -82,21 +81,8 @@ transmission_realised k n m at t r = absurd (cc)
 
 -- ---- the message at a node
 
-pub message_is : (m : Term) (o : Option (Event Term)) (e : Event Term) → Some m ≡ option_map payload o → o ≡ Some e → m ≡ payload e
-message_is m o e at is = let whole : Some m ≡ Some (payload e) = at ∙ ap (option_map payload) is in cc
-
 pub no_message : (o : Option (Event Term)) (e : Event Term) → None ≡ option_map payload o → o ≡ Some e → ⊥
 no_message o e at is = let whole : None ≡ Some (payload e) = at ∙ ap (option_map payload) is in cc
-
--- What is first over the lists is first at the node.
-pub first_of : (P Q : Term → Type 0) → ((t : Term) → P t ↔ Q t) → (t u : Term) (path : List Step) (c : Term) → t ≡ u → IsFirstUnderivable P t path c → IsFirstUnderivable Q u path c
-first_of P Q same t u path c e h = record {
-  before = h.before;
-  after = h.after;
-  among = ap components_of (sym e) ∙ h.among;
-  underivable = λ q. h.underivable ((same c).1 q);
-  derivable = λ d i. (same d.term).0 (h.derivable d i);
-}
 
 -- What is known from the transmissions of the skeleton at these places is what is given by them.
 pub given_from : (k : Skeleton) (places lent : List ℕ) (ts : List Transmission) (sent secrets : List Term) (g : Given) → lent ≡ places → ts ≡ transmissions_of k → sent ≡ messages_at lent ts →

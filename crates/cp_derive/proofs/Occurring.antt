@@ -6,7 +6,8 @@ use Rattle.cp_model.specs.Lists.{item_at}
 use Rattle.cp_model.specs.Term.{Term}
 use Rattle.cp_model.specs.Strand.{Event, send}
 use Rattle.cp_model.specs.Bundle.{node_at}
-use Rattle.cp_skel.specs.View.{node_view, event_view}
+use Rattle.cp_model.specs.RunView.{node_view}
+use Rattle.cp_skel.specs.View.{event_view}
 use Rattle.cp_skel.specs.declared.protocol.Event.{Event as ProgramEvent}
 use Rattle.cp_skel.specs.declared.protocol.Event.TheVariants.{Send, Receive}
 use Rattle.cp_derive.specs.declared.occurrence.Occurrence as program

@@ -18,9 +18,6 @@ pub record ArePlacesBelow (pairs : List OrderPair) (n : Node) (ts : List Transmi
   pub each : (p : ℕ) (t : Transmission) → p < bound → item_at ts p ≡ Some t → LeadsToOther pairs t.node n → IsIn p places
   pub only : (p : ℕ) (t : Transmission) → item_at ts p ≡ Some t → IsIn p places → LeadsToOther pairs t.node n
 
-pub none_below : (pairs : List OrderPair) (n : Node) (ts : List Transmission) → ArePlacesBelow pairs n ts 0 []
-none_below pairs n ts = record { each = λ p t h e l. absurd (omega arith); only = λ p t e i. elim i [ ] }
-
 -- p is below a bound or the bound itself
 below_or_at : (p b : ℕ) → p < b + 1 → (p < b) ⊎ (p ≡ b)
 below_or_at p b h = grind arith

@@ -1,8 +1,8 @@
 -- Opening what is locked.
-use Rattle.std.proofs.Common.{ℕ, suc, ◌+◌, ◌<◌, ◌≤◌, List, [], ◌∷◌, length, get_or, ◌≡◌, ◌⊎◌, inl, inr, sym, subst, ap, ◌∙◌, arith}
+use Rattle.std.proofs.Common.{ℕ, suc, ◌<◌, ◌≤◌, List, [], ◌∷◌, length, get_or, ◌≡◌, ◌⊎◌, inl, inr, sym, subst, arith}
 use Rattle.std.specs.List.{All, sum_by, swap_remove}
 use Rattle.std.specs.List.Sorted.{IsPermutation}
-use Rattle.std.proofs.lemmas.List.Sums.{sum_by-cons, sum_by-swap_remove}
+use Rattle.std.proofs.lemmas.List.Sums.{sum_by-cons}
 use Rattle.std.proofs.lemmas.List.Sorted.{IsPermutation-swap_remove, IsPermutation-sym, All-permutation}
 use Rattle.cp_model.specs.Lists.{IsIn, here, there}
 use Rattle.cp_model.specs.Term.{KeyTerm, Term, enc_term}
@@ -39,10 +39,6 @@ taken_out xs i x ys h e s =
       or_it = λ z there_is. in_cases (in_permuted xs (x ∷ ys) z p there_is);
     }
 
-pub lighter : (xs : List Locked) (i : ℕ) (x : Locked) (ys : List Locked) → i < length xs → x ≡ get_or xs i x → ys ≡ swap_remove xs i x → sum_by weight_of ys + weight_of x ≡ sum_by weight_of xs
-lighter xs i x ys h e s =
-    ap (λ zs. sum_by weight_of zs + weight_of x) s ∙ ap (λ z. sum_by weight_of (swap_remove xs i x) + weight_of z) e ∙ sum_by-swap_remove weight_of xs i x h
-
 -- What is locked weighs as much as it has items.
 pub length_weight : (xs : List Locked) → length xs ≤ sum_by weight_of xs
 length_weight [] = omega arith
@@ -73,13 +69,3 @@ module _ (secrets : List Term) (o m n : Opening) (l : Locked) (out : IsTakenOut 
     opened = λ all a k h.
         elim (takes.opened a k h) [ inl i ↦ still_open a k (all a k (subst (IsIn (enc_term a k)) same i)) | inr w ↦ w ];
   }
-
-pub advances_nothing : (secrets : List Term) (o : Opening) → Advances secrets o o
-advances_nothing secrets o = record { held_more = λ x h. h; sound = λ sent s. s; opened = λ all. all }
-
-pub advances_on : (secrets : List Term) (o m n : Opening) → Advances secrets o m → Advances secrets m n → Advances secrets o n
-advances_on secrets o m n first second = record {
-  held_more = λ x h. second.held_more x (first.held_more x h);
-  sound = λ sent s. second.sound sent (first.sound sent s);
-  opened = λ all. second.opened (first.opened all);
-}

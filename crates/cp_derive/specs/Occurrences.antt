@@ -4,7 +4,8 @@ use Rattle.cp_model.specs.Term.{Term}
 use Rattle.cp_model.specs.Strand.{Event, send, recv}
 use Rattle.cp_model.specs.Bundle.{Node, node_at}
 use Rattle.cp_model.specs.Skeleton.{SkeletonStrand, instance, listener, skeleton_trace}
-use Rattle.cp_skel.specs.View.{node_view, event_view}
+use Rattle.cp_model.specs.RunView.{node_view}
+use Rattle.cp_skel.specs.View.{event_view}
 use Rattle.cp_derive.specs.declared.occurrence.Occurrence as program
 use Rattle.cp_derive.specs.declared.transmission.Transmission as sending
 

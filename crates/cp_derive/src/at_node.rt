@@ -5,7 +5,8 @@ ghost use Rattle.cp_model.specs.Skeleton.{IsNodeOf, term_event_at};
 ghost use Rattle.cp_model.specs.Strand.{Event as PlainEvent, payload};
 ghost use Rattle.cp_model.specs.Term.{Term as Plain};
 ghost use Rattle.cp_skel.specs.Ordered.{IsOrdered};
-ghost use Rattle.cp_skel.specs.View.{node_view, skeleton_view};
+ghost use Rattle.cp_model.specs.RunView.{node_view};
+ghost use Rattle.cp_skel.specs.View.{skeleton_view};
 ghost use Rattle.cp_term.specs.Positions.{term_at};
 ghost use Rattle.cp_derive.specs.Before.{transmissions_of};
 ghost use Rattle.cp_derive.specs.Components.{IsFirstUnderivable};
@@ -32,8 +33,8 @@ fn transmissions_of(alloc: Global, k: &Skeleton) -> Result<Vec<Transmission>, Al
 }
 
 /// What can be derived at a node: from all that role strands send strictly before it, all tags, and all atoms that no
-/// assumption names. The pairs of the skeleton have to be between nodes that are there, its order has to be without a
-/// cycle, and the node has to be there. The error is that memory ran out.
+/// assumption names. Each pair of the skeleton has to go from a transmission to a reception of another strand, its order
+/// has to be without a cycle, and the node has to be there. The error is that memory ran out.
 pub fn known(alloc: Global, k: &Skeleton, node: Node) -> Result<Known, AllocError>
     requires ordered { IsOrdered (skeleton_view k.now) }
     requires there { IsNodeOf (skeleton_view k.now).strands (node_view node) }

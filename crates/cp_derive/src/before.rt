@@ -1,7 +1,8 @@
 // What was sent before a node.
-ghost use Rattle.std.specs.Prelude.{◌≡◌, ◌↔◌, map, option_map, IsTrue, IfOk};
+ghost use Rattle.std.specs.Prelude.{◌≡◌, map, option_map, IfOk};
 ghost use Rattle.cp_model.specs.Lists.{item_at};
-ghost use Rattle.cp_skel.specs.View.{node_view, pair_view};
+ghost use Rattle.cp_model.specs.RunView.{node_view};
+ghost use Rattle.cp_skel.specs.View.{pair_view};
 ghost use Rattle.cp_derive.specs.Occurrences.{transmission_view};
 ghost use Rattle.cp_derive.specs.Before.{ArePlacesBefore, messages_at};
 
@@ -9,13 +10,6 @@ use crate::transmission::Transmission;
 use cp_skel::{Leading, Node, OrderPair};
 use cp_term::Term;
 use std::alloc::{AllocError, Global};
-
-/// Whether the nodes are the same.
-fn is_same_node(first: Node, second: Node) -> bool
-    ensures { IsTrue result ↔ (node_view first ≡ node_view second) }
-{
-    first.strand == second.strand && first.index == second.index
-}
 
 /// The places of the transmissions that lead to another node, this one.
 pub(crate) fn places_before(
@@ -29,7 +23,7 @@ pub(crate) fn places_before(
     let leading = Leading::new(alloc, pairs, node)?;
     let mut places = Vec::new(alloc);
     for (place, transmission) in transmissions.iter().enumerate() {
-        if leading.has(transmission.node) && !is_same_node(transmission.node, node) {
+        if leading.has(transmission.node) && transmission.node != node {
             places.push(place)?;
         }
     }

@@ -1,7 +1,8 @@
 // The receptions whose messages cannot be derived.
 ghost use Rattle.std.specs.Prelude.{◌≡◌, map, IfOk};
 ghost use Rattle.cp_skel.specs.Ordered.{IsOrdered};
-ghost use Rattle.cp_skel.specs.View.{node_view, skeleton_view};
+ghost use Rattle.cp_model.specs.RunView.{node_view};
+ghost use Rattle.cp_skel.specs.View.{skeleton_view};
 ghost use Rattle.cp_derive.specs.Before.{transmissions_of, given_by};
 ghost use Rattle.cp_derive.specs.Occurrences.{occurrence_view, occurrences_from, transmission_view};
 ghost use Rattle.cp_derive.specs.Unrealised.{ListsUnrealised};
@@ -42,9 +43,9 @@ fn unrealised_among(
     Ok(nodes)
 }
 
-/// The receptions, those of listeners too, whose message cannot be derived there, by strand and then by index. The
-/// pairs of the skeleton have to be between nodes that are there, and its order has to be without a cycle. The error is
-/// that memory ran out.
+/// The receptions, those of listeners too, whose message cannot be derived there, by strand and then by index. Each pair
+/// of the skeleton has to go from a transmission to a reception of another strand, and its order has to be without a
+/// cycle. The error is that memory ran out.
 pub fn unrealised(alloc: Global, k: &Skeleton) -> Result<Vec<Node>, AllocError>
     requires { IsOrdered (skeleton_view k.now) }
     ensures { IfOk result (λ nodes. ListsUnrealised (skeleton_view k.now) (map node_view nodes.items)) }

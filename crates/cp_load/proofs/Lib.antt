@@ -9,7 +9,6 @@ pub mod Origins
 pub mod Gathered
 pub mod RoleNames
 pub mod Standing
-pub mod Occurrences
 pub mod Maplets
 pub mod Mapping
 pub mod Instantiation
@@ -19,5 +18,4 @@ pub mod ItemByItem
 pub mod ProblemParts
 pub mod TopForms
 pub mod UniqueOrigins
-pub mod GivenAtoms
 pub mod OwnParts

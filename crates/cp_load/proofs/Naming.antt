@@ -10,7 +10,8 @@ use Rattle.cp_model.specs.Strand.{Declaration}
 use Rattle.cp_sexpr.specs.Syntax.{Form, symbol, string, number, list, forms_of}
 use Rattle.cp_sexpr.specs.View.{view}
 use Rattle.cp_sexpr.specs.declared.form.Form as program
-use Rattle.cp_language.specs.Words.{same_text, is_one_of, SortWord}
+use Rattle.cp_model.specs.Same.{same_text}
+use Rattle.cp_language.specs.Words.{is_one_of, SortWord}
 use Rattle.cp_language.specs.Faults.{fault, items_of}
 use Rattle.cp_language.specs.Terms.{lacks}
 use Rattle.cp_language.specs.Names.{identifiers_in}

@@ -1,22 +1,20 @@
 -- Tests that are exact, and loops over events.
-use Rattle.std.proofs.Common.{◌≡◌, ℕ, suc, ◌+◌, ◌<◌, ◌≤◌, List, [], ◌∷◌, ◌++◌, length, get_or, drop, map, refl, sym, ap, ◌∙◌, add-one, arith, Bool, true, false, Option, Some, None, if◌then◌else◌}
-use Rattle.std.proofs.lemmas.List.{at_drop_all}
+use Rattle.std.proofs.Common.{◌≡◌, ℕ, suc, ◌+◌, ◌≤◌, List, [], ◌∷◌, ◌++◌, length, get_or, map, refl, sym, ap, ◌∙◌, arith, Bool, true, false, Option, Some, None, if◌then◌else◌}
+use Rattle.std.specs.Prelude.{IfSome, IfNone}
 use Rattle.cp_base.specs.declared.place.Place.{Place}
 use Rattle.cp_base.specs.declared.place.Code.TheVariants.{BadShape}
-use Rattle.cp_model.specs.Term.{Term, AtomTerm, IsCarriedByTerm}
+use Rattle.cp_model.specs.Term.{Term, IsCarriedByTerm}
 use Rattle.cp_model.specs.Strand as strand
-use Rattle.cp_model.specs.Strand.{payload, send, recv, Declaration}
+use Rattle.cp_model.specs.Strand.{payload, send, recv, OriginatesInTerms, Declaration}
 use Rattle.cp_sexpr.specs.Syntax.{Form}
 use Rattle.cp_sexpr.specs.View.{view}
 use Rattle.cp_sexpr.specs.declared.form.Form as program
 use Rattle.cp_language.specs.Faults.{fault, place_of}
-use Rattle.cp_language.specs.Same.{carries, same_atom, origin_in, one_later}
+use Rattle.cp_model.specs.Same.{carries, origin_in, one_later}
 use Rattle.cp_language.specs.Terms.{term_faults}
 use Rattle.cp_language.specs.Roles.{message_faults, event_faults, events_faults, each_faults}
-use Rattle.cp_language.proofs.ValidTests.{carried, is_carried, atom_is, is_atom}
-use Rattle.cp_skel.specs.View.{event_view}
+use Rattle.cp_model.proofs.SameTests.{carried, is_carried, origin_found, finds_origin}
 use Rattle.cp_skel.specs.declared.protocol.Event.{Event}
-use Rattle.cp_forms.proofs.Items.{item-drop}
 
 exact : (r t : Bool) (P : Type 0) → (r ≡ true → P) → (P → r ≡ true) → (t ≡ true → P) → (P → t ≡ true) → r ≡ t
 exact true true P f g h i = refl
@@ -27,8 +25,13 @@ exact false false P f g h i = refl
 pub exact-carries : (r : Bool) (whole part : Term) → (r ≡ true → IsCarriedByTerm part whole) → (IsCarriedByTerm part whole → r ≡ true) → r ≡ carries whole part
 exact-carries r whole part f g = exact r (carries whole part) (IsCarriedByTerm part whole) f g (carried whole part) (is_carried part whole)
 
-pub exact-atom : (r : Bool) (a b : AtomTerm) → (r ≡ true → a ≡ b) → (a ≡ b → r ≡ true) → r ≡ same_atom a b
-exact-atom r a b f g = exact r (same_atom a b) (a ≡ b) f g (atom_is a b) (is_atom a b)
+nowhere : (es : List (strand.Event Term)) (v : Term) (o : Option ℕ) → origin_in es v ≡ o → ((i : ℕ) → OriginatesInTerms es v i → ⊥) → None ≡ o
+nowhere es v None e none = refl
+nowhere es v (Some i) e none = absurd (none i (origin_found es v i e))
+
+pub exact-origin : (es : List (strand.Event Term)) (v : Term) (o : Option ℕ) → IfSome o (λ i. OriginatesInTerms es v i) → IfNone o ((i : ℕ) → OriginatesInTerms es v i → ⊥) → o ≡ origin_in es v
+exact-origin es v (Some i) at none = sym (finds_origin es v i at)
+exact-origin es v None at none = nowhere es v (origin_in es v) refl none
 
 -- ---- origins
 
@@ -72,17 +75,6 @@ origin_plus v n (recv m ∷ es) =
 
 pub origin-first : (v : Term) (es : List (strand.Event Term)) → origin_in es v ≡ origin_from v 0 es
 origin-first v es = plus_zero (origin_in es v) ∙ sym (origin_plus v 0 es)
-
-module _ (v : Term) (es : List Event) (i : ℕ) where
-  pub origin-at : (e : Event) (b : Bool) → i < length es → e ≡ get_or es i e → b ≡ carries (payload (event_view e)) v
-      → origin_from v i (map event_view (drop i es)) ≡ (if b then place_if_sent (event_view e) i else origin_from v (i + 1) (map event_view (drop (i + 1) es)))
-  origin-at e b lt is f =
-      ap (λ us. origin_from v i (map event_view us)) (item-drop es i e lt is)
-      ∙ ap (λ c. if c then place_if_sent (event_view e) i else origin_from v (suc i) (map event_view (drop (i + 1) es))) (sym f)
-      ∙ ap (λ k. if b then place_if_sent (event_view e) i else origin_from v k (map event_view (drop (i + 1) es))) (sym (add-one i))
-
-  pub origin-end : length es ≤ i → origin_from v i (map event_view (drop i es)) ≡ None
-  origin-end le = at_drop_all (λ us. origin_from v i (map event_view us)) es i le
 
 -- ---- events
 

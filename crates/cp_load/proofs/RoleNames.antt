@@ -10,7 +10,8 @@ use Rattle.cp_model.specs.Strand.{Event, Declaration, Role}
 use Rattle.cp_sexpr.specs.Syntax.{Form, symbol, string, number, list}
 use Rattle.cp_sexpr.specs.View.{view}
 use Rattle.cp_sexpr.specs.declared.form.Form as program
-use Rattle.cp_language.specs.Words.{same_text, is_one_of, ItemHead, role_item, non_item, penetrator_non_item, unique_item, strand_item, listener_item, precedes_item, comment_item, item_out_of_profile, no_item, item_head}
+use Rattle.cp_model.specs.Same.{same_text}
+use Rattle.cp_language.specs.Words.{is_one_of, ItemHead, role_item, non_item, penetrator_non_item, unique_item, strand_item, listener_item, precedes_item, comment_item, item_out_of_profile, no_item, item_head}
 use Rattle.cp_language.specs.Faults.{fault, place_of}
 use Rattle.cp_language.specs.Roles.{Headed, headed, name_faults_at, vars_faults, declarations_of, trace_faults, events_of, each_faults, item_faults, headed_item_faults, role_item_faults, role_faults, role_of, is_role_item, protocol_item_faults, role_name_onto, roles_faults, roles_in, item_or_none, items_behind}
 use Rattle.cp_forms.specs.FirstFault.{first_onto}

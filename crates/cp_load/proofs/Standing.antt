@@ -9,7 +9,7 @@ use Rattle.cp_model.specs.Strand.{Protocol}
 use Rattle.cp_sexpr.specs.Syntax.{Form}
 use Rattle.cp_sexpr.specs.View.{view}
 use Rattle.cp_sexpr.specs.declared.form.Form as program
-use Rattle.cp_language.specs.Words.{same_text}
+use Rattle.cp_model.specs.Same.{same_text}
 use Rattle.cp_language.specs.Faults.{fault}
 use Rattle.cp_language.specs.Roles.{name_faults_at, algebra_faults, roles_faults, protocol_faults}
 use Rattle.cp_language.specs.Problems.{protocol_named}

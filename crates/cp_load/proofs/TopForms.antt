@@ -9,7 +9,8 @@ use Rattle.cp_model.specs.Strand.{Protocol}
 use Rattle.cp_sexpr.specs.Syntax.{Form}
 use Rattle.cp_sexpr.specs.View.{view, views}
 use Rattle.cp_sexpr.specs.declared.form.Form as program
-use Rattle.cp_language.specs.Words.{same_text, is_one_of, TopHead, protocol_form, problem_form, free_form, top_out_of_profile, no_top, top_head}
+use Rattle.cp_model.specs.Same.{same_text}
+use Rattle.cp_language.specs.Words.{is_one_of, TopHead, protocol_form, problem_form, free_form, top_out_of_profile, no_top, top_head}
 use Rattle.cp_language.specs.Faults.{fault, place_of}
 use Rattle.cp_language.specs.Roles.{Headed, headed, algebra_faults, roles_faults, protocol_faults, protocol_of}
 use Rattle.cp_language.specs.Problems.{Problem}

@@ -3,14 +3,16 @@ use Rattle.std.proofs.Common.{◌≡◌, ℕ, suc, ◌+◌, ◌<◌, ◌≤◌, 
 use Rattle.std.proofs.lemmas.List.{at_drop_all}
 use Rattle.cp_model.specs.Term.{Term, AtomTerm, atom_term}
 use Rattle.cp_model.specs.Strand as strand
-use Rattle.cp_model.specs.Strand.{payload, send, recv, event_map, Role}
+use Rattle.cp_model.specs.Strand.{payload, send, recv, event_map}
 use Rattle.cp_model.specs.Skeleton.{SkeletonStrand, instance, listener, skeleton_trace, UniqueAt}
-use Rattle.cp_language.specs.Same.{carries, origin_in}
+use Rattle.cp_model.specs.Same.{carries, origin_in}
 use Rattle.cp_language.specs.Roles.{is_somewhere}
-use Rattle.cp_language.specs.Problems.{origins_on, origins_from, is_not_empty, own_uniques, has_unique, uniques_onto}
+use Rattle.cp_model.specs.Given.{uniques_onto}
+use Rattle.cp_language.specs.Problems.{origins_on, origins_from, is_not_empty, own_uniques}
 use Rattle.cp_skel.specs.View.{event_view}
 use Rattle.cp_skel.specs.declared.protocol.Event.{Event}
 use Rattle.cp_load.specs.Originations.{origin_on, originates, unique_at}
+use Rattle.cp_skel.proofs.EachOnce.{uniques, onto-append}
 use Rattle.cp_forms.proofs.Items.{item-drop}
 use Rattle.cp_load.proofs.Origins.{place_if_sent, origin_from, origin-first}
 
@@ -54,10 +56,6 @@ origins-on (instance role height terms) s v = by_origin (origin_in (skeleton_tra
     by_origin None e = rw e refl
     by_origin (Some i) e = rw e refl
 
-pub uniques_onto-append : (before xs ys : List UniqueAt) → uniques_onto before (xs ++ ys) ≡ uniques_onto (uniques_onto before xs) ys
-uniques_onto-append before [] ys = refl
-uniques_onto-append before (x ∷ xs) ys = uniques_onto-append (if has_unique before x then before else before ++ x ∷ []) xs ys
-
 somewhere : (v : AtomTerm) (s : ℕ) (o : Option ℕ) (rest : List UniqueAt) (b : Bool) → is_not_empty rest ≡ b → is_not_empty (unique_at v s o ++ rest) ≡ (if is_somewhere o then true else b)
 somewhere v s None rest b e = e
 somewhere v s (Some i) rest b e = refl
@@ -79,5 +77,5 @@ module _ (ks : List SkeletonStrand) (vs : List AtomTerm) (n : ℕ) (us ws all : 
       → uniques_onto us (own_uniques ks (drop n vs)) ≡ all → uniques_onto ws (own_uniques ks (drop (n + 1) vs)) ≡ all
   own-taken v lt is g h =
       let rest = drop (n + 1) vs in
-      ap (λ xs. uniques_onto xs (own_uniques ks rest)) g ∙ sym (uniques_onto-append us (origins_from 0 ks v) (own_uniques ks rest))
+      ap (λ xs. uniques_onto xs (own_uniques ks rest)) g ∙ sym (onto-append uniques us (origins_from 0 ks v) (own_uniques ks rest))
       ∙ sym (ap (λ ls. uniques_onto us (own_uniques ks ls)) (item-drop vs n v lt is)) ∙ h

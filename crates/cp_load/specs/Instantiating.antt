@@ -4,7 +4,7 @@ use Rattle.cp_model.specs.Term.{Variable, Term, tag_term}
 use Rattle.cp_model.specs.Strand.{Declaration}
 use Rattle.cp_sexpr.specs.Syntax.{Form}
 use Rattle.cp_language.specs.Words.{is_one_of}
-use Rattle.cp_language.specs.Same.{has_variable}
+use Rattle.cp_model.specs.Same.{has_variable}
 use Rattle.cp_language.specs.Terms.{term_of}
 use Rattle.cp_language.specs.Problems.{mapped_identifier, is_known, Instantiated}
 

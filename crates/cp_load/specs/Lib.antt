@@ -12,4 +12,3 @@ pub mod Directions
 pub mod Inputs
 pub mod Stages
 pub mod Originations
-pub mod GivenAssumptions

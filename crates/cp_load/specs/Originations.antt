@@ -3,7 +3,7 @@ use Rattle.std.specs.Prelude.{◌||◌, ℕ, List, [], ◌∷◌, Bool, false, O
 use Rattle.cp_model.specs.Term.{AtomTerm, Term, atom_term}
 use Rattle.cp_model.specs.Bundle.{node_at}
 use Rattle.cp_model.specs.Skeleton.{SkeletonStrand, instance, listener, skeleton_trace, UniqueAt}
-use Rattle.cp_language.specs.Same.{origin_in}
+use Rattle.cp_model.specs.Same.{origin_in}
 use Rattle.cp_language.specs.Roles.{is_somewhere}
 
 -- The place of a strand at which a value originates; on a listener none does.

@@ -11,11 +11,11 @@ ghost use Rattle.cp_load.specs.Named.{shared_roles_view};
 ghost use Rattle.cp_load.specs.Making.{instance_made, IsMade, IsMadeIf, AreMade};
 
 use crate::instances::instantiated;
-use crate::strands::{number_of, prefix_of, role_named};
+use crate::strands::{number_of, role_named};
 use crate::terms::{no_term, term_of};
 use cp_forms::{ItemHead, first_items, headed, item_head, symbol_or_empty};
 use cp_sexpr::Form;
-use cp_skel::{Declaration, Instance, Role, Strand};
+use cp_skel::{Declaration, Instance, Role, Strand, prefix_of};
 use std::alloc::{AllocError, Global};
 use std::rc::Rc;
 

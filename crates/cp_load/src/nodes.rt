@@ -4,16 +4,16 @@ ghost use Rattle.cp_model.specs.Lists.{item_at};
 ghost use Rattle.cp_model.specs.Skeleton.{skeleton_trace, term_event_at};
 ghost use Rattle.cp_sexpr.specs.View.{view};
 ghost use Rattle.cp_language.specs.Problems.{node_of, range_faults, two_number_faults, node_faults};
-ghost use Rattle.cp_skel.specs.View.{event_view, strand_view, node_view};
+ghost use Rattle.cp_model.specs.RunView.{node_view};
+ghost use Rattle.cp_skel.specs.View.{event_view, strand_view};
 ghost use Rattle.cp_forms.specs.FirstFault.{first_onto};
 ghost use Rattle.cp_load.specs.Directions.{direction_of, number_in, number_faults_if};
 
 use crate::faults::lacks;
-use crate::strands::prefix_of;
 use cp_base::{Code, Place};
 use cp_forms::{FirstFault, item_at, list_items, place_of};
 use cp_sexpr::Form;
-use cp_skel::{Event, Node, Strand};
+use cp_skel::{Event, Node, Strand, prefix_of};
 
 /// The direction of an event.
 #[derive(Clone, Copy, Debug, PartialEq, Eq)]

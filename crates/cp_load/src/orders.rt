@@ -3,7 +3,8 @@ ghost use Rattle.std.specs.Prelude.{◌≡◌, ◌++◌, map, option_map, IfOk, 
 ghost use Rattle.cp_sexpr.specs.View.{view};
 ghost use Rattle.cp_language.specs.Roles.{unless_faulty};
 ghost use Rattle.cp_language.specs.Problems.{node_of, node_faults, pair_of_nodes, closes_cycle, order_faults, pair_items_faults, pair_faults, pairs_in, pairs_faults};
-ghost use Rattle.cp_skel.specs.View.{node_view, strand_view, pair_view};
+ghost use Rattle.cp_model.specs.RunView.{node_view};
+ghost use Rattle.cp_skel.specs.View.{strand_view, pair_view};
 ghost use Rattle.cp_forms.specs.FirstFault.{first_onto};
 
 use crate::faults::exceeds;

@@ -1,15 +1,14 @@
 // Where unique values originate on the strands of problems.
 ghost use Rattle.std.specs.Prelude.{◌≡◌, map, IfOk, OnOk};
 ghost use Rattle.cp_model.specs.Skeleton.{skeleton_trace};
-ghost use Rattle.cp_language.specs.Problems.{origins_from, own_uniques, uniques_onto};
-ghost use Rattle.cp_language.specs.Same.{origin_in};
+ghost use Rattle.cp_model.specs.Given.{uniques_onto};
+ghost use Rattle.cp_language.specs.Problems.{origins_from, own_uniques};
+ghost use Rattle.cp_model.specs.Same.{origin_in};
 ghost use Rattle.cp_skel.specs.View.{instance_view, strand_view, unique_view};
 ghost use Rattle.cp_load.specs.Originations.{origin_on, originates, unique_at};
 
-use crate::once::add_unique;
 use crate::same::carries;
-use crate::strands::prefix_of;
-use cp_skel::{Atom, Event, Instance, Node, Strand, UniqueAt, applied};
+use cp_skel::{Atom, Event, Instance, Node, Strand, UniqueAt, add_unique, applied, prefix_of};
 use cp_term::Term;
 use std::alloc::{AllocError, Global};
 

@@ -3,7 +3,8 @@ ghost use Rattle.std.specs.Prelude.{◌≡◌, ◌++◌, map, option_map, OnOk};
 ghost use Rattle.std.specs.Option.{option_to_list};
 ghost use Rattle.cp_sexpr.specs.View.{view};
 ghost use Rattle.cp_language.specs.Problems.{option_node, on_one_strand, pair_of, pairs_in, is_transmission, is_reception, direction_faults};
-ghost use Rattle.cp_skel.specs.View.{node_view, pair_view, strand_view};
+ghost use Rattle.cp_model.specs.RunView.{node_view};
+ghost use Rattle.cp_skel.specs.View.{pair_view, strand_view};
 ghost use Rattle.cp_model.specs.Skeleton.{term_event_at};
 ghost use Rattle.cp_forms.specs.FirstFault.{first_onto};
 

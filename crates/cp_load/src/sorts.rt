@@ -2,7 +2,7 @@
 ghost use Rattle.std.specs.Prelude.{◌≡◌, ◌≢◌, ◌||◌, map, option_map, None};
 ghost use Rattle.cp_model.specs.Term.{skey_sort, akey_sort};
 ghost use Rattle.cp_sexpr.specs.View.{view};
-ghost use Rattle.cp_language.specs.Same.{same_sort};
+ghost use Rattle.cp_model.specs.Same.{same_sort};
 ghost use Rattle.cp_language.specs.Roles.{headed};
 ghost use Rattle.cp_language.specs.Terms.{variable_named, sort_of, is_sort, is_atom};
 ghost use Rattle.cp_skel.specs.View.{sort_view, declaration_view};

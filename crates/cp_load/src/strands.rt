@@ -1,10 +1,9 @@
 // The faults of the strands of problems.
 ghost use Rattle.std.specs.Prelude.{◌≡◌, ◌&&◌, nat_lt, nat_le, length, [], map, option_map};
-ghost use Rattle.cp_model.specs.Strand.{prefix_of};
 ghost use Rattle.cp_sexpr.specs.View.{view};
 ghost use Rattle.cp_language.specs.Words.{is_one_of};
 ghost use Rattle.cp_language.specs.Problems.{role_named, role_name_faults, height_faults, role_variable_faults, mapped_faults, maplet_items_faults, maplet_faults, second_term_faults, maplets_faults, maplets_faults_of, instance_faults, listener_faults, number_of};
-ghost use Rattle.cp_skel.specs.View.{declaration_view, event_view, role_view};
+ghost use Rattle.cp_skel.specs.View.{declaration_view, role_view};
 ghost use Rattle.cp_forms.specs.FirstFault.{first_onto};
 ghost use Rattle.cp_load.specs.Named.{shared_roles_view};
 ghost use Rattle.cp_load.specs.Terms.{variable_view};
@@ -16,7 +15,7 @@ use crate::sorts::{Variable, variable_named};
 use cp_base::{Code, Place};
 use cp_forms::{FirstFault, first_items, is_word, item_at, list_items, place_of, symbol_or_empty};
 use cp_sexpr::Form;
-use cp_skel::{Declaration, Event, Role};
+use cp_skel::{Declaration, Role, prefix_of};
 use std::rc::Rc;
 
 /// The first role of this name.
@@ -65,18 +64,6 @@ fn height_faults(role: Option<&Rc<Role>>, form: &Form, first: &mut FirstFault)
     if let Some(role) = role {
         first.note_unless(is_height(role, *height), *place, Code::BadHeight);
     }
-}
-
-/// The first events of a role, as many as the height says.
-pub(crate) fn prefix_of(role: &Role, height: usize) -> &[Event]
-    ensures { map event_view result.now ≡ prefix_of (role_view role.now) height }
-{
-    let events = role.trace.as_slice();
-    if events.len() < height {
-        return events;
-    }
-    let (prefix, _) = events.split_at(height);
-    prefix
 }
 
 /// The faults of the variable on the left of a maplet, which stands at this place, to this term.

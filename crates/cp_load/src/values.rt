@@ -2,7 +2,8 @@
 ghost use Rattle.std.specs.Prelude.{◌≡◌, [], map, IfOk, OnOk};
 ghost use Rattle.cp_model.specs.Problem.{numbers_from, variable_terms};
 ghost use Rattle.cp_sexpr.specs.View.{view};
-ghost use Rattle.cp_language.specs.Problems.{unique_faults, atoms_onto, uniques_onto, own_uniques, own_assumptions, is_precedes_item, pairs_in, own_skeleton};
+ghost use Rattle.cp_model.specs.Given.{atoms_onto, uniques_onto};
+ghost use Rattle.cp_language.specs.Problems.{unique_faults, own_uniques, own_assumptions, is_precedes_item, pairs_in, own_skeleton};
 ghost use Rattle.cp_language.specs.Roles.{headed, item_or_none, atoms_in, forms_under, is_unique_item};
 ghost use Rattle.cp_skel.specs.View.{declaration_view, pair_view, strand_view, unique_view, assumptions_view, skeleton_view};
 ghost use Rattle.cp_skel.specs.Trees.{variables_view};
@@ -11,8 +12,6 @@ ghost use Rattle.cp_load.specs.Kinds.{is_of_kind};
 
 use crate::assumptions::{Kind, atom_of, atoms_of};
 use crate::faults::atom_faults;
-use crate::giving::add_given;
-use crate::once::add_atoms;
 use crate::originating::{add_own_uniques, originates};
 use crate::pairs::add_pairs;
 use crate::sorts::Variable;
@@ -22,6 +21,7 @@ use cp_forms::{FirstFault, ItemHead, headed, item_head, items_behind, place_of};
 use cp_sexpr::Form;
 use cp_skel::{
     Assumptions, Atom, Declaration, FromProblem, Order, OrderPair, Skeleton, Strand, UniqueAt,
+    add_atoms, add_given,
 };
 use cp_term::{Term, VarTable};
 use std::alloc::{AllocError, Global};

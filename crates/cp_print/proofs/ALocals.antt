@@ -2,7 +2,7 @@
 use Rattle.std.proofs.Common.{◌≡◌, ℕ, ◌+◌, ◌<◌, ◌≤◌, List, [], ◌∷◌, ◌++◌, length, get_or, drop, map, true, false, sym, ap, ◌∙◌}
 use Rattle.std.proofs.lemmas.List.{append-nil, drop_all, drop_more, map_push}
 use Rattle.cp_model.specs.Term as model
-use Rattle.cp_language.specs.Same.{has_variable}
+use Rattle.cp_model.specs.Same.{has_variable}
 use Rattle.cp_language.specs.Printed.{locals_in_order}
 use Rattle.cp_print.specs.declared.naming.Variable.{Variable}
 use Rattle.cp_print.specs.Named.{variable_view}

@@ -8,7 +8,7 @@ use Rattle.cp_sexpr.specs.Syntax.{Form}
 use Rattle.cp_language.specs.Names.{free_name, behind, has_number, later_names, label_names, sort_text}
 use Rattle.cp_language.specs.Printed.{variable, word, plain_list, atom_form}
 use Rattle.cp_language.specs.Report.{name_or_none, vars_from, maplets_from}
-use Rattle.cp_language.specs.Same.{has_variable}
+use Rattle.cp_model.specs.Same.{has_variable}
 use Rattle.cp_print.specs.Marks.{AreMarksOf, AreMarksAmong, later_names_by, label_names_by, vars_by, maplets_by}
 
 pub branch : {A : Type 0} (b c : Bool) (p q r s : A) → b ≡ c → p ≡ r → q ≡ s → (if b then p else q) ≡ (if c then r else s)

@@ -5,7 +5,7 @@ use Rattle.std.proofs.lemmas.Bool.Decides.{eqb_tells}
 use Rattle.cp_model.specs.Lists.{item_at}
 use Rattle.cp_model.specs.Term.{Variable}
 use Rattle.cp_model.specs.Strand.{Declaration}
-use Rattle.cp_language.specs.Same.{same_sort, has_variable}
+use Rattle.cp_model.specs.Same.{same_sort, has_variable}
 use Rattle.cp_language.specs.Printed.{variable}
 use Rattle.cp_print.specs.Marks.{is_of_sort, met_variable, met_variables, AreMarksAmong}
 use Rattle.std.proofs.lemmas.List.{length-replicate, get_or-replicate}

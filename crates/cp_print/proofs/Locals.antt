@@ -2,7 +2,7 @@
 use Rattle.std.proofs.Common.{◌≡◌, ℕ, ◌==◌, ◌&&◌, ◌||◌, List, [], ◌∷◌, ◌++◌, Bool, true, false, refl, sym, ap, ap₂, ◌∙◌, inl, inr, if◌then◌else◌}
 use Rattle.std.proofs.lemmas.Bool.Decides.{eqb_tells}
 use Rattle.cp_model.specs.Term.{Sort, text_sort, datum_sort, name_sort, skey_sort, akey_sort, Variable}
-use Rattle.cp_language.specs.Same.{same_sort, has_variable}
+use Rattle.cp_model.specs.Same.{same_sort, has_variable}
 use Rattle.cp_language.specs.Printed.{without, locals_in_order}
 use Rattle.cp_print.proofs.ByMarks.{branch}
 

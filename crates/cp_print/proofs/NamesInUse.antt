@@ -8,7 +8,8 @@ use Rattle.std.specs.List.{list_any}
 use Rattle.std.specs.Set.{KeepsOthers}
 use Rattle.std.specs.Map.{IsKeyTest, AreApart}
 use Rattle.std.specs.Str.{bytes_eq}
-use Rattle.cp_language.specs.Words.{same_text, is_one_of}
+use Rattle.cp_model.specs.Same.{same_text}
+use Rattle.cp_language.specs.Words.{is_one_of}
 use Rattle.cp_print.specs.Sets.{IsSetOf}
 
 same_text-is : (xs ys : List ℕ) → same_text xs ys ≡ bytes_eq xs ys

@@ -3,7 +3,7 @@ use Rattle.std.specs.Prelude.{◌≡◌, ℕ, ◌+◌, ◌++◌, ◌<◌, List, 
 use Rattle.cp_model.specs.Lists.{item_at}
 use Rattle.cp_model.specs.Term.{Sort, Variable, atom_of_variable, Substitution, apply_to_atom}
 use Rattle.cp_model.specs.Strand.{Declaration}
-use Rattle.cp_language.specs.Same.{same_sort, has_variable}
+use Rattle.cp_model.specs.Same.{same_sort, has_variable}
 use Rattle.cp_language.specs.Names.{free_name, behind, has_number, sort_text}
 use Rattle.cp_language.specs.Printed.{variable, word, plain_list, atom_form}
 use Rattle.cp_language.specs.Report.{name_or_none}

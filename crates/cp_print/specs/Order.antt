@@ -5,7 +5,7 @@ use Rattle.cp_model.specs.Skeleton.{OrderPair}
 use Rattle.cp_sexpr.specs.Syntax.{Form}
 use Rattle.cp_language.specs.Printed.{plain_list}
 use Rattle.cp_language.specs.Report.{node_form, is_before}
-use Rattle.cp_skel.specs.View.{node_view}
+use Rattle.cp_model.specs.RunView.{node_view}
 use Rattle.cp_print.specs.declared.order.Ordered.{Ordered}
 
 -- So many nodes of a strand, the first having index i.

@@ -1,7 +1,7 @@
 -- Terms of a sort.
 use Rattle.std.specs.Prelude.{Bool, false}
 use Rattle.cp_model.specs.Term.{Sort, text_sort, datum_sort, name_sort, skey_sort, akey_sort, AtomTerm, text_variable, datum_variable, name_variable, key_term, symmetric_term, asymmetric_term, Term, tag_term, atom_term, pair_term, enc_term}
-use Rattle.cp_language.specs.Same.{same_sort}
+use Rattle.cp_model.specs.Same.{same_sort}
 
 abbrev pub sort_of_atom : AtomTerm → Sort
 sort_of_atom (text_variable n) = text_sort

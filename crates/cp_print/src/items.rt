@@ -3,7 +3,7 @@ ghost use Rattle.std.specs.Prelude.{◌≡◌, ◌++◌, [], ◌∷◌, map, opt
 ghost use Rattle.cp_language.specs.Printed.{word, numeral};
 ghost use Rattle.cp_language.specs.Report.{item_unless_empty, node_form, parent_items, operation_words, mark_words, mark_items, outcome_words};
 ghost use Rattle.cp_sexpr.specs.View.{view};
-ghost use Rattle.cp_skel.specs.View.{node_view};
+ghost use Rattle.cp_model.specs.RunView.{node_view};
 ghost use Rattle.cp_skel.specs.Trees.{operation_view, mark_view, outcome_view};
 
 use crate::making::{headed_list, numeral, one, plain_list, two, word};

@@ -4,7 +4,8 @@ ghost use Rattle.cp_language.specs.Printed.{headed_list, numeral, atom_form, pat
 ghost use Rattle.cp_language.specs.Report.{named_by, variables_of_test, occurring, item_unless_empty, parent_items, operation_words, strand_form, covering_pairs, unique_form, map_form, node_form, test_items, mark_items, label_form};
 ghost use Rattle.cp_sexpr.specs.View.{view};
 ghost use Rattle.cp_skel.specs.Trees.{operation_view, mark_view, test_view, label_view};
-ghost use Rattle.cp_skel.specs.View.{node_view, strand_view, unique_view, skeleton_view};
+ghost use Rattle.cp_model.specs.RunView.{node_view};
+ghost use Rattle.cp_skel.specs.View.{strand_view, unique_view, skeleton_view};
 ghost use Rattle.cp_term.specs.Patterns.{pattern_of};
 ghost use Rattle.cp_print.specs.Named.{variable_view, named_in};
 

@@ -3,7 +3,7 @@ ghost use Rattle.std.specs.Prelude.{◌≡◌, map, IfOk};
 ghost use Rattle.cp_language.specs.Names.{sort_text};
 ghost use Rattle.cp_language.specs.Printed.{variable, place_among};
 ghost use Rattle.cp_language.specs.Report.{name_or_none};
-ghost use Rattle.cp_language.specs.Same.{same_sort};
+ghost use Rattle.cp_model.specs.Same.{same_sort};
 ghost use Rattle.cp_model.specs.Lists.{item_at};
 ghost use Rattle.cp_sexpr.specs.View.{view};
 ghost use Rattle.cp_skel.specs.View.{sort_view};

@@ -2,11 +2,12 @@
 ghost use Rattle.std.specs.Prelude.{◌≡◌, ◌++◌, ◌&&◌, [], map, length, get_or, false, not, IfOk, OnOk};
 ghost use Rattle.cp_language.specs.Problems.{reaches};
 ghost use Rattle.cp_language.specs.Report.{nodes_from, covering_pairs};
-ghost use Rattle.cp_language.specs.Same.{same_node};
+ghost use Rattle.cp_model.specs.Same.{same_node};
 ghost use Rattle.cp_model.specs.Skeleton.{skeleton_trace};
 ghost use Rattle.cp_sexpr.specs.View.{view};
 ghost use Rattle.cp_print.specs.Order.{nodes_counted, ordered_view, marks_before, in_order, any_between, covers, covered, all_covered, is_on_pair, is_on_pairs, nodes_on_pairs};
-ghost use Rattle.cp_skel.specs.View.{node_view, pair_view, strand_view, skeleton_view};
+ghost use Rattle.cp_model.specs.RunView.{node_view};
+ghost use Rattle.cp_skel.specs.View.{pair_view, strand_view, skeleton_view};
 
 use crate::items::node_form;
 use crate::making::{plain_list, two};
@@ -22,12 +23,6 @@ struct Ordered {
     before: Vec<bool>,
 }
 
-fn is_same_node(x: Node, y: Node) -> bool
-    ensures { result ≡ same_node (node_view x) (node_view y) }
-{
-    x.strand == y.strand && x.index == y.index
-}
-
 /// Whether a node leads to the one that is asked about.
 fn leads(leading: &Leading, x: Node) -> bool
     ensures { result ≡ reaches (length leading.now.pairs) leading.now.pairs (node_view x) leading.now.node }
@@ -39,7 +34,7 @@ fn leads(leading: &Leading, x: Node) -> bool
 fn is_before(leading: &Leading, x: Node, y: Node) -> bool
     ensures { result ≡ (not (same_node (node_view x) (node_view y)) && reaches (length leading.now.pairs) leading.now.pairs (node_view x) leading.now.node) }
 {
-    !is_same_node(x, y) && leads(leading, x)
+    x != y && leads(leading, x)
 }
 
 /// For each of these nodes whether it is before y.

@@ -3,7 +3,7 @@ ghost use Rattle.std.specs.Prelude.{◌≡◌, ◌++◌, [], map, option_map, If
 ghost use Rattle.cp_model.specs.Term.{variables_of};
 ghost use Rattle.cp_language.specs.Printed.{variable, locals_in_order, pattern_form};
 ghost use Rattle.cp_language.specs.Report.{named_by, variables_but, variables_of_patterns};
-ghost use Rattle.cp_language.specs.Same.{has_variable};
+ghost use Rattle.cp_model.specs.Same.{has_variable};
 ghost use Rattle.cp_sexpr.specs.View.{view};
 ghost use Rattle.cp_skel.specs.View.{sort_view};
 ghost use Rattle.cp_term.specs.Patterns.{variable_numbered, variables_numbered, pattern_of};

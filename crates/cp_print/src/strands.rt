@@ -5,7 +5,7 @@ ghost use Rattle.cp_model.specs.Term.{atom_of_variable, apply_to_atom};
 ghost use Rattle.cp_language.specs.Names.{sort_text};
 ghost use Rattle.cp_language.specs.Printed.{variable, word, plain_list, atom_form};
 ghost use Rattle.cp_language.specs.Report.{strand_form};
-ghost use Rattle.cp_language.specs.Same.{same_sort};
+ghost use Rattle.cp_model.specs.Same.{same_sort};
 ghost use Rattle.cp_sexpr.specs.View.{view};
 ghost use Rattle.cp_skel.specs.View.{sort_view, declaration_view, role_view, strand_view, instance_view};
 ghost use Rattle.cp_print.specs.Marks.{AreMarksAmong, vars_by, maplets_by};

@@ -9,8 +9,8 @@ use Rattle.cp_model.specs.Derivable.{AllDerivable, IsUnrealised}
 use Rattle.cp_model.specs.Problem.{IsOwnProblem}
 use Rattle.cp_model.specs.Tree.{Mark, shape, dead, limit_steps, limit_strands, Outcome, complete, at_step_limit, at_strand_limit, Tree, Limits, IsTrueOf}
 use Rattle.cp_completeness.specs.Normal.{with_pairs}
-use Rattle.cp_skel.specs.View.{node_view}
-use Rattle.cp_skel.specs.declared.skeleton.Node.{Node as Plain}
+use Rattle.cp_model.specs.RunView.{node_view}
+use Rattle.cp_model.specs.declared.strand.Node.{Node as Plain}
 use Rattle.cp_skel.specs.Ordered.{IsOrdered}
 use Rattle.cp_derive.specs.Unrealised.{IsUnrealisedAt, ListsUnrealised}
 use Rattle.cp_normal.specs.Normalising.{AreNormalPairs, IsContradictory}

@@ -1,7 +1,8 @@
 // What can be derived in skeletons around the Needham-Schroeder initiator of height 3, worked out by hand.
 ghost use Rattle.std.specs.Prelude.{◌≡◌, option_map, IfOk, IsTrue};
 ghost use Rattle.cp_model.specs.Skeleton.{IsNodeOf, term_event_at};
-ghost use Rattle.cp_skel.specs.View.{event_view, node_view, skeleton_view};
+ghost use Rattle.cp_model.specs.RunView.{node_view};
+ghost use Rattle.cp_skel.specs.View.{event_view, skeleton_view};
 ghost use Rattle.cp_term.specs.Keys.{IsName};
 ghost use Rattle.cp_skel.specs.Ordered.{IsOrdered};
 

@@ -2,7 +2,8 @@ use Rattle.std.proofs.Common.{◌≡◌, map, ap, subst, ◌∙◌}
 use Rattle.std.specs.Prelude.{◌↔◌}
 use Rattle.cp_model.specs.Derivable.{DerivableAt}
 use Rattle.cp_model.specs.Term.{Term}
-use Rattle.cp_skel.specs.View.{node_view, skeleton_view}
+use Rattle.cp_model.specs.RunView.{node_view}
+use Rattle.cp_skel.specs.View.{skeleton_view}
 use Rattle.cp_derive.specs.Before.{ArePlacesBefore, transmissions_of, given_by}
 use Rattle.cp_derive.specs.Given.{Given, IsDerivable}
 use Rattle.cp_derive.specs.Occurrences.{Transmission, transmission_view}

@@ -1,5 +1,6 @@
 use Rattle.std.proofs.Common.{map, refl, ap, subst}
-use Rattle.cp_skel.specs.View.{node_view, skeleton_view}
+use Rattle.cp_model.specs.RunView.{node_view}
+use Rattle.cp_skel.specs.View.{skeleton_view}
 use Rattle.cp_derive.specs.Before.{ArePlacesBefore}
 use Rattle.cp_derive.specs.Given.{Given}
 use Rattle.cp_derive.specs.Occurrences.{transmission_view}

@@ -1,6 +1,7 @@
 use Rattle.std.proofs.Common.{◌≡◌, ◌++◌, List, map, drop}
 use Rattle.cp_model.specs.Bundle.{Node}
-use Rattle.cp_skel.specs.View.{node_view, skeleton_view}
+use Rattle.cp_model.specs.RunView.{node_view}
+use Rattle.cp_skel.specs.View.{skeleton_view}
 use Rattle.cp_derive.specs.Before.{given_by}
 use Rattle.cp_derive.specs.Occurrences.{occurrence_view}
 use Rattle.cp_derive.proofs.Picking.{Picks}

@@ -2,7 +2,7 @@ use Rattle.std.proofs.Common.{◌≡◌, map, ap, ◌∙◌}
 use Rattle.cp_base.specs.declared.place.Code.TheVariants.{RoleUniqNoOrigin}
 use Rattle.cp_sexpr.specs.View.{view}
 use Rattle.cp_language.specs.Faults.{fault_unless, place_of}
-use Rattle.cp_language.specs.Same.{origin_in}
+use Rattle.cp_model.specs.Same.{origin_in}
 use Rattle.cp_language.specs.Terms.{atom_faults, term_of}
 use Rattle.cp_language.specs.Roles.{is_somewhere}
 use Rattle.cp_skel.specs.View.{declaration_view, event_view}

@@ -1,5 +1,6 @@
 use Rattle.std.proofs.Common.{map, option_map}
-use Rattle.cp_skel.specs.View.{strand_view, node_view}
+use Rattle.cp_model.specs.RunView.{node_view}
+use Rattle.cp_skel.specs.View.{strand_view}
 use Rattle.cp_load.proofs.NodeFaults.{node-read}
 use Rattle.cp_load.proofs.nodes.node_faults.Goals as goal
 

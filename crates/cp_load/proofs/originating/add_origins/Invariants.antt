@@ -1,5 +1,6 @@
 use Rattle.std.proofs.Common.{◌≡◌, map, drop}
-use Rattle.cp_language.specs.Problems.{origins_from, uniques_onto}
+use Rattle.cp_model.specs.Given.{uniques_onto}
+use Rattle.cp_language.specs.Problems.{origins_from}
 use Rattle.cp_skel.specs.View.{strand_view, unique_view}
 use Rattle.cp_load.proofs.originating.add_origins.Given as goal
 

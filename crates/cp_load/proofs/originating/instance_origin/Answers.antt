@@ -2,7 +2,7 @@ use Rattle.std.proofs.Common.{◌≡◌, true, map, sym, ap, ◌∙◌}
 use Rattle.cp_model.specs.Term.{apply_to}
 use Rattle.cp_model.specs.Strand.{payload, prefix_of}
 use Rattle.cp_model.specs.Homomorphism.{substitution_by}
-use Rattle.cp_language.specs.Same.{carries}
+use Rattle.cp_model.specs.Same.{carries}
 use Rattle.cp_skel.specs.View.{event_view, role_view}
 use Rattle.cp_load.proofs.Origins.{place_if_sent}
 use Rattle.cp_load.proofs.UniqueOrigins.{mapped-origin-at, mapped-origin-end, origin-found}

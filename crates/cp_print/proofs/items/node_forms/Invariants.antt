@@ -1,7 +1,7 @@
 use Rattle.std.proofs.Common.{◌≡◌, ◌++◌, map, drop}
 use Rattle.cp_language.specs.Report.{node_form}
 use Rattle.cp_sexpr.specs.View.{view}
-use Rattle.cp_skel.specs.View.{node_view}
+use Rattle.cp_model.specs.RunView.{node_view}
 use Rattle.cp_print.proofs.items.node_forms.Given as goal
 
 abbrev pub invariant-loop-node : goal.invariant-loop-node

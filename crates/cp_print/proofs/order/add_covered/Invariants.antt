@@ -1,6 +1,6 @@
 use Rattle.std.proofs.Common.{◌≡◌, ◌++◌, map, drop}
 use Rattle.cp_sexpr.specs.View.{view}
-use Rattle.cp_skel.specs.View.{node_view}
+use Rattle.cp_model.specs.RunView.{node_view}
 use Rattle.cp_print.specs.Order.{ordered_view, covered}
 use Rattle.cp_print.proofs.order.add_covered.Given as goal
 

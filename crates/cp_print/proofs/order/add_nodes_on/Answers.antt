@@ -1,5 +1,5 @@
 use Rattle.std.proofs.Common.{◌++◌, map, refl}
-use Rattle.cp_skel.specs.View.{node_view}
+use Rattle.cp_model.specs.RunView.{node_view}
 use Rattle.cp_print.proofs.CCounted.{counted_pushed}
 use Rattle.cp_print.proofs.order.add_nodes_on.Goals as goal
 

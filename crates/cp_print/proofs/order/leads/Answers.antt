@@ -1,4 +1,4 @@
-use Rattle.cp_skel.specs.View.{node_view}
+use Rattle.cp_model.specs.RunView.{node_view}
 use Rattle.cp_print.proofs.COrdered.{leads}
 use Rattle.cp_print.proofs.order.leads.Goals as goal
 

@@ -1,5 +1,6 @@
 use Rattle.std.proofs.Common.{◌≡◌, ◌++◌, map, drop}
-use Rattle.cp_skel.specs.View.{node_view, pair_view}
+use Rattle.cp_model.specs.RunView.{node_view}
+use Rattle.cp_skel.specs.View.{pair_view}
 use Rattle.cp_print.specs.Order.{marks_before}
 use Rattle.cp_print.proofs.order.marks_before.Given as goal
 

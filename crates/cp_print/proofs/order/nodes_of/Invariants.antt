@@ -1,6 +1,7 @@
 use Rattle.std.proofs.Common.{◌≡◌, ◌++◌, map, drop}
 use Rattle.cp_language.specs.Report.{nodes_from}
-use Rattle.cp_skel.specs.View.{node_view, strand_view}
+use Rattle.cp_model.specs.RunView.{node_view}
+use Rattle.cp_skel.specs.View.{strand_view}
 use Rattle.cp_print.proofs.order.nodes_of.Given as goal
 
 abbrev pub invariant-loop-number : goal.invariant-loop-number

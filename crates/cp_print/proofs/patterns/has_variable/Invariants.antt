@@ -1,5 +1,5 @@
 use Rattle.std.proofs.Common.{◌≡◌, map, drop}
-use Rattle.cp_language.specs.Same.{has_variable}
+use Rattle.cp_model.specs.Same.{has_variable}
 use Rattle.cp_print.specs.Named.{variable_view}
 use Rattle.cp_print.proofs.patterns.has_variable.Given as goal
 

@@ -1,6 +1,7 @@
 use Rattle.std.proofs.Common.{Vec, Global, ap, map, subst, ◌∙◌}
 use Rattle.std.specs.Prelude.{option_map}
-use Rattle.cp_skel.specs.View.{node_view, pair_view, protocol_view, skeleton_view}
+use Rattle.cp_model.specs.RunView.{node_view}
+use Rattle.cp_skel.specs.View.{pair_view, protocol_view, skeleton_view}
 use Rattle.cp_skel.specs.Trees.{variables_view, limits_view, tree_view}
 use Rattle.cp_model.specs.Tree.{dead, complete}
 use Rattle.cp_completeness.specs.Normal.{with_pairs}
