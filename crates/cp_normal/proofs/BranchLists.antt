@@ -14,7 +14,6 @@ use Rattle.cp_normal.specs.Agreeing.{SaysTheSame}
 use Rattle.cp_normal.specs.Narrowing.{IsMostGeneralFor}
 use Rattle.cp_normal.specs.Branching.{NeverEqual, HasBranch}
 use Rattle.cp_normal.specs.Branched.{AreInOrder, no_atoms, never_equal_to, unified_with, IsBranch, AreBranchesOf}
-use Rattle.cp_normal.specs.Values.{HasItsValues}
 use Rattle.cp_normal.proofs.Unifying.{most_general_for, never_equal}
 
 -- ---- in order
@@ -50,7 +49,7 @@ module _ (k : Skeleton) (v : AtomTerm) where
   }
 
   wider : (xs ys : List AtomTerm) (l : Skeleton) → IsBranch k v xs l → IsBranch k v (xs ++ ys) l
-  wider xs ys l b = record { heard = b.heard; listed = in_append_left ys b.listed; bindings = b.bindings; most_general = b.most_general; same = b.same; values = b.values; variables = b.variables }
+  wider xs ys l b = record { heard = b.heard; listed = in_append_left ys b.listed; bindings = b.bindings; most_general = b.most_general; same = b.same; variables = b.variables }
 
   module _ (xs : List AtomTerm) (i : ℕ) (a : AtomTerm) (lt : i < length xs) (is : a ≡ get_or xs i a) (ls : List Skeleton) (so_far : AreBranchesOf k v (take i xs) ls) where
     taken : take (i + 1) xs ≡ take i xs ++ a ∷ []
@@ -65,10 +64,9 @@ module _ (k : Skeleton) (v : AtomTerm) where
     pub skipped : HasNoUnifier (atom_term v) (atom_term a) [] → AreBranchesOf k v (take (i + 1) xs) ls
     skipped never = subst (λ ys. AreBranchesOf k v ys ls) (sym taken) (skipped_with never)
 
-    module _ (r : List Binding) (l : Skeleton) (m : IsMostGeneral (atom_term v) (atom_term a) [] r) (same : SaysTheSame (skeleton_under (as_substitution r) (skeleton_view k)) (skeleton_view l)) (values : HasItsValues l)
-        (variables : l.variables ≡ k.variables) where
+    module _ (r : List Binding) (l : Skeleton) (m : IsMostGeneral (atom_term v) (atom_term a) [] r) (same : SaysTheSame (skeleton_under (as_substitution r) (skeleton_view k)) (skeleton_view l)) (variables : l.variables ≡ k.variables) where
       new_branch : IsBranch k v (take i xs ++ a ∷ []) l
-      new_branch = record { heard = a; listed = in_append_right (take i xs) here; bindings = r; most_general = m; same = same; values = values; variables = variables }
+      new_branch = record { heard = a; listed = in_append_right (take i xs) here; bindings = r; most_general = m; same = same; variables = variables }
 
       of_either : (b : Skeleton) → IsIn b ls ⊎ IsIn b (l ∷ []) → IsBranch k v (take i xs ++ a ∷ []) b
       of_either b (inl j) = wider (take i xs) (a ∷ []) b (so_far.each b j)

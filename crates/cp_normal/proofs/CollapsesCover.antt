@@ -7,7 +7,7 @@ use Rattle.cp_model.specs.Strand.{Event, send, recv, Role, Protocol}
 use Rattle.cp_model.specs.Term.{Substitution}
 use Rattle.cp_model.specs.Bundle.{Node, node_at, event_at, Bundle, Precedes, along_strand, along_link, IsBundle}
 use Rattle.cp_model.specs.Skeleton.{SkeletonStrand, instance, OrderPair, Skeleton, along_pair, IsSkeleton}
-use Rattle.cp_model.specs.Standing.{Standing, image_of, StandsIn}
+use Rattle.cp_model.specs.Standing.{Standing, image_of, StandsIn, StandsApart}
 use Rattle.cp_model.specs.Homomorphism.{Covers, IsCompleteList}
 use Rattle.cp_model.proofs.LawLists.{item_below, steps_append}
 use Rattle.cp_model.proofs.LawMessages.{dec_message}
@@ -15,11 +15,11 @@ use Rattle.cp_model.proofs.LawOrigins.{place_of, path_rises}
 use Rattle.cp_model.proofs.LawStandings.{strand_of_event, bundle_climb}
 use Rattle.cp_completeness.proofs.Images.{image_event_at}
 use Rattle.cp_normal.specs.Partitions.{finest, place_in}
-use Rattle.cp_normal.specs.Collapsing.{LiesOnOne, IsImpossible, IsCollapse, AreCollapsesBy, no_collapses, collapse_by, AreCollapses}
+use Rattle.cp_normal.specs.Collapsing.{LiesOnOne, IsImpossible, IsCollapse, AreCollapsesBy, no_collapses, collapse_by, AreCollapses, StandsThroughCollapse}
 use Rattle.cp_normal.proofs.Lowest.{low}
 use Rattle.cp_normal.proofs.Places.{own_entry, one_at_place, place_of_entry}
 use Rattle.cp_normal.proofs.StandingPartition.{together, partition, is_partition, partition_at, alike_or_same, goes_where_low_goes, values_identified, apart_if_finest}
-use Rattle.cp_normal.proofs.MergedStandings.{merged_stands, merged_apart, merged_factors, merged_never_circles, on_blocks}
+use Rattle.cp_normal.proofs.MergedStandings.{merged_stands, merged_apart, merged_factors, merged_never_circles, on_blocks, goes_as_block, same_term}
 
 -- ---- nothing in a bundle precedes itself
 
@@ -129,5 +129,34 @@ module _ (protocol : Protocol) (k : Skeleton) (b : Bundle) (h : Standing) (sk : 
       by (inl listed) = let r = collapse_of k p are.each listed in collapse_covers ls r.0 r.1 r.2
       by (inr never) = absurd (possible never)
 
+  -- ---- each standing goes through a collapse
+
+  through_collapse : (ls : List Skeleton) (l : Skeleton) → IsIn l ls → IsCollapse k p l → StandsThroughCollapse k ls b h
+  through_collapse ls l listed c = record {
+    partition = p;
+    skeleton = l;
+    listed = listed;
+    collapse = c;
+    through = record {
+      standing = on_blocks k b h stands;
+      stands = merged_stands k b h stands l c.collapsed protocol sk;
+      apart = merged_apart k b h stands l c.collapsed;
+      same_nodes = λ s. sym (goes_as_block k b h stands s);
+      same_values = λ t. sym (same_term k b h stands l c.collapsed t);
+    };
+  }
+
+  through_at : (ls : List Skeleton) → AreCollapses k ls → Dec (p ≡ finest k) → StandsApart k h ⊎ StandsThroughCollapse k ls b h
+  through_at ls are (yes fine) = inl (apart_if_finest k h fine)
+  through_at ls are (no other) = by (are.all p (is_partition k h b stands) other)
+    where
+      by : IsIn p are.partitions ⊎ IsImpossible k p → StandsApart k h ⊎ StandsThroughCollapse k ls b h
+      by (inl listed) = let r = collapse_of k p are.each listed in inr (through_collapse ls r.0 r.1 r.2)
+      by (inr never) = absurd (possible never)
+
 pub collapses_are_complete : (protocol : Protocol) (k : Skeleton) (ls : List Skeleton) → IsSkeleton protocol k → AreCollapses k ls → IsCompleteList protocol k (k ∷ ls)
 collapses_are_complete protocol k ls sk are b h is stands = covers_at protocol k b h sk is stands ls are (dec_numbers (partition k h) (finest k))
+
+pub standings_go_through : (protocol : Protocol) (k : Skeleton) (ls : List Skeleton) (b : Bundle) (h : Standing) → IsSkeleton protocol k → AreCollapses k ls → IsBundle protocol b → StandsIn k b h →
+    StandsApart k h ⊎ StandsThroughCollapse k ls b h
+standings_go_through protocol k ls b h sk are is stands = through_at protocol k b h sk is stands ls are (dec_numbers (partition k h) (finest k))

@@ -2,51 +2,71 @@
 use Rattle.std.proofs.Common.{◌≡◌, inl, inr, ℕ, suc, ◌<◌, List, map, length, refl, sym, ap, ◌∙◌, subst, arith}
 use native.Mathlib.Decide.{dec_lt}
 use Rattle.cp_model.specs.Lists.{IsIn}
-use Rattle.cp_model.specs.Skeleton.{SkeletonStrand, OrderPair, Skeleton, IsOrderPair}
+use Rattle.cp_model.specs.Term.{Substitution}
+use Rattle.cp_model.specs.Given.{listed}
+use Rattle.cp_model.specs.Skeleton.{SkeletonStrand, Assumptions, OrderPair, Skeleton, IsOrderPair}
 use Rattle.cp_model.proofs.LawLists.{variables_of_higher}
 use Rattle.cp_unify.specs.Bindings.{Binding, as_substitution}
 use Rattle.cp_skel.specs.View.{strand_view}
 use Rattle.cp_skel.specs.declared.skeleton.Strand.{Strand}
 use Rattle.cp_normal.specs.Agreeing.{AreSameStrands, no_strands, same_strands}
-use Rattle.cp_normal.specs.Collapsing.{ArePairsIn, LiesOnOne, AreAssumptionsIn, IsFromProblemIn, IsCollapsed, HasNoCycle, HasPairBackward, IsImpossible}
+use Rattle.cp_normal.specs.Collapsing.{ArePairsIn, LiesOnOne, assumptions_in, IsFromProblemIn, IsCollapsed, HasNoCycle, HasPairBackward, IsImpossible}
 use Rattle.cp_normal.specs.Cycles.{IsClosedAt}
 use Rattle.cp_normal.specs.Events.{Has}
 use Rattle.cp_normal.specs.Extending.{IsExactFor}
 use Rattle.cp_normal.specs.Merging.{AreMergedAlike}
 use Rattle.cp_normal.specs.Partitions.{IsPartition, IdentifiesValues}
 use Rattle.cp_normal.proofs.CyclesByPairs.{closed_of_cycle, cycle_of_closed}
+use Rattle.cp_normal.proofs.Exact.{exact_is_most_general}
 use Rattle.cp_normal.proofs.MergedSkeletons.{merged_pairs}
-use Rattle.cp_normal.proofs.MergedStrands.{is_collapsed}
+use Rattle.cp_normal.proofs.MergedStrands.{HasMergedStrands, has_merged_strands}
 use Rattle.cp_normal.proofs.SameStrands.{all_same_back, instance_at, listener_at}
 
 same_count : {ss ts : List SkeletonStrand} → AreSameStrands ss ts → length ts ≡ length ss
 same_count no_strands = refl
 same_count (same_strands e more) = ap suc (same_count more)
 
--- The strands of a collapsed skeleton may say the same by other terms.
-like_collapsed : (k l : Skeleton) (p : List ℕ) (ss : List SkeletonStrand) → AreSameStrands ss l.strands → IsCollapsed k p (record { strands = ss; pairs = l.pairs; assumptions = l.assumptions; from_problem = l.from_problem }) → IsCollapsed k p l
-like_collapsed k l p ss same c = record {
-  unifier = c.unifier;
-  most_general = c.most_general;
-  count = same_count same ∙ c.count;
+-- Merged strands may say the same by other terms.
+like_merged : (k l : Skeleton) (p : List ℕ) (f : Substitution) (ss : List SkeletonStrand) → AreSameStrands ss l.strands → HasMergedStrands k p f (record l { strands = ss }) → HasMergedStrands k p f l
+like_merged k l p f ss same m = record {
+  count = same_count same ∙ m.count;
   instances = λ s role height terms at.
-      let g = c.instances s role height terms at in
+      let g = m.instances s role height terms at in
       let i = instance_at (all_same_back same) _ role g.to_height g.to_terms g.on_instance in
-      record { to_height = g.to_height; to_terms = i.0; on_instance = i.1; at_least = g.at_least; equal_terms = λ x m. g.equal_terms x m ∙ sym (i.2 x (variables_of_higher role height g.to_height g.at_least x m)) };
-  tallest = λ place role height terms at. let i = instance_at same place role height terms at in c.tallest place role height i.0 i.1;
-  listeners = λ s t at. listener_at (all_same_back same) _ _ (c.listeners s t at);
-  pairs = c.pairs;
-  forward = c.forward;
-  assumptions = c.assumptions;
-  from_problem = c.from_problem;
+      record { to_height = g.to_height; to_terms = i.0; on_instance = i.1; at_least = g.at_least; equal_terms = λ x n. g.equal_terms x n ∙ sym (i.2 x (variables_of_higher role height g.to_height g.at_least x n)) };
+  tallest = λ place role height terms at. let i = instance_at same place role height terms at in m.tallest place role height i.0 i.1;
+  listeners = λ s t at. listener_at (all_same_back same) _ _ (m.listeners s t at);
 }
 
-pub alike_collapsed : (k l : Skeleton) (p : List ℕ) (r : List Binding) (ss : List Strand) → IsPartition k p → IsExactFor (IdentifiesValues k p) r → AreMergedAlike k p (as_substitution r) (length p) ss → l.strands ≡ map strand_view ss →
-    ArePairsIn p k.pairs l.pairs → ((q : OrderPair) → IsIn q k.pairs → LiesOnOne p q → q.earlier.index < q.later.index) →
-    AreAssumptionsIn p (as_substitution r) k.assumptions l.assumptions → IsFromProblemIn p (as_substitution r) k.from_problem l.from_problem → IsCollapsed k p l
-alike_collapsed k l p r ss part exact m views pairs forward assumptions from_problem =
-    like_collapsed k l p m.exact (subst (AreSameStrands m.exact) (sym views) m.alike)
-    (is_collapsed k (record { strands = m.exact; pairs = l.pairs; assumptions = l.assumptions; from_problem = l.from_problem }) p r part exact m.merged pairs forward assumptions from_problem)
+alike_merged : (k l : Skeleton) (p : List ℕ) (r : List Binding) (ss : List Strand) → IsPartition k p → IsExactFor (IdentifiesValues k p) r → AreMergedAlike k p (as_substitution r) (length p) ss → l.strands ≡ map strand_view ss →
+    HasMergedStrands k p (as_substitution r) l
+alike_merged k l p r ss part exact m views =
+    like_merged k l p (as_substitution r) m.exact (subst (AreSameStrands m.exact) (sym views) m.alike) (has_merged_strands k (record l { strands = m.exact }) p r part exact m.merged)
+
+-- A skeleton with merged strands, and with the images of all else, is collapsed when its assumptions are listed.
+is_collapsed : (k m : Skeleton) (p : List ℕ) (r : List Binding) → IsExactFor (IdentifiesValues k p) r → HasMergedStrands k p (as_substitution r) m →
+    ArePairsIn p k.pairs m.pairs → ((q : OrderPair) → IsIn q k.pairs → LiesOnOne p q → q.earlier.index < q.later.index) →
+    m.assumptions ≡ assumptions_in p (as_substitution r) k.assumptions → IsFromProblemIn p (as_substitution r) k.from_problem m.from_problem → IsCollapsed k p (record m { assumptions = listed m })
+is_collapsed k m p r exact strands pairs forward assumptions from_problem = record {
+  unifier = as_substitution r;
+  most_general = exact_is_most_general k p r exact;
+  count = strands.count;
+  instances = λ s role height terms at.
+      let g = strands.instances s role height terms at in
+      record { to_height = g.to_height; to_terms = g.to_terms; on_instance = g.on_instance; at_least = g.at_least; equal_terms = g.equal_terms };
+  tallest = strands.tallest;
+  listeners = strands.listeners;
+  pairs = pairs;
+  forward = forward;
+  assumptions = ap (λ (a : Assumptions). listed (record m { assumptions = a })) assumptions;
+  from_problem = from_problem;
+}
+
+pub listed_collapsed : (k m l : Skeleton) (p : List ℕ) (r : List Binding) (ss : List Strand) → IsPartition k p → IsExactFor (IdentifiesValues k p) r → AreMergedAlike k p (as_substitution r) (length p) ss → m.strands ≡ map strand_view ss →
+    ArePairsIn p k.pairs m.pairs → ((q : OrderPair) → IsIn q k.pairs → LiesOnOne p q → q.earlier.index < q.later.index) →
+    m.assumptions ≡ assumptions_in p (as_substitution r) k.assumptions → IsFromProblemIn p (as_substitution r) k.from_problem m.from_problem → l ≡ record m { assumptions = listed m } → IsCollapsed k p l
+listed_collapsed k m l p r ss part exact merged views pairs forward assumptions from_problem is =
+    subst (IsCollapsed k p) (sym is) (is_collapsed k m p r exact (alike_merged k m p r ss part exact merged views) pairs forward assumptions from_problem)
 
 -- ---- the tests
 

@@ -12,6 +12,7 @@ use Rattle.cp_unify.proofs.Free.{free}
 use Rattle.cp_normal.specs.Partitions.{IsPartition, place_in, IdentifiesValues, IsLower, AreDescending}
 use Rattle.cp_normal.specs.Collapsing.{IsCollapsed, IsImpossible, IsCollapse, AreCollapsesBy, no_collapses, collapse_by, AreCollapses}
 use Rattle.cp_normal.proofs.Descending.{never_lower}
+use Rattle.cp_normal.proofs.OneUnifier.{one_unifier}
 use Rattle.cp_normal.proofs.Places.{taken, place_of_own}
 
 -- ---- some assignment gives the blocks equal values
@@ -25,6 +26,10 @@ some_identifies k l p c s t role height terms height' terms' at au a x i j =
         atom_after (after free c.unifier) d (atom_of_variable x)
         ∙ atom_after free c.unifier (apply_to_atom d (atom_of_variable x))
         ∙ ap (value_of_atom free) (sym (atom_composed d c.unifier (atom_of_variable x)))
+
+pub one_substitution : (k l m : Skeleton) (p : List ℕ) (c : IsCollapsed k p l) (d : IsCollapsed k p m) (u : Term) → apply_to c.unifier u ≡ apply_to d.unifier u
+one_substitution k l m p c d =
+    one_unifier (IdentifiesValues k p) c.unifier d.unifier c.most_general.directed d.most_general.directed (some_identifies k l p c) (some_identifies k m p d) c.most_general.general d.most_general.general
 
 -- ---- all ways of merging have one order
 

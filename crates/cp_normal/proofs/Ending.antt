@@ -7,7 +7,6 @@ use Rattle.cp_skel.specs.declared.skeleton.Skeleton.{Skeleton as Program}
 use Rattle.cp_normal.specs.Collapsing.{IsCollapsed, HasNoCycle, IsImpossible, AreCollapses}
 use Rattle.cp_normal.specs.Extending.{ArePartitionsOfFirst, AreCollapsedTo}
 use Rattle.cp_normal.specs.Partitions.{IsPartition, finest}
-use Rattle.cp_normal.specs.Values.{HasValuesBeside}
 use Rattle.cp_normal.proofs.Collapsed.{finest_first, later_not_finest, none_collapsed, not_collapsed, one_collapsed, all_collapsed}
 use Rattle.cp_normal.proofs.Descending.{only, at_place}
 use Rattle.cp_normal.proofs.Extended.{of_all}
@@ -39,16 +38,16 @@ module _ (k : Skeleton) (ps : List (List ℕ)) (are : ArePartitionsOfFirst k (le
     all = λ j p less at ne. a.all j p (omega (arith, less, done)) at ne;
   })
 
--- Each of the program's collapses has its values, and the variables of k.
-abbrev pub HaveValuesBeside : Program → List Program → Type 0
-HaveValuesBeside k ls = (l : Program) → IsIn l ls → HasValuesBeside k l
+-- Each of the program's collapses has the variables of k.
+abbrev pub HaveVariablesOf : Program → List Program → Type 0
+HaveVariablesOf k ls = (l : Program) → IsIn l ls → l.variables ≡ k.variables
 
-pub none_beside : (k : Program) (ls : List Program) → ls ≡ [] → HaveValuesBeside k ls
-none_beside k ls e l i = elim (subst (IsIn l) e i) [ ]
+pub none_of_these : (k : Program) (ls : List Program) → ls ≡ [] → HaveVariablesOf k ls
+none_of_these k ls e l i = elim (subst (IsIn l) e i) [ ]
 
-pub one_beside : (k : Program) (ls new : List Program) (l : Program) → HaveValuesBeside k ls → HasValuesBeside k l → new ≡ ls ++ (l ∷ []) → HaveValuesBeside k new
-one_beside k ls new l old beside e m i = by (in_append ls (l ∷ []) (subst (IsIn m) e i))
+pub one_of_these : (k : Program) (ls new : List Program) (l : Program) → HaveVariablesOf k ls → l.variables ≡ k.variables → new ≡ ls ++ (l ∷ []) → HaveVariablesOf k new
+one_of_these k ls new l old same e m i = by (in_append ls (l ∷ []) (subst (IsIn m) e i))
   where
-    by : IsIn m ls ⊎ IsIn m (l ∷ []) → HasValuesBeside k m
+    by : IsIn m ls ⊎ IsIn m (l ∷ []) → m.variables ≡ k.variables
     by (inl j) = old m j
-    by (inr j) = subst (HasValuesBeside k) (sym (only j)) beside
+    by (inr j) = subst (λ (n : Program). n.variables ≡ k.variables) (sym (only j)) same

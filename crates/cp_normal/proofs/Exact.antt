@@ -16,14 +16,15 @@ use Rattle.cp_normal.specs.Partitions.{Identifies, HaveEqualValues, IdentifiesVa
 use Rattle.cp_normal.specs.Collapsing.{IsMostGeneralOn}
 use Rattle.cp_normal.specs.Extending.{IsExactFor}
 use Rattle.cp_normal.proofs.Descending.{only}
+use Rattle.cp_normal.proofs.Unifying.{directed}
 
 -- No binding says nothing.
 pub exact_none : IsExactFor (λ g. Unit {0}) []
-exact_none = record { met = λ g. tt; sound = λ g m. tt; general = λ g f. tt }
+exact_none = record { met = λ g. tt; sound = λ g m. tt; general = λ g f. tt; later_to_earlier = tt }
 
 -- Of facts that are true of the same assignments.
 pub exact_same : (e f : Assignment → Type 0) (r : List Binding) → ((g : Assignment) → e g → f g) → ((g : Assignment) → f g → e g) → IsExactFor e r → IsExactFor f r
-exact_same e f r to from x = record { met = x.met; sound = λ g m. to g (x.sound g m); general = λ g h. x.general g (from g h) }
+exact_same e f r to from x = record { met = x.met; sound = λ g m. to g (x.sound g m); general = λ g h. x.general g (from g h); later_to_earlier = x.later_to_earlier }
 
 -- ---- one unification more
 
@@ -37,6 +38,7 @@ exact_unified e a b r q x m = record {
   met = λ g. m.general (after g (as_substitution q)) (meets_after g (as_substitution q) r m.solves_given) (value_after g (as_substitution q) a ∙ ap (value_of g) m.unifies ∙ sym (value_after g (as_substitution q) b));
   sound = λ g h. let s = m.sound g h in (x.sound g s.0, s.1);
   general = λ g h. m.general g (x.general g h.0) h.1;
+  later_to_earlier = m.later_to_earlier;
 }
 
 pub never_unified : (e : Assignment → Type 0) (a b : Term) (r : List Binding) → IsExactFor e r → HasNoUnifier a b r → (g : Assignment) → e g → value_of g a ≡ value_of g b → ⊥
@@ -113,4 +115,5 @@ pub exact_is_most_general : (k : Skeleton) (p : List ℕ) (r : List Binding) →
 exact_is_most_general k p r x = record {
   identifies = exact_identifies k p r x;
   general = λ g f t. ap (λ (h : Assignment). value_of h t) (after_met g r (x.general g f));
+  directed = directed r x.met x.later_to_earlier;
 }

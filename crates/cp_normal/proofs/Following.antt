@@ -6,8 +6,10 @@ use Rattle.cp_model.specs.Term.{AtomTerm, atom_term}
 use Rattle.cp_model.specs.Bundle.{Node}
 use Rattle.cp_model.specs.Skeleton.{UniqueAt, Skeleton}
 use Rattle.cp_model.proofs.LawLists.{in_append, in_append_left, in_append_right}
+use Rattle.cp_skel.specs.DeclaredPrefixes.{HasDeclaredPrefixes}
 use Rattle.cp_skel.specs.View.{skeleton_view}
 use Rattle.cp_skel.specs.declared.skeleton.Skeleton.{Skeleton as Program}
+use Rattle.cp_skel.proofs.EachOnce.{listed-unique}
 use Rattle.cp_normal.specs.declared.candidates.Candidate.{Candidate}
 use Rattle.cp_normal.specs.declared.candidates.Candidate.TheVariants.{Open, Settled}
 use Rattle.cp_normal.specs.Normalising.{IsContradictory}
@@ -18,8 +20,9 @@ use Rattle.cp_normal.specs.Exact.{IsRefuted, HaveForms, refuted_one, stray_one}
 use Rattle.cp_normal.specs.Hearing.{heard_before}
 use Rattle.cp_normal.specs.Straying.{IsFirstStray}
 use Rattle.cp_normal.specs.Candidates.{candidate_view, IsSound, Follows, TakesPlace, Puts, AllFollow, IsRound}
-use Rattle.cp_normal.specs.Values.{HasItsValues}
+use Rattle.cp_unify.specs.Bindings.{as_substitution}
 use Rattle.cp_unify.specs.Unifiers.{IsMostGeneral}
+use Rattle.cp_normal.proofs.Declared.{under_declared}
 use Rattle.cp_normal.proofs.Having.{IsViewed, in_map}
 use Rattle.cp_normal.proofs.Strayed.{at_is_in}
 use Rattle.cp_normal.proofs.BranchLists.{all_have_branches}
@@ -48,18 +51,18 @@ only_one : {A : Type 0} {x y : A} → IsIn y (x ∷ []) → x ≡ y
 only_one here = refl
 only_one (there i) = elim i [ ]
 
-pub settled_place : (k : Program) (old new : List Candidate) → HasItsValues k → IsSettled (skeleton_view k) → new ≡ old ++ Settled k ∷ [] → Puts (Open k) old new
-settled_place k old new values settled e = record {
+pub settled_place : (k : Program) (old new : List Candidate) → IsSettled (skeleton_view k) → new ≡ old ++ Settled k ∷ [] → Puts (Open k) old new
+settled_place k old new settled e = record {
   added = Settled k ∷ [];
   behind = e;
   takes_place = record {
-    each = λ d i. subst (Follows (Open k)) (only_one i) (record { sound = (values, settled); falls = tt; variables = refl });
+    each = λ d i. subst (Follows (Open k)) (only_one i) (record { sound = settled; falls = tt; variables = refl });
     narrowed = λ first done rest so_far. stays first (skeleton_view k) done rest so_far;
     exact = λ rest rs h. h;
   };
 }
 
-same_place : (k : Program) (old new : List Candidate) → HasItsValues k × IsSettled (skeleton_view k) → new ≡ old ++ Settled k ∷ [] → Puts (Settled k) old new
+same_place : (k : Program) (old new : List Candidate) → IsSettled (skeleton_view k) → new ≡ old ++ Settled k ∷ [] → Puts (Settled k) old new
 same_place k old new sound e = record {
   added = Settled k ∷ [];
   behind = e;
@@ -151,14 +154,14 @@ all_done candidates all left new e done part = record {
 
 -- ---- branches
 
-module _ (k : Program) (v : AtomTerm) (x : Node) (atoms : List AtomTerm) (made : List Program) where
+module _ (k : Program) (v : AtomTerm) (x : Node) (atoms : List AtomTerm) (made : List Program) (declared : HasDeclaredPrefixes (skeleton_view k)) where
   module _ (consistent : IsRefuted (skeleton_view k) → ⊥) (stray : IsFirstStray (skeleton_view k) v x) (in_order : atoms ≡ heard_before (skeleton_view k) x) (heard : (a : AtomTerm) → IsIn a atoms ↔ IsHeardAt (skeleton_view k) a x)
       (are : AreBranchesOf k v atoms made) where
     abbrev entry : UniqueAt
     entry = stray.here.entry
 
     is_stray : IsStray (skeleton_view k) entry x
-    is_stray = record { listed = at_is_in _ stray.here.place entry stray.here.at_place; originates = stray.here.strays.1; elsewhere = stray.here.strays.0 }
+    is_stray = record { listed = ((listed-unique (skeleton_view k)).same entry).0 (at_is_in _ stray.here.place entry stray.here.at_place); originates = stray.here.strays.1; elsewhere = stray.here.strays.0 }
 
     have_branches : HasBranches (skeleton_view k) entry x (map skeleton_view made)
     have_branches a h = subst (λ (u : AtomTerm). NeverEqual u a ⊎ HasBranch (skeleton_view k) u a (map skeleton_view made)) (sym stray.here.is_value)
@@ -170,7 +173,7 @@ module _ (k : Program) (v : AtomTerm) (x : Node) (atoms : List AtomTerm) (made :
 
       follows : Follows (Open k) (Open l)
       follows = record {
-        sound = b.values;
+        sound = under_declared (as_substitution b.bindings) (skeleton_view k) (skeleton_view l) b.same declared;
         falls = narrowed_has_fewer (skeleton_view k) (skeleton_view l) entry x b.heard b.bindings is_stray ((heard b.heard).0 b.listed) most_general b.same;
         variables = b.variables;
       }

@@ -8,12 +8,10 @@ use Rattle.cp_completeness.specs.Normal.{with_pairs}
 use Rattle.cp_skel.specs.View.{skeleton_view}
 use Rattle.cp_skel.specs.declared.skeleton.Skeleton.{Skeleton as Program}
 use Rattle.cp_normal.specs.declared.candidates.Candidate.{Candidate}
-use Rattle.cp_normal.specs.declared.candidates.Candidate.TheVariants.{Open, Settled}
 use Rattle.cp_normal.specs.Normalising.{AreNormalPairs, IsContradictory}
 use Rattle.cp_normal.specs.Branching.{IsSettled, AreFormsBeside}
 use Rattle.cp_normal.specs.Exact.{HaveForms, no_skeletons, cyclic_one, normal_one}
-use Rattle.cp_normal.specs.Candidates.{skeleton_of, candidate_view, IsSound, IsFormOf, PutsForm, no_form, form, AreForms}
-use Rattle.cp_normal.specs.Values.{HasItsValues}
+use Rattle.cp_normal.specs.Candidates.{skeleton_of, candidate_view, IsFormOf, PutsForm, no_form, form, AreForms}
 use Rattle.cp_normal.proofs.Following.{back_of}
 use Rattle.cp_normal.proofs.Reaching.{form_dropped, form_added}
 
@@ -22,7 +20,6 @@ pub record AreFormsSoFar (all left : List Candidate) (forms : List Program) : Ty
   pub each_left : (c : Candidate) → IsIn c left → IsIn c all
   pub beside : (k : Skeleton) → AreFormsBeside k [] (map candidate_view (reverse all)) → AreFormsBeside k (map skeleton_view forms) (map candidate_view (reverse left))
   pub exact : ((c : Candidate) → IsIn c all → IsSettled (candidate_view c)) → (rs : List Skeleton) → HaveForms (map candidate_view (reverse left)) rs → HaveForms (map candidate_view (reverse all)) (map skeleton_view forms ++ rs)
-  pub values : (r : Program) → IsIn r forms → HasItsValues r
   pub variables : (r : Program) → IsIn r forms → (c : Candidate) × IsIn c all × (r.variables ≡ (skeleton_of c).variables)
 
 pub none_so_far : (all : List Candidate) (forms : List Program) → forms ≡ [] → AreFormsSoFar all all forms
@@ -30,7 +27,6 @@ none_so_far all forms e = record {
   each_left = λ c i. i;
   beside = λ k first. subst (λ (fs : List Program). AreFormsBeside k (map skeleton_view fs) (map candidate_view (reverse all))) (sym e) first;
   exact = λ settled rs h. subst (λ (fs : List Program). HaveForms (map candidate_view (reverse all)) (map skeleton_view fs ++ rs)) (sym e) h;
-  values = λ r i. elim (subst (IsIn r) e i) [ ];
   variables = λ r i. elim (subst (IsIn r) e i) [ ];
 }
 
@@ -55,16 +51,10 @@ module _ (all left rest : List Candidate) (old new : List Program) (c : Candidat
     each_left = rest_in_all;
     beside = λ k first. form_dropped k (candidate_view c) (map skeleton_view old) (map candidate_view (reverse rest)) (before k first) contradictory;
     exact = λ settled rs h. exact_before settled rs (cyclic_one (settled c is_in_all) contradictory h);
-    values = so_far.values;
     variables = so_far.variables;
   }
 
   module _ (r : Program) (f : IsFormOf (skeleton_of c) r) where
-    value_of_either : (s : Program) → IsIn s old ⊎ IsIn s (r ∷ []) → HasItsValues s
-    value_of_either s (inl i) = so_far.values s i
-    value_of_either s (inr here) = f.values
-    value_of_either s (inr (there i)) = elim i [ ]
-
     variables_of_either : (s : Program) → IsIn s old ⊎ IsIn s (r ∷ []) → (b : Candidate) × IsIn b all × (s.variables ≡ (skeleton_of b).variables)
     variables_of_either s (inl i) = so_far.variables s i
     variables_of_either s (inr here) = (c, is_in_all, f.variables)
@@ -81,7 +71,6 @@ module _ (all left rest : List Candidate) (old new : List Program) (c : Candidat
       exact = λ settled rs h.
           subst (λ (fs : List Skeleton). HaveForms (map candidate_view (reverse all)) fs) (sym (append_assoc (map skeleton_view old) (with_pairs (candidate_view c) f.pairs ∷ []) rs) ∙ ap (λ (fs : List Skeleton). fs ++ rs) (sym views))
           (exact_before settled (with_pairs (candidate_view c) f.pairs ∷ rs) (normal_one (settled c is_in_all) f.normal f.consistent h));
-      values = λ s i. value_of_either s (in_append old (r ∷ []) i);
       variables = λ s i. variables_of_either s (in_append old (r ∷ []) i);
     }
 
@@ -98,17 +87,11 @@ all_forms candidates all left forms e done part = record {
       subst (λ (ds : List Candidate). HaveForms (map candidate_view ds) (map skeleton_view forms)) (ap reverse e ∙ reverse-reverse candidates)
       (subst (λ (fs : List Skeleton). HaveForms (map candidate_view (reverse all)) fs) (append-nil (map skeleton_view forms))
       (part.exact (λ c i. settled c (back_of candidates c (subst (IsIn c) e i))) [] none_left));
-  values = part.values;
   variables = λ r i. let v = part.variables r i in (v.0, back_of candidates v.0 (subst (IsIn v.0) e v.1), v.2);
 }
 
 pub form_in : (candidates all left rest : List Candidate) (forms : List Program) (c : Candidate) → all ≡ reverse candidates → AreFormsSoFar all left forms → left ≡ rest ++ c ∷ [] → IsIn c candidates
 form_in candidates all left rest forms c e part popped = back_of candidates c (subst (IsIn c) e (part.each_left c (subst (IsIn c) (sym popped) (in_append_right rest here))))
 
-pub form_made : (l r : Program) (old new : List Program) (pairs : List OrderPair) → AreNormalPairs (skeleton_view l) pairs × (IsContradictory (skeleton_view l) → ⊥) → HasItsValues l → skeleton_view r ≡ with_pairs (skeleton_view l) pairs →
-    (HasItsValues l → HasItsValues r) → r.variables ≡ l.variables → new ≡ old ++ r ∷ [] → PutsForm l old new
-form_made l r old new pairs n values same keeps variables e = form {r = r} (record { pairs = pairs; normal = n.0; consistent = n.1; same = same; values = keeps values; variables = variables }) e
-
-pub sound_values : (c : Candidate) → IsSound c → HasItsValues (skeleton_of c)
-sound_values (Open k) s = s
-sound_values (Settled k) s = s.0
+pub form_made : (l r : Program) (old new : List Program) (pairs : List OrderPair) → AreNormalPairs (skeleton_view l) pairs × (IsContradictory (skeleton_view l) → ⊥) → skeleton_view r ≡ with_pairs (skeleton_view l) pairs → r.variables ≡ l.variables → new ≡ old ++ r ∷ [] → PutsForm l old new
+form_made l r old new pairs n same variables e = form {r = r} (record { pairs = pairs; normal = n.0; consistent = n.1; same = same; variables = variables }) e

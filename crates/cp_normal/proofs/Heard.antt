@@ -1,25 +1,21 @@
 -- The atoms that receptions carry, each once.
-use Rattle.std.proofs.Common.{◌≡◌, ◌⊎◌, inl, inr, ℕ, zero, suc, ◌+◌, ◌<◌, ◌≤◌, List, [], ◌∷◌, ◌++◌, ◌||◌, take, Bool, true, false, if◌then◌else◌, Some, None, refl, sym, ap, ◌∙◌, subst, arith, append_assoc, add-one}
+use Rattle.std.proofs.Common.{◌≡◌, ◌⊎◌, inl, inr, ℕ, zero, suc, ◌+◌, ◌<◌, ◌≤◌, List, [], ◌∷◌, ◌++◌, take, Some, None, refl, sym, ap, ◌∙◌, subst, arith, append_assoc, add-one}
 use Rattle.cp_model.specs.Lists.{item_at, IsIn, here, there}
 use Rattle.cp_model.specs.Term.{AtomTerm, Term, tag_term, atom_term, pair_term, enc_term, IsCarriedByTerm, itself_term, in_left_term, in_right_term, in_plaintext_term}
 use Rattle.cp_model.specs.Strand.{Event, send, recv}
 use Rattle.cp_model.specs.Bundle.{Node}
 use Rattle.cp_model.specs.Skeleton.{skeleton_trace_or_none, Skeleton}
-use Rattle.cp_term.specs.Same.{same_atom}
-use Rattle.cp_term.proofs.SameTerms.{atom_Decides}
-use Rattle.cp_normal.specs.Hearing.{carried_atoms, received_atoms, heard_in, has_atom, each_once, heard_before}
+use Rattle.cp_model.specs.Given.{atoms_onto}
+use Rattle.cp_skel.proofs.EachOnce.{atoms as gathering, onto-append, onto-takes, onto-only}
+use Rattle.cp_normal.specs.Hearing.{carried_atoms, received_atoms, heard_in, heard_before}
 use Rattle.cp_normal.specs.Narrowing.{IsHeardAt}
 use Rattle.cp_normal.proofs.Listing.{in_either, in_first, in_second}
 
 -- ---- the loops that gather them
 
-pub once_append : (xs ys zs : List AtomTerm) → each_once xs (ys ++ zs) ≡ each_once (each_once xs ys) zs
-once_append xs [] zs = refl
-once_append xs (y ∷ ys) zs = once_append (if has_atom xs y then xs else xs ++ y ∷ []) ys zs
-
-pub pair_step : (old new whole : List AtomTerm) (rest l r : Term) → rest ≡ pair_term l r → new ≡ each_once old (carried_atoms l) → each_once old (carried_atoms rest) ≡ whole → each_once new (carried_atoms r) ≡ whole
+pub pair_step : (old new whole : List AtomTerm) (rest l r : Term) → rest ≡ pair_term l r → new ≡ atoms_onto old (carried_atoms l) → atoms_onto old (carried_atoms rest) ≡ whole → atoms_onto new (carried_atoms r) ≡ whole
 pair_step old new whole rest l r e n inv =
-    ap (λ xs. each_once xs (carried_atoms r)) n ∙ sym (once_append old (carried_atoms l) (carried_atoms r)) ∙ sym (ap (λ t. each_once old (carried_atoms t)) e) ∙ inv
+    ap (λ xs. atoms_onto xs (carried_atoms r)) n ∙ sym (onto-append gathering old (carried_atoms l) (carried_atoms r)) ∙ sym (ap (λ t. atoms_onto old (carried_atoms t)) e) ∙ inv
 
 heard_append : (xs ys : List (Event Term)) → heard_in (xs ++ ys) ≡ heard_in xs ++ heard_in ys
 heard_append [] ys = refl
@@ -39,20 +35,20 @@ taken_all (y ∷ ys) zero n e h = absurd (cc)
 taken_all (y ∷ ys) (suc i) zero e h = absurd (omega arith)
 taken_all (y ∷ ys) (suc i) (suc n) e h = ap (λ zs. y ∷ zs) (taken_all ys i n e (omega arith))
 
-module _ (trace : List (Event Term)) (old now : List AtomTerm) (i : ℕ) (inv : now ≡ each_once old (heard_in (take i trace))) where
-  pub heard_more : (new : List AtomTerm) (e : Event Term) → item_at trace i ≡ Some e → new ≡ each_once now (received_atoms e) → new ≡ each_once old (heard_in (take (i + 1) trace))
+module _ (trace : List (Event Term)) (old now : List AtomTerm) (i : ℕ) (inv : now ≡ atoms_onto old (heard_in (take i trace))) where
+  pub heard_more : (new : List AtomTerm) (e : Event Term) → item_at trace i ≡ Some e → new ≡ atoms_onto now (received_atoms e) → new ≡ atoms_onto old (heard_in (take (i + 1) trace))
   heard_more new e at made =
       let more : heard_in (take (suc i) trace) ≡ heard_in (take i trace) ++ (received_atoms e ++ []) = ap heard_in (taken_more trace i e at) ∙ heard_append (take i trace) (e ∷ []) in
       rw add-one
-      (made ∙ ap (λ xs. each_once xs (received_atoms e)) inv ∙ ap (each_once (each_once old (heard_in (take i trace)))) (behind_none (received_atoms e))
-      ∙ sym (once_append old (heard_in (take i trace)) (received_atoms e ++ [])) ∙ ap (each_once old) (sym more))
+      (made ∙ ap (λ xs. atoms_onto xs (received_atoms e)) inv ∙ ap (atoms_onto (atoms_onto old (heard_in (take i trace)))) (behind_none (received_atoms e))
+      ∙ sym (onto-append gathering old (heard_in (take i trace)) (received_atoms e ++ [])) ∙ ap (atoms_onto old) (sym more))
     where
       behind_none : {A : Type 0} (xs : List A) → xs ≡ xs ++ []
       behind_none [] = refl
       behind_none (x ∷ xs) = ap (λ ys. x ∷ ys) (behind_none xs)
 
-  pub heard_all : (n : ℕ) → item_at trace i ≡ None → i ≤ n → now ≡ each_once old (heard_in (take n trace))
-  heard_all n at h = inv ∙ sym (ap (λ es. each_once old (heard_in es)) (taken_all trace i n at h))
+  pub heard_all : (n : ℕ) → item_at trace i ≡ None → i ≤ n → now ≡ atoms_onto old (heard_in (take n trace))
+  heard_all n at h = inv ∙ sym (ap (λ es. atoms_onto old (heard_in es)) (taken_all trace i n at h))
 
 -- ---- what is heard
 
@@ -99,49 +95,6 @@ below_heard v (suc n) (e ∷ es) zero t h at c =
     in_first (received_atoms e) (heard_in (take n es)) (subst (λ z. IsIn v (received_atoms z)) (sym q) c)
 below_heard v (suc n) (e ∷ es) (suc i) t h at c = in_second (received_atoms e) (heard_in (take n es)) (below_heard v n es i t (omega arith) at c)
 
--- ---- each once
-
-one_of : (w v : AtomTerm) (ws : List AtomTerm) (b : Bool) → same_atom w v ≡ b → (has_atom ws v ≡ true → IsIn v ws) → (b || has_atom ws v) ≡ true → IsIn v (w ∷ ws)
-one_of w v ws true e more h = subst (λ z. IsIn v (z ∷ ws)) (sym ((atom_Decides w v).0 e)) here
-one_of w v ws false e more h = there (more h)
-
-had : (ws : List AtomTerm) (v : AtomTerm) → has_atom ws v ≡ true → IsIn v ws
-had [] v h = absurd (cc)
-had (w ∷ ws) v h = one_of w v ws (same_atom w v) refl (had ws v) h
-
-put_keeps : (b : Bool) (xs : List AtomTerm) (a v : AtomTerm) → IsIn v xs → IsIn v (if b then xs else xs ++ a ∷ [])
-put_keeps true xs a v h = h
-put_keeps false xs a v h = in_first xs (a ∷ []) h
-
-put_has : (b : Bool) (xs : List AtomTerm) (a : AtomTerm) → has_atom xs a ≡ b → IsIn a (if b then xs else xs ++ a ∷ [])
-put_has true xs a e = had xs a e
-put_has false xs a e = in_second xs (a ∷ []) here
-
-put_only : (b : Bool) (xs : List AtomTerm) (a v : AtomTerm) → IsIn v (if b then xs else xs ++ a ∷ []) → IsIn v xs ⊎ (a ≡ v)
-put_only true xs a v h = inl h
-put_only false xs a v h = elim (in_either xs (a ∷ []) h) as (λ _. IsIn v xs ⊎ (a ≡ v)) [ inl i ↦ inl i | inr i ↦ inr (of_one i) ]
-
-pub once_keeps : (xs ys : List AtomTerm) (v : AtomTerm) → IsIn v xs → IsIn v (each_once xs ys)
-once_keeps xs [] v h = h
-once_keeps xs (y ∷ ys) v h = once_keeps (if has_atom xs y then xs else xs ++ y ∷ []) ys v (put_keeps (has_atom xs y) xs y v h)
-
-pub once_has : (xs ys : List AtomTerm) (v : AtomTerm) → IsIn v ys → IsIn v (each_once xs ys)
-once_has xs (y ∷ ys) v here = once_keeps (if has_atom xs y then xs else xs ++ y ∷ []) ys y (put_has (has_atom xs y) xs y refl)
-once_has xs (y ∷ ys) v (there m) = once_has (if has_atom xs y then xs else xs ++ y ∷ []) ys v m
-once_has xs [] v h = elim h [ ]
-
-once_only : (xs ys : List AtomTerm) (v : AtomTerm) → IsIn v (each_once xs ys) → IsIn v xs ⊎ IsIn v ys
-once_only xs [] v h = inl h
-once_only xs (y ∷ ys) v h = of (once_only (if has_atom xs y then xs else xs ++ y ∷ []) ys v h)
-  where
-    put : IsIn v xs ⊎ (y ≡ v) → IsIn v xs ⊎ IsIn v (y ∷ ys)
-    put (inl i) = inl i
-    put (inr e) = inr (subst (λ z. IsIn v (z ∷ ys)) (sym e) here)
-
-    of : IsIn v (if has_atom xs y then xs else xs ++ y ∷ []) ⊎ IsIn v ys → IsIn v xs ⊎ IsIn v (y ∷ ys)
-    of (inl i) = put (put_only (has_atom xs y) xs y v i)
-    of (inr i) = inr (there i)
-
 none_before : {v : AtomTerm} {ys : List AtomTerm} → IsIn v [] ⊎ IsIn v ys → IsIn v ys
 none_before (inl h) = elim h [ ]
 none_before (inr h) = h
@@ -149,11 +102,11 @@ none_before (inr h) = h
 pub heard_if_listed : (k : Skeleton) (x : Node) (atoms : List AtomTerm) (v : AtomTerm) → atoms ≡ heard_before k x → IsIn v atoms → IsHeardAt k v x
 heard_if_listed k x atoms v e h =
     let trace = skeleton_trace_or_none (item_at k.strands x.strand) in
-    let i : IsIn v (heard_in (take x.index trace)) = none_before (once_only [] (heard_in (take x.index trace)) v (subst (IsIn v) e h)) in
+    let i : IsIn v (heard_in (take x.index trace)) = none_before (onto-only gathering [] (heard_in (take x.index trace)) v (subst (IsIn v) e h)) in
     let r : IsHeardBelow x.index trace v = heard_below v x.index trace i in
     record { index = r.0; earlier = r.1; received = r.2; reception = r.3; carried = r.4 }
 
 pub listed_if_heard : (k : Skeleton) (x : Node) (atoms : List AtomTerm) (v : AtomTerm) → atoms ≡ heard_before k x → IsHeardAt k v x → IsIn v atoms
 listed_if_heard k x atoms v e h =
     let trace = skeleton_trace_or_none (item_at k.strands x.strand) in
-    subst (IsIn v) (sym e) (once_has [] (heard_in (take x.index trace)) v (below_heard v x.index trace h.index h.received h.earlier h.reception (carried_listed v (atom_term v) h.received refl h.carried)))
+    subst (IsIn v) (sym e) (onto-takes gathering [] (heard_in (take x.index trace)) v (below_heard v x.index trace h.index h.received h.earlier h.reception (carried_listed v (atom_term v) h.received refl h.carried)))

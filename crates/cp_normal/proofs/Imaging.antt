@@ -1,17 +1,14 @@
--- Going along a list and putting the image of each item, where it is not there yet, gives its images; and for pairs those
--- that lie between different strands.
+-- Going along pairs and putting the image of each that lies between different strands, where it is not there yet, gives
+-- their images.
 use Rattle.std.proofs.Common.{◌≡◌, ◌≢◌, ◌⊎◌, inl, inr, ℕ, List, [], ◌∷◌, ◌++◌, sym, ap, ◌∙◌, subst}
 use Rattle.cp_model.specs.Lists.{IsIn, here}
 use Rattle.cp_model.specs.Skeleton.{OrderPair}
 use Rattle.cp_model.proofs.LawLists.{in_append_left, in_append_right, in_append}
 use Rattle.cp_normal.specs.Events.{Has}
-use Rattle.cp_normal.specs.Collapsing.{pair_in, LiesOnOne, AreImages, ArePairsIn}
+use Rattle.cp_normal.specs.Collapsing.{pair_in, LiesOnOne, ArePairsIn}
 use Rattle.cp_normal.proofs.Descending.{only}
 
 module _ {A B : Type 0} (f : A → B) where
-  pub images_none : AreImages f [] []
-  images_none y = (λ i. elim i [ ], λ h. elim h.1 [ ])
-
   has_more : (xs : List A) (x : A) (y : B) → Has (λ z. f z ≡ y) xs → Has (λ z. f z ≡ y) (xs ++ (x ∷ []))
   has_more xs x y h = (h.0, in_append_left (x ∷ []) h.1, h.2)
 
@@ -21,27 +18,6 @@ module _ {A B : Type 0} (f : A → B) where
       by : IsIn h.0 xs ⊎ IsIn h.0 (x ∷ []) → Has (λ z. f z ≡ y) xs ⊎ (f x ≡ y)
       by (inl i) = inl (h.0, i, h.2)
       by (inr i) = inr (ap f (sym (only i)) ∙ h.2)
-
-  module _ (xs : List A) (ys : List B) (x : A) (so_far : AreImages f xs ys) where
-    -- The image is put.
-    pub images_more : AreImages f (xs ++ (x ∷ [])) (ys ++ (f x ∷ []))
-    images_more y = (λ i. from (in_append ys (f x ∷ []) i), λ h. into (has_cases xs x y h))
-      where
-        from : IsIn y ys ⊎ IsIn y (f x ∷ []) → Has (λ z. f z ≡ y) (xs ++ (x ∷ []))
-        from (inl i) = has_more xs x y ((so_far y).0 i)
-        from (inr i) = (x, in_append_right xs here, sym (only i))
-
-        into : Has (λ z. f z ≡ y) xs ⊎ (f x ≡ y) → IsIn y (ys ++ (f x ∷ []))
-        into (inl h) = in_append_left (f x ∷ []) ((so_far y).1 h)
-        into (inr e) = in_append_right ys (subst (λ (z : B). IsIn z (f x ∷ [])) e here)
-
-    -- The image is there already.
-    pub images_again : IsIn (f x) ys → AreImages f (xs ++ (x ∷ [])) ys
-    images_again listed y = (λ i. has_more xs x y ((so_far y).0 i), λ h. into (has_cases xs x y h))
-      where
-        into : Has (λ z. f z ≡ y) xs ⊎ (f x ≡ y) → IsIn y ys
-        into (inl h) = (so_far y).1 h
-        into (inr e) = subst (λ (z : B). IsIn z ys) e listed
 
 module _ (p : List ℕ) where
   pub pairs_none : ArePairsIn p [] []

@@ -1,5 +1,5 @@
 -- One strand more, alone or in a block, as the program tries it.
-use Rattle.std.proofs.Common.{◌≡◌, inl, inr, ℕ, zero, suc, ◌<◌, ◌≤◌, ◌+◌, List, [], ◌∷◌, ◌++◌, Some, map, length, sym, ap, ◌∙◌, subst, arith}
+use Rattle.std.proofs.Common.{◌≡◌, inl, inr, ℕ, suc, ◌<◌, ◌≤◌, ◌+◌, List, [], ◌∷◌, ◌++◌, Some, map, length, sym, ap, ◌∙◌, subst, arith}
 use native.Mathlib.Decide.{ℕ_discrete}
 use Rattle.cp_model.specs.Lists.{item_at}
 use Rattle.cp_model.specs.Term.{Assignment}
@@ -8,15 +8,17 @@ use Rattle.cp_model.specs.Homomorphism.{substitution_by}
 use Rattle.cp_model.specs.Skeleton.{SkeletonStrand, instance, Skeleton}
 use Rattle.cp_model.proofs.LawLists.{item_below, map_of_item}
 use Rattle.cp_unify.specs.Bindings.{Binding, Meets}
-use Rattle.cp_skel.specs.View.{role_view, instance_view, strand_view}
+use Rattle.cp_skel.specs.Changing.{IsClosedPrefix}
+use Rattle.cp_skel.specs.DeclaredPrefixes.{HasDeclaredPrefixes}
+use Rattle.cp_skel.specs.View.{role_view, instance_view, strand_view, skeleton_view}
 use Rattle.cp_skel.specs.declared.skeleton.Instance.{Instance}
 use Rattle.cp_skel.specs.declared.skeleton.Strand.{Strand}
 use Rattle.cp_skel.specs.declared.skeleton.Strand.TheVariants as strands
+use Rattle.cp_skel.specs.declared.skeleton.Skeleton.{Skeleton as Program}
 use Rattle.cp_normal.specs.Extending.{IsPartitionOfFirst, IsExactFor, EqualAt, EqualsBlock}
 use Rattle.cp_normal.specs.Partials.{AlsoEqual, IsNever, MayNotJoin}
 use Rattle.cp_normal.specs.Partitions.{AreOfOneRole, IdentifiesValues}
 use Rattle.cp_normal.specs.Collapsing.{IsNeverIdentified}
-use Rattle.cp_normal.specs.Values.{listed_view, listed_view_of, HasValues, HaveValues}
 use Rattle.cp_normal.proofs.Exact.{exact_same}
 use Rattle.cp_normal.proofs.ExactBlocks.{exact_block_passes, exact_block_last}
 use Rattle.cp_normal.proofs.Joining.{equal_at_instances, block_takes, block_before, block_has, never_joined}
@@ -78,10 +80,9 @@ module _ (ss : List Strand) (s t : ℕ) (a b : Instance) (at : item_at ss s ≡ 
     pub exact_strands : (r : List Binding) → IsExactFor (AlsoEqual given a b) r → IsExactFor (λ g. Meets g given × EqualAt k s t g) r
     exact_strands r = exact_same (AlsoEqual given a b) (λ g. Meets g given × EqualAt k s t g) r to_strands of_strands
 
-pub values_at : (ss : List Strand) (s : ℕ) (a : Instance) → HaveValues (map listed_view ss) → item_at ss s ≡ Some (strands.Instance a) → HasValues (listed_view_of a)
-values_at [] s a h e = absurd (cc)
-values_at (x ∷ ss) zero a h e = let q : x ≡ strands.Instance a = cc in subst (λ (y : Strand). HasValues (listed_view y)) q h.0
-values_at (x ∷ ss) (suc s) a h e = values_at ss s a h.1 e
+-- The role of an instance declares the variables of its prefix.
+pub declared_at : (k : Program) (s : ℕ) (a : Instance) → HasDeclaredPrefixes (skeleton_view k) → item_at k.strands.items s ≡ Some (strands.Instance a) → IsClosedPrefix (role_view a.role.value) a.height
+declared_at k s a all e = all s (role_view a.role.value) a.height (substitution_by a.values.items) (map_of_item strand_view k.strands.items s (strands.Instance a) e)
 
 -- ---- strand by strand of a block
 

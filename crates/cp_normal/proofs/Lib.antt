@@ -6,9 +6,11 @@ pub mod Gathering
 pub mod Cycling
 pub mod Normalised
 pub mod Values
-pub mod Substituted
+pub mod Declared
+pub mod DeclaredTerms
 pub mod SameStrands
 pub mod Unifying
+pub mod OneUnifier
 pub mod SameFacts
 pub mod SameStandings
 pub mod SameSkeletons
@@ -29,10 +31,12 @@ pub mod Heard
 pub mod Strayed
 pub mod BranchLists
 pub mod Exactly
+pub mod TreeOfForms
 pub mod Following
 pub mod Gathered
 pub mod Ranked
 pub mod StrayedText
+pub mod AssumptionImages
 pub mod Merged
 pub mod MergedSkeletons
 pub mod Lowest
@@ -53,7 +57,6 @@ pub mod Determined
 pub mod ExactBlocks
 pub mod CyclesByPairs
 pub mod MadeByHand
-pub mod SameLists
 pub mod Prefixes
 pub mod Backward
 pub mod Joined

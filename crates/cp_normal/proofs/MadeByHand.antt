@@ -1,17 +1,18 @@
 -- Skeletons that are made by hand: their order, origins and terms.
-use Rattle.std.proofs.Common.{◌≡◌, ◌<◌, ◌⊎◌, inl, inr, ℕ, suc, [], ◌∷◌, List, Some, None, true, map, take, refl, sym, ap, ◌∙◌, subst, arith}
+use Rattle.std.proofs.Common.{◌≡◌, ◌<◌, ◌⊎◌, inl, inr, ℕ, zero, suc, [], ◌∷◌, List, Some, None, true, map, take, refl, sym, ap, ◌∙◌, subst, arith}
 use Rattle.cp_model.specs.Lists.{item_at, IsIn, here, there, one_step, more_steps}
 use Rattle.cp_model.specs.Bundle.{Node, node_at}
-use Rattle.cp_model.specs.Term.{Variable, AtomTerm, Term, atom_term, text_variable, name_variable, text_sort, name_sort, asymmetric_term, pubk_term, IsCarriedByTerm, itself_term, Substitution, apply_to}
-use Rattle.cp_model.specs.Strand.{Event, send, recv, event_map, Role, variables_of_trace}
+use Rattle.cp_model.specs.Term.{Sort, Variable, AtomTerm, Term, atom_term, text_variable, text_sort, name_sort, asymmetric_term, pubk_term, IsCarriedByTerm, itself_term, Substitution, apply_to}
+use Rattle.cp_model.specs.Strand.{Declaration, Event, send, recv, event_map, Role, variables_of_trace}
 use Rattle.cp_model.specs.Skeleton.{SkeletonStrand, instance, skeleton_trace_or_none, OrderPair, UniqueAt, Skeleton, OrderStep, along_strand_of, along_pair, Before, IsOrderPair, IsOrigin}
 use Rattle.cp_model.specs.Homomorphism.{substitution_by}
-use Rattle.cp_term.specs.Keys.{name_of, key_as_term}
+use Rattle.cp_model.specs.Problem.{declared_sort, IsDeclared}
+use Rattle.cp_term.specs.Keys.{key_as_term}
+use Rattle.cp_skel.specs.Changing.{IsClosedPrefix}
+use Rattle.cp_skel.specs.DeclaredPrefixes.{HasDeclaredPrefixes}
 use Rattle.cp_skel.specs.View.{strand_view, skeleton_view}
 use Rattle.cp_skel.specs.declared.skeleton.Skeleton as program
 use Rattle.cp_skel.specs.declared.skeleton.Strand.{Strand}
-use Rattle.cp_skel.specs.declared.skeleton.Strand.TheVariants as strands
-use Rattle.cp_normal.specs.Values.{ListedStrand, listed_instance, listed_listener, listed_view, HasValue, HasValues, HaveValues, HasItsValues}
 
 module _ (k : Skeleton) (none : k.pairs ≡ []) where
   pub no_pair : {A : Type 0} (p : OrderPair) → IsIn p k.pairs → A
@@ -33,15 +34,6 @@ module _ (k : Skeleton) (none : k.pairs ≡ []) where
 
   pub no_return : (n : Node) → Before k n n → ⊥
   no_return n h = let p : n.index < n.index = rises n n h in omega arith
-
--- A program's strand that is listed as an instance is that instance.
-pub instance_of_listed : (s : Strand) (r : Role) (h : ℕ) (ts : List Term) → listed_view s ≡ listed_instance r h ts → strand_view s ≡ instance r h (substitution_by ts)
-instance_of_listed (strands.Instance i) r h ts e = ap as_instance e
-  where
-    as_instance : ListedStrand → SkeletonStrand
-    as_instance (listed_instance role height terms) = instance role height (substitution_by terms)
-    as_instance (listed_listener t) = instance r h (substitution_by ts)
-instance_of_listed (strands.Listener t) r h ts e = absurd (cc)
 
 -- The value of the first event of an instance is sent at its first node.
 module _ (k : Skeleton) (n : ℕ) (v : AtomTerm) (r : Role) (h : ℕ) (s : Substitution) (t : Term) (rest : List (Event Term)) where
@@ -78,47 +70,82 @@ origins_of_two k us a b e o p u i = by_cases (first_or_later u a (b ∷ []) (sub
     by_cases (inl is) = subst (IsOrigin k) (sym is) o
     by_cases (inr j) = origins_of_one k (b ∷ []) b refl p u j
 
--- Values of the variables of the events.
-pub speaker_has_values : (s : ListedStrand) (r : Role) (n : ℕ) → r.trace ≡ send (atom_term (text_variable 0)) ∷ [] → s ≡ listed_instance r 1 (atom_term (text_variable n) ∷ []) → HasValues s
-speaker_has_values s r n trace e = subst HasValues (sym e) (λ x i. has x (subst (λ es. IsIn x (variables_of_trace (take 1 es))) trace i))
+-- The sorts of a role's variables.
+abbrev pub sorts_of : Role → List Sort
+sorts_of r = map (λ d. d.sort) r.variables
+
+sort_at : (ds : List Declaration) (n : ℕ) (s : Sort) → item_at (map (λ d. d.sort) ds) n ≡ Some s → declared_sort (item_at ds n) ≡ Some s
+sort_at [] n s e = absurd (cc)
+sort_at (d ∷ ds) zero s e = e
+sort_at (d ∷ ds) (suc n) s e = sort_at ds n s e
+
+-- If the strand is an instance, its role declares the variables of its prefix.
+abbrev pub Declares : SkeletonStrand → Type 0
+Declares st = (role : Role) (height : ℕ) (terms : Substitution) → st ≡ instance role height terms → IsClosedPrefix role height
+
+declares_this : (st : SkeletonStrand) (r : Role) (h : ℕ) (s : Substitution) → st ≡ instance r h s → IsClosedPrefix r h → Declares st
+declares_this st r h s e closed role height terms f =
+    let q : instance r h s ≡ instance role height terms = sym e ∙ f in
+    let same : r ≡ role = cc in
+    let high : h ≡ height = cc in
+    subst (λ (m : ℕ). IsClosedPrefix role m) high (subst (λ (x : Role). IsClosedPrefix x h) same closed)
+
+pub speaker_declares : (st : SkeletonStrand) (r : Role) (s : Substitution) → r.trace ≡ send (atom_term (text_variable 0)) ∷ [] → sorts_of r ≡ text_sort ∷ [] → st ≡ instance r 1 s → Declares st
+speaker_declares st r s trace sorts e = declares_this st r 1 s e (λ x i. has x (subst (λ es. IsIn x (variables_of_trace (take 1 es))) trace i))
   where
-    has : (x : Variable) → IsIn x (record { sort = text_sort; number = 0 } ∷ []) → HasValue (atom_term (text_variable n) ∷ []) x
-    has x here = record { atom = text_variable n; at_place = refl; of_sort = refl }
+    has : (x : Variable) → IsIn x (record { sort = text_sort; number = 0 } ∷ []) → IsDeclared r.variables x
+    has x here = sort_at r.variables 0 text_sort (ap (λ ss. item_at ss 0) sorts)
     has x (there j) = elim j [ ]
 
-pub betrayer_has_values : (s : ListedStrand) (r : Role) → r.trace ≡ send (key_as_term (asymmetric_term true (pubk_term None 0))) ∷ [] → s ≡ listed_instance r 1 (name_of 0 ∷ []) → HasValues s
-betrayer_has_values s r trace e = subst HasValues (sym e) (λ x i. has x (subst (λ es. IsIn x (variables_of_trace (take 1 es))) trace i))
+pub betrayer_declares : (st : SkeletonStrand) (r : Role) (s : Substitution) → r.trace ≡ send (key_as_term (asymmetric_term true (pubk_term None 0))) ∷ [] → sorts_of r ≡ name_sort ∷ [] → st ≡ instance r 1 s → Declares st
+betrayer_declares st r s trace sorts e = declares_this st r 1 s e (λ x i. has x (subst (λ es. IsIn x (variables_of_trace (take 1 es))) trace i))
   where
-    has : (x : Variable) → IsIn x (record { sort = name_sort; number = 0 } ∷ []) → HasValue (name_of 0 ∷ []) x
-    has x here = record { atom = name_variable 0; at_place = refl; of_sort = refl }
+    has : (x : Variable) → IsIn x (record { sort = name_sort; number = 0 } ∷ []) → IsDeclared r.variables x
+    has x here = sort_at r.variables 0 name_sort (ap (λ ss. item_at ss 0) sorts)
     has x (there j) = elim j [ ]
 
-pub repeater_has_values : (s : ListedStrand) (r : Role) → r.trace ≡ recv (atom_term (text_variable 0)) ∷ send (atom_term (text_variable 1)) ∷ [] → s ≡ listed_instance r 2 (atom_term (text_variable 1) ∷ atom_term (text_variable 0) ∷ []) → HasValues s
-repeater_has_values s r trace e = subst HasValues (sym e) (λ x i. has x (subst (λ es. IsIn x (variables_of_trace (take 2 es))) trace i))
+pub repeater_declares : (st : SkeletonStrand) (r : Role) (s : Substitution) → r.trace ≡ recv (atom_term (text_variable 0)) ∷ send (atom_term (text_variable 1)) ∷ [] → sorts_of r ≡ text_sort ∷ text_sort ∷ [] → st ≡ instance r 2 s → Declares st
+repeater_declares st r s trace sorts e = declares_this st r 2 s e (λ x i. has x (subst (λ es. IsIn x (variables_of_trace (take 2 es))) trace i))
   where
-    has : (x : Variable) → IsIn x (record { sort = text_sort; number = 0 } ∷ record { sort = text_sort; number = 1 } ∷ []) → HasValue (atom_term (text_variable 1) ∷ atom_term (text_variable 0) ∷ []) x
-    has x here = record { atom = text_variable 1; at_place = refl; of_sort = refl }
-    has x (there here) = record { atom = text_variable 0; at_place = refl; of_sort = refl }
+    has : (x : Variable) → IsIn x (record { sort = text_sort; number = 0 } ∷ record { sort = text_sort; number = 1 } ∷ []) → IsDeclared r.variables x
+    has x here = sort_at r.variables 0 text_sort (ap (λ ss. item_at ss 0) sorts)
+    has x (there here) = sort_at r.variables 1 text_sort (ap (λ ss. item_at ss 1) sorts)
     has x (there (there j)) = elim j [ ]
+
+-- The roles of the instances among the strands declare the variables of their prefixes.
+abbrev AllDeclare : List SkeletonStrand → Type 0
+AllDeclare ss = (n : ℕ) (role : Role) (height : ℕ) (terms : Substitution) → item_at ss n ≡ Some (instance role height terms) → IsClosedPrefix role height
+
+none_declare : AllDeclare []
+none_declare n role height terms e = absurd (cc)
+
+one_declares : (st : SkeletonStrand) (ss : List SkeletonStrand) → Declares st → AllDeclare ss → AllDeclare (st ∷ ss)
+one_declares st ss d all zero role height terms e = let q : st ≡ instance role height terms = cc in d role height terms q
+one_declares st ss d all (suc n) role height terms e = all n role height terms e
+
+pub declared_of_one : (k : program.Skeleton) (a : Strand) → k.strands.items ≡ a ∷ [] → Declares (strand_view a) → HasDeclaredPrefixes (skeleton_view k)
+declared_of_one k a e p = subst (λ ss. AllDeclare (map strand_view ss)) (sym e) (one_declares (strand_view a) [] p none_declare)
+
+pub declared_of_three : (k : program.Skeleton) (a b c : Strand) → k.strands.items ≡ a ∷ b ∷ c ∷ [] → Declares (strand_view a) → Declares (strand_view b) → Declares (strand_view c) → HasDeclaredPrefixes (skeleton_view k)
+declared_of_three k a b c e p q r =
+    subst (λ ss. AllDeclare (map strand_view ss)) (sym e)
+    (one_declares (strand_view a) (strand_view b ∷ strand_view c ∷ []) p (one_declares (strand_view b) (strand_view c ∷ []) q (one_declares (strand_view c) [] r none_declare)))
 
 -- The strand sends the text with this number, the only event of its role.
 abbrev pub Speaks : ℕ → Strand → Type 0
-Speaks n s = (r : Role) × (r.trace ≡ send (atom_term (text_variable 0)) ∷ []) × (listed_view s ≡ listed_instance r 1 (atom_term (text_variable n) ∷ []))
+Speaks n s = (r : Role) × (r.trace ≡ send (atom_term (text_variable 0)) ∷ []) × (sorts_of r ≡ text_sort ∷ []) × (strand_view s ≡ instance r 1 (substitution_by (atom_term (text_variable n) ∷ [])))
 
-pub values_of_one : (k : program.Skeleton) (a : Strand) → k.strands.items ≡ a ∷ [] → HasValues (listed_view a) → HasItsValues k
-values_of_one k a e p = subst (λ ss. HaveValues (map listed_view ss)) (sym e) (p, tt)
-
-pub values_of_three : (k : program.Skeleton) (a b c : Strand) → k.strands.items ≡ a ∷ b ∷ c ∷ [] → HasValues (listed_view a) → HasValues (listed_view b) → HasValues (listed_view c) → HasItsValues k
-values_of_three k a b c e p q r = subst (λ ss. HaveValues (map listed_view ss)) (sym e) (p, (q, (r, tt)))
+pub speaks_declared : (n : ℕ) (s : Strand) → Speaks n s → Declares (strand_view s)
+speaks_declared n s (r, trace, sorts, is) = speaker_declares (strand_view s) r (substitution_by (atom_term (text_variable n) ∷ [])) trace sorts is
 
 module _ (k : program.Skeleton) (a b : Strand) (are : k.strands.items ≡ a ∷ b ∷ []) where
-  pub values_of_two : HasValues (listed_view a) → HasValues (listed_view b) → HasItsValues k
-  values_of_two p q = subst (λ ss. HaveValues (map listed_view ss)) (sym are) (p, (q, tt))
+  pub declared_of_two : Declares (strand_view a) → Declares (strand_view b) → HasDeclaredPrefixes (skeleton_view k)
+  declared_of_two p q = subst (λ ss. AllDeclare (map strand_view ss)) (sym are) (one_declares (strand_view a) (strand_view b ∷ []) p (one_declares (strand_view b) [] q none_declare))
 
   pub origin_at_zero : (n : ℕ) → Speaks n a → IsOrigin (skeleton_view k) (record { value = text_variable n; origin = node_at 0 0 })
-  origin_at_zero n (r, trace, listed) = origin_at_first (skeleton_view k) 0 (text_variable n) r 0 (substitution_by (atom_term (text_variable n) ∷ [])) (atom_term (text_variable 0)) []
-      (ap (λ ss. item_at (map strand_view ss) 0) are ∙ ap Some (instance_of_listed a r 1 (atom_term (text_variable n) ∷ []) listed)) trace refl
+  origin_at_zero n (r, trace, sorts, is) = origin_at_first (skeleton_view k) 0 (text_variable n) r 0 (substitution_by (atom_term (text_variable n) ∷ [])) (atom_term (text_variable 0)) []
+      (ap (λ ss. item_at (map strand_view ss) 0) are ∙ ap Some is) trace refl
 
   pub origin_at_one : (n : ℕ) → Speaks n b → IsOrigin (skeleton_view k) (record { value = text_variable n; origin = node_at 1 0 })
-  origin_at_one n (r, trace, listed) = origin_at_first (skeleton_view k) 1 (text_variable n) r 0 (substitution_by (atom_term (text_variable n) ∷ [])) (atom_term (text_variable 0)) []
-      (ap (λ ss. item_at (map strand_view ss) 1) are ∙ ap Some (instance_of_listed b r 1 (atom_term (text_variable n) ∷ []) listed)) trace refl
+  origin_at_one n (r, trace, sorts, is) = origin_at_first (skeleton_view k) 1 (text_variable n) r 0 (substitution_by (atom_term (text_variable n) ∷ [])) (atom_term (text_variable 0)) []
+      (ap (λ ss. item_at (map strand_view ss) 1) are ∙ ap Some is) trace refl

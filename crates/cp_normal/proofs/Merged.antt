@@ -14,6 +14,7 @@ use Rattle.cp_completeness.proofs.Values.{in_trace}
 use Rattle.cp_completeness.proofs.Mapped.{agree_term}
 use Rattle.cp_normal.specs.Partitions.{place_in, node_in}
 use Rattle.cp_normal.specs.Collapsing.{onto_blocks, unique_in, pair_in, IsCollapsed}
+use Rattle.cp_normal.proofs.AssumptionImages.{assumptions_are}
 
 -- An event under two substitutions one after the other, and under one that agrees.
 event_agrees : (s f t : Substitution) (e : Event Term) → AgreeOnTerms (variables_of (payload e)) (composed s f) t → event_map (apply_to t) e ≡ event_map (apply_to f) (event_map (apply_to s) e)
@@ -72,7 +73,7 @@ module _ (k l : Skeleton) (p : List ℕ) (c : IsCollapsed k p l) where
       instances = c.instances;
       listeners = c.listeners;
       ordered = λ x y before. before_in before;
-      non = λ v inv. (c.assumptions.non (apply_to_atom c.unifier v)).1 (v, inv, refl);
-      penetrator_non = λ v inv. (c.assumptions.penetrator_non (apply_to_atom c.unifier v)).1 (v, inv, refl);
-      unique = λ u inu. (c.assumptions.unique (unique_in p c.unifier u)).1 (u, inu, refl);
+      non = λ v inv. ((assumptions_are k l p c).non (apply_to_atom c.unifier v)).1 (v, inv, refl);
+      penetrator_non = λ v inv. ((assumptions_are k l p c).penetrator_non (apply_to_atom c.unifier v)).1 (v, inv, refl);
+      unique = λ u inu. ((assumptions_are k l p c).unique (unique_in p c.unifier u)).1 (u, inu, refl);
     }

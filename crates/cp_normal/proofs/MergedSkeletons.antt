@@ -10,6 +10,7 @@ use Rattle.cp_completeness.proofs.Mapped.{agree_atom}
 use Rattle.cp_completeness.proofs.Skeletons.{carried_under}
 use Rattle.cp_normal.specs.Partitions.{place_in}
 use Rattle.cp_normal.specs.Collapsing.{unique_in, pair_in, HasInstance, IsCollapsed, HasNoCycle}
+use Rattle.cp_normal.proofs.AssumptionImages.{assumptions_are}
 use Rattle.cp_normal.proofs.SameSkeletons.{applies_at}
 use Rattle.cp_normal.proofs.Merged.{event_in}
 
@@ -44,7 +45,7 @@ module _ (k l : Skeleton) (p : List ℕ) (c : IsCollapsed k p l) where
       }
 
   merged_origins : ((u : UniqueAt) → IsIn u k.assumptions.uniquely_originating → IsOrigin k u) → (w : UniqueAt) → IsIn w l.assumptions.uniquely_originating → IsOrigin l w
-  merged_origins origins w inw = let h = (c.assumptions.unique w).0 inw in subst (IsOrigin l) h.2 (origin_goes h.0 (origins h.0 h.1))
+  merged_origins origins w inw = let h = ((assumptions_are k l p c).unique w).0 inw in subst (IsOrigin l) h.2 (origin_goes h.0 (origins h.0 h.1))
 
   -- What the merged strand's role gives, an instance of the block gave already.
   module _ (place : ℕ) (role : Role) (height : ℕ) (terms : Substitution) (at : item_at l.strands place ≡ Some (instance role height terms)) where
@@ -62,10 +63,10 @@ module _ (k l : Skeleton) (p : List ℕ) (c : IsCollapsed k p l) where
 
     merged_gives : GivesAssumptions k one.strand role height one.terms → GivesAssumptions l place role height terms
     merged_gives gives = record {
-      non = λ v inv applies. (c.assumptions.non (apply_to_atom terms v)).1 (apply_to_atom one.terms v, gives.non v inv applies, same_value v applies);
-      penetrator_non = λ v inv applies. (c.assumptions.penetrator_non (apply_to_atom terms v)).1 (apply_to_atom one.terms v, gives.penetrator_non v inv applies, same_value v applies);
+      non = λ v inv applies. ((assumptions_are k l p c).non (apply_to_atom terms v)).1 (apply_to_atom one.terms v, gives.non v inv applies, same_value v applies);
+      penetrator_non = λ v inv applies. ((assumptions_are k l p c).penetrator_non (apply_to_atom terms v)).1 (apply_to_atom one.terms v, gives.penetrator_non v inv applies, same_value v applies);
       unique = λ v i inv applies.
-          (c.assumptions.unique (record { value = apply_to_atom terms v; origin = node_at place i })).1 (
+          ((assumptions_are k l p c).unique (record { value = apply_to_atom terms v; origin = node_at place i })).1 (
             record { value = apply_to_atom one.terms v; origin = node_at one.strand i },
             gives.unique v i inv applies,
             λ j. record { value = same_value v (applies_at role height v i applies) j; origin = node_at (one.at_place j) i },

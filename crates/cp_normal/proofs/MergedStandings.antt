@@ -15,6 +15,7 @@ use Rattle.cp_model.proofs.LawStandings.{strand_of_event}
 use Rattle.cp_completeness.proofs.Pairs.{ordered, no_cycle}
 use Rattle.cp_normal.specs.Partitions.{lowest_before, place_in, node_in}
 use Rattle.cp_normal.specs.Collapsing.{IsCollapsed}
+use Rattle.cp_normal.proofs.AssumptionImages.{assumptions_are}
 use Rattle.cp_normal.proofs.Lowest.{low}
 use Rattle.cp_normal.proofs.Places.{own_entry, own_beyond, taken, lowest_of, lowest_of_place, place_of_entry, place_beyond, place_of_own}
 use Rattle.cp_normal.proofs.StandingPartition.{partition, is_partition, one_entry, alike_or_same, at_partition, partition_at, values_identified, together, goes_where_low_goes}
@@ -64,7 +65,7 @@ module _ (k : Skeleton) (b : Bundle) (h : Standing) (stands : StandsIn k b h) wh
     abbrev f : Substitution
     f = c.unifier
 
-    same_term : (t : Term) → value_of h.values (apply_to f t) ≡ value_of h.values t
+    pub same_term : (t : Term) → value_of h.values (apply_to f t) ≡ value_of h.values t
     same_term t = sym (value_after h.values f t) ∙ c.most_general.general h.values (values_identified k h b stands) t
 
     same_atom : (v : AtomTerm) → value_of_atom h.values (apply_to_atom f v) ≡ value_of_atom h.values v
@@ -131,7 +132,7 @@ module _ (k : Skeleton) (b : Bundle) (h : Standing) (stands : StandsIn k b h) wh
 
       unique_stands : (w : UniqueAt) → IsIn w l.assumptions.uniquely_originating → KeepsUnique b.strands (atom (value_of_atom h.values w.value)) (image_of l on_blocks w.origin)
       unique_stands w inw =
-          let u = (c.assumptions.unique w).0 inw in
+          let u = ((assumptions_are k l p c).unique w).0 inw in
           let o = sk.origins u.0 u.1 in
           subst (λ (d : UniqueAt). KeepsUnique b.strands (atom (value_of_atom h.values d.value)) (image_of l on_blocks d.origin)) u.2
           (subst₂ (λ (a : Atom) (n : Node). KeepsUnique b.strands (atom a) n) (sym (same_atom u.0.value)) (sym (image_there u.0.origin (instance o.role o.height o.terms) o.on_instance)) (stands.unique u.0 u.1))
@@ -142,10 +143,10 @@ module _ (k : Skeleton) (b : Bundle) (h : Standing) (stands : StandsIn k b h) wh
         listeners = listener_stands;
         ordered = ordered l b on_blocks instance_stands merged_precedes;
         non = λ v inv.
-            let w = (c.assumptions.non v).0 inv in
+            let w = ((assumptions_are k l p c).non v).0 inv in
             subst (λ (a : Atom). KeepsNon b.strands (atom a)) (sym (same_atom w.0) ∙ ap (value_of_atom h.values) w.2) (stands.non w.0 w.1);
         penetrator_non = λ v inv.
-            let w = (c.assumptions.penetrator_non v).0 inv in
+            let w = ((assumptions_are k l p c).penetrator_non v).0 inv in
             subst (λ (a : Atom). KeepsPenetratorNon b.strands (atom a)) (sym (same_atom w.0) ∙ ap (value_of_atom h.values) w.2) (stands.penetrator_non w.0 w.1);
         unique = unique_stands;
       }

@@ -1,19 +1,19 @@
 -- Merged strands are those of a collapsed skeleton: each instance goes to the tallest of its block, and listeners stay.
 use Rattle.std.proofs.Common.{◌≡◌, ◌⊎◌, inl, inr, ℕ, ◌<◌, List, Some, length, refl, sym, ap, ◌∙◌, arith, None}
 use native.Mathlib.Decide.{ℕ_discrete}
-use Rattle.cp_model.specs.Lists.{item_at, IsIn}
+use Rattle.cp_model.specs.Lists.{item_at}
 use Rattle.cp_model.specs.Term.{Term, Substitution, apply_to, composed}
 use Rattle.cp_model.specs.Strand.{Role}
-use Rattle.cp_model.specs.Skeleton.{SkeletonStrand, instance, listener, OrderPair, Skeleton}
+use Rattle.cp_model.specs.Skeleton.{SkeletonStrand, instance, listener, Skeleton}
 use Rattle.cp_model.specs.Homomorphism.{GoesToInstance}
 use Rattle.cp_model.proofs.LawLists.{item_below, item_there, variables_of_higher}
 use Rattle.cp_completeness.specs.Normal.{strand_under}
-use Rattle.cp_normal.specs.Partitions.{IsPartition, place_in, Identifies, IdentifiesValues}
-use Rattle.cp_normal.specs.Collapsing.{onto_blocks, HasInstance, ArePairsIn, LiesOnOne, AreAssumptionsIn, IsFromProblemIn, IsCollapsed}
+use Rattle.cp_normal.specs.Partitions.{IsPartition, blocks, place_in, Identifies, IdentifiesValues}
+use Rattle.cp_normal.specs.Collapsing.{onto_blocks, HasInstance}
 use Rattle.cp_normal.specs.Extending.{IsExactFor}
 use Rattle.cp_normal.specs.Merging.{IsMergedAt, AreMergedTo}
 use Rattle.cp_unify.specs.Bindings.{Binding, as_substitution}
-use Rattle.cp_normal.proofs.Exact.{exact_identifies, exact_is_most_general}
+use Rattle.cp_normal.proofs.Exact.{exact_identifies}
 use Rattle.cp_normal.proofs.Places.{entry_of_own, taken, place_of_entry}
 
 -- What an instance under a substitution was.
@@ -86,19 +86,18 @@ module _ (k l : Skeleton) (p : List ℕ) (f : Substitution) (part : IsPartition 
       let is : m.strand ≡ listener t = cc in
       ap (item_at l.strands) (place_of_entry p s s here) ∙ m.merged ∙ ap (λ (st : SkeletonStrand). Some (strand_under f st)) is
 
--- A skeleton with merged strands, and with the images of all else, is collapsed.
-pub is_collapsed : (k l : Skeleton) (p : List ℕ) (r : List Binding) → IsPartition k p → IsExactFor (IdentifiesValues k p) r → AreMergedTo k p (as_substitution r) (length p) l.strands →
-    ArePairsIn p k.pairs l.pairs → ((q : OrderPair) → IsIn q k.pairs → LiesOnOne p q → q.earlier.index < q.later.index) →
-    AreAssumptionsIn p (as_substitution r) k.assumptions l.assumptions → IsFromProblemIn p (as_substitution r) k.from_problem l.from_problem → IsCollapsed k p l
-is_collapsed k l p r part exact merged pairs forward assumptions from_problem = record {
-  unifier = as_substitution r;
-  most_general = exact_is_most_general k p r exact;
+-- The strands of l are those of k merged by the partition, under the substitution.
+pub record HasMergedStrands (k : Skeleton) (p : List ℕ) (f : Substitution) (l : Skeleton) : Type 0 where
+  pub count : length l.strands ≡ blocks p
+  pub instances : (s : ℕ) (role : Role) (height : ℕ) (terms : Substitution) → item_at k.strands s ≡ Some (instance role height terms) → GoesToInstance l (onto_blocks p f) s role height terms
+  pub tallest : (place : ℕ) (role : Role) (height : ℕ) (terms : Substitution) → item_at l.strands place ≡ Some (instance role height terms) → HasInstance k p place role height
+  pub listeners : (s : ℕ) (t : Term) → item_at k.strands s ≡ Some (listener t) → item_at l.strands (place_in p s) ≡ Some (listener (apply_to f t))
+
+pub has_merged_strands : (k l : Skeleton) (p : List ℕ) (r : List Binding) → IsPartition k p → IsExactFor (IdentifiesValues k p) r → AreMergedTo k p (as_substitution r) (length p) l.strands →
+    HasMergedStrands k p (as_substitution r) l
+has_merged_strands k l p r part exact merged = record {
   count = merged.count;
   instances = merged_instances k l p (as_substitution r) part merged (exact_identifies k p r exact);
   tallest = merged_tallest k l p (as_substitution r) part merged;
   listeners = merged_listeners k l p (as_substitution r) part merged;
-  pairs = pairs;
-  forward = forward;
-  assumptions = assumptions;
-  from_problem = from_problem;
 }

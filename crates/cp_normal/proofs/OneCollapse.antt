@@ -9,9 +9,9 @@ use Rattle.cp_model.specs.Homomorphism.{GoesToInstance}
 use Rattle.cp_completeness.specs.Example.{repeater}
 use Rattle.cp_unify.specs.Bindings.{Binding, Meets}
 use Rattle.cp_normal.specs.Partitions.{AreOfOneRole, IsPartition, finest, HaveEqualValues, IdentifiesValues}
-use Rattle.cp_normal.specs.Collapsing.{IsMostGeneralOn, onto_blocks, AreImages, ArePairsIn, unique_in, AreAssumptionsIn, HasInstance, IsCollapsed, no_collapses, collapse_by, AreCollapses}
+use Rattle.cp_normal.specs.Collapsing.{IsMostGeneralOn, onto_blocks, ArePairsIn, HasInstance, IsCollapsed, no_collapses, collapse_by, AreCollapses}
 use Rattle.cp_normal.specs.Extending.{IsPartitionOfFirst, IsExactFor}
-use Rattle.cp_normal.specs.CollapsingExample.{other_texts, two_repeaters, same_heard, one_repeater, no_assumptions}
+use Rattle.cp_normal.specs.CollapsingExample.{other_texts, two_repeaters, same_heard, one_repeater}
 use Rattle.cp_normal.proofs.Descending.{only}
 use Rattle.cp_normal.proofs.Extended.{extended_is_partition}
 use Rattle.cp_normal.proofs.Exact.{exact_is_most_general}
@@ -91,6 +91,7 @@ exact = record {
   met = λ g. (refl, tt);
   sound = identified;
   general = λ g f. (sym (f 0 1 repeater 1 unchanged 2 other_texts refl refl (0, refl, refl) heard_text here here), tt);
+  later_to_earlier = (omega arith, tt);
 }
 
 most_general : IsMostGeneralOn two_repeaters together same_heard
@@ -110,12 +111,6 @@ tallest zero role height terms e =
     subst (λ x. HasInstance two_repeaters together 0 x height) a (subst (λ x. HasInstance two_repeaters together 0 repeater x) b (record { strand = 1; terms = other_texts; at_place = refl; on_instance = refl }))
 tallest (suc place) role height terms e = absurd (cc)
 
-no_images : {A B : Type 0} (f : A → B) → AreImages f [] []
-no_images f y = (λ i. elim i [ ], λ h. elim h.1 [ ])
-
-no_assumption : AreAssumptionsIn together same_heard no_assumptions no_assumptions
-no_assumption = record { non = no_images (apply_to_atom same_heard); penetrator_non = no_images (apply_to_atom same_heard); unique = no_images (unique_in together same_heard) }
-
 no_pair : ArePairsIn together [] []
 no_pair r = (λ i. elim i [ ], λ h. elim h.0.1 [ ])
 
@@ -129,8 +124,8 @@ collapsed = record {
   listeners = λ s t e. absurd (no_listener s t e);
   pairs = no_pair;
   forward = λ q i. elim i [ ];
-  assumptions = no_assumption;
-  from_problem = record { strands = refl; values = refl; assumptions = no_assumption; pairs = no_pair };
+  assumptions = refl;
+  from_problem = record { strands = refl; values = refl; assumptions = refl; pairs = no_pair };
 }
 
 step_rises : {x y : Node} → OrderStep one_repeater x y → x.index < y.index

@@ -1,12 +1,12 @@
--- Putting images one by one, each once.
+-- Putting images of pairs one by one, each once.
 use Rattle.std.proofs.Common.{◌≡◌, inl, inr, ℕ, zero, suc, ◌≤◌, ◌+◌, List, [], ◌∷◌, ◌++◌, Some, map, take, length, refl, sym, ap, ◌∙◌, subst, arith}
 use Rattle.std.proofs.lemmas.List.{map-append}
 use Rattle.cp_model.specs.Lists.{item_at, IsIn, here, there}
 use Rattle.cp_model.specs.Skeleton.{OrderPair}
-use Rattle.cp_normal.specs.Collapsing.{pair_in, LiesOnOne, AreImages, ArePairsIn}
+use Rattle.cp_normal.specs.Collapsing.{pair_in, LiesOnOne, ArePairsIn}
 use Rattle.cp_normal.specs.Events.{Has}
 use Rattle.cp_normal.specs.Merging.{IsPutOnce}
-use Rattle.cp_normal.proofs.Imaging.{images_none, images_more, images_again, pairs_none, pairs_more, pairs_again, pairs_dropped}
+use Rattle.cp_normal.proofs.Imaging.{pairs_none, pairs_more, pairs_again, pairs_dropped}
 
 take_to : {A : Type 0} (xs : List A) (i : ℕ) (x : A) → item_at xs i ≡ Some x → take (suc i) xs ≡ take i xs ++ (x ∷ [])
 take_to [] i x e = absurd (cc)
@@ -32,20 +32,6 @@ listed_stays v x old new e h = inr (ap (map v) e, subst (λ z. IsIn z (map v old
 
 pub other_put : {A B : Type 0} (v : A → B) (x : A) (old new : List A) → new ≡ old ++ (x ∷ []) → IsPutOnce (v x) (map v old) (map v new)
 other_put v x old new e = inl (ap (map v) e ∙ map-append v old (x ∷ []))
-
-pub stays : {A : Type 0} (x : A) (old new : List A) → new ≡ old → Has (λ y. y ≡ x) old → IsPutOnce x old new
-stays x old new e h = inr (e, subst (λ z. IsIn z old) h.2 h.1)
-
-module _ {A B : Type 0} (f : A → B) (xs : List A) where
-  pub images_first : (ys : List B) → ys ≡ [] → AreImages f (take 0 xs) ys
-  images_first ys e = subst (AreImages f []) (sym e) (images_none f)
-
-  pub image_put : (i : ℕ) (x : A) (y : B) (ys new : List B) → item_at xs i ≡ Some x → y ≡ f x → AreImages f (take i xs) ys → IsPutOnce y ys new → AreImages f (take (i + 1) xs) new
-  image_put i x y ys new at e so_far (inl put) = subst (λ zs. AreImages f zs new) (take_next xs i x at) (subst (AreImages f (take i xs ++ (x ∷ []))) (ap (λ z. ys ++ (z ∷ [])) (sym e) ∙ sym put) (images_more f (take i xs) ys x so_far))
-  image_put i x y ys new at e so_far (inr again) = subst (λ zs. AreImages f zs new) (take_next xs i x at) (subst (AreImages f (take i xs ++ (x ∷ []))) (sym again.0) (images_again f (take i xs) ys x so_far (subst (λ z. IsIn z ys) e again.1)))
-
-  pub images_all : (i : ℕ) (ys : List B) → length xs ≤ i → AreImages f (take i xs) ys → AreImages f xs ys
-  images_all i ys l so_far = subst (λ zs. AreImages f zs ys) (take_whole xs i l) so_far
 
 module _ (p : List ℕ) (qs : List OrderPair) where
   pub pairs_first : (rs : List OrderPair) → rs ≡ [] → ArePairsIn p (take 0 qs) rs

@@ -6,6 +6,7 @@ use Rattle.cp_model.specs.Skeleton.{Skeleton, OrderPair, UniqueAt, Before, IsOrd
 use Rattle.cp_model.specs.Strand.{Protocol}
 use Rattle.cp_model.specs.Problem.{variables_of_skeleton}
 use Rattle.cp_completeness.specs.Normal.{LosesNoStanding}
+use Rattle.cp_skel.specs.DeclaredPrefixes.{HasDeclaredPrefixes}
 use Rattle.cp_skel.specs.View.{skeleton_view}
 use Rattle.cp_skel.specs.declared.skeleton.Skeleton.{Skeleton as Program}
 use Rattle.cp_normal.specs.declared.candidates.Candidate.{Candidate}
@@ -15,7 +16,6 @@ use Rattle.cp_normal.specs.Narrowing.{IsNormalFormOf}
 use Rattle.cp_normal.specs.Candidates.{skeleton_of, candidate_view, IsOpen, IsSound, FallsTo, IsRound, IsInOrder, AreForms}
 use Rattle.cp_normal.specs.Events.{Has}
 use Rattle.cp_normal.specs.Exact.{HaveForms}
-use Rattle.cp_normal.specs.Values.{HasItsValues}
 use Rattle.cp_normal.proofs.Distinct.{distinct}
 use Rattle.cp_normal.proofs.Fewer.{fewer_counted}
 use Rattle.cp_normal.proofs.Greatest.{greatest, greatest_falls}
@@ -59,16 +59,16 @@ only_one : {A : Type 0} {x y : A} → IsIn y (x ∷ []) → x ≡ y
 only_one here = refl
 only_one (there i) = elim i [ ]
 
-reached_first : (k : Program) → HasItsValues k → IsReached k (Open k ∷ [])
-reached_first k values = record {
+reached_first : (k : Program) → HasDeclaredPrefixes (skeleton_view k) → IsReached k (Open k ∷ [])
+reached_first k declared = record {
   narrowed = narrowed_at_first (skeleton_view k);
   exact = λ rs h. h;
-  sound = λ c i. subst IsSound (only_one i) values;
+  sound = λ c i. subst IsSound (only_one i) declared;
   variables = λ c i. subst (λ (d : Candidate). (skeleton_of d).variables ≡ k.variables) (only_one i) refl;
 }
 
-pub reached_at_first : (k : Program) (candidates : List Candidate) → HasItsValues k → candidates ≡ Open k ∷ [] → IsReached k candidates
-reached_at_first k candidates values e = subst (IsReached k) (sym e) (reached_first k values)
+pub reached_at_first : (k : Program) (candidates : List Candidate) → HasDeclaredPrefixes (skeleton_view k) → candidates ≡ Open k ∷ [] → IsReached k candidates
+reached_at_first k candidates declared e = subst (IsReached k) (sym e) (reached_first k declared)
 
 pub reached_next : (k : Program) (old new : List Candidate) → IsReached k old → IsRound old new → IsReached k new
 reached_next k old new reached r = record {
@@ -82,7 +82,7 @@ reached_next k old new reached r = record {
 
 settled_of : (c : Candidate) → (IsOpen c → ⊥) → IsSound c → IsSettled (candidate_view c)
 settled_of (Open k) not sound = absurd (not tt)
-settled_of (Settled k) not sound = sound.1
+settled_of (Settled k) not sound = sound
 
 module _ (k : Program) (candidates : List Candidate) (reached : IsReached k candidates) where
   module _ (none : Has IsOpen candidates → ⊥) where

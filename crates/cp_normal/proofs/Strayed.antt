@@ -4,7 +4,9 @@ use Rattle.cp_model.specs.Lists.{item_at, IsIn, here, there}
 use Rattle.cp_model.specs.Term.{AtomTerm, Term, atom_term, IsCarriedByTerm}
 use Rattle.cp_model.specs.Strand.{Event, send, payload}
 use Rattle.cp_model.specs.Bundle.{Node, node_at}
+use Rattle.cp_model.specs.Given.{listed}
 use Rattle.cp_model.specs.Skeleton.{SkeletonStrand, skeleton_trace, term_event_at, UniqueAt, Skeleton}
+use Rattle.cp_skel.proofs.EachOnce.{listed-unique}
 use Rattle.cp_normal.specs.Events.{Occurrence, occurrences_on, occurrences_from}
 use Rattle.cp_normal.specs.Narrowing.{IsStray}
 use Rattle.cp_normal.specs.Branching.{IsSettled}
@@ -75,8 +77,8 @@ pub first_found : {A : Type 0} (f : A → UniqueAt) (k : Skeleton) (x : Node) (x
     NoneBefore (Strays k x) (map f xs) i → IsFirstAt k x (map f xs) v
 first_found f k x xs i u d v l e s q inv = record { place = i; entry = f u; at_place = viewed_at f xs i u d l e; strays = s; is_value = q; first = inv }
 
-pub none_of_entries : (k : Skeleton) (o : Occurrence) (us : List UniqueAt) → us ≡ k.assumptions.uniquely_originating → ((u : UniqueAt) → IsIn u us → Strays k o.node u → ⊥) → StraysOne k o → ⊥
-none_of_entries k o us same none h = none h.0 (subst (IsIn h.0) (sym same) h.1) h.2
+pub none_of_entries : (k : Skeleton) (o : Occurrence) (us : List UniqueAt) → us ≡ (listed k).uniquely_originating → ((u : UniqueAt) → IsIn u us → Strays k o.node u → ⊥) → StraysOne k o → ⊥
+none_of_entries k o us same none h = none h.0 (subst (IsIn h.0) (sym same) (((listed-unique k).same h.0).1 h.1)) h.2
 
 -- ---- the order of the events
 
@@ -142,16 +144,16 @@ in_order s (x ∷ xs) i j o p earlier a b =
 
 -- ---- all events
 
-module _ {A : Type 0} (f : A → Occurrence) (k : Skeleton) (xs : List A) (listed : map f xs ≡ occurrences_from 0 k.strands) where
+module _ {A : Type 0} (f : A → Occurrence) (k : Skeleton) (xs : List A) (events : map f xs ≡ occurrences_from 0 k.strands) where
   stray_listed : (u : UniqueAt) (y : Node) (stray : IsStray k u y) → IsIn (record { node = y; event = send stray.originates.1.sent }) (map f xs)
-  stray_listed u y stray = subst (IsIn (record { node = y; event = send stray.originates.1.sent })) (sym listed) (listed_of_event k.strands y (send stray.originates.1.sent) stray.originates.1.transmission)
+  stray_listed u y stray = subst (IsIn (record { node = y; event = send stray.originates.1.sent })) (sym events) (listed_of_event k.strands y (send stray.originates.1.sent) stray.originates.1.transmission)
 
   pub none_strays : (i : ℕ) → length xs ≤ i → NoneBefore (StraysOne k) (map f xs) i → IsSettled k
   none_strays i l inv u y stray =
       none_at_all (StraysOne k) f xs i l inv (record { node = y; event = send stray.originates.1.sent }) (stray_listed u y stray) (u, stray.listed, (stray.elsewhere, stray.originates))
 
   pub event_listed : (i : ℕ) (x : A) → i < length xs → x ≡ get_or xs i x → IsIn (f x) (occurrences_from 0 k.strands)
-  event_listed i x l e = subst (IsIn (f x)) listed (into (item_is_in xs i x l e))
+  event_listed i x l e = subst (IsIn (f x)) events (into (item_is_in xs i x l e))
     where
       into : {x : A} {xs : List A} → IsIn x xs → IsIn (f x) (map f xs)
       into here = here
@@ -161,11 +163,11 @@ module _ {A : Type 0} (f : A → Occurrence) (k : Skeleton) (xs : List A) (liste
   earliest_found i x d l e inv u y stray earlier =
       let o : Occurrence = record { node = y; event = send stray.originates.1.sent } in
       let r = place_of (map f xs) (stray_listed u y stray) in
-      let at_o : item_at (occurrences_from 0 k.strands) r.0 ≡ Some o = subst (λ (os : List Occurrence). item_at os r.0 ≡ Some o) listed r.1 in
-      let at_x : item_at (occurrences_from 0 k.strands) i ≡ Some (f x) = subst (λ (os : List Occurrence). item_at os i ≡ Some (f x)) listed (viewed_at f xs i x d l e) in
+      let at_o : item_at (occurrences_from 0 k.strands) r.0 ≡ Some o = subst (λ (os : List Occurrence). item_at os r.0 ≡ Some o) events r.1 in
+      let at_x : item_at (occurrences_from 0 k.strands) i ≡ Some (f x) = subst (λ (os : List Occurrence). item_at os i ≡ Some (f x)) events (viewed_at f xs i x d l e) in
       inv r.0 o (in_order 0 k.strands i r.0 (f x) o earlier at_x at_o) r.1 (u, stray.listed, (stray.elsewhere, stray.originates))
 
-  pub first_stray_found : (i : ℕ) (x d : A) (v : AtomTerm) (us : List UniqueAt) → us ≡ k.assumptions.uniquely_originating → i < length xs → x ≡ get_or xs i d → NoneBefore (StraysOne k) (map f xs) i →
+  pub first_stray_found : (i : ℕ) (x d : A) (v : AtomTerm) (us : List UniqueAt) → us ≡ (listed k).uniquely_originating → i < length xs → x ≡ get_or xs i d → NoneBefore (StraysOne k) (map f xs) i →
       IsFirstAt k (f x).node us v → IsFirstStray k v (f x).node
   first_stray_found i x d v us same l e inv found = record {
     here = subst (λ (ws : List UniqueAt). IsFirstAt k (f x).node ws v) same found;

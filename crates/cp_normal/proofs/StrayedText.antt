@@ -17,6 +17,7 @@ use Rattle.cp_normal.specs.Branching.{IsSettled}
 use Rattle.cp_normal.specs.Example.{heard_is_said, repeated_after_speaker}
 use Rattle.cp_normal.proofs.SameFacts.{says_itself}
 use Rattle.cp_normal.proofs.Forms.{normal_form}
+use Rattle.cp_normal.proofs.Unifying.{directed}
 
 abbrev narrowed : Skeleton
 narrowed = skeleton_under heard_is_said two_say_it
@@ -31,6 +32,7 @@ pub most_general : IsMostGeneralFor unique_text.value (text_variable 1) heard_is
 most_general = record {
   unifies = refl;
   general = λ g e t. ap (λ (h : Assignment). value_of h t) (after_met g (binding ∷ []) (sym e, tt));
+  directed = directed (binding ∷ []) (λ g. (refl, tt)) (omega arith, tt);
 }
 
 is_narrowed : IsNarrowed two_say_it narrowed

@@ -1,5 +1,5 @@
 -- The tallest of a block by heights, and the merged strands as the program keeps them.
-use Rattle.std.proofs.Common.{◌≡◌, ◌≢◌, ℕ, zero, suc, ◌<◌, ◌≤◌, ◌+◌, List, [], ◌∷◌, ◌++◌, Some, map, length, refl, sym, ap, ◌∙◌, subst, arith}
+use Rattle.std.proofs.Common.{◌≡◌, ◌≢◌, ℕ, suc, ◌<◌, ◌≤◌, ◌+◌, List, [], ◌∷◌, ◌++◌, Some, map, length, sym, ap, ◌∙◌, subst, arith}
 use Rattle.std.proofs.lemmas.List.{map-append}
 use native.Mathlib.Decide.{ℕ_discrete}
 use Rattle.cp_model.specs.Lists.{item_at}
@@ -8,16 +8,15 @@ use Rattle.cp_model.specs.Term.{Substitution}
 use Rattle.cp_model.specs.Skeleton.{SkeletonStrand, instance, Skeleton}
 use Rattle.cp_model.proofs.LawLists.{item_below, item_there, map_of_item}
 use Rattle.cp_completeness.specs.Normal.{strand_under}
+use Rattle.cp_skel.specs.DeclaredPrefixes.{HasDeclaredPrefixes}
 use Rattle.cp_skel.specs.View.{strand_view}
 use Rattle.cp_skel.specs.declared.skeleton.Strand.{Strand}
-use Rattle.cp_skel.specs.declared.skeleton.Strand.TheVariants as strands
 use Rattle.cp_normal.specs.Agreeing.{IsSameStrand, AreSameStrands, no_strands, same_strands}
 use Rattle.cp_normal.specs.Merging.{height_of, IsAsTall, IsTallestTo, AreMergedTo, AreMergedAlike, IsUnder}
 use Rattle.cp_normal.specs.Partitions.{AreOfOneRole, IsPartition}
-use Rattle.cp_normal.specs.Values.{ListedStrand, listed_view, HasValues, HaveValues}
 use Rattle.cp_normal.proofs.Joined.{alike_back, alike_then}
 use Rattle.cp_normal.proofs.MergingStrands.{tallest_keeps, tallest_changes, none_merged, passes_on, puts_next}
-use Rattle.cp_normal.proofs.Values.{strand_of, same_under, values_kept}
+use Rattle.cp_normal.proofs.Values.{same_under}
 
 module _ (k : Skeleton) (p : List ℕ) (part : IsPartition k p) (l : ℕ) where
   both_alike : (i t : ℕ) → item_at p i ≡ Some l → item_at p t ≡ Some l → i ≢ t → Dec (i ≡ l) → Dec (t ≡ l) → AreOfOneRole k.strands i t
@@ -63,22 +62,9 @@ same_more : {ss ts : List SkeletonStrand} {s t : SkeletonStrand} → AreSameStra
 same_more no_strands e = same_strands e no_strands
 same_more (same_strands f more) e = same_strands f (same_more more e)
 
-values_more : (xs : List ListedStrand) (x : ListedStrand) → HaveValues xs → HasValues x → HaveValues (xs ++ (x ∷ []))
-values_more [] x h v = (v, tt)
-values_more (y ∷ xs) x h v = (h.0, values_more xs x h.1 v)
-
-item_values : (ss : List Strand) (t : ℕ) (s : Strand) → HaveValues (map listed_view ss) → item_at ss t ≡ Some s → HasValues (listed_view s)
-item_values [] t s h e = absurd (cc)
-item_values (x ∷ ss) zero s h e = let q : x ≡ s = cc in subst (λ (y : Strand). HasValues (listed_view y)) q h.0
-item_values (x ∷ ss) (suc t) s h e = item_values ss t s h.1 e
-
-seen : (s : Strand) → strand_view s ≡ strand_of (listed_view s)
-seen (strands.Instance i) = refl
-seen (strands.Listener t) = refl
-
 module _ (k : Skeleton) (p : List ℕ) (f : Substitution) where
   pub none_alike : (new : List Strand) → new ≡ [] → AreMergedAlike k p f 0 new
-  none_alike new e = subst (AreMergedAlike k p f 0) (sym e) (record { exact = []; merged = none_merged k p f; alike = no_strands; values = tt })
+  none_alike new e = subst (AreMergedAlike k p f 0) (sym e) (record { exact = []; merged = none_merged k p f; alike = no_strands })
 
   module _ (n : ℕ) (old : List Strand) (so_far : AreMergedAlike k p f n old) where
     other : n < length p → (item_at p n ≡ Some n → ⊥) → (l : ℕ) × (item_at p n ≡ Some l) × (l ≢ n)
@@ -88,19 +74,16 @@ module _ (k : Skeleton) (p : List ℕ) (f : Substitution) where
     alike_passes less none =
         let next : suc n ≡ n + 1 = omega arith in
         let r = other less none in
-        record { exact = so_far.exact; merged = subst (λ (m : ℕ). AreMergedTo k p f m so_far.exact) next (passes_on k p f n so_far.exact so_far.merged r.0 r.1 r.2); alike = so_far.alike; values = so_far.values }
+        record { exact = so_far.exact; merged = subst (λ (m : ℕ). AreMergedTo k p f m so_far.exact) next (passes_on k p f n so_far.exact so_far.merged r.0 r.1 r.2); alike = so_far.alike }
 
-    pub alike_puts : (ss : List Strand) → k.strands ≡ map strand_view ss → HaveValues (map listed_view ss) → (t : ℕ) (new : List Strand) (st : Strand) → item_at p n ≡ Some n → IsTallestTo k p n (length p) t → IsUnder ss t f st → new ≡ old ++ (st ∷ []) → AreMergedAlike k p f (n + 1) new
-    alike_puts ss views values t new st own tall u put =
+    pub alike_puts : (ss : List Strand) → k.strands ≡ map strand_view ss → HasDeclaredPrefixes k → (t : ℕ) (new : List Strand) (st : Strand) → item_at p n ≡ Some n → IsTallestTo k p n (length p) t → IsUnder ss t f st → new ≡ old ++ (st ∷ []) → AreMergedAlike k p f (n + 1) new
+    alike_puts ss views declared t new st own tall u put =
         let next : suc n ≡ n + 1 = omega arith in
-        let has = item_values ss t u.strand values u.was_there in
         let at : item_at k.strands t ≡ Some (strand_view u.strand) = ap (λ (xs : List SkeletonStrand). item_at xs t) views ∙ map_of_item strand_view ss t u.strand u.was_there in
         let same : IsSameStrand (strand_under f (strand_view u.strand)) (strand_view st) =
-        subst (λ (x : SkeletonStrand). IsSameStrand (strand_under f x) (strand_view st)) (sym (seen u.strand))
-        (subst (IsSameStrand (strand_under f (strand_of (listed_view u.strand)))) (sym (seen st ∙ ap strand_of u.changed)) (same_under f (listed_view u.strand) has)) in
+        subst (IsSameStrand (strand_under f (strand_view u.strand))) (sym u.changed) (same_under f (strand_view u.strand) (λ role height terms e. declared t role height terms (at ∙ ap Some e))) in
         record {
           exact = so_far.exact ++ (strand_under f (strand_view u.strand) ∷ []);
           merged = subst (λ (m : ℕ). AreMergedTo k p f m (so_far.exact ++ (strand_under f (strand_view u.strand) ∷ []))) next (puts_next k p f n so_far.exact so_far.merged t (strand_view u.strand) own tall at);
           alike = subst (AreSameStrands (so_far.exact ++ (strand_under f (strand_view u.strand) ∷ []))) (sym (ap (map strand_view) put ∙ map-append strand_view old (st ∷ []))) (same_more so_far.alike same);
-          values = subst HaveValues (sym (ap (map listed_view) put ∙ map-append listed_view old (st ∷ []))) (values_more (map listed_view old) (listed_view st) so_far.values (subst HasValues (sym u.changed) (values_kept f (listed_view u.strand) has)));
         }

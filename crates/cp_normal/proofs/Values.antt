@@ -1,19 +1,21 @@
--- The terms of an instance under a substitution agree with its substitution followed by that one.
-use Rattle.std.proofs.Common.{◌≡◌, ℕ, zero, suc, List, [], ◌∷◌, map, Some, refl, sym, ap, ◌∙◌, subst}
+-- What a substitution that is kept for the declared variables alone gives them, and strands that are made so.
+use Rattle.std.proofs.Common.{◌≡◌, ◌+◌, ℕ, zero, suc, List, [], ◌∷◌, map, Some, refl, sym, ap, ◌∙◌, subst, arith}
 use Rattle.cp_model.specs.Lists.{item_at}
-use Rattle.cp_model.specs.Term.{Sort, text_sort, datum_sort, name_sort, Variable, KeyTerm, symmetric_term, asymmetric_term, AtomTerm, text_variable, datum_variable, name_variable, key_term, Term, atom_term, atom_of_variable, Substitution, apply_to, apply_to_atom, composed}
+use Rattle.cp_model.specs.Term.{Sort, text_sort, datum_sort, name_sort, skey_sort, akey_sort, Variable, KeyTerm, symmetric_term, asymmetric_term, AtomTerm, text_variable, datum_variable, name_variable, key_term, Term, atom_term, atom_of_variable, Substitution, apply_to_atom, composed}
+use Rattle.cp_model.specs.Strand.{Declaration, Role}
 use Rattle.cp_model.specs.Skeleton.{SkeletonStrand, instance, listener, Skeleton}
 use Rattle.cp_model.specs.Homomorphism.{text_in, datum_in, name_in, skey_in, akey_in, substitution_by}
+use Rattle.cp_model.specs.Problem.{declared_sort, IsDeclared}
+use Rattle.cp_model.proofs.LawLists.{map_of_item}
 use Rattle.cp_completeness.specs.Normal.{strand_under, skeleton_under}
 use Rattle.cp_unify.specs.Bindings.{sort_of}
+use Rattle.cp_skel.specs.Changing.{IsClosedPrefix}
+use Rattle.cp_skel.specs.DeclaredPrefixes.{HasDeclaredPrefixes}
+use Rattle.cp_skel.specs.Occurring.{declared_variables, terms_of}
 use Rattle.cp_normal.specs.Agreeing.{IsSameStrand, same_instance, same_listener, AreSameStrands, no_strands, same_strands, SaysTheSame}
-use Rattle.cp_normal.specs.Values.{ListedStrand, listed_instance, listed_listener, HasValue, HasValues, HaveValues, listed_under}
+use Rattle.cp_normal.specs.Values.{term_of_variable, on_declared, declared_under}
 
--- The item at a place of the mapped list.
-pub mapped_at : {A B : Type 0} (f : A → B) (xs : List A) (n : ℕ) (x : A) → item_at xs n ≡ Some x → item_at (map f xs) n ≡ Some (f x)
-mapped_at f [] n x e = absurd (cc)
-mapped_at f (y ∷ ys) zero x e = let q : y ≡ x = cc in ap (λ z. Some (f z)) q
-mapped_at f (y ∷ ys) (suc n) x e = mapped_at f ys n x e
+-- ---- sorts
 
 sort_kept : (s : Substitution) (a : AtomTerm) → sort_of (apply_to_atom s a) ≡ sort_of a
 sort_kept s (text_variable n) = refl
@@ -22,75 +24,58 @@ sort_kept s (name_variable n) = refl
 sort_kept s (key_term (symmetric_term k)) = refl
 sort_kept s (key_term (asymmetric_term flag k)) = refl
 
-module _ (s : Substitution) (ts : List Term) (n : ℕ) where
-  abbrev by : Substitution
-  by = substitution_by (map (apply_to s) ts)
+sort_of_variable : (sort : Sort) (n : ℕ) → sort_of (atom_of_variable (record { sort = sort; number = n })) ≡ sort
+sort_of_variable text_sort n = refl
+sort_of_variable datum_sort n = refl
+sort_of_variable name_sort n = refl
+sort_of_variable skey_sort n = refl
+sort_of_variable akey_sort n = refl
 
-  abbrev before : Substitution
-  before = composed (substitution_by ts) s
+-- ---- the term at a variable's number, of its sort
 
-  abbrev Agree : Sort → Type 0
-  Agree sort = apply_to_atom before (atom_of_variable (record { sort = sort; number = n })) ≡ apply_to_atom by (atom_of_variable (record { sort = sort; number = n }))
+key_is : (ts : List Term) (n : ℕ) (k : KeyTerm) (sort : Sort) → sort_of (key_term k) ≡ sort → item_at ts n ≡ Some (atom_term (key_term k)) → apply_to_atom (substitution_by ts) (atom_of_variable (record { sort = sort; number = n })) ≡ key_term k
+key_is ts n (symmetric_term k) sort q e = subst (λ (s : Sort). apply_to_atom (substitution_by ts) (atom_of_variable (record { sort = s; number = n })) ≡ key_term (symmetric_term k)) q (ap (λ o. key_term (symmetric_term (skey_in n o))) e)
+key_is ts n (asymmetric_term flag k) sort q e = subst (λ (s : Sort). apply_to_atom (substitution_by ts) (atom_of_variable (record { sort = s; number = n })) ≡ key_term (asymmetric_term flag k)) q (ap (λ o. key_term (asymmetric_term (akey_in n o).0 (akey_in n o).1)) e)
 
-  at_new : (a : AtomTerm) → item_at ts n ≡ Some (atom_term a) → item_at (map (apply_to s) ts) n ≡ Some (atom_term (apply_to_atom s a))
-  at_new a e = mapped_at (apply_to s) ts n (atom_term a) e
+value_is : (ts : List Term) (n : ℕ) (a : AtomTerm) (sort : Sort) → sort_of a ≡ sort → item_at ts n ≡ Some (atom_term a) → apply_to_atom (substitution_by ts) (atom_of_variable (record { sort = sort; number = n })) ≡ a
+value_is ts n (text_variable m) sort q e = subst (λ (s : Sort). apply_to_atom (substitution_by ts) (atom_of_variable (record { sort = s; number = n })) ≡ text_variable m) q (ap (λ o. text_variable (text_in n o)) e)
+value_is ts n (datum_variable m) sort q e = subst (λ (s : Sort). apply_to_atom (substitution_by ts) (atom_of_variable (record { sort = s; number = n })) ≡ datum_variable m) q (ap (λ o. datum_variable (datum_in n o)) e)
+value_is ts n (name_variable m) sort q e = subst (λ (s : Sort). apply_to_atom (substitution_by ts) (atom_of_variable (record { sort = s; number = n })) ≡ name_variable m) q (ap (λ o. name_variable (name_in n o)) e)
+value_is ts n (key_term k) sort q e = key_is ts n k sort q e
 
-  agree_text : (m : ℕ) → item_at ts n ≡ Some (atom_term (text_variable m)) → Agree text_sort
-  agree_text m e = ap (λ o. text_variable (s.texts (text_in n o))) e ∙ sym (ap (λ o. text_variable (text_in n o)) (at_new (text_variable m) e))
+-- ---- declared variables
 
-  agree_datum : (m : ℕ) → item_at ts n ≡ Some (atom_term (datum_variable m)) → Agree datum_sort
-  agree_datum m e = ap (λ o. datum_variable (s.datums (datum_in n o))) e ∙ sym (ap (λ o. datum_variable (datum_in n o)) (at_new (datum_variable m) e))
+-- The variable with number k is declared at place n, where the first declared has number m.
+declared_item : (m n k : ℕ) (ds : List Declaration) (sort : Sort) → k ≡ m + n → declared_sort (item_at ds n) ≡ Some sort → item_at (declared_variables m ds) n ≡ Some (record { sort = sort; number = k })
+declared_item m n k [] sort e at = absurd (cc)
+declared_item m zero k (d ∷ ds) sort e at =
+    let here : d.sort ≡ sort = cc in
+    let number : m ≡ k = omega (arith, e) in
+    ap (λ (s : Sort). Some (record { sort = s; number = m })) here ∙ ap (λ (i : ℕ). Some (record { sort = sort; number = i })) number
+declared_item m (suc n) k (d ∷ ds) sort e at = let next : k ≡ suc m + n = omega (arith, e) in declared_item (suc m) n k ds sort next at
 
-  agree_name : (m : ℕ) → item_at ts n ≡ Some (atom_term (name_variable m)) → Agree name_sort
-  agree_name m e = ap (λ o. name_variable (s.names (name_in n o))) e ∙ sym (ap (λ o. name_variable (name_in n o)) (at_new (name_variable m) e))
+-- A declared variable becomes what the substitution gives it.
+pub declared_kept : (role : Role) (s : Substitution) (x : Variable) → IsDeclared role.variables x → apply_to_atom s (atom_of_variable x) ≡ apply_to_atom (on_declared role s) (atom_of_variable x)
+declared_kept role s x declared =
+    sym (value_is (terms_of s (declared_variables 0 role.variables)) x.number (apply_to_atom s (atom_of_variable x)) x.sort (sort_kept s (atom_of_variable x) ∙ sort_of_variable x.sort x.number)
+    (map_of_item (term_of_variable s) (declared_variables 0 role.variables) x.number x (declared_item 0 x.number x.number role.variables x.sort (omega arith) declared)))
 
-  agree_key : (k : KeyTerm) (sort : Sort) → sort_of (key_term k) ≡ sort → item_at ts n ≡ Some (atom_term (key_term k)) → Agree sort
-  agree_key (symmetric_term k) sort q e = subst Agree q (
-      ap (λ o. apply_to_atom s (key_term (symmetric_term (skey_in n o)))) e
-      ∙ sym (ap (λ o. key_term (symmetric_term (skey_in n o))) (at_new (key_term (symmetric_term k)) e)))
-  agree_key (asymmetric_term flag k) sort q e = subst Agree q (
-      ap (λ o. apply_to_atom s (key_term (asymmetric_term (akey_in n o).0 (akey_in n o).1))) e
-      ∙ sym (ap (λ o. key_term (asymmetric_term (akey_in n o).0 (akey_in n o).1)) (at_new (key_term (asymmetric_term flag k)) e)))
+-- ---- strands
 
-  agree_at : (a : AtomTerm) (sort : Sort) → sort_of a ≡ sort → item_at ts n ≡ Some (atom_term a) → Agree sort
-  agree_at (text_variable m) sort q e = subst Agree q (agree_text m e)
-  agree_at (datum_variable m) sort q e = subst Agree q (agree_datum m e)
-  agree_at (name_variable m) sort q e = subst Agree q (agree_name m e)
-  agree_at (key_term k) sort q e = agree_key k sort q e
+pub same_under : (s : Substitution) (st : SkeletonStrand) → ((role : Role) (height : ℕ) (terms : Substitution) → st ≡ instance role height terms → IsClosedPrefix role height) → IsSameStrand (strand_under s st) (declared_under s st)
+same_under s (instance role height terms) closed = same_instance (λ x i. declared_kept role (composed terms s) x (closed role height terms refl x i))
+same_under s (listener t) closed = same_listener
 
-value_kept : (s : Substitution) (ts : List Term) (x : Variable) → HasValue ts x → HasValue (map (apply_to s) ts) x
-value_kept s ts x h = record {
-  atom = apply_to_atom s h.atom;
-  at_place = mapped_at (apply_to s) ts x.number (atom_term h.atom) h.at_place;
-  of_sort = sort_kept s h.atom ∙ h.of_sort;
-}
-
--- A strand as it is seen, by its listed terms.
-abbrev pub strand_of : ListedStrand → SkeletonStrand
-strand_of (listed_instance role height terms) = instance role height (substitution_by terms)
-strand_of (listed_listener t) = listener t
-
-pub same_under : (s : Substitution) (x : ListedStrand) → HasValues x → IsSameStrand (strand_under s (strand_of x)) (strand_of (listed_under s x))
-same_under s (listed_instance role height terms) h = same_instance (λ x m. let v = h x m in agree_at s terms x.number v.atom x.sort v.of_sort v.at_place)
-same_under s (listed_listener t) h = same_listener
-
-pub values_kept : (s : Substitution) (x : ListedStrand) → HasValues x → HasValues (listed_under s x)
-values_kept s (listed_instance role height terms) h = λ x m. value_kept s terms x (h x m)
-values_kept s (listed_listener t) h = tt
-
-pub all_same_under : (s : Substitution) (xs : List ListedStrand) → HaveValues xs → AreSameStrands (map (strand_under s) (map strand_of xs)) (map strand_of (map (listed_under s) xs))
-all_same_under s [] h = no_strands
-all_same_under s (x ∷ xs) h = same_strands (same_under s x h.0) (all_same_under s xs h.1)
-
-pub all_values_kept : (s : Substitution) (xs : List ListedStrand) → HaveValues xs → HaveValues (map (listed_under s) xs)
-all_values_kept s [] h = tt
-all_values_kept s (x ∷ xs) h = (values_kept s x h.0, all_values_kept s xs h.1)
+all_same_under : (s : Substitution) (ss : List SkeletonStrand) → ((n : ℕ) (role : Role) (height : ℕ) (terms : Substitution) → item_at ss n ≡ Some (instance role height terms) → IsClosedPrefix role height) →
+    AreSameStrands (map (strand_under s) ss) (map (declared_under s) ss)
+all_same_under s [] closed = no_strands
+all_same_under s (st ∷ ss) closed = same_strands (same_under s st (λ role height terms e. closed 0 role height terms (ap Some e))) (all_same_under s ss (λ n. closed (suc n)))
 
 -- The parts of a skeleton that was made part by part.
-pub says_the_same : (s : Substitution) (k l : Skeleton) (xs : List ListedStrand) → HaveValues xs → k.strands ≡ map strand_of xs → l.strands ≡ map strand_of (map (listed_under s) xs) →
+pub says_the_same : (s : Substitution) (k l : Skeleton) → HasDeclaredPrefixes k → l.strands ≡ map (declared_under s) k.strands →
     l.pairs ≡ k.pairs → l.assumptions ≡ (skeleton_under s k).assumptions → l.from_problem ≡ (skeleton_under s k).from_problem → SaysTheSame (skeleton_under s k) l
-says_the_same s k l xs h ks ls pairs assumptions from_problem = record {
-  strands = subst (λ ss. AreSameStrands (map (strand_under s) ss) l.strands) (sym ks) (subst (λ ss. AreSameStrands (map (strand_under s) (map strand_of xs)) ss) (sym ls) (all_same_under s xs h));
+says_the_same s k l declared strands pairs assumptions from_problem = record {
+  strands = subst (λ ss. AreSameStrands (map (strand_under s) k.strands) ss) (sym strands) (all_same_under s k.strands declared);
   pairs = sym pairs;
   assumptions = sym assumptions;
   from_problem = sym from_problem;

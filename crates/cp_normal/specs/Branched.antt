@@ -11,23 +11,21 @@ use Rattle.cp_skel.specs.declared.skeleton.Skeleton.{Skeleton}
 use Rattle.cp_normal.specs.Agreeing.{SaysTheSame}
 use Rattle.cp_normal.specs.Branching.{NeverEqual}
 use Rattle.cp_normal.specs.Narrowing.{IsMostGeneralFor}
-use Rattle.cp_normal.specs.Values.{HasItsValues}
 
 -- The branches of k by v and the atoms, in their order: for each atom that unifies with v one that says the same as k under
--- a most general unifier of the two.
+-- the most general unifier of the two.
 pub data AreInOrder (k : Plain) (v : AtomTerm) : List AtomTerm → List Plain → Type 0 where
   no_atoms : AreInOrder k v [] []
   never_equal_to : {a : AtomTerm} {others : List AtomTerm} {ls : List Plain} → NeverEqual v a → AreInOrder k v others ls → AreInOrder k v (a ∷ others) ls
   unified_with : {a : AtomTerm} {s : Substitution} {l : Plain} {others : List AtomTerm} {ls : List Plain} → IsMostGeneralFor v a s → SaysTheSame (skeleton_under s k) l → AreInOrder k v others ls → AreInOrder k v (a ∷ others) (l ∷ ls)
 
--- l is a branch of k by v and one of the atoms, with the variables of k and its values.
+-- l is a branch of k by v and one of the atoms, with the variables of k.
 pub record IsBranch (k : Skeleton) (v : AtomTerm) (atoms : List AtomTerm) (l : Skeleton) : Type 0 where
   pub heard : AtomTerm
   pub listed : IsIn heard atoms
   pub bindings : List Binding
   pub most_general : IsMostGeneral (atom_term v) (atom_term heard) [] bindings
   pub same : SaysTheSame (skeleton_under (as_substitution bindings) (skeleton_view k)) (skeleton_view l)
-  pub values : HasItsValues l
   pub variables : l.variables ≡ k.variables
 
 -- The skeletons are the branches of k by v and these atoms, in their order.

@@ -14,7 +14,7 @@ use Rattle.cp_normal.specs.Narrowing.{IsStray, IsHeardAt, IsMostGeneralFor, Narr
 abbrev pub NeverEqual : AtomTerm → AtomTerm → Type 0
 NeverEqual a b = (g : Assignment) → value_of_atom g a ≡ value_of_atom g b → ⊥
 
--- One of the skeletons says the same as k under a most general unifier of a and b.
+-- One of the skeletons says the same as k under the most general unifier of a and b.
 pub record HasBranch (k : Skeleton) (a b : AtomTerm) (branches : List Skeleton) : Type 0 where
   pub unifier : Substitution
   pub most_general : IsMostGeneralFor a b unifier

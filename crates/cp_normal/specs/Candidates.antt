@@ -3,13 +3,13 @@ use Rattle.std.specs.Prelude.{◌≡◌, List, [], ◌∷◌, ◌++◌, map}
 use Rattle.cp_model.specs.Lists.{IsIn}
 use Rattle.cp_model.specs.Bundle.{Node}
 use Rattle.cp_model.specs.Skeleton.{OrderPair, UniqueAt, Skeleton, Before, IsOrderPair, IsOrigin}
+use Rattle.cp_skel.specs.DeclaredPrefixes.{HasDeclaredPrefixes}
 use Rattle.cp_skel.specs.View.{skeleton_view}
 use Rattle.cp_skel.specs.declared.skeleton.Skeleton.{Skeleton as Program}
 use Rattle.cp_completeness.specs.Normal.{with_pairs}
 use Rattle.cp_normal.specs.Normalising.{AreNormalPairs, IsContradictory}
 use Rattle.cp_normal.specs.Branching.{HasFewerVariables, IsSettled, AreNarrowedFrom, AreFormsBeside}
 use Rattle.cp_normal.specs.Exact.{HaveForms}
-use Rattle.cp_normal.specs.Values.{HasItsValues}
 use Rattle.cp_normal.specs.declared.candidates.Candidate.{Candidate}
 use Rattle.cp_normal.specs.declared.candidates.Candidate.TheVariants.{Open, Settled}
 
@@ -26,10 +26,10 @@ abbrev pub IsOpen : Candidate → Type 0
 IsOpen (Open k) = Unit {0}
 IsOpen (Settled k) = ⊥
 
--- The skeleton has its values, and where it is settled no unique value strays in it.
+-- The roles of an open one declare the variables of the prefixes, and in a settled one no unique value strays.
 abbrev pub IsSound : Candidate → Type 0
-IsSound (Open k) = HasItsValues k
-IsSound (Settled k) = HasItsValues k × IsSettled (skeleton_view k)
+IsSound (Open k) = HasDeclaredPrefixes (skeleton_view k)
+IsSound (Settled k) = IsSettled (skeleton_view k)
 
 -- The second is settled, or both are open and it has fewer variables.
 abbrev pub FallsTo : Candidate → Candidate → Type 0
@@ -78,7 +78,6 @@ pub record IsFormOf (l r : Program) : Type 0 where
   pub normal : AreNormalPairs (skeleton_view l) pairs
   pub consistent : IsContradictory (skeleton_view l) → ⊥
   pub same : skeleton_view r ≡ with_pairs (skeleton_view l) pairs
-  pub values : HasItsValues r
   pub variables : r.variables ≡ l.variables
 
 -- The list of forms, with the form of l behind it if it has one; it has none where it contradicts itself.
@@ -90,5 +89,4 @@ pub data PutsForm (l : Program) (old new : List Program) : Type 0 where
 pub record AreForms (settled : List Candidate) (forms : List Program) : Type 0 where
   pub beside : (k : Skeleton) → AreFormsBeside k [] (map candidate_view settled) → AreFormsBeside k (map skeleton_view forms) []
   pub exact : ((c : Candidate) → IsIn c settled → IsSettled (candidate_view c)) → HaveForms (map candidate_view settled) (map skeleton_view forms)
-  pub values : (r : Program) → IsIn r forms → HasItsValues r
   pub variables : (r : Program) → IsIn r forms → (c : Candidate) × IsIn c settled × (r.variables ≡ (skeleton_of c).variables)

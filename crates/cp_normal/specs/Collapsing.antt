@@ -3,17 +3,21 @@ use Rattle.std.specs.Prelude.{◌≡◌, ◌≢◌, ◌↔◌, ◌⊎◌, ◌≤
 use Rattle.cp_model.specs.Lists.{item_at, IsIn}
 use Rattle.cp_model.specs.Term.{Term, Assignment, value_of, after, Substitution, apply_to, apply_to_atom}
 use Rattle.cp_model.specs.Strand.{Role}
-use Rattle.cp_model.specs.Bundle.{Node}
+use Rattle.cp_model.specs.Bundle.{Node, Bundle}
 use Rattle.cp_model.specs.Skeleton.{instance, listener, UniqueAt, Assumptions, OrderPair, FromProblem, Skeleton, Before}
 use Rattle.cp_model.specs.Homomorphism.{SkeletonMap, GoesToInstance}
+use Rattle.cp_model.specs.Given.{atoms_onto, uniques_onto, listed}
+use Rattle.cp_model.specs.Standing.{Standing, StandsIn, StandsApart}
+use Rattle.cp_normal.specs.Directed.{BindsLaterToEarlier}
 use Rattle.cp_normal.specs.Events.{Has}
 use Rattle.cp_normal.specs.Partitions.{IsPartition, finest, blocks, place_in, node_in, Identifies, IdentifiesValues, AreDescending}
 
--- f is a most general substitution that identifies the strands of each block: every assignment that gives them equal
--- values gives each term the value of that term under f.
+-- f is the most general substitution that identifies the strands of each block and binds later variables to earlier ones:
+-- every assignment that gives them equal values gives each term the value of that term under f.
 pub record IsMostGeneralOn (k : Skeleton) (p : List ℕ) (f : Substitution) : Type 0 where
   pub identifies : Identifies k p f
   pub general : (g : Assignment) → IdentifiesValues k p g → (t : Term) → value_of (after g f) t ≡ value_of g t
+  pub directed : BindsLaterToEarlier f
 
 -- The way of a skeleton onto its blocks, under a substitution.
 abbrev pub onto_blocks : List ℕ → Substitution → SkeletonMap
@@ -27,25 +31,24 @@ unique_in p f u = record { value = apply_to_atom f u.value; origin = node_in p u
 abbrev pub pair_in : List ℕ → OrderPair → OrderPair
 pair_in p q = record { earlier = node_in p q.earlier; later = node_in p q.later }
 
--- The items of one list are exactly the images of those of the other.
-abbrev pub AreImages : {A B : Type 0} → (A → B) → List A → List B → Type 0
-AreImages f xs ys = (y : _) → IsIn y ys ↔ Has (λ x. f x ≡ y) xs
-
 -- The pairs are exactly the images of the others that lie between different strands.
 abbrev pub ArePairsIn : List ℕ → List OrderPair → List OrderPair → Type 0
 ArePairsIn p qs rs = (r : OrderPair) → IsIn r rs ↔ (Has (λ q. pair_in p q ≡ r) qs × (r.earlier.strand ≢ r.later.strand))
 
--- Each of the lists of assumptions holds exactly the images of the other's.
-pub record AreAssumptionsIn (p : List ℕ) (f : Substitution) (a b : Assumptions) : Type 0 where
-  pub non : AreImages (apply_to_atom f) a.non_originating b.non_originating
-  pub penetrator_non : AreImages (apply_to_atom f) a.penetrator_non_originating b.penetrator_non_originating
-  pub unique : AreImages (unique_in p f) a.uniquely_originating b.uniquely_originating
+-- The assumptions under a substitution, with each recorded origin at the place of its strand's block, in their order, each
+-- once.
+abbrev pub assumptions_in : List ℕ → Substitution → Assumptions → Assumptions
+assumptions_in p f a = record {
+  non_originating = atoms_onto [] (map (apply_to_atom f) a.non_originating);
+  penetrator_non_originating = atoms_onto [] (map (apply_to_atom f) a.penetrator_non_originating);
+  uniquely_originating = uniques_onto [] (map (unique_in p f) a.uniquely_originating);
+}
 
--- The way from the problem goes on to the blocks.
+-- The way from the problem goes on to the blocks. The problem's own assumptions stay in their order, each once.
 pub record IsFromProblemIn (p : List ℕ) (f : Substitution) (a b : FromProblem) : Type 0 where
   pub strands : b.strands ≡ map (place_in p) a.strands
   pub values : b.values ≡ map (apply_to f) a.values
-  pub assumptions : AreAssumptionsIn p f a.assumptions b.assumptions
+  pub assumptions : b.assumptions ≡ assumptions_in p f a.assumptions
   pub pairs : ArePairsIn p a.pairs b.pairs
 
 -- The pair comes to lie on one strand.
@@ -61,7 +64,8 @@ pub record HasInstance (k : Skeleton) (p : List ℕ) (place : ℕ) (role : Role)
 
 -- l is k with the strands of each block merged into one at the block's place, under a most general substitution that
 -- identifies them. The instances of a block go to an instance with the height of one of them. A pair that comes to lie
--- forward on one strand is dropped, and none comes to lie backward on one strand or on one node.
+-- forward on one strand is dropped, and none comes to lie backward on one strand or on one node. The assumptions are the
+-- images of k's, in the order in which a report lists them, each once.
 pub record IsCollapsed (k : Skeleton) (p : List ℕ) (l : Skeleton) : Type 0 where
   pub unifier : Substitution
   pub most_general : IsMostGeneralOn k p unifier
@@ -71,7 +75,7 @@ pub record IsCollapsed (k : Skeleton) (p : List ℕ) (l : Skeleton) : Type 0 whe
   pub listeners : (s : ℕ) (t : Term) → item_at k.strands s ≡ Some (listener t) → item_at l.strands (place_in p s) ≡ Some (listener (apply_to unifier t))
   pub pairs : ArePairsIn p k.pairs l.pairs
   pub forward : (q : OrderPair) → IsIn q k.pairs → LiesOnOne p q → q.earlier.index < q.later.index
-  pub assumptions : AreAssumptionsIn p unifier k.assumptions l.assumptions
+  pub assumptions : l.assumptions ≡ listed (record l { assumptions = assumptions_in p unifier k.assumptions })
   pub from_problem : IsFromProblemIn p unifier k.from_problem l.from_problem
 
 -- The order has no cycle.
@@ -116,3 +120,20 @@ pub record AreCollapses (k : Skeleton) (ls : List Skeleton) : Type 0 where
   pub each : AreCollapsesBy k partitions ls
   pub descending : AreDescending partitions
   pub all : (p : List ℕ) → IsPartition k p → p ≢ finest k → IsIn p partitions ⊎ IsImpossible k p
+
+-- The standing h goes through one of l that stands apart: each strand stands where its block does, and each term has the
+-- value of the term under the substitution.
+pub record StandsThrough (p : List ℕ) (f : Substitution) (l : Skeleton) (b : Bundle) (h : Standing) : Type 0 where
+  pub standing : Standing
+  pub stands : StandsIn l b standing
+  pub apart : StandsApart l standing
+  pub same_nodes : (s : ℕ) → h.nodes s ≡ standing.nodes (place_in p s)
+  pub same_values : (t : Term) → value_of h.values t ≡ value_of standing.values (apply_to f t)
+
+-- The standing h of k goes through one of its collapses.
+pub record StandsThroughCollapse (k : Skeleton) (ls : List Skeleton) (b : Bundle) (h : Standing) : Type 0 where
+  pub partition : List ℕ
+  pub skeleton : Skeleton
+  pub listed : IsIn skeleton ls
+  pub collapse : IsCollapse k partition skeleton
+  pub through : StandsThrough partition collapse.collapsed.unifier skeleton b h

@@ -5,7 +5,8 @@ use Rattle.cp_model.specs.Term.{AtomTerm, Term, atom_term, IsCarriedByTerm}
 use Rattle.cp_model.specs.Strand.{Event, send, recv, payload}
 use Rattle.cp_model.specs.Bundle.{Node, node_at}
 use Rattle.cp_model.specs.Skeleton.{SkeletonStrand, instance, listener, skeleton_trace, UniqueAt, OrderPair}
-use Rattle.cp_skel.specs.View.{node_view, event_view}
+use Rattle.cp_model.specs.RunView.{node_view}
+use Rattle.cp_skel.specs.View.{event_view}
 use Rattle.cp_normal.specs.declared.events.Occurrence as program
 
 -- An item of the list has the property.

@@ -14,6 +14,21 @@ use Rattle.cp_normal.specs.Straying.{IsFirstStray}
 abbrev pub IsRefuted : Skeleton → Type 0
 IsRefuted k = CarriesNonOriginating k ⊎ (HasTwoOrigins k ⊎ LosesOrigin k)
 
+mutual
+  -- These are the normal forms of k, in their order. A skeleton that is refuted has none. One in which a unique value strays
+  -- has those of its branches by the first that does. Any other has none where it contradicts itself, and else one: itself
+  -- with its normal pairs.
+  pub data HasForms : Skeleton → List Skeleton → Type 0 where
+    refuted : {k : Skeleton} → IsRefuted k → HasForms k []
+    branching : {k : Skeleton} {v : AtomTerm} {x : Node} {branches rs : List Skeleton} → (IsRefuted k → ⊥) → IsFirstStray k v x → AreInOrder k v (heard_before k x) branches → EachHasForms branches rs → HasForms k rs
+    cyclic : {k : Skeleton} → IsSettled k → IsContradictory k → HasForms k []
+    normal : {k : Skeleton} {pairs : List OrderPair} → IsSettled k → AreNormalPairs k pairs → (IsContradictory k → ⊥) → HasForms k (with_pairs k pairs ∷ [])
+
+  -- The normal forms of several skeletons, those of the first and then those of the others.
+  pub data EachHasForms : List Skeleton → List Skeleton → Type 0 where
+    no_more : EachHasForms [] []
+    and_then : {k : Skeleton} {ks rs ss : List Skeleton} → HasForms k rs → EachHasForms ks ss → EachHasForms (k ∷ ks) (rs ++ ss)
+
 -- The second list are the normal forms of the skeletons of the first, one after the other. One that is refuted has none;
 -- else the branches of one in which a unique value strays, by the first that does, stand in its place; else it has none
 -- where it contradicts itself, and is one with its normal pairs where it does not.

@@ -5,6 +5,7 @@ use Rattle.cp_model.specs.Term.{Assignment, after, Substitution}
 use Rattle.cp_model.specs.Strand.{Role}
 use Rattle.cp_model.specs.Skeleton.{instance, Skeleton}
 use Rattle.cp_unify.specs.Bindings.{Binding, Meets, as_substitution}
+use Rattle.cp_unify.specs.Unifiers.{AreLaterToEarlier}
 use Rattle.cp_normal.specs.Partitions.{AreOfOneRole, HaveEqualValues, IdentifiesValues, AreDescending, finest}
 use Rattle.cp_normal.specs.Collapsing.{IsNeverIdentified, IsImpossible, AreCollapsesBy}
 
@@ -45,12 +46,13 @@ pub record AreExtendedTo (k : Skeleton) (n : ℕ) (ps : List (List ℕ)) (i m : 
   pub all : (p : List ℕ) (l : ℕ) → IsBehind ps i m p l → MayHave k p n l → IsIn (p ++ (l ∷ [])) extended ⊎ IsNeverIdentified k (p ++ (l ∷ []))
   pub descending : AreDescending extended
 
--- The bindings are met by exactly the assignments of which the fact is true; and whatever an assignment gives to the
--- variables that are not bound, the bindings then give one that meets them.
+-- The bindings are met by exactly the assignments of which the fact is true; each is of a later variable to an earlier one;
+-- and whatever an assignment gives to the variables that are not bound, the bindings then give one that meets them.
 pub record IsExactFor (fact : Assignment → Type 0) (r : List Binding) : Type 0 where
   pub met : (g : Assignment) → Meets (after g (as_substitution r)) r
   pub sound : (g : Assignment) → Meets g r → fact g
   pub general : (g : Assignment) → fact g → Meets g r
+  pub later_to_earlier : AreLaterToEarlier r
 
 -- An assignment gives two strands equal values, where they are instances of one role.
 abbrev pub EqualAt : Skeleton → ℕ → ℕ → Assignment → Type 0

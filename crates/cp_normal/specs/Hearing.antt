@@ -1,11 +1,11 @@
 -- The atoms that a strand has heard.
-use Rattle.std.specs.Prelude.{◌||◌, List, [], ◌∷◌, ◌++◌, Bool, false, if◌then◌else◌, take}
+use Rattle.std.specs.Prelude.{List, [], ◌∷◌, ◌++◌, take}
 use Rattle.cp_model.specs.Lists.{item_at}
 use Rattle.cp_model.specs.Term.{AtomTerm, Term, tag_term, atom_term, pair_term, enc_term}
 use Rattle.cp_model.specs.Strand.{Event, send, recv}
 use Rattle.cp_model.specs.Bundle.{Node}
 use Rattle.cp_model.specs.Skeleton.{Skeleton, skeleton_trace_or_none}
-use Rattle.cp_term.specs.Same.{same_atom}
+use Rattle.cp_model.specs.Given.{atoms_onto}
 
 -- The atoms that a term carries, in preorder, left before right.
 abbrev pub carried_atoms : Term → List AtomTerm
@@ -24,16 +24,6 @@ abbrev pub heard_in : List (Event Term) → List AtomTerm
 heard_in [] = []
 heard_in (e ∷ es) = received_atoms e ++ heard_in es
 
--- The atom is one of the list.
-abbrev pub has_atom : List AtomTerm → AtomTerm → Bool
-has_atom [] v = false
-has_atom (w ∷ ws) v = same_atom w v || has_atom ws v
-
--- The first atoms, and then each of the others that is not there yet.
-abbrev pub each_once : List AtomTerm → List AtomTerm → List AtomTerm
-each_once before [] = before
-each_once before (v ∷ vs) = each_once (if has_atom before v then before else before ++ v ∷ []) vs
-
 -- The atoms that receptions before node x on its strand carry, each once.
 abbrev pub heard_before : Skeleton → Node → List AtomTerm
-heard_before k x = each_once [] (heard_in (take x.index (skeleton_trace_or_none (item_at k.strands x.strand))))
+heard_before k x = atoms_onto [] (heard_in (take x.index (skeleton_trace_or_none (item_at k.strands x.strand))))

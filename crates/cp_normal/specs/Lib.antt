@@ -2,6 +2,7 @@ pub mod Normalising
 pub mod Events
 pub mod Cycles
 pub mod Agreeing
+pub mod Directed
 pub mod Narrowing
 pub mod Values
 pub mod Branching

@@ -9,7 +9,7 @@ use Rattle.cp_skel.specs.View.{strand_view}
 use Rattle.cp_skel.specs.declared.skeleton.Strand.{Strand}
 use Rattle.cp_normal.specs.Agreeing.{AreSameStrands}
 use Rattle.cp_normal.specs.Partitions.{lowest_before}
-use Rattle.cp_normal.specs.Values.{listed_view, listed_under, HaveValues}
+use Rattle.cp_normal.specs.Values.{declared_under}
 
 -- Strand t is an instance of the role, of this height at least.
 pub record IsAsTall (k : Skeleton) (t : ℕ) (role : Role) (height : ℕ) : Type 0 where
@@ -46,16 +46,14 @@ height_of None = 0
 height_of (Some (instance role height terms)) = height
 height_of (Some (listener t)) = 0
 
--- The strands say the same as the merged ones of the blocks whose lowest strands stand before number n, and have their
--- values.
+-- The strands say the same as the merged ones of the blocks whose lowest strands stand before number n.
 pub record AreMergedAlike (k : Skeleton) (p : List ℕ) (f : Substitution) (n : ℕ) (strands : List Strand) : Type 0 where
   pub exact : List SkeletonStrand
   pub merged : AreMergedTo k p f n exact
   pub alike : AreSameStrands exact (map strand_view strands)
-  pub values : HaveValues (map listed_view strands)
 
 -- The strand is number t of these under the substitution.
 pub record IsUnder (strands : List Strand) (t : ℕ) (f : Substitution) (result : Strand) : Type 0 where
   pub strand : Strand
   pub was_there : item_at strands t ≡ Some strand
-  pub changed : listed_view result ≡ listed_under f (listed_view strand)
+  pub changed : strand_view result ≡ declared_under f (strand_view strand)

@@ -9,6 +9,7 @@ use Rattle.cp_model.specs.Derivable.{OriginatesAtTerm}
 use Rattle.cp_completeness.specs.Normal.{skeleton_under, with_pairs}
 use Rattle.cp_normal.specs.Normalising.{IsAddedPair, AreNormalPairs, IsContradictory}
 use Rattle.cp_normal.specs.Agreeing.{SaysTheSame}
+use Rattle.cp_normal.specs.Directed.{BindsLaterToEarlier}
 
 -- A unique value originates at a node of a role strand that is not its recorded origin.
 pub record IsStray (k : Skeleton) (u : UniqueAt) (x : Node) : Type 0 where
@@ -24,13 +25,14 @@ pub record IsHeardAt (k : Skeleton) (a : AtomTerm) (x : Node) : Type 0 where
   pub reception : term_event_at k.strands (node_at x.strand index) ≡ Some (recv received)
   pub carried : IsCarriedByTerm (atom_term a) received
 
--- s is a most general unifier of two atoms: it makes them one, and every assignment that gives them one value gives each
--- term the value of that term under s.
+-- s is the most general unifier of two atoms that binds later variables to earlier ones: it makes them one, and every
+-- assignment that gives them one value gives each term the value of that term under s.
 pub record IsMostGeneralFor (a b : AtomTerm) (s : Substitution) : Type 0 where
   pub unifies : apply_to_atom s a ≡ apply_to_atom s b
   pub general : (g : Assignment) → value_of_atom g a ≡ value_of_atom g b → (t : Term) → value_of (after g s) t ≡ value_of g t
+  pub directed : BindsLaterToEarlier s
 
--- One step of narrowing: l says the same as k under a most general unifier of a stray unique value and an atom that was
+-- One step of narrowing: l says the same as k under the most general unifier of a stray unique value and an atom that was
 -- heard before the node where it originates.
 pub record IsNarrowed (k l : Skeleton) : Type 0 where
   pub entry : UniqueAt

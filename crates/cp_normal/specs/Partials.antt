@@ -1,35 +1,23 @@
 -- Partitions of the first strands with bindings that identify their blocks, as the program keeps them, and what
 -- unification answers beside bindings.
-use Rattle.std.specs.Prelude.{◌≡◌, ◌||◌, ℕ, List, [], ◌∷◌, ◌++◌, Bool, map}
+use Rattle.std.specs.Prelude.{◌≡◌, ℕ, List, [], ◌∷◌, ◌++◌, map}
 use Rattle.cp_model.specs.Lists.{IsIn}
-use Rattle.cp_model.specs.Term.{Variable, text_sort, datum_sort, name_sort, skey_sort, akey_sort, Assignment, after}
+use Rattle.cp_model.specs.Term.{Assignment, after}
 use Rattle.cp_model.specs.Homomorphism.{substitution_by}
 use Rattle.cp_model.specs.Skeleton.{Skeleton}
 use Rattle.cp_unify.specs.Bindings.{Binding, Meets, as_substitution}
-use Rattle.cp_skel.specs.Occurring.{has_variable}
+use Rattle.cp_unify.specs.Unifiers.{AreLaterToEarlier}
 use Rattle.cp_skel.specs.View.{role_view}
 use Rattle.cp_skel.specs.declared.skeleton.Instance.{Instance}
-use Rattle.cp_normal.specs.Events.{Has}
 use Rattle.cp_normal.specs.Partitions.{HaveEqualValues, IdentifiesValues}
 use Rattle.cp_normal.specs.Collapsing.{IsNeverIdentified}
 use Rattle.cp_normal.specs.Extending.{ArePartitionsOfFirst, MayHave, AreExtendedTo, IsExactFor}
 use Rattle.cp_normal.specs.declared.extending.Partial.{Partial}
 
--- One of the variables has this number.
-abbrev pub HasNumber : List Variable → ℕ → Type 0
-HasNumber xs n = Has (λ x. x.number ≡ n) xs
-
--- Whether one of the variables, of any sort, has this number.
-abbrev pub has_number : List Variable → ℕ → Bool
-has_number xs n =
-    has_variable xs (record { sort = text_sort; number = n }) || has_variable xs (record { sort = datum_sort; number = n })
-    || has_variable xs (record { sort = name_sort; number = n }) || has_variable xs (record { sort = skey_sort; number = n })
-    || has_variable xs (record { sort = akey_sort; number = n })
-
--- The bindings are solved: whatever an assignment gives to the variables that are not bound, they give one that meets
--- them.
+-- The bindings are solved: each is of a later variable to an earlier one; and whatever an assignment gives to the variables
+-- that are not bound, they give one that meets them.
 abbrev pub AreSolved : List Binding → Type 0
-AreSolved r = (g : Assignment) → Meets (after g (as_substitution r)) r
+AreSolved r = AreLaterToEarlier r × ((g : Assignment) → Meets (after g (as_substitution r)) r)
 
 -- An assignment meets the bindings and gives two instances equal values.
 abbrev pub AlsoEqual : List Binding → Instance → Instance → Assignment → Type 0

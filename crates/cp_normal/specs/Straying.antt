@@ -5,6 +5,7 @@ use Rattle.cp_model.specs.Term.{AtomTerm}
 use Rattle.cp_model.specs.Bundle.{Node}
 use Rattle.cp_model.specs.Skeleton.{UniqueAt, Skeleton}
 use Rattle.cp_model.specs.Derivable.{OriginatesAtTerm}
+use Rattle.cp_model.specs.Given.{listed}
 use Rattle.cp_normal.specs.Narrowing.{IsStray}
 use Rattle.cp_normal.specs.Events.{Occurrence}
 
@@ -33,8 +34,8 @@ pub record IsFirstAt (k : Skeleton) (x : Node) (entries : List UniqueAt) (v : At
 abbrev pub IsEarlier : Node → Node → Type 0
 IsEarlier x y = (x.strand < y.strand) ⊎ ((x.strand ≡ y.strand) × (x.index < y.index))
 
--- Of all unique values that stray, by strand and index of the node where they do, and then by their place in the list,
--- the first is one of value v, at node x.
+-- Of all unique values that stray, by strand and index of the node where they do, and then in the order in which a
+-- report lists them, the first is one of value v, at node x.
 pub record IsFirstStray (k : Skeleton) (v : AtomTerm) (x : Node) : Type 0 where
-  pub here : IsFirstAt k x k.assumptions.uniquely_originating v
+  pub here : IsFirstAt k x (listed k).uniquely_originating v
   pub earliest : (u : UniqueAt) (y : Node) → IsStray k u y → IsEarlier y x → ⊥

@@ -1,12 +1,13 @@
 // Skeletons on the way to normal forms, and rounds of narrowing.
 ghost use Rattle.std.specs.Prelude.{◌≡◌, ◌↔◌, ◌++◌, map, IsTrue, IfOk, OnOk};
 ghost use Rattle.cp_model.specs.Lists.{IsIn};
-ghost use Rattle.cp_skel.specs.View.{node_view, skeleton_view};
+ghost use Rattle.cp_model.specs.RunView.{node_view};
+ghost use Rattle.cp_skel.specs.DeclaredPrefixes.{HasDeclaredPrefixes};
+ghost use Rattle.cp_skel.specs.View.{skeleton_view};
 ghost use Rattle.cp_normal.specs.Candidates.{skeleton_of, IsOpen, IsSound, Puts, IsRound};
 ghost use Rattle.cp_normal.specs.Events.{Has};
 ghost use Rattle.cp_normal.specs.Exact.{IsRefuted};
 ghost use Rattle.cp_normal.specs.Straying.{IsFirstStray};
-ghost use Rattle.cp_normal.specs.Values.{HasItsValues};
 ghost use Rattle.cp_normal.specs.declared.candidates.Candidate as program;
 ghost use Rattle.cp_normal.specs.declared.candidates.Candidate.TheVariants as variants;
 
@@ -55,7 +56,7 @@ fn put_branches(
     stray: &Stray,
     next: &mut Vec<Candidate>,
 ) -> Result<(), AllocError>
-    requires values { HasItsValues skeleton.now }
+    requires declared { HasDeclaredPrefixes (skeleton_view skeleton.now) }
     requires consistent { IsRefuted (skeleton_view skeleton.now) → ⊥ }
     requires stray { IsFirstStray (skeleton_view skeleton.now) stray.now.value (node_view stray.now.node) }
     ensures { OnOk result (Puts (variants.Open skeleton.now) next.old.items next.new.items) }
@@ -68,7 +69,7 @@ fn put_branches(
 /// Puts what a skeleton in which unique values may stray leads to behind others: nothing where its assumptions contradict
 /// what its nodes carry, its branches where a unique value strays, and else itself.
 fn narrow(alloc: Global, skeleton: Skeleton, next: &mut Vec<Candidate>) -> Result<(), AllocError>
-    requires { HasItsValues skeleton }
+    requires { HasDeclaredPrefixes (skeleton_view skeleton) }
     ensures { OnOk result (Puts (variants.Open skeleton) next.old.items next.new.items) }
 {
     if is_refuted(alloc, &skeleton)? {

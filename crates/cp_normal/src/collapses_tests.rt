@@ -2,8 +2,8 @@
 ghost use Rattle.std.specs.Prelude.{IfOk};
 ghost use Rattle.cp_model.specs.Lists.{IsIn};
 ghost use Rattle.cp_model.specs.Skeleton.{OrderPair as PlainPair, IsOrderPair};
+ghost use Rattle.cp_skel.specs.DeclaredPrefixes.{HasDeclaredPrefixes};
 ghost use Rattle.cp_skel.specs.View.{skeleton_view};
-ghost use Rattle.cp_normal.specs.Values.{HasItsValues};
 
 use super::*;
 use crate::forms_tests::{betrayer, no_assumptions, skeleton, speaker};
@@ -14,7 +14,7 @@ use std::test::Fail;
 /// Three strands of one role, each with a text of its own.
 fn three_speakers(alloc: Global) -> Result<Skeleton, Fail>
     ensures order_pairs { IfOk result (λ k. (p : PlainPair) → IsIn p (skeleton_view k).pairs → IsOrderPair (skeleton_view k) p) }
-    ensures values { IfOk result (λ k. HasItsValues k) }
+    ensures declared { IfOk result (λ k. HasDeclaredPrefixes (skeleton_view k)) }
 {
     let first = speaker(alloc, 0)?;
     let second = speaker(alloc, 1)?;
@@ -26,7 +26,7 @@ fn three_speakers(alloc: Global) -> Result<Skeleton, Fail>
 /// Strands of two roles.
 fn two_roles(alloc: Global) -> Result<Skeleton, Fail>
     ensures order_pairs { IfOk result (λ k. (p : PlainPair) → IsIn p (skeleton_view k).pairs → IsOrderPair (skeleton_view k) p) }
-    ensures values { IfOk result (λ k. HasItsValues k) }
+    ensures declared { IfOk result (λ k. HasDeclaredPrefixes (skeleton_view k)) }
 {
     let first = speaker(alloc, 0)?;
     let second = betrayer(alloc)?;
@@ -37,7 +37,7 @@ fn two_roles(alloc: Global) -> Result<Skeleton, Fail>
 /// The skeleton, with the problem's strands at these places.
 fn with_places(alloc: Global, mut k: Skeleton, places: &[usize]) -> Result<Skeleton, Fail>
     ensures order_pairs { ((p : PlainPair) → IsIn p (skeleton_view k).pairs → IsOrderPair (skeleton_view k) p) → IfOk result (λ l. (p : PlainPair) → IsIn p (skeleton_view l).pairs → IsOrderPair (skeleton_view l) p) }
-    ensures values { HasItsValues k → IfOk result (λ l. HasItsValues l) }
+    ensures declared { HasDeclaredPrefixes (skeleton_view k) → IfOk result (λ l. HasDeclaredPrefixes (skeleton_view l)) }
 {
     k.from_problem.strands = Vec::from_slice(alloc, places)?;
     Ok(k)

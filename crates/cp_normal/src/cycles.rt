@@ -1,6 +1,7 @@
 // Whether the pairs that unique values add close a cycle.
 ghost use Rattle.std.specs.Prelude.{◌↔◌, map, IsTrue, IfOk};
-ghost use Rattle.cp_skel.specs.View.{node_view, pair_view, unique_view};
+ghost use Rattle.cp_model.specs.RunView.{node_view};
+ghost use Rattle.cp_skel.specs.View.{pair_view, unique_view};
 ghost use Rattle.cp_normal.specs.Events.{Has};
 ghost use Rattle.cp_normal.specs.Cycles.{LeadsOn, IsClosedAt};
 

@@ -5,17 +5,16 @@ ghost use Rattle.cp_model.specs.Strand.{Role as PlainRole};
 ghost use Rattle.cp_model.specs.Term.{Substitution};
 ghost use Rattle.cp_model.specs.Skeleton.{instance, Skeleton as PlainSkeleton};
 ghost use Rattle.cp_unify.specs.Bindings.{Meets};
+ghost use Rattle.cp_skel.specs.DeclaredPrefixes.{HasDeclaredPrefixes};
 ghost use Rattle.cp_skel.specs.View.{strand_view, skeleton_view};
 ghost use Rattle.cp_skel.specs.declared.skeleton.Strand.TheVariants as variants;
 ghost use Rattle.cp_normal.specs.Extending.{IsPartitionOfFirst, IsExactFor, EqualAt};
 ghost use Rattle.cp_normal.specs.Partials.{AreSolved, IsNever, IsExact, lists, ArePartials, ArePartlyExtended, Joins, MayNotJoin};
 ghost use Rattle.cp_normal.specs.Partitions.{AreOfOneRole, IdentifiesValues, AreDescending};
 ghost use Rattle.cp_normal.specs.Collapsing.{IsNeverIdentified};
-ghost use Rattle.cp_normal.specs.Values.{HasItsValues};
 
 use crate::agreeing::unify_instances;
-use crate::same_role::is_same_role;
-use cp_skel::{Instance, Skeleton, Strand};
+use cp_skel::{Instance, Skeleton, Strand, is_same_role};
 use cp_unify::Subst;
 use std::alloc::{AllocError, Global};
 use std::rc::Rc;
@@ -62,7 +61,7 @@ fn unify_strands(
     t: usize,
     given: &Rc<Subst>,
 ) -> Result<Option<Rc<Subst>>, AllocError>
-    requires values { HasItsValues k.now }
+    requires declared { HasDeclaredPrefixes (skeleton_view k.now) }
     requires alike { AreOfOneRole (skeleton_view k.now).strands s t }
     requires solved { AreSolved given.now.value }
     ensures { IfOk result (λ found. MatchOption found
@@ -87,7 +86,7 @@ fn unify_block(
     block: usize,
     number: usize,
 ) -> Result<Option<Rc<Subst>>, AllocError>
-    requires values { HasItsValues k.now }
+    requires declared { HasDeclaredPrefixes (skeleton_view k.now) }
     requires partition { IsPartitionOfFirst (skeleton_view k.now) number partial.now.lowest.items }
     requires exact { IsExact (skeleton_view k.now) partial.now }
     requires own { item_at partial.now.lowest.items block ≡ Some block }
@@ -147,7 +146,7 @@ fn join(
     block: usize,
     number: usize,
 ) -> Result<Option<Partial>, AllocError>
-    requires values { HasItsValues k.now }
+    requires declared { HasDeclaredPrefixes (skeleton_view k.now) }
     requires partition { IsPartitionOfFirst (skeleton_view k.now) number partial.now.lowest.items }
     requires exact { IsExact (skeleton_view k.now) partial.now }
     requires earlier { block < number }
@@ -179,7 +178,7 @@ fn extend(
     number: usize,
     next: &mut Vec<Partial>,
 ) -> Result<(), AllocError>
-    requires values { HasItsValues k.now }
+    requires declared { HasDeclaredPrefixes (skeleton_view k.now) }
     requires partition { IsPartitionOfFirst (skeleton_view k.now) number partial.now.lowest.items }
     requires exact { IsExact (skeleton_view k.now) partial.now }
     ensures { OnOk result ((ps : List (List ℕ)) (i : ℕ) → item_at ps i ≡ Some partial.now.lowest.items → AreDescending ps
@@ -203,7 +202,7 @@ fn round(
     partials: &[Partial],
     number: usize,
 ) -> Result<Vec<Partial>, AllocError>
-    requires values { HasItsValues k.now }
+    requires declared { HasDeclaredPrefixes (skeleton_view k.now) }
     requires partials { ArePartials (skeleton_view k.now) number partials.now }
     ensures { IfOk result (λ next. ArePartials (skeleton_view k.now) (number + 1) next.items) }
 {
@@ -216,7 +215,7 @@ fn round(
 
 /// The partitions of the strands into blocks of instances of one role that may have equal values, in descending order.
 pub(crate) fn partitions(alloc: Global, k: &Skeleton) -> Result<Vec<Partial>, AllocError>
-    requires { HasItsValues k.now }
+    requires { HasDeclaredPrefixes (skeleton_view k.now) }
     ensures { IfOk result (λ partials. ArePartials (skeleton_view k.now) (length (skeleton_view k.now).strands) partials.items) }
 {
     let mut partials = Vec::new(alloc);

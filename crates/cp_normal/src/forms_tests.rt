@@ -2,19 +2,21 @@
 ghost use Rattle.std.specs.Prelude.{◌≡◌, [], ◌∷◌, None, true, map, IfOk};
 ghost use Rattle.cp_model.specs.Bundle.{Node as PlainNode, node_at};
 ghost use Rattle.cp_model.specs.Lists.{IsIn};
-ghost use Rattle.cp_model.specs.Skeleton.{OrderPair as PlainPair, UniqueAt as PlainUnique, Before, IsOrderPair, IsOrigin};
+ghost use Rattle.cp_model.specs.Homomorphism.{substitution_by};
+ghost use Rattle.cp_model.specs.Skeleton.{instance, OrderPair as PlainPair, UniqueAt as PlainUnique, Before, IsOrderPair, IsOrigin};
 ghost use Rattle.cp_model.specs.Strand.{Role as PlainRole, send, recv};
-ghost use Rattle.cp_model.specs.Term.{atom_term, text_variable, asymmetric_term, pubk_term};
-ghost use Rattle.cp_skel.specs.View.{assumptions_view, event_view, skeleton_view, unique_view};
+ghost use Rattle.cp_model.specs.Term.{text_sort, name_sort, atom_term, text_variable, asymmetric_term, pubk_term};
+ghost use Rattle.cp_skel.specs.DeclaredPrefixes.{HasDeclaredPrefixes};
+ghost use Rattle.cp_skel.specs.View.{assumptions_view, declaration_view, event_view, skeleton_view, strand_view, unique_view};
 ghost use Rattle.cp_term.specs.Keys.{name_of, key_as_term};
-ghost use Rattle.cp_normal.specs.Values.{listed_view, listed_instance, HasItsValues};
 
 use super::*;
 use cp_skel::{
-    Assumptions, Atom, Event, FromProblem, Instance, Node, Order, OrderPair, Role, Skeleton,
-    Strand, UniqueAt,
+    Assumptions, Atom, Declaration, Event, FromProblem, Instance, Node, Order, OrderPair, Role,
+    Skeleton, Strand, UniqueAt,
 };
 use cp_term::{Sort, Term, Text, VarId, VarTable, invert, pubk, var};
+use cp_unify::{Binding, Subst};
 use std::alloc::{AllocError, Global};
 use std::rc::Rc;
 use std::test::Fail;
@@ -41,12 +43,21 @@ pub(crate) fn no_assumptions(alloc: Global) -> Assumptions
     }
 }
 
-fn role(alloc: Global, trace: Vec<Event>) -> Result<Role, AllocError>
-    ensures { IfOk result (λ r. r.trace ≡ trace) }
+/// The declaration of a variable of this sort.
+fn variable(alloc: Global, sort: Sort) -> Result<Declaration, AllocError>
+    ensures { IfOk result (λ d. d.sort ≡ sort) }
+{
+    let identifier = Text::new(alloc, "x")?;
+    Ok(Declaration { identifier, sort })
+}
+
+fn role(alloc: Global, variables: Vec<Declaration>, trace: Vec<Event>) -> Result<Role, AllocError>
+    ensures variables { IfOk result (λ r. r.variables ≡ variables) }
+    ensures trace { IfOk result (λ r. r.trace ≡ trace) }
 {
     Ok(Role {
         name: Text::new(alloc, "role")?,
-        variables: Vec::new(alloc),
+        variables,
         trace,
         non_originating: Vec::new(alloc),
         penetrator_non_originating: Vec::new(alloc),
@@ -54,17 +65,18 @@ fn role(alloc: Global, trace: Vec<Event>) -> Result<Role, AllocError>
     })
 }
 
-/// An instance of a role with these events.
+/// An instance of a role with these variables and events.
 fn strand(
     alloc: Global,
     height: usize,
+    variables: Vec<Declaration>,
     trace: Vec<Event>,
     values: Vec<Term>,
 ) -> Result<Strand, AllocError>
-    ensures { IfOk result (λ s. (r : PlainRole) × (r.trace ≡ map event_view trace.items) × (listed_view s ≡ listed_instance r height values.items)) }
+    ensures { IfOk result (λ s. (r : PlainRole) × (r.trace ≡ map event_view trace.items) × (r.variables ≡ map declaration_view variables.items) × (strand_view s ≡ instance r height (substitution_by values.items))) }
 {
     Ok(Strand::Instance(Instance {
-        role: Rc::new(alloc, role(alloc, trace)?)?,
+        role: Rc::new(alloc, role(alloc, variables, trace)?)?,
         height,
         values,
     }))
@@ -72,24 +84,25 @@ fn strand(
 
 /// A strand that sends a text.
 pub(crate) fn speaker(alloc: Global, number: usize) -> Result<Strand, AllocError>
-    ensures { IfOk result (λ s. (r : PlainRole) × (r.trace ≡ send (atom_term (text_variable 0)) ∷ []) × (listed_view s ≡ listed_instance r 1 (atom_term (text_variable number) ∷ []))) }
+    ensures { IfOk result (λ s. (r : PlainRole) × (r.trace ≡ send (atom_term (text_variable 0)) ∷ []) × (map (λ d. d.sort) r.variables ≡ text_sort ∷ []) × (strand_view s ≡ instance r 1 (substitution_by (atom_term (text_variable number) ∷ [])))) }
 {
+    let variables = vec![in alloc; variable(alloc, Sort::Text)?]?;
     let trace = vec![in alloc; Event::Send(text(alloc, 0)?)]?;
     let values = vec![in alloc; text(alloc, number)?]?;
-    strand(alloc, 1, trace, values)
+    strand(alloc, 1, variables, trace, values)
 }
 
-/// A strand that receives text number 1, and sends text number 0.
-fn repeater(alloc: Global) -> Result<Strand, AllocError>
-    ensures { IfOk result (λ s. (r : PlainRole) × (r.trace ≡ recv (atom_term (text_variable 0)) ∷ send (atom_term (text_variable 1)) ∷ []) × (listed_view s ≡ listed_instance r 2 (atom_term (text_variable 1) ∷ atom_term (text_variable 0) ∷ []))) }
+/// A strand that receives one text and sends another, with these terms for them.
+fn repeater(alloc: Global, values: Vec<Term>) -> Result<Strand, AllocError>
+    ensures { IfOk result (λ s. (r : PlainRole) × (r.trace ≡ recv (atom_term (text_variable 0)) ∷ send (atom_term (text_variable 1)) ∷ []) × (map (λ d. d.sort) r.variables ≡ text_sort ∷ text_sort ∷ []) × (strand_view s ≡ instance r 2 (substitution_by values.items))) }
 {
+    let first_variable = variable(alloc, Sort::Text)?;
+    let second_variable = variable(alloc, Sort::Text)?;
+    let variables = vec![in alloc; first_variable, second_variable]?;
     let received = text(alloc, 0)?;
     let sent = text(alloc, 1)?;
     let trace = vec![in alloc; Event::Receive(received), Event::Send(sent)]?;
-    let first = text(alloc, 1)?;
-    let second = text(alloc, 0)?;
-    let values = vec![in alloc; first, second]?;
-    strand(alloc, 2, trace, values)
+    strand(alloc, 2, variables, trace, values)
 }
 
 /// The private key of name number 0.
@@ -101,11 +114,12 @@ fn private_key(alloc: Global) -> Result<Term, AllocError>
 
 /// A strand that sends the private key of name number 0.
 pub(crate) fn betrayer(alloc: Global) -> Result<Strand, AllocError>
-    ensures { IfOk result (λ s. (r : PlainRole) × (r.trace ≡ send (key_as_term (asymmetric_term true (pubk_term None 0))) ∷ []) × (listed_view s ≡ listed_instance r 1 (name_of 0 ∷ []))) }
+    ensures { IfOk result (λ s. (r : PlainRole) × (r.trace ≡ send (key_as_term (asymmetric_term true (pubk_term None 0))) ∷ []) × (map (λ d. d.sort) r.variables ≡ name_sort ∷ []) × (strand_view s ≡ instance r 1 (substitution_by (name_of 0 ∷ [])))) }
 {
+    let variables = vec![in alloc; variable(alloc, Sort::Name)?]?;
     let trace = vec![in alloc; Event::Send(private_key(alloc)?)]?;
     let values = vec![in alloc; name(alloc)?]?;
-    strand(alloc, 1, trace, values)
+    strand(alloc, 1, variables, trace, values)
 }
 
 fn atom(term: Term) -> Result<Atom, Fail>
@@ -181,7 +195,7 @@ fn betrayed(alloc: Global) -> Result<Skeleton, Fail>
     ensures order_pairs { IfOk result (λ k. (p : PlainPair) → IsIn p (skeleton_view k).pairs → IsOrderPair (skeleton_view k) p) }
     ensures no_cycle { IfOk result (λ k. (n : PlainNode) → Before (skeleton_view k) n n → ⊥) }
     ensures origins { IfOk result (λ k. (u : PlainUnique) → IsIn u (skeleton_view k).assumptions.uniquely_originating → IsOrigin (skeleton_view k) u) }
-    ensures values { IfOk result (λ k. HasItsValues k) }
+    ensures declared { IfOk result (λ k. HasDeclaredPrefixes (skeleton_view k)) }
 {
     let strands = vec![in alloc; betrayer(alloc)?]?;
     let assumptions = never_sent(alloc)?;
@@ -193,7 +207,7 @@ fn said_again(alloc: Global) -> Result<Skeleton, Fail>
     ensures order_pairs { IfOk result (λ k. (p : PlainPair) → IsIn p (skeleton_view k).pairs → IsOrderPair (skeleton_view k) p) }
     ensures no_cycle { IfOk result (λ k. (n : PlainNode) → Before (skeleton_view k) n n → ⊥) }
     ensures origins { IfOk result (λ k. (u : PlainUnique) → IsIn u (skeleton_view k).assumptions.uniquely_originating → IsOrigin (skeleton_view k) u) }
-    ensures values { IfOk result (λ k. HasItsValues k) }
+    ensures declared { IfOk result (λ k. HasDeclaredPrefixes (skeleton_view k)) }
 {
     let first = speaker(alloc, 1)?;
     let second = speaker(alloc, 1)?;
@@ -207,7 +221,7 @@ fn said_twice(alloc: Global) -> Result<Skeleton, Fail>
     ensures order_pairs { IfOk result (λ k. (p : PlainPair) → IsIn p (skeleton_view k).pairs → IsOrderPair (skeleton_view k) p) }
     ensures no_cycle { IfOk result (λ k. (n : PlainNode) → Before (skeleton_view k) n n → ⊥) }
     ensures origins { IfOk result (λ k. (u : PlainUnique) → IsIn u (skeleton_view k).assumptions.uniquely_originating → IsOrigin (skeleton_view k) u) }
-    ensures values { IfOk result (λ k. HasItsValues k) }
+    ensures declared { IfOk result (λ k. HasDeclaredPrefixes (skeleton_view k)) }
 {
     let first = speaker(alloc, 1)?;
     let second = speaker(alloc, 1)?;
@@ -221,13 +235,24 @@ fn repeated(alloc: Global) -> Result<Skeleton, Fail>
     ensures order_pairs { IfOk result (λ k. (p : PlainPair) → IsIn p (skeleton_view k).pairs → IsOrderPair (skeleton_view k) p) }
     ensures no_cycle { IfOk result (λ k. (n : PlainNode) → Before (skeleton_view k) n n → ⊥) }
     ensures origins { IfOk result (λ k. (u : PlainUnique) → IsIn u (skeleton_view k).assumptions.uniquely_originating → IsOrigin (skeleton_view k) u) }
-    ensures values { IfOk result (λ k. HasItsValues k) }
+    ensures declared { IfOk result (λ k. HasDeclaredPrefixes (skeleton_view k)) }
 {
     let first = speaker(alloc, 0)?;
-    let second = repeater(alloc)?;
+    let heard = text(alloc, 1)?;
+    let said = text(alloc, 0)?;
+    let values = vec![in alloc; heard, said]?;
+    let second = repeater(alloc, values)?;
     let strands = vec![in alloc; first, second]?;
     let assumptions = at_one(alloc, 0)?;
     Ok(skeleton(alloc, strands, assumptions))
+}
+
+/// A strand that receives one text and sends another, without terms for them.
+fn without_terms(alloc: Global) -> Result<Skeleton, Fail>
+    ensures { IfOk result (λ k. HasDeclaredPrefixes (skeleton_view k)) }
+{
+    let strands = vec![in alloc; repeater(alloc, Vec::new(alloc))?]?;
+    Ok(skeleton(alloc, strands, no_assumptions(alloc)))
 }
 
 /// It would have two origins.
@@ -286,6 +311,30 @@ fn a_value_that_was_heard(rt: HostRuntime) -> Result<(), Fail> {
             Some(strand) => assert!(rt; receives(alloc, strand, 0, &heard)?),
             None => return Err(Fail::new("no second strand")),
         }
+    }
+    Ok(())
+}
+
+/// Whether the event at this place of the strand is the transmission of the term.
+fn sends(alloc: Global, strand: &Strand, index: usize, term: &Term) -> Result<bool, AllocError> {
+    match strand.event(alloc, index)? {
+        Some(Event::Send(message)) => Ok(message.same(term)),
+        _ => Ok(false),
+    }
+}
+
+/// Variables without terms stand for themselves, and become what the substitution gives them.
+#[test]
+fn an_instance_without_terms(rt: HostRuntime) -> Result<(), Fail> {
+    let alloc = rt.alloc();
+    let k = without_terms(alloc)?;
+    let binding = Binding::new(VarId::numbered(1), text(alloc, 0)?);
+    let s = Subst::new(alloc).with(binding)?;
+    let changed = under(alloc, &k, &s)?;
+    let said = text(alloc, 0)?;
+    match changed.strands.first() {
+        Some(strand) => assert!(rt; sends(alloc, strand, 1, &said)?),
+        None => return Err(Fail::new("no strand")),
     }
     Ok(())
 }

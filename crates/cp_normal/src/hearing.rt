@@ -1,55 +1,26 @@
 // The atoms that receptions carry.
-ghost use Rattle.std.specs.Prelude.{◌≡◌, ◌↔◌, [], ◌∷◌, take, map, option_map, IfOk, OnOk};
+ghost use Rattle.std.specs.Prelude.{◌≡◌, ◌↔◌, take, map, option_map, IfOk, OnOk};
 ghost use Rattle.cp_model.specs.Lists.{IsIn, item_at};
 ghost use Rattle.cp_model.specs.Term.{AtomTerm};
 ghost use Rattle.cp_model.specs.Skeleton.{skeleton_trace};
-ghost use Rattle.cp_term.specs.Same.{same_atom};
+ghost use Rattle.cp_model.specs.Given.{atoms_onto};
 ghost use Rattle.cp_unify.specs.Spines.{HasTail};
-ghost use Rattle.cp_skel.specs.View.{event_view, node_view, strand_view, skeleton_view};
-ghost use Rattle.cp_normal.specs.Hearing.{carried_atoms, received_atoms, heard_in, has_atom, each_once, heard_before};
+ghost use Rattle.cp_model.specs.RunView.{node_view};
+ghost use Rattle.cp_skel.specs.View.{event_view, strand_view, skeleton_view};
+ghost use Rattle.cp_normal.specs.Hearing.{carried_atoms, received_atoms, heard_in, heard_before};
 ghost use Rattle.cp_normal.specs.Narrowing.{IsHeardAt};
 
-use cp_skel::{Atom, Event, Node, Skeleton, Strand};
+use cp_skel::{Atom, Event, Node, Skeleton, Strand, add_atom};
 use cp_term::{Shape, Term};
 use std::alloc::{AllocError, Global};
-
-/// Whether the atoms are the same.
-fn is_same_atom(first: &Atom, second: &Atom) -> bool
-    ensures { result ≡ same_atom first.now second.now }
-{
-    first.same(second)
-}
-
-/// Whether the atom is one of these.
-fn has_atom(atoms: &[Atom], atom: &Atom) -> bool
-    ensures { result ≡ has_atom atoms.now atom.now }
-{
-    for other in atoms {
-        if is_same_atom(other, atom) {
-            return true;
-        }
-    }
-    false
-}
-
-/// Puts an atom behind these, if it is not one of them.
-fn add_atom(atom: Atom, atoms: &mut Vec<Atom>) -> Result<(), AllocError>
-    ensures { OnOk result (atoms.new.items ≡ each_once atoms.old.items (atom ∷ [])) }
-{
-    if has_atom(atoms, &atom) {
-        return Ok(());
-    }
-    atoms.push(atom)?;
-    Ok(())
-}
 
 /// Puts a term without parts behind these, if it is an atom and not one of them.
 fn add_leaf(leaf: &Term, atoms: &mut Vec<Atom>) -> Result<(), AllocError>
     requires { ¬ HasTail leaf.now }
-    ensures { OnOk result (atoms.new.items ≡ each_once atoms.old.items (carried_atoms leaf.now)) }
+    ensures { OnOk result (atoms.new.items ≡ atoms_onto atoms.old.items (carried_atoms leaf.now)) }
 {
     match Atom::new(leaf.copy()?) {
-        Some(atom) => add_atom(atom, atoms),
+        Some(atom) => add_atom(atoms, atom),
         None => Ok(()),
     }
 }
@@ -57,7 +28,7 @@ fn add_leaf(leaf: &Term, atoms: &mut Vec<Atom>) -> Result<(), AllocError>
 /// Puts the atoms that the term carries behind these, in preorder, each that is not there yet. The right spine is walked
 /// by a loop, since it may be long.
 fn add_carried(term: &Term, atoms: &mut Vec<Atom>) -> Result<(), AllocError>
-    ensures { OnOk result (atoms.new.items ≡ each_once atoms.old.items (carried_atoms term.now)) }
+    ensures { OnOk result (atoms.new.items ≡ atoms_onto atoms.old.items (carried_atoms term.now)) }
 {
     let mut rest = term;
     'rest: loop {
@@ -74,7 +45,7 @@ fn add_carried(term: &Term, atoms: &mut Vec<Atom>) -> Result<(), AllocError>
 
 /// Puts the atoms that the event carries, if it is a reception, behind these, each that is not there yet.
 fn add_received(event: &Event, atoms: &mut Vec<Atom>) -> Result<(), AllocError>
-    ensures { OnOk result (atoms.new.items ≡ each_once atoms.old.items (received_atoms (event_view event.now))) }
+    ensures { OnOk result (atoms.new.items ≡ atoms_onto atoms.old.items (received_atoms (event_view event.now))) }
 {
     match event {
         Event::Send(_) => Ok(()),
@@ -89,7 +60,7 @@ fn add_heard(
     end: usize,
     atoms: &mut Vec<Atom>,
 ) -> Result<(), AllocError>
-    ensures { OnOk result (atoms.new.items ≡ each_once atoms.old.items (heard_in (take end (skeleton_trace (strand_view strand.now))))) }
+    ensures { OnOk result (atoms.new.items ≡ atoms_onto atoms.old.items (heard_in (take end (skeleton_trace (strand_view strand.now))))) }
 {
     for index in 0..end {
         match strand.event(alloc, index)? {

@@ -1,15 +1,17 @@
 // The collapses of a skeleton.
-ghost use Rattle.std.specs.Prelude.{◌≡◌, ◌<◌, ◌∷◌, map, IfOk, MatchOption};
+ghost use Rattle.std.specs.Prelude.{◌≡◌, ◌<◌, ◌⊎◌, ◌∷◌, map, IfOk, MatchOption};
+ghost use Rattle.cp_model.specs.Bundle.{Bundle, IsBundle};
 ghost use Rattle.cp_model.specs.Homomorphism.{IsCompleteList};
 ghost use Rattle.cp_model.specs.Lists.{IsIn};
 ghost use Rattle.cp_model.specs.Skeleton.{OrderPair as Pair, IsOrderPair, IsSkeleton};
+ghost use Rattle.cp_model.specs.Standing.{Standing, StandsIn, StandsApart};
 ghost use Rattle.cp_model.specs.Strand.{Protocol};
+ghost use Rattle.cp_skel.specs.DeclaredPrefixes.{HasDeclaredPrefixes};
 ghost use Rattle.cp_skel.specs.View.{skeleton_view};
 ghost use Rattle.cp_skel.specs.declared.skeleton.Skeleton as program;
-ghost use Rattle.cp_normal.specs.Collapsing.{LiesOnOne, IsCollapsed, HasNoCycle, IsImpossible, AreCollapses};
+ghost use Rattle.cp_normal.specs.Collapsing.{LiesOnOne, IsCollapsed, HasNoCycle, IsImpossible, AreCollapses, StandsThroughCollapse};
 ghost use Rattle.cp_normal.specs.Partials.{IsExact};
 ghost use Rattle.cp_normal.specs.Partitions.{IsPartition};
-ghost use Rattle.cp_normal.specs.Values.{HasItsValues, HasValuesBeside};
 
 use crate::cycles::some_closes;
 use crate::extending::{Partial, partitions};
@@ -18,36 +20,38 @@ use crate::merging::merged_strands;
 use cp_skel::{Order, Skeleton};
 use std::alloc::{AllocError, Global};
 
-/// The skeleton with the strands of each block merged, where no pair comes to lie backward.
+/// The skeleton with the strands of each block merged, where no pair comes to lie backward. Its assumptions are listed in
+/// the order of the report.
 fn merged(alloc: Global, k: &Skeleton, partial: &Partial) -> Result<Skeleton, AllocError>
-    requires values { HasItsValues k.now }
+    requires declared { HasDeclaredPrefixes (skeleton_view k.now) }
     requires partition { IsPartition (skeleton_view k.now) partial.now.lowest.items }
     requires exact { IsExact (skeleton_view k.now) partial.now }
     requires forward { (q : Pair) → IsIn q (skeleton_view k.now).pairs → LiesOnOne partial.now.lowest.items q → q.earlier.index < q.later.index }
     ensures collapsed { IfOk result (λ l. IsCollapsed (skeleton_view k.now) partial.now.lowest.items (skeleton_view l)) }
-    ensures values { IfOk result (λ l. HasItsValues l) }
     ensures variables { IfOk result (λ l. l.variables ≡ k.now.variables) }
 {
     let lowest = &partial.lowest;
     let bindings = &partial.bindings;
-    Ok(Skeleton {
+    let mut merged = Skeleton {
         variables: k.variables.copy()?,
         strands: merged_strands(alloc, k, partial)?,
         order: Order::of(pair_images(alloc, k.order.pairs(), lowest)?),
         assumptions: assumption_images(alloc, &k.assumptions, bindings, lowest)?,
         from_problem: from_problem_image(alloc, &k.from_problem, bindings, lowest)?,
-    })
+    };
+    merged.list_assumptions(alloc)?;
+    Ok(merged)
 }
 
 /// The collapse by a partition; none where a pair comes to lie backward, or the merged order has a cycle.
 fn collapse(alloc: Global, k: &Skeleton, partial: &Partial) -> Result<Option<Skeleton>, AllocError>
-    requires values { HasItsValues k.now }
+    requires declared { HasDeclaredPrefixes (skeleton_view k.now) }
     requires partition { IsPartition (skeleton_view k.now) partial.now.lowest.items }
     requires exact { IsExact (skeleton_view k.now) partial.now }
     requires order_pairs { (q : Pair) → IsIn q (skeleton_view k.now).pairs → IsOrderPair (skeleton_view k.now) q }
     ensures { IfOk result (λ found. MatchOption found
         (IsImpossible (skeleton_view k.now) partial.now.lowest.items)
-        (λ l. IsCollapsed (skeleton_view k.now) partial.now.lowest.items (skeleton_view l) × HasNoCycle (skeleton_view l) × HasValuesBeside k.now l)) }
+        (λ l. IsCollapsed (skeleton_view k.now) partial.now.lowest.items (skeleton_view l) × HasNoCycle (skeleton_view l) × (l.variables ≡ k.now.variables))) }
 {
     if some_lies_backward(k.order.pairs(), &partial.lowest) {
         return Ok(None);
@@ -60,19 +64,23 @@ fn collapse(alloc: Global, k: &Skeleton, partial: &Partial) -> Result<Option<Ske
 }
 
 /// The collapses of a skeleton, one for each way to identify strands of one role: each partition of the strands into
-/// blocks of instances of one role, other than the finest, whose blocks unify and whose merged order has no cycle. A
-/// block takes its lowest place and its greatest height; places are then numbered without gaps. A partition is written
-/// as the list of each strand's lowest strand in its block, and the collapses come in descending order of these lists. A
-/// pair that comes to lie forward on one strand is dropped.
+/// blocks of instances of one role, other than the finest, whose blocks unify and whose merged order has no cycle. Of two
+/// variables the later becomes the earlier. A block takes its lowest place and its greatest height; places are then numbered
+/// without gaps. A partition is written as the list of each strand's lowest strand in its block, and the collapses come in
+/// descending order of these lists. A pair that comes to lie forward on one strand is dropped. The assumptions of a collapse
+/// are in the order in which a report lists them, each once.
 ///
-/// Each instance has to have a term of its sort for each variable of its prefix, and so have those of the collapses; the
-/// skeleton's pairs have to be between nodes that are there. The error is that memory ran out.
+/// The role of each instance has to declare the variables of its prefix, and so it does in the collapses. Each of the
+/// skeleton's pairs has to go from a transmission to a reception of another strand, which are both there. The error is that
+/// memory ran out.
 pub fn collapses(alloc: Global, k: &Skeleton) -> Result<Vec<Skeleton>, AllocError>
-    requires values { HasItsValues k.now }
+    requires declared { HasDeclaredPrefixes (skeleton_view k.now) }
     requires order_pairs { (q : Pair) → IsIn q (skeleton_view k.now).pairs → IsOrderPair (skeleton_view k.now) q }
     ensures exact { IfOk result (λ ls. AreCollapses (skeleton_view k.now) (map skeleton_view ls.items)) }
     ensures covers { IfOk result (λ ls. (protocol : Protocol) → IsSkeleton protocol (skeleton_view k.now) → IsCompleteList protocol (skeleton_view k.now) (skeleton_view k.now ∷ map skeleton_view ls.items)) }
-    ensures values { IfOk result (λ ls. (l : program.Skeleton) → IsIn l ls.items → HasItsValues l) }
+    ensures through { IfOk result (λ ls. (protocol : Protocol) (b : Bundle) (h : Standing) → IsSkeleton protocol (skeleton_view k.now) → IsBundle protocol b → StandsIn (skeleton_view k.now) b h
+        → StandsApart (skeleton_view k.now) h ⊎ StandsThroughCollapse (skeleton_view k.now) (map skeleton_view ls.items) b h) }
+    ensures declared { IfOk result (λ ls. (l : program.Skeleton) → IsIn l ls.items → HasDeclaredPrefixes (skeleton_view l)) }
     ensures variables { IfOk result (λ ls. (l : program.Skeleton) → IsIn l ls.items → l.variables ≡ k.now.variables) }
 {
     let partials = partitions(alloc, k)?;

@@ -1,9 +1,10 @@
 // The images of assumptions and pairs where the strands of each block are merged, each once.
-ghost use Rattle.std.specs.Prelude.{◌≡◌, ◌↔◌, ◌≤◌, map, IsTrue, IfOk, OnOk};
+ghost use Rattle.std.specs.Prelude.{◌≡◌, ◌↔◌, ◌≤◌, [], map, IsTrue, IfOk, OnOk};
+ghost use Rattle.cp_model.specs.Given.{atoms_onto, uniques_onto};
 ghost use Rattle.cp_model.specs.Term.{apply_to_atom};
 ghost use Rattle.cp_unify.specs.Bindings.{as_substitution};
 ghost use Rattle.cp_skel.specs.View.{unique_view, pair_view, assumptions_view, from_problem_view};
-ghost use Rattle.cp_normal.specs.Collapsing.{AreImages, unique_in, ArePairsIn, AreAssumptionsIn, IsFromProblemIn, LiesOnOne};
+ghost use Rattle.cp_normal.specs.Collapsing.{unique_in, ArePairsIn, assumptions_in, IsFromProblemIn, LiesOnOne};
 ghost use Rattle.cp_normal.specs.Events.{Has};
 ghost use Rattle.cp_normal.specs.Merging.{IsPutOnce};
 ghost use Rattle.cp_normal.specs.Partitions.{place_in};
@@ -11,71 +12,20 @@ ghost use Rattle.cp_normal.specs.Partitions.{place_in};
 use crate::origins::is_same_node;
 use crate::placing::{node_in, pair_in, place_in};
 use crate::substituting::{atom_under, terms_under};
-use cp_skel::{Assumptions, Atom, FromProblem, OrderPair, UniqueAt};
+use cp_skel::{Assumptions, Atom, FromProblem, OrderPair, UniqueAt, add_atom, add_unique};
 use cp_unify::Subst;
 use std::alloc::{AllocError, Global};
 
-/// Whether an atom is one of these.
-fn is_listed_atom(atom: &Atom, atoms: &[Atom]) -> bool
-    ensures { IsTrue result ↔ Has (λ other. other ≡ atom.now) atoms.now }
-{
-    for other in atoms {
-        if other.same(atom) {
-            return true;
-        }
-    }
-    false
-}
-
-/// Puts an atom behind others, if it is not one of them.
-fn put_atom(atom: Atom, atoms: &mut Vec<Atom>) -> Result<(), AllocError>
-    ensures { OnOk result (IsPutOnce atom atoms.old.items atoms.new.items) }
-{
-    if is_listed_atom(&atom, atoms) {
-        return Ok(());
-    }
-    atoms.push(atom)?;
-    Ok(())
-}
-
-/// The atoms under a substitution, each once.
+/// The atoms under a substitution, in their order, each once.
 fn atom_images(alloc: Global, atoms: &[Atom], s: &Subst) -> Result<Vec<Atom>, AllocError>
-    ensures { IfOk result (λ v. AreImages (apply_to_atom (as_substitution s.now)) atoms.now v.items) }
+    ensures { IfOk result (λ v. v.items ≡ atoms_onto [] (map (apply_to_atom (as_substitution s.now)) atoms.now)) }
 {
     let mut images = Vec::new(alloc);
     for atom in atoms {
-        put_atom(atom_under(alloc, atom, s)?, &mut images)?;
+        let image = atom_under(alloc, atom, s)?;
+        add_atom(&mut images, image)?;
     }
     Ok(images)
-}
-
-fn is_same_unique(first: &UniqueAt, second: &UniqueAt) -> bool
-    ensures { IsTrue result ↔ (unique_view first.now ≡ unique_view second.now) }
-{
-    first.value.same(&second.value) && is_same_node(first.origin, second.origin)
-}
-
-/// Whether a unique value with its recorded origin is one of these.
-fn is_listed_unique(unique: &UniqueAt, uniques: &[UniqueAt]) -> bool
-    ensures { IsTrue result ↔ Has (λ other. unique_view other ≡ unique_view unique.now) uniques.now }
-{
-    for other in uniques {
-        if is_same_unique(other, unique) {
-            return true;
-        }
-    }
-    false
-}
-
-/// Puts a unique value with its recorded origin behind others, if it is not one of them.
-fn put_unique(unique: UniqueAt, uniques: &mut Vec<UniqueAt>) -> Result<(), AllocError>
-    ensures { OnOk result (IsPutOnce (unique_view unique) (map unique_view uniques.old.items) (map unique_view uniques.new.items)) }
-{
-    if is_listed_unique(&unique, uniques) {
-        return Ok(());
-    }
-    uniques.push(unique)?;
-    Ok(())
 }
 
 /// A unique value under a substitution, with its recorded origin at the place of its strand's block.
@@ -93,18 +43,19 @@ fn unique_image(
     })
 }
 
-/// The images of unique values, each once.
+/// The images of unique values, in their order, each once.
 fn unique_images(
     alloc: Global,
     uniques: &[UniqueAt],
     s: &Subst,
     lowest: &[usize],
 ) -> Result<Vec<UniqueAt>, AllocError>
-    ensures { IfOk result (λ v. AreImages (unique_in lowest.now (as_substitution s.now)) (map unique_view uniques.now) (map unique_view v.items)) }
+    ensures { IfOk result (λ v. map unique_view v.items ≡ uniques_onto [] (map (unique_in lowest.now (as_substitution s.now)) (map unique_view uniques.now))) }
 {
     let mut images = Vec::new(alloc);
     for unique in uniques {
-        put_unique(unique_image(alloc, unique, s, lowest)?, &mut images)?;
+        let image = unique_image(alloc, unique, s, lowest)?;
+        add_unique(&mut images, image)?;
     }
     Ok(images)
 }
@@ -182,14 +133,14 @@ pub(crate) fn some_lies_backward(pairs: &[OrderPair], lowest: &[usize]) -> bool
     false
 }
 
-/// The images of assumptions, each once.
+/// The images of assumptions, in their order, each once.
 pub(crate) fn assumption_images(
     alloc: Global,
     assumptions: &Assumptions,
     s: &Subst,
     lowest: &[usize],
 ) -> Result<Assumptions, AllocError>
-    ensures { IfOk result (λ a. AreAssumptionsIn lowest.now (as_substitution s.now) (assumptions_view assumptions.now) (assumptions_view a)) }
+    ensures { IfOk result (λ a. assumptions_view a ≡ assumptions_in lowest.now (as_substitution s.now) (assumptions_view assumptions.now)) }
 {
     Ok(Assumptions {
         non_originating: atom_images(alloc, &assumptions.non_originating, s)?,

@@ -1,6 +1,6 @@
 // Laws of the definitions: each stands as the contract of a function that does nothing.
 ghost use Rattle.std.specs.Prelude.{◌≡◌, List, [], ◌∷◌};
-ghost use Rattle.cp_model.specs.Term.{Term, Substitution, after, value_of};
+ghost use Rattle.cp_model.specs.Term.{AtomTerm, Term, Substitution, after, apply_to, value_of};
 ghost use Rattle.cp_model.specs.Strand.{Declaration, Protocol};
 ghost use Rattle.cp_model.specs.Bundle.{Bundle};
 ghost use Rattle.cp_model.specs.Skeleton.{OrderPair, Skeleton, IsSkeleton};
@@ -11,7 +11,7 @@ ghost use Rattle.cp_model.specs.Derivable.{KeepsAssumptions};
 ghost use Rattle.cp_completeness.specs.Normal.{skeleton_under, AddOnlyOriginPairs, LosesNoStanding};
 ghost use Rattle.cp_normal.specs.Agreeing.{SaysTheSame};
 ghost use Rattle.cp_normal.specs.Normalising.{AreNormalPairs, IsContradictory};
-ghost use Rattle.cp_normal.specs.Narrowing.{NarrowsTo, IsNormal, IsNormalFormOf};
+ghost use Rattle.cp_normal.specs.Narrowing.{IsMostGeneralFor, NarrowsTo, IsNormal, IsNormalFormOf};
 
 /// A skeleton that contradicts itself stands apart in no bundle; and where normalising adds pairs, it adds only such as
 /// lose no standing.
@@ -26,6 +26,11 @@ pub fn agreeing_skeletons_stand_alike()
     ensures stands { (k l : Skeleton) (b : Bundle) (h : Standing) → SaysTheSame k l → StandsIn k b h → StandsIn l b h }
     ensures loses_none { (protocol : Protocol) (k l : Skeleton) → SaysTheSame k l → LosesNoStanding protocol k (l ∷ []) }
     ensures skeleton { (protocol : Protocol) (k l : Skeleton) → SaysTheSame k l → IsSkeleton protocol k → IsSkeleton protocol l }
+{}
+
+/// Two atoms have one most general unifier that binds later variables to earlier ones: two of them give each term the same.
+pub fn unifiers_are_determined()
+    ensures { (a b : AtomTerm) (s t : Substitution) → IsMostGeneralFor a b s → IsMostGeneralFor a b t → (u : Term) → apply_to s u ≡ apply_to t u }
 {}
 
 /// A normal form of a skeleton over a protocol is one, and is a normal form of itself; it carries a homomorphism from

@@ -26,19 +26,19 @@ mod normalising;
 mod origins;
 mod pairs;
 mod placing;
-mod same_role;
 mod straying;
 mod substituting;
 #[cfg(test)]
 mod tests;
+mod valuing;
 
 pub use carrying::carries_non_originating;
-pub use collapsing::{collapses_are_determined, collapses_cover};
+pub use collapsing::{collapses_are_determined, collapses_are_listed, collapses_cover};
 pub use examples::{stray_text_example, two_strands_of_one_role_example};
 pub use identifying::collapses;
 pub use laws::{
     agreeing_skeletons_stand_alike, contradictory_skeletons_stand_nowhere,
-    normal_forms_keep_what_is_stated,
+    normal_forms_keep_what_is_stated, unifiers_are_determined,
 };
 pub use normal::normal_pairs;
 pub use normalising::normalise;

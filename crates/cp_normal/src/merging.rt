@@ -2,10 +2,10 @@
 ghost use Rattle.std.specs.Prelude.{◌≡◌, ◌<◌, Some, map, length, IfOk};
 ghost use Rattle.cp_model.specs.Lists.{item_at};
 ghost use Rattle.cp_unify.specs.Bindings.{as_substitution};
+ghost use Rattle.cp_skel.specs.DeclaredPrefixes.{HasDeclaredPrefixes};
 ghost use Rattle.cp_skel.specs.View.{strand_view, skeleton_view};
 ghost use Rattle.cp_normal.specs.Merging.{height_of, IsTallestTo, IsUnder, AreMergedAlike};
 ghost use Rattle.cp_normal.specs.Partitions.{IsPartition};
-ghost use Rattle.cp_normal.specs.Values.{HasItsValues};
 
 use crate::extending::{Partial, is_in_block};
 use crate::substituting::strand_under;
@@ -61,7 +61,7 @@ pub(crate) fn merged_strands(
     k: &Skeleton,
     partial: &Partial,
 ) -> Result<Vec<Strand>, AllocError>
-    requires values { HasItsValues k.now }
+    requires declared { HasDeclaredPrefixes (skeleton_view k.now) }
     requires partition { IsPartition (skeleton_view k.now) partial.now.lowest.items }
     ensures { IfOk result (λ v. AreMergedAlike (skeleton_view k.now) partial.now.lowest.items (as_substitution partial.now.bindings.value) (length partial.now.lowest.items) v.items) }
 {

@@ -1,6 +1,7 @@
 // One step of narrowing.
 ghost use Rattle.std.specs.Prelude.{IfOk};
-ghost use Rattle.cp_normal.specs.Values.{HasItsValues};
+ghost use Rattle.cp_skel.specs.DeclaredPrefixes.{HasDeclaredPrefixes};
+ghost use Rattle.cp_skel.specs.View.{skeleton_view};
 ghost use Rattle.cp_normal.specs.Branched.{AreBranchesOf};
 
 use crate::substituting::under;
@@ -8,7 +9,7 @@ use cp_skel::{Atom, Skeleton};
 use cp_unify::{Subst, unify};
 use std::alloc::{AllocError, Global};
 
-/// The skeleton under a most general unifier of a value and an atom, for each of the atoms that unifies with the value,
+/// The skeleton under the most general unifier of a value and an atom, for each of the atoms that unifies with the value,
 /// in their order.
 pub(crate) fn branches(
     alloc: Global,
@@ -16,7 +17,7 @@ pub(crate) fn branches(
     value: &Atom,
     atoms: &[Atom],
 ) -> Result<Vec<Skeleton>, AllocError>
-    requires { HasItsValues k.now }
+    requires { HasDeclaredPrefixes (skeleton_view k.now) }
     ensures { IfOk result (λ ls. AreBranchesOf k.now value.now atoms.now ls.items) }
 {
     let nothing = Subst::new(alloc);

@@ -41,8 +41,9 @@ fn own_and_added(alloc: Global, k: &Skeleton) -> Result<Vec<OrderPair>, AllocErr
 /// non-originating value, where a unique value has two recorded origins or does not originate at its own, and where the
 /// pairs close a cycle.
 ///
-/// The skeleton's own pairs have to be between nodes that are there and to close no cycle, and each recorded origin to be
-/// a transmission that carries the value. The error is that memory ran out.
+/// Each of the skeleton's own pairs has to go from a transmission to a reception of another strand, which are both there;
+/// they have to close no cycle; and each recorded origin has to be a transmission of a role strand that carries the value.
+/// The error is that memory ran out.
 pub fn normal_pairs(alloc: Global, k: &Skeleton) -> Result<Option<Vec<OrderPair>>, AllocError>
     requires order_pairs { (p : Plain) → IsIn p (skeleton_view k.now).pairs → IsOrderPair (skeleton_view k.now) p }
     requires no_cycle { (n : Node) → Before (skeleton_view k.now) n n → ⊥ }

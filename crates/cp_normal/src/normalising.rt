@@ -1,16 +1,16 @@
 // Normal forms of a skeleton.
-ghost use Rattle.std.specs.Prelude.{◌≡◌, ◌∷◌, [], map, IfOk, OnOk};
+ghost use Rattle.std.specs.Prelude.{◌≡◌, map, IfOk, OnOk};
 ghost use Rattle.cp_model.specs.Bundle.{Node};
 ghost use Rattle.cp_model.specs.Lists.{IsIn};
 ghost use Rattle.cp_model.specs.Skeleton.{Skeleton as Plain, OrderPair as Pair, UniqueAt, Before, IsOrderPair, IsOrigin, IsSkeleton};
 ghost use Rattle.cp_model.specs.Strand.{Protocol};
 ghost use Rattle.cp_completeness.specs.Normal.{with_pairs, LosesNoStanding};
+ghost use Rattle.cp_skel.specs.DeclaredPrefixes.{HasDeclaredPrefixes};
 ghost use Rattle.cp_skel.specs.View.{pair_view, skeleton_view};
 ghost use Rattle.cp_skel.specs.declared.skeleton.Skeleton as program;
-ghost use Rattle.cp_normal.specs.Candidates.{candidate_view, IsSound, IsInOrder, PutsForm, AreForms};
-ghost use Rattle.cp_normal.specs.Exact.{HaveForms};
+ghost use Rattle.cp_normal.specs.Candidates.{candidate_view, IsInOrder, PutsForm, AreForms};
+ghost use Rattle.cp_normal.specs.Exact.{HasForms};
 ghost use Rattle.cp_normal.specs.Narrowing.{IsNormalFormOf};
-ghost use Rattle.cp_normal.specs.Values.{HasItsValues};
 ghost use Rattle.cp_normal.specs.declared.candidates.Candidate as candidate;
 
 use crate::candidates::{Candidate, round, some_is_open};
@@ -21,7 +21,6 @@ use std::alloc::{AllocError, Global};
 /// The skeleton with these pairs in place of its own.
 fn with_pairs(mut skeleton: Skeleton, pairs: Vec<OrderPair>) -> Skeleton
     ensures skeleton { skeleton_view result ≡ with_pairs (skeleton_view skeleton) (map pair_view pairs.items) }
-    ensures values { HasItsValues skeleton → HasItsValues result }
     ensures variables { result.variables ≡ skeleton.variables }
 {
     skeleton.order = Order::of(pairs);
@@ -30,8 +29,7 @@ fn with_pairs(mut skeleton: Skeleton, pairs: Vec<OrderPair>) -> Skeleton
 
 /// Puts the normal form of a skeleton in which no unique value strays behind others, if it has one.
 fn add_form(alloc: Global, skeleton: Skeleton, forms: &mut Vec<Skeleton>) -> Result<(), AllocError>
-    requires values { HasItsValues skeleton }
-    requires in_order { IsInOrder (skeleton_view skeleton) }
+    requires { IsInOrder (skeleton_view skeleton) }
     ensures { OnOk result (PutsForm skeleton forms.old.items forms.new.items) }
 {
     match normal_pairs(alloc, &skeleton)? {
@@ -45,8 +43,7 @@ fn add_form(alloc: Global, skeleton: Skeleton, forms: &mut Vec<Skeleton>) -> Res
 
 /// The normal forms of skeletons in which no unique value strays, in their order.
 fn forms_of(alloc: Global, candidates: Vec<Candidate>) -> Result<Vec<Skeleton>, AllocError>
-    requires sound { (c : candidate.Candidate) → IsIn c candidates.items → IsSound c }
-    requires in_order { (c : candidate.Candidate) → IsIn c candidates.items → IsInOrder (candidate_view c) }
+    requires { (c : candidate.Candidate) → IsIn c candidates.items → IsInOrder (candidate_view c) }
     ensures { IfOk result (λ forms. AreForms candidates.items forms.items) }
 {
     let mut rest = candidates;
@@ -62,24 +59,26 @@ fn forms_of(alloc: Global, candidates: Vec<Candidate>) -> Result<Vec<Skeleton>, 
 /// form where some node carries a non-originating value, or where a unique value has two recorded origins or does not
 /// originate at its own. Where a unique value originates at a node of a role strand that is not its recorded origin, each
 /// atom that a reception of that strand before the node carries, and that unifies with the value, gives a branch: the
-/// skeleton under a most general unifier of the two; the normal forms are those of the branches, one after the other. Of
-/// several such values the first is taken, by the node's strand, then its index, then the value's place in the list; the
-/// atoms are taken in the order of the receptions and then of their positions, each once. At last the pairs from recorded
-/// origins to receptions of other strands that carry the value are added; where they close a cycle, there is no normal
-/// form. Equal normal forms are kept.
+/// skeleton under the most general unifier of the two, where of two variables the later becomes the earlier; the normal
+/// forms are those of the branches, one after the other. Of several such values the first is taken, by the node's strand,
+/// then its index, then the order in which a report lists unique values: the problem's own first, then those that the
+/// strands' roles give, strand by strand, and at last any others. The atoms are taken in the order of the receptions and
+/// then of their positions, each once. At last the pairs from recorded origins to receptions of other strands that carry
+/// the value are added; where they close a cycle, there is no normal form. Equal normal forms are kept.
 ///
-/// The skeleton's own pairs have to be between nodes that are there and to close no cycle, and each recorded origin to be
-/// a transmission that carries the value. Each instance has to have a term of its sort for each variable of its prefix, and
-/// so have those of the normal forms. The error is that memory ran out.
+/// Each of the skeleton's own pairs has to go from a transmission to a reception of another strand, which are both there;
+/// they have to close no cycle; and each recorded origin has to be a transmission of a role strand that carries the value.
+/// The role of each instance has to declare the variables of its prefix, and so it does in the normal forms. The error is
+/// that memory ran out.
 pub fn normalise(alloc: Global, k: Skeleton) -> Result<Vec<Skeleton>, AllocError>
     requires order_pairs { (p : Pair) → IsIn p (skeleton_view k).pairs → IsOrderPair (skeleton_view k) p }
     requires no_cycle { (n : Node) → Before (skeleton_view k) n n → ⊥ }
     requires origins { (u : UniqueAt) → IsIn u (skeleton_view k).assumptions.uniquely_originating → IsOrigin (skeleton_view k) u }
-    requires values { HasItsValues k }
+    requires declared { HasDeclaredPrefixes (skeleton_view k) }
     ensures forms { IfOk result (λ ks. (r : Plain) → IsIn r (map skeleton_view ks.items) → IsNormalFormOf (skeleton_view k) r) }
     ensures loses_none { IfOk result (λ ks. (protocol : Protocol) → IsSkeleton protocol (skeleton_view k) → LosesNoStanding protocol (skeleton_view k) (map skeleton_view ks.items)) }
-    ensures exact { IfOk result (λ ks. HaveForms (skeleton_view k ∷ []) (map skeleton_view ks.items)) }
-    ensures values { IfOk result (λ ks. (r : program.Skeleton) → IsIn r ks.items → HasItsValues r) }
+    ensures exact { IfOk result (λ ks. HasForms (skeleton_view k) (map skeleton_view ks.items)) }
+    ensures declared { IfOk result (λ ks. (r : program.Skeleton) → IsIn r ks.items → HasDeclaredPrefixes (skeleton_view r)) }
     ensures variables { IfOk result (λ ks. (r : program.Skeleton) → IsIn r ks.items → r.variables ≡ k.variables) }
 {
     let mut candidates = Vec::new(alloc);

@@ -2,7 +2,8 @@
 ghost use Rattle.std.specs.Prelude.{◌≡◌, ◌↔◌, map, IsTrue, IfOk};
 ghost use Rattle.cp_model.specs.Derivable.{IsOnInstance, OriginatesAtTerm};
 ghost use Rattle.cp_model.specs.Lists.{item_at};
-ghost use Rattle.cp_skel.specs.View.{node_view, strand_view, unique_view, skeleton_view};
+ghost use Rattle.cp_model.specs.RunView.{node_view};
+ghost use Rattle.cp_skel.specs.View.{strand_view, unique_view, skeleton_view};
 ghost use Rattle.cp_normal.specs.Events.{Has, occurrence_view, occurrences_from, is_instance, IsElsewhere, IsSentAtOrigin, IsCarriedBefore};
 ghost use Rattle.cp_normal.specs.Normalising.{HasTwoOrigins, LosesOrigin};
 

@@ -2,7 +2,8 @@
 ghost use Rattle.std.specs.Prelude.{◌≡◌, ◌↔◌, ◌≤◌, Some, length, IsTrue};
 ghost use Rattle.cp_model.specs.Homomorphism.{strand_in};
 ghost use Rattle.cp_model.specs.Lists.{item_at};
-ghost use Rattle.cp_skel.specs.View.{node_view, pair_view};
+ghost use Rattle.cp_model.specs.RunView.{node_view};
+ghost use Rattle.cp_skel.specs.View.{pair_view};
 ghost use Rattle.cp_normal.specs.Collapsing.{pair_in};
 ghost use Rattle.cp_normal.specs.Partitions.{lowest_before, place_in, node_in};
 

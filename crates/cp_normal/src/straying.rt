@@ -1,8 +1,10 @@
 // Unique values that originate elsewhere than at their recorded origins.
 ghost use Rattle.std.specs.Prelude.{◌≡◌, ◌↔◌, map, IsTrue, IfOk, MatchOption};
+ghost use Rattle.cp_model.specs.Given.{listed};
 ghost use Rattle.cp_model.specs.Lists.{IsIn, item_at};
 ghost use Rattle.cp_model.specs.Skeleton.{UniqueAt as Plain};
-ghost use Rattle.cp_skel.specs.View.{node_view, unique_view, skeleton_view};
+ghost use Rattle.cp_model.specs.RunView.{node_view};
+ghost use Rattle.cp_skel.specs.View.{unique_view, skeleton_view};
 ghost use Rattle.cp_normal.specs.Branching.{IsSettled};
 ghost use Rattle.cp_normal.specs.Events.{occurrence_view, occurrences_from};
 ghost use Rattle.cp_normal.specs.Straying.{Strays, IsFirstAt, IsFirstStray};
@@ -10,7 +12,7 @@ ghost use Rattle.cp_normal.specs.Straying.{Strays, IsFirstAt, IsFirstStray};
 use crate::carrying::carries_value;
 use crate::events::{Occurrence, occurrences};
 use crate::origins::{is_same_node, originates};
-use cp_skel::{Atom, Node, Skeleton, UniqueAt};
+use cp_skel::{Atom, Node, Skeleton, UniqueAt, listed};
 use std::alloc::{AllocError, Global};
 
 /// A unique value, and a node of a role strand where it originates and that is not its recorded origin.
@@ -65,15 +67,20 @@ fn first_at(
     Ok(None)
 }
 
-/// The first unique value that strays, where these are the events of the skeleton.
-fn first_among(k: &Skeleton, occurrences: &[Occurrence]) -> Result<Option<Stray>, AllocError>
+/// The first unique value that strays, where these are the events of the skeleton, and its unique values in the order
+/// in which a report lists them.
+fn first_among(
+    k: &Skeleton,
+    occurrences: &[Occurrence],
+    uniques: &[UniqueAt],
+) -> Result<Option<Stray>, AllocError>
     requires listed { map occurrence_view occurrences.now ≡ occurrences_from 0 (skeleton_view k.now).strands }
+    requires in_order { map unique_view uniques.now ≡ (listed (skeleton_view k.now)).uniquely_originating }
     ensures { IfOk result (λ found. MatchOption found
         (IsSettled (skeleton_view k.now))
         (λ s. IsFirstStray (skeleton_view k.now) s.value (node_view s.node))) }
 {
     for occurrence in occurrences {
-        let uniques = &k.assumptions.uniquely_originating;
         match first_at(k, occurrences, occurrence, uniques)? {
             Some(value) => {
                 let node = occurrence.node;
@@ -85,13 +92,14 @@ fn first_among(k: &Skeleton, occurrences: &[Occurrence]) -> Result<Option<Stray>
     Ok(None)
 }
 
-/// The first unique value that strays: by the strand and then the index of the node where it does, and then by its place
-/// in the list of unique values.
+/// The first unique value that strays: by the strand and then the index of the node where it does, and then in the
+/// order in which a report lists unique values.
 pub(crate) fn first_stray(alloc: Global, k: &Skeleton) -> Result<Option<Stray>, AllocError>
     ensures { IfOk result (λ found. MatchOption found
         (IsSettled (skeleton_view k.now))
         (λ s. IsFirstStray (skeleton_view k.now) s.value (node_view s.node))) }
 {
     let occurrences = occurrences(alloc, k)?;
-    first_among(k, &occurrences)
+    let assumptions = listed(alloc, k)?;
+    first_among(k, &occurrences, &assumptions.uniquely_originating)
 }

@@ -3,10 +3,12 @@ ghost use Rattle.std.specs.Prelude.{◌≡◌, map, IfOk};
 ghost use Rattle.cp_model.specs.Term.{apply_to, apply_to_atom};
 ghost use Rattle.cp_completeness.specs.Normal.{unique_under, assumptions_under, from_problem_under, skeleton_under};
 ghost use Rattle.cp_unify.specs.Bindings.{as_substitution};
-ghost use Rattle.cp_skel.specs.View.{unique_view, assumptions_view, from_problem_view, skeleton_view};
+ghost use Rattle.cp_skel.specs.DeclaredPrefixes.{HasDeclaredPrefixes};
+ghost use Rattle.cp_skel.specs.View.{unique_view, assumptions_view, from_problem_view, instance_view, strand_view, skeleton_view};
 ghost use Rattle.cp_normal.specs.Agreeing.{SaysTheSame};
-ghost use Rattle.cp_normal.specs.Values.{listed_view_of, listed_view, listed_under, HasItsValues};
+ghost use Rattle.cp_normal.specs.Values.{declared_under};
 
+use crate::valuing::declared_terms;
 use cp_skel::{Assumptions, Atom, FromProblem, Instance, Skeleton, Strand, UniqueAt};
 use cp_term::Term;
 use cp_unify::{Subst, apply};
@@ -97,19 +99,20 @@ fn from_problem_under(
     })
 }
 
+/// An instance under a substitution: the term of each variable that its role declares.
 fn instance_under(alloc: Global, instance: &Instance, s: &Subst) -> Result<Instance, AllocError>
-    ensures { IfOk result (λ i. listed_view_of i ≡ listed_under (as_substitution s.now) (listed_view_of instance.now)) }
+    ensures { IfOk result (λ i. instance_view i ≡ declared_under (as_substitution s.now) (instance_view instance.now)) }
 {
     Ok(Instance {
         role: instance.role.clone()?,
         height: instance.height,
-        values: terms_under(alloc, &instance.values, s)?,
+        values: declared_terms(alloc, &instance.role.variables, &instance.values, s)?,
     })
 }
 
-/// A strand under a substitution: each term of an instance, and the message of a listener.
+/// A strand under a substitution: the terms of an instance, and the message of a listener.
 pub(crate) fn strand_under(alloc: Global, strand: &Strand, s: &Subst) -> Result<Strand, AllocError>
-    ensures { IfOk result (λ t. listed_view t ≡ listed_under (as_substitution s.now) (listed_view strand.now)) }
+    ensures { IfOk result (λ t. strand_view t ≡ declared_under (as_substitution s.now) (strand_view strand.now)) }
 {
     match strand {
         Strand::Instance(instance) => Ok(Strand::Instance(instance_under(alloc, instance, s)?)),
@@ -118,7 +121,7 @@ pub(crate) fn strand_under(alloc: Global, strand: &Strand, s: &Subst) -> Result<
 }
 
 fn strands_under(alloc: Global, strands: &[Strand], s: &Subst) -> Result<Vec<Strand>, AllocError>
-    ensures { IfOk result (λ v. map listed_view v.items ≡ map (listed_under (as_substitution s.now)) (map listed_view strands.now)) }
+    ensures { IfOk result (λ v. map strand_view v.items ≡ map (declared_under (as_substitution s.now)) (map strand_view strands.now)) }
 {
     let mut changed = Vec::new(alloc);
     for strand in strands {
@@ -127,12 +130,12 @@ fn strands_under(alloc: Global, strands: &[Strand], s: &Subst) -> Result<Vec<Str
     Ok(changed)
 }
 
-/// The skeleton under a substitution: each of its terms is, and strands, nodes and pairs stay where they are. Each instance
-/// has to have a term of its sort for each variable of its prefix, and has one then too. The error is that memory ran out.
+/// The skeleton under a substitution: each of its terms is, and strands, nodes and pairs stay where they are. The role of
+/// each instance has to declare the variables of its prefix, and does then too. The error is that memory ran out.
 pub fn under(alloc: Global, k: &Skeleton, s: &Subst) -> Result<Skeleton, AllocError>
-    requires { HasItsValues k.now }
+    requires declared { HasDeclaredPrefixes (skeleton_view k.now) }
     ensures same { IfOk result (λ l. SaysTheSame (skeleton_under (as_substitution s.now) (skeleton_view k.now)) (skeleton_view l)) }
-    ensures values { IfOk result (λ l. HasItsValues l) }
+    ensures declared { IfOk result (λ l. HasDeclaredPrefixes (skeleton_view l)) }
     ensures variables { IfOk result (λ l. l.variables ≡ k.now.variables) }
 {
     Ok(Skeleton {

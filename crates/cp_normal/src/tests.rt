@@ -46,6 +46,25 @@ fn skeleton(alloc: Global, message: Term) -> Result<Skeleton, AllocError> {
     let mut second = Vec::new(alloc);
     second.push(Event::Receive(message))?;
     second.push(Event::Send(text(alloc, 0)?))?;
+    two_strands(alloc, first, second)
+}
+
+/// A strand that sends (n m), and one that receives a text and sends (n m); n is text number 0, and m is text number 1.
+fn two_texts_skeleton(alloc: Global) -> Result<Skeleton, AllocError> {
+    let mut first = Vec::new(alloc);
+    first.push(Event::Send(pair(alloc, text(alloc, 0)?, text(alloc, 1)?)?))?;
+    let mut second = Vec::new(alloc);
+    second.push(Event::Receive(text(alloc, 2)?))?;
+    second.push(Event::Send(pair(alloc, text(alloc, 0)?, text(alloc, 1)?)?))?;
+    two_strands(alloc, first, second)
+}
+
+/// Two strands with these events, of which nothing is assumed.
+fn two_strands(
+    alloc: Global,
+    first: Vec<Event>,
+    second: Vec<Event>,
+) -> Result<Skeleton, AllocError> {
     let mut strands = Vec::new(alloc);
     strands.push(strand(alloc, first)?)?;
     strands.push(strand(alloc, second)?)?;
@@ -72,6 +91,18 @@ fn message(alloc: Global) -> Result<Term, AllocError> {
     pair(alloc, left, enc(alloc, body, key)?)
 }
 
+/// The text, with its origin at the first node of the first strand.
+fn unique(alloc: Global, number: usize) -> Result<UniqueAt, Fail> {
+    let origin = Node {
+        strand: 0,
+        index: 0,
+    };
+    match Atom::new(text(alloc, number)?) {
+        Some(value) => Ok(UniqueAt { value, origin }),
+        None => Err(Fail::new("no atom")),
+    }
+}
+
 #[test]
 fn atoms_in_order_and_once(rt: HostRuntime) -> Result<(), Fail> {
     let alloc = rt.alloc();
@@ -93,16 +124,23 @@ fn a_value_strays_where_it_is_sent_again(rt: HostRuntime) -> Result<(), Fail> {
     let alloc = rt.alloc();
     let mut k = skeleton(alloc, message(alloc)?)?;
     assert!(rt; first_stray(alloc, &k)?.is_none());
-    if let Some(value) = Atom::new(text(alloc, 0)?) {
-        let origin = Node {
-            strand: 0,
-            index: 0,
-        };
-        let unique = UniqueAt { value, origin };
-        k.assumptions.uniquely_originating.push(unique)?;
-    }
+    k.assumptions.uniquely_originating.push(unique(alloc, 0)?)?;
     match first_stray(alloc, &k)? {
         Some(stray) => assert!(rt; stray.node.strand == 1 && stray.node.index == 1),
+        None => assert!(rt; false),
+    }
+    Ok(())
+}
+
+#[test]
+fn of_two_at_one_node_the_first_of_the_report_strays(rt: HostRuntime) -> Result<(), Fail> {
+    let alloc = rt.alloc();
+    let mut k = two_texts_skeleton(alloc)?;
+    k.assumptions.uniquely_originating = vec![in alloc; unique(alloc, 0)?, unique(alloc, 1)?]?;
+    let stated = vec![in alloc; unique(alloc, 1)?, unique(alloc, 0)?]?;
+    k.from_problem.assumptions.uniquely_originating = stated;
+    match first_stray(alloc, &k)? {
+        Some(stray) => assert!(rt; stray.value.as_term().same(&text(alloc, 1)?)),
         None => assert!(rt; false),
     }
     Ok(())

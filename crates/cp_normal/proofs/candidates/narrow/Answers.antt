@@ -6,7 +6,7 @@ pub returns-then-branch : goal.returns-then-branch
 returns-then-branch c = dropped_place c.args.skeleton _ (c.in_ok-is_refuted.ensures.0 c.if-branch.true)
 
 pub returns-in_ok-push-in-None : goal.returns-in_ok-push-in-None
-returns-in_ok-push-in-None c = settled_place c.args.skeleton _ _ c.requires (rw c.in-None.is at c.in_ok-stray.ensures) c.in_ok-push-in-None.ensures.items
+returns-in_ok-push-in-None c = settled_place c.args.skeleton _ _ (rw c.in-None.is at c.in_ok-stray.ensures) c.in_ok-push-in-None.ensures.items
 
 pub put_branches-requires-clause-consistent : goal.put_branches-requires-clause-consistent
 put_branches-requires-clause-consistent c = λ r. not_both c.if-branch.false (c.in_ok-is_refuted.ensures.1 r)

@@ -1,4 +1,4 @@
-use Rattle.cp_normal.proofs.Determined.{collapse_is_possible, partitions_determined}
+use Rattle.cp_normal.proofs.Determined.{collapse_is_possible, partitions_determined, one_substitution}
 use Rattle.cp_normal.proofs.collapsing.collapses_are_determined.Goals as goal
 
 pub returns-clause-possible : goal.returns-clause-possible
@@ -6,3 +6,6 @@ returns-clause-possible c = collapse_is_possible
 
 pub returns-clause-partitions : goal.returns-clause-partitions
 returns-clause-partitions c = partitions_determined
+
+pub returns-clause-unifiers : goal.returns-clause-unifiers
+returns-clause-unifiers c = one_substitution

@@ -1,6 +1,6 @@
 use Rattle.cp_normal.proofs.Merged.{merging_is_homomorphism}
 use Rattle.cp_normal.proofs.MergedSkeletons.{merged_is_skeleton}
-use Rattle.cp_normal.proofs.CollapsesCover.{collapses_are_complete}
+use Rattle.cp_normal.proofs.CollapsesCover.{collapses_are_complete, standings_go_through}
 use Rattle.cp_normal.proofs.collapsing.collapses_cover.Goals as goal
 
 pub returns-clause-skeleton : goal.returns-clause-skeleton
@@ -11,3 +11,6 @@ returns-clause-homomorphism c = λ protocol k l p sk m. merging_is_homomorphism 
 
 pub returns-clause-covers : goal.returns-clause-covers
 returns-clause-covers c = collapses_are_complete
+
+pub returns-clause-through : goal.returns-clause-through
+returns-clause-through c = standings_go_through

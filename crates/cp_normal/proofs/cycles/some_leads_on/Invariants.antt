@@ -1,5 +1,6 @@
 use Rattle.std.proofs.Common.{drop}
-use Rattle.cp_skel.specs.View.{node_view, pair_view}
+use Rattle.cp_model.specs.RunView.{node_view}
+use Rattle.cp_skel.specs.View.{pair_view}
 use Rattle.cp_normal.specs.Events.{Has}
 use Rattle.cp_normal.specs.Cycles.{LeadsOn}
 use Rattle.cp_normal.proofs.cycles.some_leads_on.Given as goal

@@ -21,6 +21,9 @@ pub unify_strands-requires-clause-alike : goal.unify_strands-requires-clause-ali
 unify_strands-requires-clause-alike c =
     alike_in_block (skeleton_view c.args.k.now) c.args.number c.args.partial.now.lowest.items c.requires.partition c.args.block c.loop-strand.strand c.requires.alike (c.is_in_block.ensures.0 c.if-not-is_in_block.false)
 
+pub unify_strands-requires-clause-solved : goal.unify_strands-requires-clause-solved
+unify_strands-requires-clause-solved c = (c.loop-strand.invariant.later_to_earlier, c.loop-strand.invariant.met)
+
 pub returns-in-None : goal.returns-in-None
 returns-in-None c =
     block_never (skeleton_view c.args.k.now) c.args.number c.args.partial.now.lowest.items c.requires.partition c.args.block c.loop-strand.strand (c.is_in_block.ensures.0 c.if-not-is_in_block.false) c.loop-strand.bindings.value

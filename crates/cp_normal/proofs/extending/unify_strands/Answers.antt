@@ -4,16 +4,16 @@ use Rattle.cp_model.specs.Lists.{item_at}
 use Rattle.cp_skel.specs.View.{role_view, skeleton_view}
 use Rattle.cp_skel.specs.declared.skeleton.Strand.TheVariants as variants
 use Rattle.cp_normal.proofs.Backward.{option_weaker}
-use Rattle.cp_normal.proofs.Joined.{if_alike, never_strands, exact_strands, values_at}
+use Rattle.cp_normal.proofs.Joined.{if_alike, never_strands, exact_strands, declared_at}
 use Rattle.cp_normal.proofs.extending.unify_strands.Goals as goal
 
-pub unify_instances-requires-clause-first_values : goal.unify_instances-requires-clause-first_values
-unify_instances-requires-clause-first_values c =
-    values_at c.args.k.now.strands.items c.args.s c.in-Some.first.now c.requires.values (ap (λ xs. item_at xs c.args.s) (sym c.deref.ensures.value) ∙ c.in-Some.ensures.some)
+pub unify_instances-requires-clause-first_declared : goal.unify_instances-requires-clause-first_declared
+unify_instances-requires-clause-first_declared c =
+    declared_at c.args.k.now c.args.s c.in-Some.first.now c.requires.declared (ap (λ xs. item_at xs c.args.s) (sym c.deref.ensures.value) ∙ c.in-Some.ensures.some)
 
-pub unify_instances-requires-clause-second_values : goal.unify_instances-requires-clause-second_values
-unify_instances-requires-clause-second_values c =
-    values_at c.args.k.now.strands.items c.args.t c.in-Some-instance_at.second.now c.requires.values (ap (λ xs. item_at xs c.args.t) (sym c.deref-2.ensures.value) ∙ c.in-Some-instance_at.ensures.some)
+pub unify_instances-requires-clause-second_declared : goal.unify_instances-requires-clause-second_declared
+unify_instances-requires-clause-second_declared c =
+    declared_at c.args.k.now c.args.t c.in-Some-instance_at.second.now c.requires.declared (ap (λ xs. item_at xs c.args.t) (sym c.deref-2.ensures.value) ∙ c.in-Some-instance_at.ensures.some)
 
 pub unify_instances-requires-clause-same_role : goal.unify_instances-requires-clause-same_role
 unify_instances-requires-clause-same_role c =

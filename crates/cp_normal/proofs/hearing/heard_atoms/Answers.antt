@@ -1,5 +1,6 @@
 use Rattle.std.proofs.Common.{rules, ◌≡◌}
-use Rattle.cp_skel.specs.View.{node_view, skeleton_view}
+use Rattle.cp_model.specs.RunView.{node_view}
+use Rattle.cp_skel.specs.View.{skeleton_view}
 use Rattle.cp_normal.specs.Hearing.{heard_before}
 use Rattle.cp_normal.proofs.Heard.{heard_if_listed, listed_if_heard}
 use Rattle.cp_normal.proofs.hearing.heard_atoms.Goals as goal

@@ -31,5 +31,5 @@ returns c = (
   c.in_ok-merged.ensures.collapsed,
   no_cycle_left (skeleton_view c.in_ok-merged.merged) (λ h. not_both c.if-branch.false (c.in_ok-some_closes.ensures.1
       (to_views pair_view (λ q. IsClosedAt (map pair_view c.pairs-2.result.now) q.earlier) c.pairs-2.result.now (subst (λ ps. Has (λ q. IsClosedAt ps q.earlier) ps) (sym c.pairs-2.ensures) h)))),
-  (c.in_ok-merged.ensures.values, c.in_ok-merged.ensures.variables),
+  c.in_ok-merged.ensures.variables,
 )

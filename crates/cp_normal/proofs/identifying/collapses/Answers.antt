@@ -2,14 +2,15 @@ use Rattle.std.proofs.Common.{rules, ◌<◌, ◌≤◌, ◌∙◌, length, map,
 use Rattle.std.proofs.lemmas.List.{map-append}
 use Rattle.cp_skel.specs.View.{skeleton_view}
 use Rattle.cp_normal.specs.Partials.{lists}
-use Rattle.cp_normal.proofs.CollapsesCover.{collapses_are_complete}
-use Rattle.cp_normal.proofs.Ending.{first_done, whole, none_more, one_more, all_done, none_beside, one_beside}
+use Rattle.cp_normal.proofs.CollapsesCover.{collapses_are_complete, standings_go_through}
+use Rattle.cp_normal.proofs.Declared.{collapses_declared}
+use Rattle.cp_normal.proofs.Ending.{first_done, whole, none_more, one_more, all_done, none_of_these, one_of_these}
 use Rattle.cp_normal.proofs.PartialLists.{count_of_views, listed_at, exact_item}
 use Rattle.cp_normal.proofs.Prefixes.{item_is}
 use Rattle.cp_normal.proofs.identifying.collapses.Goals as goal
 
 pub loop-number-init : goal.loop-number-init
-loop-number-init c = (first_done (skeleton_view c.args.k.now) (lists c.in_ok-partials.partials.items) c.in_ok-partials.ensures.partitions _ (ap (map skeleton_view) c.new-collapses.ensures.items), omega arith, none_beside c.args.k.now _ c.new-collapses.ensures.items)
+loop-number-init c = (first_done (skeleton_view c.args.k.now) (lists c.in_ok-partials.partials.items) c.in_ok-partials.ensures.partitions _ (ap (map skeleton_view) c.new-collapses.ensures.items), omega arith, none_of_these c.args.k.now _ c.new-collapses.ensures.items)
 
 pub collapse-requires-clause-partition : goal.collapse-requires-clause-partition
 collapse-requires-clause-partition c =
@@ -39,7 +40,7 @@ loop-number-preserved c =
       one_more (skeleton_view c.args.k.now) (lists c.in_ok-partials.partials.items) c.in_ok-partials.ensures.partitions c.loop-number.number c.index.result.now.lowest.items (listed_at c.in_ok-partials.partials.items c.loop-number.number c.index.result.now (item_is _ _ _ below c.index.ensures))
           (map skeleton_view c.loop-number.collapses.items) c.loop-number.invariant.0 le (skeleton_view c.in-Some.collapsed) _ r.0 r.1 (ap (map skeleton_view) c.in_ok-push.ensures.items ∙ map-append skeleton_view _ _),
       omega (arith, le),
-      one_beside c.args.k.now c.loop-number.collapses.items _ c.in-Some.collapsed c.loop-number.invariant.2 r.2 c.in_ok-push.ensures.items,
+      one_of_these c.args.k.now c.loop-number.collapses.items _ c.in-Some.collapsed c.loop-number.invariant.2 r.2 c.in_ok-push.ensures.items,
     )
 
 pub returns-clause-exact : goal.returns-clause-exact
@@ -54,8 +55,17 @@ returns-clause-covers c =
     let e = count_of_views (λ p. p.lowest.items) c.in_ok-partials.partials.items in
     λ protocol sk. collapses_are_complete protocol (skeleton_view c.args.k.now) _ sk (all_done (skeleton_view c.args.k.now) (lists c.in_ok-partials.partials.items) c.in_ok-partials.ensures.partitions c.loop-number.number _ (omega (arith, done, e)) c.loop-number.invariant.0)
 
-pub returns-clause-values : goal.returns-clause-values
-returns-clause-values c = λ l i. (c.loop-number.invariant.2 l i).0
+pub returns-clause-through : goal.returns-clause-through
+returns-clause-through c =
+    let done : length c.in_ok-partials.partials.items ≤ c.loop-number.number = search rules in
+    let e = count_of_views (λ p. p.lowest.items) c.in_ok-partials.partials.items in
+    λ protocol b h sk. standings_go_through protocol (skeleton_view c.args.k.now) _ b h sk (all_done (skeleton_view c.args.k.now) (lists c.in_ok-partials.partials.items) c.in_ok-partials.ensures.partitions c.loop-number.number _ (omega (arith, done, e)) c.loop-number.invariant.0)
+
+pub returns-clause-declared : goal.returns-clause-declared
+returns-clause-declared c =
+    let done : length c.in_ok-partials.partials.items ≤ c.loop-number.number = search rules in
+    let e = count_of_views (λ p. p.lowest.items) c.in_ok-partials.partials.items in
+    collapses_declared (skeleton_view c.args.k.now) _ (all_done (skeleton_view c.args.k.now) (lists c.in_ok-partials.partials.items) c.in_ok-partials.ensures.partitions c.loop-number.number _ (omega (arith, done, e)) c.loop-number.invariant.0) c.requires.declared
 
 pub returns-clause-variables : goal.returns-clause-variables
-returns-clause-variables c = λ l i. (c.loop-number.invariant.2 l i).1
+returns-clause-variables c = λ l i. c.loop-number.invariant.2 l i

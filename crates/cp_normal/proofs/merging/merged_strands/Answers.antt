@@ -32,6 +32,6 @@ loop-strand-preserved c =
     subst (λ ss. IsUnder ss c.tallest-tallest.result (as_substitution c.args.partial.now.bindings.value) c.in_ok-merged_strand.field-0) c.deref.ensures.value
     (subst (λ b. IsUnder c.deref.result.now c.tallest-tallest.result (as_substitution b) c.in_ok-merged_strand.field-0) c.deref-in-loop-strand.ensures c.in_ok-merged_strand.ensures) in (
       alike_puts (skeleton_view c.args.k.now) c.args.partial.now.lowest.items (as_substitution c.args.partial.now.bindings.value) c.loop-strand.strand c.loop-strand.strands.items c.loop-strand.invariant.0
-          c.args.k.now.strands.items refl c.requires.values c.tallest-tallest.result _ c.in_ok-merged_strand.field-0 (c.is_in_block.ensures.0 c.if-not-is_in_block.false) c.tallest-tallest.ensures under c.in_ok-push.ensures.items,
+          c.args.k.now.strands.items refl c.requires.declared c.tallest-tallest.result _ c.in_ok-merged_strand.field-0 (c.is_in_block.ensures.0 c.if-not-is_in_block.false) c.tallest-tallest.ensures under c.in_ok-push.ensures.items,
       omega (arith, below),
     )

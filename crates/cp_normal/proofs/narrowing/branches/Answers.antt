@@ -13,4 +13,4 @@ pub loop-atom-preserved : goal.loop-atom-preserved
 loop-atom-preserved c =
     branch_added c.args.k.now c.args.value.now c.args.atoms.now c.loop-atom.atom-index c.atom-item.result c.loop-atom-test.true c.atom-item.is _ c.loop-atom.invariant c.in-Some.s
     c.in_ok-under.field-0 (unifier_of _ _ _ c.args.value.now c.atom-item.result c.as_term.ensures c.as_term-in-loop-atom.ensures c.new-nothing.ensures c.in-Some.s (rw c.in-Some.is at c.in_ok-s.ensures.some))
-    c.in_ok-under.ensures.same c.in_ok-under.ensures.values c.in_ok-under.ensures.variables _ c.in_ok-push.ensures.items
+    c.in_ok-under.ensures.same c.in_ok-under.ensures.variables _ c.in_ok-push.ensures.items

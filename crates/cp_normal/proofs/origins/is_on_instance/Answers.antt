@@ -1,6 +1,7 @@
 use Rattle.std.proofs.Common.{refl, sym, ap, ◌∙◌, map}
 use Rattle.cp_model.specs.Lists.{item_at}
-use Rattle.cp_skel.specs.View.{skeleton_view, node_view, strand_view}
+use Rattle.cp_model.specs.RunView.{node_view}
+use Rattle.cp_skel.specs.View.{skeleton_view, strand_view}
 use Rattle.cp_normal.specs.Events.{is_instance}
 use Rattle.cp_normal.proofs.Found.{on_instance_if, if_on_instance}
 use Rattle.cp_normal.proofs.origins.is_on_instance.Goals as goal

@@ -1,5 +1,6 @@
 use Rattle.std.proofs.Common.{sym}
-use Rattle.cp_skel.specs.View.{node_view, unique_view, skeleton_view}
+use Rattle.cp_model.specs.RunView.{node_view}
+use Rattle.cp_skel.specs.View.{unique_view, skeleton_view}
 use Rattle.cp_normal.specs.Straying.{Strays}
 use Rattle.cp_normal.proofs.Having.{not_both}
 use Rattle.cp_normal.proofs.Strayed.{none_next, none_at_all, first_found}

@@ -1,5 +1,6 @@
 use Rattle.std.proofs.Common.{map}
-use Rattle.cp_skel.specs.View.{node_view, unique_view, skeleton_view}
+use Rattle.cp_model.specs.RunView.{node_view}
+use Rattle.cp_skel.specs.View.{unique_view, skeleton_view}
 use Rattle.cp_normal.specs.Straying.{Strays, NoneBefore}
 use Rattle.cp_normal.proofs.straying.first_at.Given as goal
 
