@@ -1,0 +1,12 @@
+pub mod Agreed
+pub mod Becoming
+pub mod Blocked
+pub mod Crowded
+pub mod Embedded
+pub mod Extended
+pub mod Images
+pub mod Itemised
+pub mod Listed
+pub mod Ordering
+pub mod Stepping
+pub mod Unordered

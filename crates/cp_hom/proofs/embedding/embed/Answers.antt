@@ -1,0 +1,18 @@
+use Rattle.std.proofs.Common.{List, map, sym, subst₂}
+use Rattle.cp_skel.specs.View.{strand_view, skeleton_view}
+use Rattle.cp_skel.specs.declared.skeleton.Strand.{Strand}
+use Rattle.cp_term.proofs.CarriedTerms.{not_both}
+use Rattle.cp_hom.specs.Counting.{HaveRoom}
+use Rattle.cp_hom.proofs.Crowded.{embedding_has_room}
+use Rattle.cp_hom.proofs.embedding.embed.Goals as goal
+
+pub search-requires-clause-started : goal.search-requires-clause-started
+search-requires-clause-started c =
+    let h = rw c.in-Some.is at c.in_ok-given.ensures in
+    record { consistent = h.consistent (tt, tt); problem = h.sound }
+
+pub returns-then-not-have_room-clause-none : goal.returns-then-not-have_room-clause-none
+returns-then-not-have_room-clause-none c = λ f h.
+    not_both c.if-not-have_room.true
+    (c.have_room.ensures.1 (subst₂ (λ (xs ys : List Strand). HaveRoom (map strand_view xs) (map strand_view ys)) (sym c.deref.ensures.value) (sym c.deref-2.ensures.value)
+    (embedding_has_room (skeleton_view c.args.a.now) (skeleton_view c.args.b.now) f h)))

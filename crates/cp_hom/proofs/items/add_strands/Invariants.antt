@@ -1,0 +1,7 @@
+use Rattle.cp_skel.specs.View.{skeleton_view}
+use Rattle.cp_hom.specs.Taking.{AddsFirst}
+use Rattle.cp_hom.specs.declared.items.Kind.TheVariants.{Strands}
+use Rattle.cp_hom.proofs.items.add_strands.Given as goal
+
+abbrev pub invariant-loop-index : goal.invariant-loop-index
+invariant-loop-index l = AddsFirst Strands l.index (skeleton_view l.k) l.fn.items.items l.items.items

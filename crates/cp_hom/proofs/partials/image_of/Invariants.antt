@@ -1,0 +1,6 @@
+use Rattle.std.proofs.Common.{◌≡◌, drop}
+use Rattle.cp_hom.specs.Following.{image_in}
+use Rattle.cp_hom.proofs.partials.image_of.Given as goal
+
+abbrev pub invariant-loop-placement : goal.invariant-loop-placement
+invariant-loop-placement l = image_in l.placements l.strand ≡ image_in (drop l.placement-index l.placements) l.strand

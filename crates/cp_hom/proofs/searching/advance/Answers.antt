@@ -1,0 +1,32 @@
+use Rattle.std.proofs.Common.{◌≤◌, ◌<◌, ℕ, sym, subst}
+use Rattle.std.specs.Prelude.{IfNone}
+use Rattle.std.proofs.lemmas.Result.{IfOk-weaker}
+use Rattle.cp_skel.specs.View.{skeleton_view}
+use Rattle.cp_hom.specs.Following.{partial_view}
+use Rattle.cp_hom.specs.Opening.{branch_view, branches_view, NeverEmbeds, TakePlace}
+use Rattle.cp_hom.proofs.Stepping.{whole_at_end, nothing_found, no_choice, choice_tried, none_weaker}
+use Rattle.cp_hom.proofs.searching.advance.Goals as goal
+
+pub finish-requires-clause-whole : goal.finish-requires-clause-whole
+finish-requires-clause-whole c =
+    whole_at_end (skeleton_view c.args.a.now) (skeleton_view c.args.b.now) c.args.items.now (branch_view c.args.branch) c.requires.items c.requires.branch c.in_default.ensures
+
+pub returns-in_default-clause-none : goal.returns-in_default-clause-none
+returns-in_default-clause-none c =
+    IfOk-weaker c.finish.result (λ found. IfNone found (NeverEmbeds (skeleton_view c.args.a.now) (skeleton_view c.args.b.now) (partial_view c.args.branch.given))) _
+    (λ found. none_weaker found _ _ (λ never.
+    nothing_found (skeleton_view c.args.a.now) (skeleton_view c.args.b.now) c.args.items.now (branch_view c.args.branch) (branches_view c.args.branches.now.items) c.requires.branches
+    (λ f h w. never f w.0 h)))
+    c.finish.ensures.none
+
+pub returns-then-branch-count-clause-none : goal.returns-then-branch-count-clause-none
+returns-then-branch-count-clause-none c =
+    nothing_found (skeleton_view c.args.a.now) (skeleton_view c.args.b.now) c.args.items.now (branch_view c.args.branch) (branches_view c.args.branches.now.items) c.requires.branches
+    (no_choice (skeleton_view c.args.a.now) (skeleton_view c.args.b.now) c.args.items.now (branch_view c.args.branch) c.in-Some.item (sym c.in-Some.ensures)
+    (subst (λ (n : ℕ). n ≤ c.args.branch.choice) c.count.ensures c.if-branch-count.true))
+
+pub returns-clause-none : goal.returns-clause-none
+returns-clause-none c =
+    subst (TakePlace (skeleton_view c.args.a.now) (skeleton_view c.args.b.now) c.args.items.now (branch_view c.args.branch) (branches_view c.args.branches.now.items)) (sym c.in_ok-push_next.ensures)
+    (choice_tried (skeleton_view c.args.a.now) (skeleton_view c.args.b.now) c.args.items.now (branch_view c.args.branch) (branches_view c.args.branches.now.items) c.in-Some.item (sym c.in-Some.ensures)
+    (subst (λ (n : ℕ). c.args.branch.choice < n) c.count.ensures c.if-branch-count.false) c.requires.branch c.requires.branches c.requires.items c.in_ok-found.found c.in_ok-found.ensures)

@@ -1,0 +1,61 @@
+-- Partial maps of skeletons: what is known so far of a map that is looked for.
+use Rattle.std.specs.Prelude.{◌≡◌, ℕ, List, [], ◌∷◌, Option, Some, None, MatchOption, ◌==◌, if◌then◌else◌}
+use Rattle.cp_model.specs.Homomorphism.{SkeletonMap, number_or}
+use Rattle.cp_unify.specs.Bindings.{Binding, as_substitution}
+use Rattle.cp_unify.specs.Beside.{Agrees}
+use Rattle.cp_hom.specs.declared.partials.Placement.{Placement}
+use Rattle.cp_hom.specs.declared.partials.Partial.{Partial}
+
+-- Some strands with their images, and some variables with theirs.
+pub record PartialMap : Type 0 where
+  pub placements : List Placement
+  pub bindings : List Binding
+
+abbrev pub partial_view : Partial → PartialMap
+partial_view p = record { placements = p.placements.items; bindings = p.values }
+
+-- The partial map that says nothing.
+abbrev pub nothing : PartialMap
+nothing = record { placements = []; bindings = [] }
+
+-- The image of a strand, if it is placed; the first where there are several.
+abbrev pub image_in : List Placement → ℕ → Option ℕ
+image_in [] s = None
+image_in (p ∷ ps) s = if p.strand == s then Some p.image else image_in ps s
+
+-- The function sends each placed strand to its image.
+abbrev pub Places : (ℕ → ℕ) → List Placement → Type 0
+Places f [] = Unit {0}
+Places f (p ∷ ps) = (f p.strand ≡ p.image) × Places f ps
+
+-- The map does what the partial map says.
+abbrev pub Follows : SkeletonMap → PartialMap → Type 0
+Follows f p = Places f.strands p.placements × Agrees f.terms p.bindings
+
+-- The map that does what the partial map says, and leaves the rest as it is.
+abbrev pub map_of : PartialMap → SkeletonMap
+map_of p = record { strands = λ s. number_or s (image_in p.placements s); terms = as_substitution p.bindings }
+
+-- The partial map says nothing twice in two ways.
+abbrev pub IsConsistent : PartialMap → Type 0
+IsConsistent p = Follows (map_of p) p
+
+-- Of the maps that follow the given one, those of which the fact is true are those that follow the one that was found; and
+-- that is consistent, where the given one is.
+pub record IsExtended (fact : SkeletonMap → Type 0) (given found : PartialMap) : Type 0 where
+  pub extends : (f : SkeletonMap) → Follows f found → Follows f given
+  pub sound : (f : SkeletonMap) → Follows f found → fact f
+  pub general : (f : SkeletonMap) → Follows f given → fact f → Follows f found
+  pub consistent : IsConsistent given → IsConsistent found
+
+-- The fact is true of no map that follows the given one.
+abbrev pub IsNever : (SkeletonMap → Type 0) → PartialMap → Type 0
+IsNever fact given = (f : SkeletonMap) → Follows f given → fact f → ⊥
+
+-- What is found are the maps that follow the given one and of which the fact is true; nothing, where there are none.
+abbrev pub Finds : (SkeletonMap → Type 0) → PartialMap → Option Partial → Type 0
+Finds fact given answer = MatchOption answer (IsNever fact given) (λ q. IsExtended fact given (partial_view q))
+
+-- The same among maps of which a condition is true: nothing may also be found where none of these has the fact.
+abbrev pub FindsAmong : (SkeletonMap → Type 0) → (SkeletonMap → Type 0) → PartialMap → Option Partial → Type 0
+FindsAmong condition fact given answer = MatchOption answer (IsNever (λ f. condition f × fact f) given) (λ q. IsExtended fact given (partial_view q))

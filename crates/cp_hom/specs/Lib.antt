@@ -1,0 +1,5 @@
+pub mod Counting
+pub mod Following
+pub mod Maps
+pub mod Opening
+pub mod Taking

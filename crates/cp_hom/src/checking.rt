@@ -1,0 +1,139 @@
+// Whether maps keep role strands apart, and the order.
+ghost use Rattle.std.specs.Prelude.{◌≡◌, ◌≢◌, ◌↔◌, map, IsTrue, IfOk};
+ghost use Rattle.cp_model.specs.Order.{LeadsTo};
+ghost use Rattle.cp_model.specs.RunView.{node_view};
+ghost use Rattle.cp_skel.specs.View.{pair_view, strand_view};
+ghost use Rattle.cp_hom.specs.Maps.{map_view};
+ghost use Rattle.cp_hom.specs.Taking.{IsRoleStrand, HoldsImage, IsTaken, IsBlocked, MeetsEarlier, KeepsApart, KeepsPairs};
+
+use crate::items::{Item, Kind};
+use crate::looking::strand_at;
+use crate::mapping::Map;
+use crate::partials::Placement;
+use cp_skel::{Leading, Node, OrderPair, Strand};
+use std::alloc::{AllocError, Global};
+
+/// Whether a strand is an instance of a role.
+fn is_role_strand(strands: &[Strand], strand: usize) -> bool
+    ensures { IsTrue result ↔ IsRoleStrand (map strand_view strands.now) strand }
+{
+    match strand_at(strands, strand) {
+        Some(Strand::Instance(_)) => true,
+        _ => false,
+    }
+}
+
+/// Whether a placement sends another role strand than this to this image.
+fn holds_image(strands: &[Strand], strand: usize, image: usize, placement: Placement) -> bool
+    ensures { IsTrue result ↔ HoldsImage (map strand_view strands.now) strand image placement }
+{
+    placement.image == image
+        && placement.strand != strand
+        && is_role_strand(strands, placement.strand)
+}
+
+/// Whether another role strand than this is placed and goes to this image.
+fn is_taken(strands: &[Strand], strand: usize, image: usize, placements: &[Placement]) -> bool
+    ensures { IsTrue result ↔ IsTaken (map strand_view strands.now) strand image placements.now }
+{
+    for placement in placements {
+        if holds_image(strands, strand, image, *placement) {
+            return true;
+        }
+    }
+    false
+}
+
+/// Whether an item is a role strand, and another role strand is placed and goes to this image.
+pub(crate) fn is_blocked(
+    strands: &[Strand],
+    item: Item,
+    image: usize,
+    placements: &[Placement],
+) -> bool
+    ensures { IsTrue result ↔ IsBlocked (map strand_view strands.now) item image placements.now }
+{
+    item.kind == Kind::Strands
+        && is_role_strand(strands, item.index)
+        && is_taken(strands, item.index, image, placements)
+}
+
+/// Whether two strands are instances of roles and go to one strand.
+fn meet(strands: &[Strand], mapping: &Map, strand: usize, other: usize) -> bool
+    ensures { IsTrue result ↔ (IsRoleStrand (map strand_view strands.now) strand
+        × IsRoleStrand (map strand_view strands.now) other
+        × ((map_view mapping.now).strands other ≡ (map_view mapping.now).strands strand)) }
+{
+    is_role_strand(strands, strand)
+        && is_role_strand(strands, other)
+        && mapping.strand(other) == mapping.strand(strand)
+}
+
+/// Whether a strand is an instance of a role and goes where an earlier one goes.
+fn meets_earlier(strands: &[Strand], mapping: &Map, strand: usize) -> bool
+    ensures { IsTrue result ↔ MeetsEarlier (map strand_view strands.now) (map_view mapping.now).strands strand }
+{
+    for other in 0..strand {
+        if meet(strands, mapping, strand, other) {
+            return true;
+        }
+    }
+    false
+}
+
+/// Whether different role strands go to different strands.
+pub(crate) fn keeps_apart(strands: &[Strand], mapping: &Map) -> bool
+    ensures { IsTrue result ↔ KeepsApart (map strand_view strands.now) (map_view mapping.now).strands }
+{
+    for strand in 0..strands.len() {
+        if meets_earlier(strands, mapping, strand) {
+            return false;
+        }
+    }
+    true
+}
+
+/// Whether the nodes are the same.
+fn is_same_node(x: Node, y: Node) -> bool
+    ensures { IsTrue result ↔ (node_view x ≡ node_view y) }
+{
+    x.strand == y.strand && x.index == y.index
+}
+
+/// Whether a node leads to another along strands and these pairs. The error is that memory ran out.
+fn leads_to_another(
+    alloc: Global,
+    pairs: &[OrderPair],
+    x: Node,
+    y: Node,
+) -> Result<bool, AllocError>
+    ensures { IfOk result (λ leads. IsTrue leads
+        ↔ (LeadsTo (map pair_view pairs.now) (node_view x) (node_view y) × (node_view x ≢ node_view y))) }
+{
+    if is_same_node(x, y) {
+        return Ok(false);
+    }
+    let leading = Leading::new(alloc, pairs, y)?;
+    Ok(leading.has(x))
+}
+
+/// Whether the images of the pairs are kept: of each the earlier node leads to the later one, another, along the other
+/// pairs. The error is that memory ran out.
+pub(crate) fn keeps_pairs(
+    alloc: Global,
+    pairs: &[OrderPair],
+    others: &[OrderPair],
+    mapping: &Map,
+) -> Result<bool, AllocError>
+    ensures { IfOk result (λ kept. IsTrue kept
+        ↔ KeepsPairs (map pair_view pairs.now) (map pair_view others.now) (map_view mapping.now)) }
+{
+    for pair in pairs {
+        let x = mapping.node(pair.earlier);
+        let y = mapping.node(pair.later);
+        if !leads_to_another(alloc, others, x, y)? {
+            return Ok(false);
+        }
+    }
+    Ok(true)
+}

@@ -1,0 +1,19 @@
+//! Maps between skeletons: embeddings, and whether two skeletons are isomorphic.
+#![tactic(auto)]
+
+mod checking;
+mod counting;
+mod embedding;
+mod items;
+mod looking;
+mod mapping;
+mod matching;
+mod partials;
+mod placing;
+mod searching;
+mod starting;
+#[cfg(test)]
+mod tests;
+
+pub use embedding::{embed, isomorphic};
+pub use mapping::Map;

@@ -1,0 +1,87 @@
+// Strands that become parts of others.
+ghost use Rattle.std.specs.Prelude.{◌≡◌, map, IfOk};
+ghost use Rattle.cp_model.specs.Homomorphism.{substitution_by};
+ghost use Rattle.cp_model.specs.Term.{apply_to};
+ghost use Rattle.cp_skel.specs.View.{event_view, instance_view, strand_view};
+ghost use Rattle.cp_hom.specs.Following.{partial_view, Finds};
+ghost use Rattle.cp_hom.specs.Taking.{MakesEvents, MakesPart};
+
+use crate::partials::{Partial, match_terms};
+use cp_skel::{Event, Instance, Strand, applied, is_same_role, prefix_of};
+use cp_term::Term;
+use std::alloc::{AllocError, Global};
+
+/// Makes the messages of a role's event under some values what they are under others.
+fn match_event(
+    alloc: Global,
+    message: &Term,
+    from: &[Term],
+    to: &[Term],
+    given: Partial,
+) -> Result<Option<Partial>, AllocError>
+    ensures { IfOk result (Finds
+        (λ f. apply_to f.terms (apply_to (substitution_by from.now) message.now) ≡ apply_to (substitution_by to.now) message.now)
+        (partial_view given)) }
+{
+    let first = applied(alloc, from, message)?;
+    let second = applied(alloc, to, message)?;
+    match_terms(alloc, &first, &second, given)
+}
+
+/// Makes the messages of a role's events under some values what they are under others.
+fn match_events(
+    alloc: Global,
+    events: &[Event],
+    from: &[Term],
+    to: &[Term],
+    given: Partial,
+) -> Result<Option<Partial>, AllocError>
+    ensures { IfOk result (Finds
+        (λ f. MakesEvents f.terms (map event_view events.now) (substitution_by from.now) (substitution_by to.now))
+        (partial_view given)) }
+{
+    let mut found = given;
+    for event in events {
+        match match_event(alloc, event.payload(), from, to, found)? {
+            Some(next) => found = next,
+            None => return Ok(None),
+        }
+    }
+    Ok(Some(found))
+}
+
+/// Makes an instance a part of another.
+fn match_instances(
+    alloc: Global,
+    from: &Instance,
+    to: &Instance,
+    given: Partial,
+) -> Result<Option<Partial>, AllocError>
+    ensures { IfOk result (Finds (λ f. MakesPart f.terms (instance_view from.now) (instance_view to.now)) (partial_view given)) }
+{
+    if from.height > to.height || !is_same_role(&from.role, &to.role) {
+        return Ok(None);
+    }
+    let events = prefix_of(&from.role, from.height);
+    match_events(alloc, events, &from.values, &to.values, given)
+}
+
+/// Makes a strand a part of another.
+pub(crate) fn match_strands(
+    alloc: Global,
+    from: &Strand,
+    to: &Strand,
+    given: Partial,
+) -> Result<Option<Partial>, AllocError>
+    ensures { IfOk result (Finds (λ f. MakesPart f.terms (strand_view from.now) (strand_view to.now)) (partial_view given)) }
+{
+    match (from, to) {
+        (Strand::Instance(first), Strand::Instance(second)) => {
+            match_instances(alloc, first, second, given)
+        }
+        (Strand::Listener(first), Strand::Listener(second)) => {
+            match_terms(alloc, first, second, given)
+        }
+        _ => Ok(None),
+    }
+}
