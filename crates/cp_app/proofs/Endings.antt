@@ -1,5 +1,5 @@
 -- What the end of a command that reads says of its input and its output.
-use Rattle.std.proofs.Common.{◌≡◌, ℕ, ◌+◌, ◌<◌, ◌≤◌, List, [], ◌∷◌, ◌++◌, length, take, drop, Bool, true, false, Option, Some, None, Result, Ok, Err, ◌⊎◌, inl, inr, refl, sym, ap, ◌∙◌, arith}
+use Rattle.std.proofs.Common.{◌≡◌, ℕ, ◌+◌, ◌<◌, ◌≤◌, List, [], ◌∷◌, length, drop, Bool, true, false, Option, Some, None, Result, Ok, Err, ◌⊎◌, inl, inr, refl, sym, ap, ◌∙◌, arith}
 use Rattle.std.proofs.Math.Seq.{drop-append_seam}
 use Rattle.std.specs.Result.{IfErr}
 use Rattle.cp_base.specs.declared.place.Refusal.{Refusal}
@@ -10,7 +10,6 @@ use Rattle.cp_model.specs.Tree.{Limits, Tree}
 use Rattle.cp_sexpr.specs.Syntax.{Forms}
 use Rattle.cp_sexpr.specs.Reading.{IsReading}
 use Rattle.cp_sexpr.proofs.Unique.{one_reading_of}
-use Rattle.cp_language.specs.Faults.{IsFirstFault}
 use Rattle.cp_language.proofs.OneAnswer.{one_first}
 use Rattle.cp_app.specs.Profile.{refusals_of}
 use Rattle.cp_app.specs.Headline.{most_bytes, IsAccepted, IsRefusedFor, AreTrue, SaysOutcomes, IsAnalysed, HasReported, HasBrokenOff, HasRefused, WasTooLong, TookAtMost}

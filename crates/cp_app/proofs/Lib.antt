@@ -4,3 +4,4 @@ pub mod NotYet
 pub mod OneInstance
 pub mod Trees
 pub mod Endings
+pub mod LoadedProblems

@@ -3,8 +3,8 @@ use Rattle.std.proofs.Common.{◌≡◌, ℕ, ◌+◌, ◌<◌, ◌≤◌, List,
 use Rattle.std.specs.Prelude.{Option, Some, None, ◌||◌, if◌then◌else◌}
 use Rattle.std.proofs.lemmas.List.{drop_all}
 use Rattle.cp_base.specs.declared.place.Refusal.{Refusal}
-use Rattle.cp_model.specs.Lists.{IsIn, here, there}
-use Rattle.cp_sexpr.specs.Syntax.{Form, Forms, forms_of}
+use Rattle.cp_model.specs.Lists.{IsIn}
+use Rattle.cp_sexpr.specs.Syntax.{Form, forms_of}
 use Rattle.cp_sexpr.specs.View.{view, views}
 use Rattle.cp_sexpr.specs.declared.form.Form as program
 use Rattle.cp_language.specs.Faults.{place_of, items_of, comes_before, IsFirstFault}
@@ -14,7 +14,7 @@ use Rattle.std.proofs.Common.{Ok, Err, subst}
 use Rattle.cp_app.specs.Loading.{IsLoaded}
 use Rattle.cp_forms.specs.FirstFault.{earlier_of, first_onto}
 use Rattle.cp_forms.proofs.Firsts.{first_onto-append, first_found, none_found, in_append, in_front, in_back, behind_both, behind_other}
-use Rattle.std.proofs.Common.{◌⊎◌, inl, inr}
+use Rattle.std.proofs.Common.{inl, inr}
 use Rattle.cp_forms.proofs.Items.{item-drop}
 use Rattle.cp_app.specs.Profile.{is_instance_item, item_not_yet, body_not_yet, form_not_yet, not_yet_from, not_yet, refusals_of}
 

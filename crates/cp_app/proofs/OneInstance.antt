@@ -1,17 +1,17 @@
 -- A problem of which nothing is refused has at most one instance of a role.
-use Rattle.std.proofs.Common.{◌≡◌, ℕ, zero, suc, ◌+◌, List, [], ◌∷◌, ◌++◌, length, Bool, true, false, refl, sym, ap, ◌∙◌}
-use Rattle.std.specs.Prelude.{Option, Some, None, ◌||◌, if◌then◌else◌}
+use Rattle.std.proofs.Common.{◌≡◌, ℕ, zero, suc, ◌+◌, List, [], ◌∷◌, ◌++◌, length, Bool, true, false, refl, ap}
+use Rattle.std.specs.Prelude.{Option, Some, None, if◌then◌else◌}
 use Rattle.cp_base.specs.declared.place.Place.{Place}
 use Rattle.cp_base.specs.declared.place.Refusal.{Refusal}
 use Rattle.cp_model.specs.Lists.{item_at, IsIn, here, there}
 use Rattle.cp_model.specs.Term.{Substitution, Term}
 use Rattle.cp_model.specs.Strand.{Declaration, Role, Protocol}
-use Rattle.cp_model.specs.Skeleton.{SkeletonStrand, instance, listener, Skeleton}
+use Rattle.cp_model.specs.Skeleton.{SkeletonStrand, instance, listener}
 use Rattle.cp_sexpr.specs.Syntax.{Form, Forms}
 use Rattle.cp_language.specs.Words.{ItemHead, role_item, non_item, penetrator_non_item, unique_item, strand_item, listener_item, precedes_item, comment_item, item_out_of_profile, no_item, TopHead, protocol_form, problem_form, free_form, top_out_of_profile, no_top, top_head}
 use Rattle.cp_language.specs.Faults.{place_of, items_of}
 use Rattle.cp_language.specs.Roles.{Headed, headed, item_or_none, items_behind, declarations_of, text_of_symbol}
-use Rattle.cp_language.specs.Problems.{Problem, Strands, strand_by, fresh_of, with_strand, strands_from, before_items, is_assumption_or_order, problem_strands, problem_of, protocol_named, protocol_or_none}
+use Rattle.cp_language.specs.Problems.{Problem, Strands, strand_by, fresh_of, with_strand, strands_from, before_items, is_assumption_or_order, problem_of, protocol_named, protocol_or_none}
 use Rattle.cp_language.specs.Input.{Entry, protocols_behind, stated_problem, problem_by, entries_from, input_of}
 use Rattle.cp_app.specs.Profile.{is_instance_item, item_not_yet, body_not_yet, problem_not_yet, top_not_yet, form_not_yet, not_yet_from, not_yet}
 use Rattle.cp_search.specs.Unexpanded.{HasOneInstance}

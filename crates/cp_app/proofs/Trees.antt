@@ -13,7 +13,7 @@ use Rattle.cp_model.proofs.LawLists.{in_append}
 use Rattle.cp_model.specs.Term.{Sort, text_sort, datum_sort, name_sort, skey_sort, akey_sort, Variable, atom_of_variable, atom_term, variables_of}
 use Rattle.cp_model.specs.Strand.{Declaration}
 use Rattle.cp_model.specs.Bundle.{Node}
-use Rattle.cp_model.specs.Skeleton.{OrderPair, Skeleton, IsSkeleton}
+use Rattle.cp_model.specs.Skeleton.{OrderPair}
 use Rattle.cp_model.specs.Problem.{variable_terms, declared_sort, IsDeclared, IsOwnProblem, variables_of_skeleton}
 use Rattle.cp_model.specs.Tree.{Mark, dead, Outcome, complete, at_step_limit, at_strand_limit, Label, Tree, Limits, IsTrueOf}
 use Rattle.cp_completeness.specs.Normal.{with_pairs}
@@ -21,7 +21,7 @@ use Rattle.cp_sexpr.specs.Syntax as syntax
 use Rattle.cp_sexpr.specs.Syntax.{Forms}
 use Rattle.cp_sexpr.specs.View.{view}
 use Rattle.cp_language.specs.Problems.{Problem}
-use Rattle.cp_language.specs.Report.{variables_of_terms, occurring, HasItsVariables}
+use Rattle.cp_language.specs.Report.{variables_of_terms, HasItsVariables}
 use Rattle.cp_language.specs.Input.{Entry, faults_of, input_of}
 use Rattle.cp_load.specs.Inputs.{problem_view, entries_view, entries_of}
 use Rattle.cp_load.specs.declared.input.Problem.{Problem as ProgramProblem}
@@ -29,7 +29,7 @@ use Rattle.cp_load.specs.declared.input.Input.{Input}
 use Rattle.cp_sexpr.specs.declared.form.Form as form
 use Rattle.std.specs.declared.alloc.Global.{Global}
 use Rattle.std.specs.Prelude.{Vec}
-use Rattle.cp_search.specs.Unexpanded.{HasOneInstance, tree_of_one, IsUnexpanded, dead_problem, normal_form}
+use Rattle.cp_search.specs.Unexpanded.{tree_of_one, IsUnexpanded, dead_problem, normal_form}
 use Rattle.cp_wellformed.proofs.Problems as wellformed
 use Rattle.cp_app.specs.Profile.{not_yet, refusals_of}
 use Rattle.cp_app.specs.Headline.{IsTrueTree, TreeIsTrue, AreTrue}

@@ -1,5 +1,5 @@
 -- What the steps of a run leave, where the source and the sink tell what they hold.
-use Rattle.std.specs.Prelude.{◌≡◌, ℕ, List, [], ◌++◌, length, ◌≤◌, map, take, Bool, true, false, Option, Some, None, Result, Ok, Err}
+use Rattle.std.specs.Prelude.{◌≡◌, ℕ, List, [], ◌++◌, take, Bool, true, false, Option, Some, None, Result, Ok, Err}
 use Rattle.cp_base.specs.declared.status.Failed.{Failed}
 use Rattle.cp_base.specs.declared.status.Status.{Status}
 use Rattle.cp_base.specs.declared.status.Status.TheVariants as status
@@ -8,7 +8,7 @@ use Rattle.cp_sexpr.specs.declared.error.ReadError.{ReadError}
 use Rattle.cp_sexpr.specs.declared.error.ReadError.TheVariants as reading
 use Rattle.cp_load.specs.declared.error.LoadError.{LoadError}
 use Rattle.cp_load.specs.declared.error.LoadError.TheVariants as loading
-use Rattle.cp_app.specs.Headline.{most_bytes, IsRefusedFor, IsReportOf, SaysOutcomes, HasRefused, WasTooLong, TookAtMost}
+use Rattle.cp_app.specs.Headline.{IsRefusedFor, IsReportOf, SaysOutcomes, HasRefused, WasTooLong, TookAtMost}
 use Rattle.cp_app.specs.declared.stopped.Stopped.{Stopped}
 use Rattle.cp_app.specs.declared.stopped.Stopped.TheVariants.{Refused, ReadFault, Memory, TooLong}
 

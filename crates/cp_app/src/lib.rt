@@ -4,6 +4,8 @@
 mod analysing;
 mod profile;
 mod reading;
+#[cfg(test)]
+mod rows_tests;
 mod running;
 mod stopped;
 mod writing;

@@ -11,7 +11,7 @@ const COMMAND: &[&str] = &["cpsa", "analyse", "--limit", "0"];
 
 const ONE_ROLE: &str = "(defprotocol p basic (defrole r (vars (a name)) (trace (send a))))";
 
-const NEEDHAM_SCHROEDER: &str = "(defprotocol ns basic\n  \
+pub(crate) const NEEDHAM_SCHROEDER: &str = "(defprotocol ns basic\n  \
     (defrole init (vars (a b name) (n1 n2 text)) (trace (send (enc n1 a (pubk b))) (recv (enc n1 n2 (pubk a))) (send (enc n2 (pubk b)))))\n  \
     (defrole resp (vars (a b name) (n1 n2 text)) (trace (recv (enc n1 a (pubk b))) (send (enc n1 n2 (pubk a))) (recv (enc n2 (pubk b))))))\n";
 
@@ -27,7 +27,7 @@ fn strings(alloc: Global, words: &[&str]) -> Result<Vec<String>, AllocError> {
 }
 
 // The text of these pieces.
-fn joined(alloc: Global, pieces: &[&str]) -> Result<Vec<u8>, AllocError> {
+pub(crate) fn joined(alloc: Global, pieces: &[&str]) -> Result<Vec<u8>, AllocError> {
     let mut text = Vec::new(alloc);
     for piece in pieces {
         text.extend_from_slice(piece.as_bytes())?;
