@@ -50,7 +50,7 @@ given_non [] = []
 given_non (listener t ∷ ks) = given_non ks
 given_non (instance role height terms ∷ ks) = applying role height terms role.non_originating ++ given_non ks
 
--- The values that the strands' roles give as unknown to the adversary, in the order of the strands.
+-- The values that the strands' roles give as ones that the penetrator does not originate, in the order of the strands.
 abbrev pub given_penetrator_non : List SkeletonStrand → List AtomTerm
 given_penetrator_non [] = []
 given_penetrator_non (listener t ∷ ks) = given_penetrator_non ks

@@ -50,8 +50,8 @@ pub fn run_makes_a_bundle()
     ensures { (protocol : Protocol) (r : Run) (b : Bundle) → IsRun r → IsBundleOf r b → AreOfProtocol protocol r.strands → IsBundle protocol b }
 {}
 
-/// In a skeleton whose pairs are between nodes that are there, and whose order has no cycle, a node is before another
-/// that is there exactly when it leads to it along strands and pairs and is not the same.
+/// In a skeleton whose pairs go from a transmission to a reception of another strand, and whose order has no cycle, a
+/// node is before another that is there exactly when it leads to it along strands and pairs and is not the same.
 #[tactic(auto, using(crate::proofs::LawOrder::before_by_pairs))]
 pub fn before_is_leading_to_another()
     ensures { (k : Skeleton) → ((p : OrderPair) → IsIn p k.pairs → IsOrderPair k p) → ((n : Node) → Before k n n → ⊥) → (x y : Node) → IsNodeOf k.strands y → Before k x y ↔ (LeadsTo k.pairs x y × (x ≡ y → ⊥)) }

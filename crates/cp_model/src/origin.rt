@@ -42,7 +42,7 @@ fn first_on_strand(strands: &[Strand], node: Node, message: &Msg) -> Node
 /// An origin of a message that a node of a bundle carries: a node at which the message originates, and that is the node
 /// or precedes it. Where the node does not carry the message the answer has no meaning.
 pub fn origin_before(bundle: &Bundle, n: Node, m: &Msg) -> Node
-    ensures { (protocol : Protocol) (p : PlainBundle) (e : PlainEvent Message) → StandsForBundle bundle.now p → IsBundle protocol p
+    ensures origin { (protocol : Protocol) (p : PlainBundle) (e : PlainEvent Message) → StandsForBundle bundle.now p → IsBundle protocol p
         → event_at p.strands (node_view n) ≡ Some e → IsCarriedBy m.now (payload e)
         → OriginatesAt p.strands m.now (node_view result) × ((node_view result ≡ node_view n) ⊎ Precedes p (node_view result) (node_view n)) }
 {

@@ -7,10 +7,11 @@ pub loop-step-init : goal.loop-step-init
 loop-step-init c = begins c.args.bundle.now c.args.m.now (node_view c.args.n)
 
 pub returns-in-None : goal.returns-in-None
-returns-in-None c =
-    ends c.args.bundle.now c.args.m.now (node_view c.args.n) c.loop-step._step (node_view c.loop-step.node) c.loop-step.invariant
-    c.deref.result.now (node_view c.first_on_strand-node.result) c.deref.ensures.value c.first_on_strand-node.ensures
-    (sym c.sender.ensures ∙ ap sender_view c.in-None.is)
+returns-in-None c = record {
+  origin = ends c.args.bundle.now c.args.m.now (node_view c.args.n) c.loop-step._step (node_view c.loop-step.node) c.loop-step.invariant
+      c.deref.result.now (node_view c.first_on_strand-node.result) c.deref.ensures.value c.first_on_strand-node.ensures
+      (sym c.sender.ensures ∙ ap sender_view c.in-None.is);
+}
 
 pub loop-step-preserved : goal.loop-step-preserved
 loop-step-preserved c =
@@ -19,6 +20,7 @@ loop-step-preserved c =
     (node_view c.in-Some.sender) (sym c.sender.ensures ∙ ap sender_view c.in-Some.is)
 
 pub returns : goal.returns
-returns c =
-    runs_out c.args.bundle.now c.args.m.now (node_view c.args.n) c.loop-step._step (node_view c.loop-step.node) c.loop-step.invariant
-    (omega (arith, c.args.bundle.now.order.ok.0, c.len-step-end.ensures, c.loop-step-test.false))
+returns c = record {
+  origin = runs_out c.args.bundle.now c.args.m.now (node_view c.args.n) c.loop-step._step (node_view c.loop-step.node) c.loop-step.invariant
+      (omega (arith, c.args.bundle.now.order.ok.0, c.len-step-end.ensures, c.loop-step-test.false));
+}
