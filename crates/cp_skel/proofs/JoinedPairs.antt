@@ -7,7 +7,7 @@ use Rattle.cp_model.specs.Order.{IsAtOrAfter, LeadsTo}
 use Rattle.cp_skel.specs.declared.skeleton.OrderPair as program
 use Rattle.cp_skel.specs.View.{pair_view}
 use Rattle.cp_skel.specs.Leading.{is_at_or_before}
-use Rattle.cp_skel.specs.Closed.{IsClosed, IsComposedOf, KeepsOrder}
+use Rattle.cp_skel.specs.Closed.{IsClosed, IsComposedOf, KeepsOrder, IsClosureOf}
 use Rattle.cp_skel.specs.Composed.{some_pair, leads_along_one, leads_within, all_joined, pairs_from, pairs_to, composed}
 use Rattle.cp_skel.proofs.AlongPairs.{each_led, pair_led, leads_within_more, closed_search, bounded_search}
 use Rattle.cp_skel.proofs.Composing.{in_either, in_front, in_back, joined-append}
@@ -196,3 +196,52 @@ keeps_pushed self items new q is e =
     let keeps : KeepsOrder (pair_view q ∷ ps) (ps ++ (pair_view q ∷ [])) = keeps_members (pair_view q ∷ ps) (ps ++ (pair_view q ∷ [])) (λ p. to_back p (pair_view q) ps) (λ p m. to_front p (pair_view q) ps (in_either ps (pair_view q ∷ []) m)) in
     let all : KeepsOrder (pair_view q ∷ ps) (map pair_view new) = subst (KeepsOrder (pair_view q ∷ ps)) (sym (ap (map pair_view) e ∙ views_behind items q)) keeps in
     subst (λ (qs : List OrderPair). KeepsOrder (pair_view q ∷ qs) (map pair_view new)) is all
+
+-- ---- closed pairs beside others
+
+pub closure_seen : (items cs qs : List program.OrderPair) (self : List OrderPair) → map pair_view items ≡ self → cs ≡ qs → IsClosureOf (map pair_view items) (map pair_view qs) → IsClosureOf self (map pair_view cs)
+closure_seen items cs qs self is same h =
+    let moved : IsClosureOf (map pair_view items) (map pair_view cs) = subst (λ (ps : List program.OrderPair). IsClosureOf (map pair_view items) (map pair_view ps)) (sym same) h in
+    subst (λ (ps : List OrderPair). IsClosureOf ps (map pair_view cs)) is moved
+
+pub closure_of_itself : (cs : List OrderPair) → IsClosed cs → IsClosureOf cs cs
+closure_of_itself cs h = record { closes = h; keeps = keeps_same cs }
+
+keeps_under : (q : OrderPair) (ps qs : List OrderPair) → KeepsOrder ps qs → KeepsOrder (q ∷ ps) (q ∷ qs)
+keeps_under q ps qs h = record {
+  leads = λ x y. (each_led (q ∷ qs) (q ∷ ps) back x y, each_led (q ∷ ps) (q ∷ qs) on x y);
+  composed = made;
+}
+  where
+    back : (p : OrderPair) → IsIn p (q ∷ qs) → LeadsTo (q ∷ ps) p.earlier p.later
+    back p here = pair_led (q ∷ ps) q here
+    back p (there m) = leads_within_more ps (q ∷ ps) (λ o i. there i) p.earlier p.later ((h.leads p.earlier p.later).0 (pair_led qs p m))
+
+    on : (p : OrderPair) → IsIn p (q ∷ ps) → LeadsTo (q ∷ qs) p.earlier p.later
+    on p here = pair_led (q ∷ qs) q here
+    on p (there m) = leads_within_more qs (q ∷ qs) (λ o i. there i) p.earlier p.later ((h.leads p.earlier p.later).1 (pair_led ps p m))
+
+    made : (p : OrderPair) → IsIn p (q ∷ qs) → IsComposedOf (q ∷ ps) p
+    made p here = (keeps_same (q ∷ ps)).composed q here
+    made p (there m) = composed_more ps (q ∷ ps) p (λ o i. there i) (h.composed p m)
+
+pub closure_with_pair : (q : OrderPair) (ps closed new : List OrderPair) → IsClosureOf ps closed → IsClosed new → KeepsOrder (q ∷ closed) new → IsClosureOf (q ∷ ps) new
+closure_with_pair q ps closed new h closes keeps = record { closes = closes; keeps = keeps_both (q ∷ ps) (q ∷ closed) new (keeps_under q ps closed h.keeps) keeps }
+
+-- a pair stands behind the others, and not before them
+pub closure_pushed : (q : program.OrderPair) (ps new : List program.OrderPair) (self closed : List OrderPair) → map pair_view ps ≡ self → new ≡ ps ++ (q ∷ []) → IsClosureOf (pair_view q ∷ self) closed → IsClosureOf (map pair_view new) closed
+closure_pushed q ps new self closed is e g =
+    let old = map pair_view ps in
+    let h : IsClosureOf (pair_view q ∷ old) closed = subst (λ (qs : List OrderPair). IsClosureOf (pair_view q ∷ qs) closed) (sym is) g in
+    let keeps : KeepsOrder (old ++ (pair_view q ∷ [])) (pair_view q ∷ old) = keeps_members (old ++ (pair_view q ∷ [])) (pair_view q ∷ old) (λ p m. to_front p (pair_view q) old (in_either old (pair_view q ∷ []) m)) (λ p. to_back p (pair_view q) old) in
+    let all : IsClosureOf (old ++ (pair_view q ∷ [])) closed = record { closes = h.closes; keeps = keeps_both (old ++ (pair_view q ∷ [])) (pair_view q ∷ old) closed keeps h.keeps } in
+    subst (λ (qs : List OrderPair). IsClosureOf qs closed) (sym (ap (map pair_view) e ∙ views_behind ps q)) all
+
+-- what leads where by pairs is found along one of their closed pairs
+pub asked_closure : (items cs qs : List program.OrderPair) (self : List OrderPair) (x y : Node) (b : Bool) → map pair_view items ≡ self → cs ≡ qs → IsClosureOf (map pair_view items) (map pair_view qs)
+    → b ≡ leads_along_one (map pair_view cs) x y → (b ≡ true) ↔ LeadsTo self x y
+asked_closure items cs qs self x y b is same h e =
+    let closed : IsClosed (map pair_view cs) = subst (λ (ps : List program.OrderPair). IsClosed (map pair_view ps)) (sym same) h.closes in
+    let found : (b ≡ true) ↔ LeadsTo (map pair_view cs) x y = asked_closed cs cs (map pair_view cs) x y b refl refl closed e in
+    let moved : (b ≡ true) ↔ LeadsTo (map pair_view qs) x y = subst (λ (ps : List program.OrderPair). (b ≡ true) ↔ LeadsTo (map pair_view ps) x y) same found in
+    subst (λ (ps : List OrderPair). (b ≡ true) ↔ LeadsTo ps x y) is (λ t. (h.keeps.leads x y).0 (moved.0 t), λ l. moved.1 ((h.keeps.leads x y).1 l))

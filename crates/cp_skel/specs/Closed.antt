@@ -24,3 +24,8 @@ pub record IsComposedOf (pairs : List OrderPair) (p : OrderPair) : Type 0 where
 pub record KeepsOrder (old new : List OrderPair) : Type 0 where
   pub leads : (x y : Node) → LeadsTo new x y ↔ LeadsTo old x y
   pub composed : (p : OrderPair) → IsIn p new → IsComposedOf old p
+
+-- These pairs are closed, and order as the others do.
+pub record IsClosureOf (pairs closed : List OrderPair) : Type 0 where
+  pub closes : IsClosed closed
+  pub keeps : KeepsOrder pairs closed

@@ -1,5 +1,5 @@
 // Lists of assumptions in which each stands once.
-ghost use Rattle.std.specs.Prelude.{◌≡◌, [], ◌∷◌, map, OnOk};
+ghost use Rattle.std.specs.Prelude.{◌≡◌, [], ◌∷◌, map, OnOk, OnErr};
 ghost use Rattle.cp_model.specs.Given.{atoms_onto, uniques_onto};
 ghost use Rattle.cp_skel.specs.View.{unique_view};
 
@@ -10,7 +10,8 @@ use std::alloc::AllocError;
 
 /// Puts an atom behind these, if it is not one of them. The error is that memory ran out; they then hold what they held.
 pub fn add_atom(atoms: &mut Vec<Atom>, atom: Atom) -> Result<(), AllocError>
-    ensures { OnOk result (atoms.new.items ≡ atoms_onto atoms.old.items (atom ∷ [])) }
+    ensures added { OnOk result (atoms.new.items ≡ atoms_onto atoms.old.items (atom ∷ [])) }
+    ensures unchanged { OnErr result (atoms.new.items ≡ atoms.old.items) }
 {
     if has_atom(atoms, &atom) {
         return Ok(());
@@ -34,7 +35,8 @@ pub fn add_atoms(atoms: &mut Vec<Atom>, more: &[Atom]) -> Result<(), AllocError>
 /// Puts a unique value with its origin behind these, if it is not one of them. The error is that memory ran out; they
 /// then hold what they held.
 pub fn add_unique(uniques: &mut Vec<UniqueAt>, unique: UniqueAt) -> Result<(), AllocError>
-    ensures { OnOk result (map unique_view uniques.new.items ≡ uniques_onto (map unique_view uniques.old.items) (unique_view unique ∷ [])) }
+    ensures added { OnOk result (map unique_view uniques.new.items ≡ uniques_onto (map unique_view uniques.old.items) (unique_view unique ∷ [])) }
+    ensures unchanged { OnErr result (uniques.new.items ≡ uniques.old.items) }
 {
     if has_unique(uniques, &unique) {
         return Ok(());

@@ -5,6 +5,8 @@ mod adding;
 mod applying;
 mod atom;
 mod bridging;
+#[cfg(test)]
+mod calls_tests;
 mod changing;
 #[cfg(test)]
 mod changing_tests;

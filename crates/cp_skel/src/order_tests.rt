@@ -55,3 +55,36 @@ fn pair_after_pair(rt: HostRuntime) -> Result<(), Fail> {
     assert!(rt; is_as_worked_out(&closed) && is_as_worked_out(&open));
     Ok(())
 }
+
+// Of an open order and of a closed one.
+#[test]
+fn pairs_in_place_of_others(rt: HostRuntime) -> Result<(), Fail> {
+    let open = Order::of(Vec::new(rt.alloc()));
+    let mut closed = open.copy(rt.alloc())?;
+    closed.close(rt.alloc())?;
+    let first = open.with_pairs(rt.alloc(), Vec::from_slice(rt.alloc(), &pairs())?)?;
+    let second = closed.with_pairs(rt.alloc(), Vec::from_slice(rt.alloc(), &pairs())?)?;
+    assert!(rt; is_as_worked_out(&first) && is_as_worked_out(&second));
+    assert!(rt; first.leads_to_with_memory(rt.alloc(), node(1, 0), node(1, 2))?);
+    assert!(rt; !second.leads_to_with_memory(rt.alloc(), node(0, 3), node(1, 2))?);
+    Ok(())
+}
+
+// From strand to strand there are two pairs each: to try each of the ways through forty strands would never end.
+#[test]
+fn many_ways_through_a_closed_order(rt: HostRuntime) -> Result<(), Fail> {
+    let mut order = Order::of(Vec::new(rt.alloc()));
+    order.close(rt.alloc())?;
+    for strand in 0..40 {
+        let earlier = node(strand, 1);
+        let later = node(strand + 1, 0);
+        order.add(rt.alloc(), OrderPair { earlier, later })?;
+        order.add(rt.alloc(), OrderPair { earlier, later })?;
+    }
+    assert_eq!(rt; order.pairs().len(), 80);
+    assert!(rt; order.leads_to(node(0, 0), node(40, 0)));
+    assert!(rt; !order.leads_to(node(0, 0), node(50, 0)));
+    let copy = order.copy(rt.alloc())?;
+    assert!(rt; !copy.leads_to(node(0, 0), node(50, 0)));
+    Ok(())
+}

@@ -11,13 +11,14 @@ use crate::skeleton::{Node, OrderPair, Skeleton};
 use std::alloc::{AllocError, Global};
 
 impl Skeleton {
-    /// Whether n is before m in the skeleton's order. Both nodes have to be there; and the skeleton has to be ordered: each
+    /// Whether n is before m in the skeleton's order. After `order_close`, and what the calls of this crate and normalising
+    /// and collapsing make of the skeleton then, this takes one pass over the closed pairs. Both nodes have to be there; and the skeleton has to be ordered: each
     /// of its pairs goes from a transmission to a reception of another strand, and its order has no cycle.
     pub fn before(&self, n: Node, m: Node) -> bool
         requires ordered { IsOrdered (skeleton_view self.now) }
         requires first { IsNodeOf (skeleton_view self.now).strands (node_view n) }
         requires second { IsNodeOf (skeleton_view self.now).strands (node_view m) }
-        ensures { IsTrue result ↔ Before (skeleton_view self.now) (node_view n) (node_view m) }
+        ensures exact { IsTrue result ↔ Before (skeleton_view self.now) (node_view n) (node_view m) }
     {
         n != m && self.order.leads_to(n, m)
     }

@@ -65,7 +65,7 @@ impl Skeleton {
     /// Whether the term originates at the node: the event there is a transmission that carries it, and no earlier event
     /// of the strand carries it.
     pub fn originates(&self, n: Node, t: &Term) -> bool
-        ensures { IsTrue result
+        ensures exact { IsTrue result
             ↔ OriginatesInTerms (skeleton_trace_or_none (item_at (skeleton_view self.now).strands n.strand)) t.now n.index }
     {
         match self.strands.get(n.strand) {

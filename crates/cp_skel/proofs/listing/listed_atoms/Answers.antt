@@ -17,7 +17,7 @@ loop-atom-preserved c =
     elim c.if-has_atom.branch [
       | then-has_atom+in_ok-copy+in_ok-add_atom w ↦
           kept-taken atoms old (drop n stated) (drop (n + 1) stated) c.loop-atom.listed.items c.if-has_atom.listed.items _ v next c.loop-atom.invariant
-          (c.has_atom.ensures.0 w.if-has_atom.true) (ap (λ l. l.items) w.listed-is ∙ w.in_ok-add_atom.ensures ∙ ap (λ a. atoms_onto c.loop-atom.listed.items (a ∷ [])) w.in_ok-copy.ensures)
+          (c.has_atom.ensures.0 w.if-has_atom.true) (ap (λ l. l.items) w.listed-is ∙ w.in_ok-add_atom.ensures.added ∙ ap (λ a. atoms_onto c.loop-atom.listed.items (a ∷ [])) w.in_ok-copy.ensures)
       | else-has_atom w ↦
           kept-left atoms old (drop n stated) (drop (n + 1) stated) c.loop-atom.listed.items c.if-has_atom.listed.items _ v next c.loop-atom.invariant
           (λ i. both_ways c.has_atom.result w.if-has_atom.false (c.has_atom.ensures.1 i)) (ap (λ l. l.items) w.listed-is)

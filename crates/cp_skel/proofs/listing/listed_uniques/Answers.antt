@@ -20,7 +20,7 @@ loop-unique-preserved c =
     elim c.if-has_unique.branch [
       | then-has_unique+in_ok-copy+in_ok-add_unique w ↦
           kept-taken uniques old (map unique_view (drop n stated)) (map unique_view (drop (n + 1) stated)) so-far now _ v next c.loop-unique.invariant
-          (c.has_unique.ensures.0 w.if-has_unique.true) (ap (λ l. map unique_view l.items) w.listed-is ∙ w.in_ok-add_unique.ensures ∙ ap (λ u. uniques_onto so-far (u ∷ [])) w.in_ok-copy.ensures)
+          (c.has_unique.ensures.0 w.if-has_unique.true) (ap (λ l. map unique_view l.items) w.listed-is ∙ w.in_ok-add_unique.ensures.added ∙ ap (λ u. uniques_onto so-far (u ∷ [])) w.in_ok-copy.ensures)
       | else-has_unique w ↦
           kept-left uniques old (map unique_view (drop n stated)) (map unique_view (drop (n + 1) stated)) so-far now _ v next c.loop-unique.invariant
           (λ i. both_ways c.has_unique.result w.if-has_unique.false (c.has_unique.ensures.1 i)) (ap (λ l. map unique_view l.items) w.listed-is)
