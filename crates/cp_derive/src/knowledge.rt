@@ -86,7 +86,7 @@ impl Known {
 
 /// Whether the term can be derived from what was sent.
 pub fn buildable(known: &Known, t: &Term) -> bool
-    ensures { IsTrue result ↔ IsDerivable known.now t.now }
+    ensures exact { IsTrue result ↔ IsDerivable known.now t.now }
 {
     builds(&known.secrets, known.opening.held(), t)
 }

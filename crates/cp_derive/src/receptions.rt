@@ -48,7 +48,7 @@ fn unrealised_among(
 /// cycle. The error is that memory ran out.
 pub fn unrealised(alloc: Global, k: &Skeleton) -> Result<Vec<Node>, AllocError>
     requires { IsOrdered (skeleton_view k.now) }
-    ensures { IfOk result (λ nodes. ListsUnrealised (skeleton_view k.now) (map node_view nodes.items)) }
+    ensures listed { IfOk result (λ nodes. ListsUnrealised (skeleton_view k.now) (map node_view nodes.items)) }
 {
     let occurrences = occurrences(alloc, k)?;
     let transmissions = transmissions(alloc, &occurrences)?;

@@ -14,7 +14,9 @@ returns c =
     let view : g ≡ c.args.known.now = c.known.view_is in
     let is_closed : IsClosed g held = closed g c.known.inside.opening c.known.invariant in
     let lists : Builds c.deref.result.now c.held.result.now t ≡ Builds g.secrets held t =
-    ap₂ (λ s h. Builds s h t) c.deref.ensures.value c.held.ensures in (
-      λ r. subst (λ k. IsDerivable k t) view (built_derivable g held is_closed.derivable t (subst (λ P. P) lists (c.builds.ensures.0 r))),
-      λ d. c.builds.ensures.1 (subst (λ P. P) (sym lists) (derivable_built g held is_closed t (subst (λ k. IsDerivable k t) (sym view) d))),
-    )
+    ap₂ (λ s h. Builds s h t) c.deref.ensures.value c.held.ensures in record {
+      exact = (
+        λ r. subst (λ k. IsDerivable k t) view (built_derivable g held is_closed.derivable t (subst (λ P. P) lists (c.builds.ensures.0 r))),
+        λ d. c.builds.ensures.1 (subst (λ P. P) (sym lists) (derivable_built g held is_closed t (subst (λ k. IsDerivable k t) (sym view) d))),
+      );
+    }

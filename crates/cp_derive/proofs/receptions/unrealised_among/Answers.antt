@@ -37,7 +37,7 @@ loop-occurrence-preserved-then-buildable c = record {
       (event_at (skeleton_view c.args.k.now) c.args.occurrences.now c.loop-occurrence.occurrence-index c.occurrence-item.result c.loop-occurrence.nodes.items c.loop-occurrence-test.true
       c.occurrence-item.is c.loop-occurrence.invariant.picks c.requires.listed)
       c.in-Receive.is)
-      ((c.in_ok-front.ensures.at_node c.in-Receive.message).1 (c.buildable.ensures.0 c.if-buildable.true)));
+      ((c.in_ok-front.ensures.at_node c.in-Receive.message).1 (c.buildable.ensures.exact.0 c.if-buildable.true)));
 }
 
 pub loop-occurrence-preserved : goal.loop-occurrence-preserved
@@ -51,7 +51,7 @@ loop-occurrence-preserved c = record {
       (event_at (skeleton_view c.args.k.now) c.args.occurrences.now c.loop-occurrence.occurrence-index c.occurrence-item.result c.loop-occurrence.nodes.items c.loop-occurrence-test.true
       c.occurrence-item.is c.loop-occurrence.invariant.picks c.requires.listed)
       c.in-Receive.is)
-      (λ d. not_both c.if-buildable.false (c.buildable.ensures.1 ((c.in_ok-front.ensures.at_node c.in-Receive.message).0 d))));
+      (λ d. not_both c.if-buildable.false (c.buildable.ensures.exact.1 ((c.in_ok-front.ensures.at_node c.in-Receive.message).0 d))));
 }
 
 pub returns : goal.returns

@@ -25,4 +25,4 @@ loop-left-preserved t c =
 pub returns-then-not-buildable : goal.returns-then-not-buildable
 returns-then-not-buildable t c =
     subst (λ term. LeadsOn c.args.known.now c.args.whole.now c.args.here.now c.loop-left.here term) (sym c.in_ok-term-in_default.ensures)
-    (found_here _ _ _ _ _ c.loop-left.invariant.leads (plain_form _ _ c.form_of.ensures c.in_default.not-Pair) (λ d. not_both c.if-not-buildable.true (c.buildable.ensures.1 d)))
+    (found_here _ _ _ _ _ c.loop-left.invariant.leads (plain_form _ _ c.form_of.ensures c.in_default.not-Pair) (λ d. not_both c.if-not-buildable.true (c.buildable.ensures.exact.1 d)))
