@@ -37,7 +37,7 @@ pub fn embed(alloc: Global, a: &Skeleton, b: &Skeleton) -> Result<Option<Map>, A
 pub fn isomorphic(alloc: Global, a: &Skeleton, b: &Skeleton) -> Result<bool, AllocError>
     requires ordered { IsOrdered (skeleton_view a.now) }
     requires other_ordered { IsOrdered (skeleton_view b.now) }
-    ensures { IfOk result (λ same. IsTrue same ↔ IsIsomorphic (skeleton_view a.now) (skeleton_view b.now)) }
+    ensures exact { IfOk result (λ same. IsTrue same ↔ IsIsomorphic (skeleton_view a.now) (skeleton_view b.now)) }
 {
     if embed(alloc, a, b)?.is_none() {
         return Ok(false);

@@ -112,6 +112,14 @@ fn one_strand_in_two(rt: HostRuntime) -> Result<(), Fail> {
     let large = two(rt.alloc(), 7, 8)?;
     let found = embed(rt.alloc(), &small, &large)?;
     assert!(rt; binds(&found, 5, 7));
+    let first = Node {
+        strand: 0,
+        index: 0,
+    };
+    match found {
+        Some(map) => assert_eq!(rt; map.node(first), first),
+        None => assert!(rt; false),
+    }
     Ok(())
 }
 
