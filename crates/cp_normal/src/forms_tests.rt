@@ -230,15 +230,15 @@ fn said_twice(alloc: Global) -> Result<Skeleton, Fail>
     Ok(skeleton(alloc, strands, assumptions))
 }
 
-/// A strand sends text 0, which is unique; another receives text 1 and sends text 0.
-fn repeated(alloc: Global) -> Result<Skeleton, Fail>
+/// A strand sends text 0, which is unique; another receives this text and sends text 0.
+fn repeated(alloc: Global, heard: usize) -> Result<Skeleton, Fail>
     ensures order_pairs { IfOk result (λ k. (p : PlainPair) → IsIn p (skeleton_view k).pairs → IsOrderPair (skeleton_view k) p) }
     ensures no_cycle { IfOk result (λ k. (n : PlainNode) → Before (skeleton_view k) n n → ⊥) }
     ensures origins { IfOk result (λ k. (u : PlainUnique) → IsIn u (skeleton_view k).assumptions.uniquely_originating → IsOrigin (skeleton_view k) u) }
     ensures declared { IfOk result (λ k. HasDeclaredPrefixes (skeleton_view k)) }
 {
     let first = speaker(alloc, 0)?;
-    let heard = text(alloc, 1)?;
+    let heard = text(alloc, heard)?;
     let said = text(alloc, 0)?;
     let values = vec![in alloc; heard, said]?;
     let second = repeater(alloc, values)?;
@@ -293,7 +293,7 @@ fn receives(alloc: Global, strand: &Strand, index: usize, term: &Term) -> Result
 #[test]
 fn a_value_that_was_heard(rt: HostRuntime) -> Result<(), Fail> {
     let alloc = rt.alloc();
-    let forms = normalise(alloc, repeated(alloc)?)?;
+    let forms = normalise(alloc, repeated(alloc, 1)?)?;
     let heard = text(alloc, 0)?;
     let earlier = Node {
         strand: 0,
@@ -311,6 +311,47 @@ fn a_value_that_was_heard(rt: HostRuntime) -> Result<(), Fail> {
             Some(strand) => assert!(rt; receives(alloc, strand, 0, &heard)?),
             None => return Err(Fail::new("no second strand")),
         }
+    }
+    Ok(())
+}
+
+/// The contradictions one by one.
+#[test]
+fn what_contradicts_a_skeleton(rt: HostRuntime) -> Result<(), Fail> {
+    let alloc = rt.alloc();
+    let betrayed = betrayed(alloc)?;
+    assert!(rt; carries_non_originating(alloc, &betrayed)?);
+    assert!(rt; !has_two_origins(&betrayed) && !loses_origin(alloc, &betrayed)?);
+    let twice = said_twice(alloc)?;
+    assert!(rt; has_two_origins(&twice));
+    assert!(rt; !carries_non_originating(alloc, &twice)? && !loses_origin(alloc, &twice)?);
+    assert!(rt;
+        normal_pairs(alloc, &betrayed)?.is_none() && normal_pairs(alloc, &twice)?.is_none()
+    );
+    let strands = vec![in alloc; speaker(alloc, 1)?]?;
+    let lost = skeleton(alloc, strands, at_one(alloc, 2)?);
+    assert!(rt; loses_origin(alloc, &lost)? && !has_two_origins(&lost));
+    Ok(())
+}
+
+/// The text that one strand sends is unique, and the other hears it.
+#[test]
+fn pairs_that_a_unique_value_adds(rt: HostRuntime) -> Result<(), Fail> {
+    let alloc = rt.alloc();
+    let k = repeated(alloc, 0)?;
+    let earlier = Node {
+        strand: 0,
+        index: 0,
+    };
+    let later = Node {
+        strand: 1,
+        index: 0,
+    };
+    let pair = OrderPair { earlier, later };
+    assert_eq!(rt; added_pairs(alloc, &k)?.as_slice(), [pair].as_slice());
+    match normal_pairs(alloc, &k)? {
+        Some(pairs) => assert_eq!(rt; pairs.as_slice(), [pair].as_slice()),
+        None => return Err(Fail::new("no normal form")),
     }
     Ok(())
 }

@@ -17,11 +17,11 @@ use crate::cycles::some_closes;
 use crate::extending::{Partial, partitions};
 use crate::images::{assumption_images, from_problem_image, pair_images, some_lies_backward};
 use crate::merging::merged_strands;
-use cp_skel::{Order, Skeleton};
+use cp_skel::Skeleton;
 use std::alloc::{AllocError, Global};
 
 /// The skeleton with the strands of each block merged, where no pair comes to lie backward. Its assumptions are listed in
-/// the order of the report.
+/// the order of the report; a closed order stays closed.
 fn merged(alloc: Global, k: &Skeleton, partial: &Partial) -> Result<Skeleton, AllocError>
     requires declared { HasDeclaredPrefixes (skeleton_view k.now) }
     requires partition { IsPartition (skeleton_view k.now) partial.now.lowest.items }
@@ -32,10 +32,11 @@ fn merged(alloc: Global, k: &Skeleton, partial: &Partial) -> Result<Skeleton, Al
 {
     let lowest = &partial.lowest;
     let bindings = &partial.bindings;
+    let images = pair_images(alloc, k.order.pairs(), lowest)?;
     let mut merged = Skeleton {
         variables: k.variables.copy()?,
         strands: merged_strands(alloc, k, partial)?,
-        order: Order::of(pair_images(alloc, k.order.pairs(), lowest)?),
+        order: k.order.with_pairs(alloc, images)?,
         assumptions: assumption_images(alloc, &k.assumptions, bindings, lowest)?,
         from_problem: from_problem_image(alloc, &k.from_problem, bindings, lowest)?,
     };

@@ -15,16 +15,20 @@ ghost use Rattle.cp_normal.specs.declared.candidates.Candidate as candidate;
 
 use crate::candidates::{Candidate, round, some_is_open};
 use crate::normal::normal_pairs;
-use cp_skel::{Order, OrderPair, Skeleton};
+use cp_skel::{OrderPair, Skeleton};
 use std::alloc::{AllocError, Global};
 
-/// The skeleton with these pairs in place of its own.
-fn with_pairs(mut skeleton: Skeleton, pairs: Vec<OrderPair>) -> Skeleton
-    ensures skeleton { skeleton_view result ≡ with_pairs (skeleton_view skeleton) (map pair_view pairs.items) }
-    ensures variables { result.variables ≡ skeleton.variables }
+/// The skeleton with these pairs in place of its own; a closed order stays closed.
+fn with_pairs(
+    alloc: Global,
+    mut skeleton: Skeleton,
+    pairs: Vec<OrderPair>,
+) -> Result<Skeleton, AllocError>
+    ensures skeleton { IfOk result (λ k. skeleton_view k ≡ with_pairs (skeleton_view skeleton) (map pair_view pairs.items)) }
+    ensures variables { IfOk result (λ k. k.variables ≡ skeleton.variables) }
 {
-    skeleton.order = Order::of(pairs);
-    skeleton
+    skeleton.order = skeleton.order.with_pairs(alloc, pairs)?;
+    Ok(skeleton)
 }
 
 /// Puts the normal form of a skeleton in which no unique value strays behind others, if it has one.
@@ -34,7 +38,8 @@ fn add_form(alloc: Global, skeleton: Skeleton, forms: &mut Vec<Skeleton>) -> Res
 {
     match normal_pairs(alloc, &skeleton)? {
         Some(pairs) => {
-            forms.push(with_pairs(skeleton, pairs))?;
+            let form = with_pairs(alloc, skeleton, pairs)?;
+            forms.push(form)?;
             Ok(())
         }
         None => Ok(()),
