@@ -1,1 +1,12 @@
+pub mod Roots
+pub mod Sound
+pub mod Marks
 pub mod Unexpanded
+pub mod RootView
+pub mod Variables
+pub mod FirstPlaces
+pub mod Gathering
+pub mod Table
+pub mod Judging
+pub mod Marking
+pub mod Labelling

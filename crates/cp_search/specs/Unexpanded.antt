@@ -1,58 +1,70 @@
--- The tree of a problem of at most one role strand when no label may be expanded: one label, dead where the problem
--- contradicts itself, and else its normal form.
-use Rattle.std.specs.Prelude.{◌≡◌, ℕ, ◌<◌, ◌≤◌, List, [], ◌∷◌, length, Some, None}
-use Rattle.cp_model.specs.Lists.{item_at}
-use Rattle.cp_model.specs.Term.{Substitution}
-use Rattle.cp_model.specs.Strand.{Role, Declaration}
+-- The tree of a problem when no label may be expanded: its labels are the roots.
+use Rattle.std.specs.Prelude.{◌≡◌, ℕ, List, [], ◌∷◌, length, Option, Some, None}
+use Rattle.cp_model.specs.Lists.{item_at, IsIn}
+use Rattle.cp_model.specs.Strand.{Declaration, Protocol}
 use Rattle.cp_model.specs.Bundle.{Node}
-use Rattle.cp_model.specs.Skeleton.{instance, OrderPair, Skeleton}
-use Rattle.cp_model.specs.Tree.{by_problem, Mark, shape, dead, limit_steps, limit_strands, Outcome, complete, at_step_limit, at_strand_limit, Tree, Limits}
-use Rattle.cp_completeness.specs.Normal.{with_pairs}
-use Rattle.cp_derive.specs.Unrealised.{ListsUnrealised}
-use Rattle.cp_normal.specs.Normalising.{AreNormalPairs, IsContradictory}
+use Rattle.cp_model.specs.Skeleton.{Skeleton}
+use Rattle.cp_model.specs.Homomorphism.{CarriesHomomorphism, IsCompleteList}
+use Rattle.cp_model.specs.Tree.{Mark, shape, limit_steps, limit_strands, Outcome, complete, at_step_limit, at_strand_limit, Label, Tree, Limits}
+use Rattle.cp_search.specs.Roots.{Root, AreRoots}
+use Rattle.cp_search.specs.Marks.{HasMark}
 
--- At most one strand is a role strand.
-abbrev pub HasOneInstance : Skeleton → Type 0
-HasOneInstance k = (s t : ℕ) (role : Role) (height : ℕ) (terms : Substitution) (role' : Role) (height' : ℕ) (terms' : Substitution) →
-    item_at k.strands s ≡ Some (instance role height terms) → item_at k.strands t ≡ Some (instance role' height' terms') → s ≡ t
-
--- The tree of one label, which the problem itself makes, and which is not expanded.
-abbrev pub tree_of_one : List Declaration → Skeleton → List Node → Mark → Outcome → Tree
-tree_of_one variables k unrealised mark outcome = record {
-  labels = record {
-    parent = None;
-    operation = by_problem;
-    variables = variables;
-    skeleton = k;
-    unrealised = unrealised;
-    test = None;
-    escape = [];
-    children = [];
-    mark = Some mark;
-  }
-      ∷ [];
-  outcome = outcome;
+-- The label of these variables that a root gives, with its unrealised receptions and its mark.
+abbrev pub label_of : List Declaration → Root → List Node → Mark → Label
+label_of variables root nodes mark = record {
+  parent = None;
+  operation = root.operation;
+  variables = variables;
+  skeleton = root.skeleton;
+  unrealised = nodes;
+  test = None;
+  escape = [];
+  children = [];
+  mark = Some mark;
 }
 
--- How a label of so many strands ends that is not expanded: a shape where nothing is unrealised; else at the bound on
--- strands, listeners counted, where it has more; and else at the step limit.
-pub data Ends (limits : Limits) (strands : ℕ) : List Node → Mark → Outcome → Type 0 where
-  as_shape : Ends limits strands [] shape complete
-  above_bound : {n : Node} {ns : List Node} → limits.strands < strands → Ends limits strands (n ∷ ns) limit_strands at_strand_limit
-  within_bound : {n : Node} {ns : List Node} → strands ≤ limits.strands → Ends limits strands (n ∷ ns) limit_steps at_step_limit
-
--- The tree of a problem of these variables: its one label is dead, the problem itself, where that contradicts itself;
--- else it is the normal form, with its unrealised receptions, and ends by them.
-pub data IsUnexpanded (k : Skeleton) (variables : List Declaration) (limits : Limits) : Tree → Type 0 where
-  dead_problem : IsContradictory k → IsUnexpanded k variables limits (tree_of_one variables k [] dead complete)
-  normal_form : {pairs : List OrderPair} {nodes : List Node} {mark : Mark} {outcome : Outcome} → (IsContradictory k → ⊥) → AreNormalPairs k pairs → ListsUnrealised (with_pairs k pairs) nodes →
-      Ends limits (length k.strands) nodes mark outcome → IsUnexpanded k variables limits (tree_of_one variables (with_pairs k pairs) nodes mark outcome)
-
--- The tree of one label with this skeleton, which ends by its unrealised receptions.
-pub record IsTreeOfNormal (k : Skeleton) (variables : List Declaration) (limits : Limits) (tree : Tree) : Type 0 where
+-- The label is that of root number i.
+pub record IsLabelOf (variables : List Declaration) (limits : Limits) (roots : List Root) (i : ℕ) (root : Root) (label : Label) : Type 0 where
   pub nodes : List Node
   pub mark : Mark
-  pub outcome : Outcome
-  pub listed : ListsUnrealised k nodes
-  pub ends : Ends limits (length k.strands) nodes mark outcome
-  pub same : tree ≡ tree_of_one variables k nodes mark outcome
+  pub has_mark : HasMark limits roots i root nodes mark
+  pub same : label ≡ label_of variables root nodes mark
+
+-- The labels are those of the roots, place by place.
+pub record AreLabelsOf (variables : List Declaration) (limits : Limits) (roots : List Root) (labels : List Label) : Type 0 where
+  pub count : length labels ≡ length roots
+  pub each : (i : ℕ) (root : Root) (label : Label) → item_at roots i ≡ Some root → item_at labels i ≡ Some label → IsLabelOf variables limits roots i root label
+
+-- Some label has this mark.
+abbrev pub IsMarked : List Label → Mark → Type 0
+IsMarked labels mark = (l : Label) × IsIn l labels × (l.mark ≡ Some mark)
+
+-- The outcome is at the step limit where some label is; else at the bound on strands where some label is; else complete.
+pub data HasOutcome (labels : List Label) : Outcome → Type 0 where
+  some_at_step_limit : IsMarked labels limit_steps → HasOutcome labels at_step_limit
+  some_at_strand_limit : (IsMarked labels limit_steps → ⊥) → IsMarked labels limit_strands → HasOutcome labels at_strand_limit
+  none_at_limit : (IsMarked labels limit_steps → ⊥) → (IsMarked labels limit_strands → ⊥) → HasOutcome labels complete
+
+-- The tree of a problem of these variables: its labels are those of its roots.
+pub record IsUnexpanded (k : Skeleton) (variables : List Declaration) (limits : Limits) (tree : Tree) : Type 0 where
+  pub roots : List Root
+  pub are_roots : AreRoots k roots
+  pub labels : AreLabelsOf variables limits roots tree.labels
+  pub outcome : HasOutcome tree.labels tree.outcome
+
+abbrev pub if_left : Option Mark → Skeleton → List Skeleton → List Skeleton
+if_left (Some shape) k ks = k ∷ ks
+if_left (Some limit_steps) k ks = k ∷ ks
+if_left (Some limit_strands) k ks = k ∷ ks
+if_left _ k ks = ks
+
+-- The skeletons of the labels that are shapes or at a limit.
+abbrev pub skeletons_left : List Label → List Skeleton
+skeletons_left [] = []
+skeletons_left (l ∷ ls) = if_left l.mark l.skeleton (skeletons_left ls)
+
+-- Whatever the outcome, each label carries a homomorphism from the problem; and whenever the problem stands in a bundle, that
+-- standing factors through a shape or a label at a limit.
+pub record LeavesNothingOut (protocol : Protocol) (k : Skeleton) (tree : Tree) : Type 0 where
+  pub from_problem : (l : Label) → IsIn l tree.labels → CarriesHomomorphism k l.skeleton
+  pub covers : IsCompleteList protocol k (skeletons_left tree.labels)

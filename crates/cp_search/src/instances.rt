@@ -1,0 +1,20 @@
+// Whether a skeleton has instances that may be identified.
+ghost use Rattle.std.specs.Prelude.{◌≡◌, count_by, nat_lt};
+ghost use Rattle.cp_derive.specs.Occurrences.{is_role_strand};
+ghost use Rattle.cp_skel.specs.View.{strand_view};
+
+use cp_skel::Strand;
+
+/// The strand is an instance of a role.
+fn is_instance(strand: &Strand) -> bool
+    ensures { result ≡ is_role_strand (strand_view strand.now) }
+{
+    matches!(strand, Strand::Instance(_))
+}
+
+/// Two of the strands at least are instances of roles.
+pub(crate) fn has_two_instances(strands: &[Strand]) -> bool
+    ensures { result ≡ nat_lt 1 (count_by (λ s. is_role_strand (strand_view s)) strands.now) }
+{
+    strands.iter().filter(|strand| is_instance(strand)).count() > 1
+}

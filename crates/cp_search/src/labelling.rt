@@ -1,0 +1,117 @@
+// The tree of roots that are not expanded.
+ghost use Rattle.std.specs.Prelude.{◌≡◌, ◌↔◌, List, map, Some, IsTrue, IfOk};
+ghost use Rattle.cp_model.specs.Lists.{IsIn};
+ghost use Rattle.cp_model.specs.Strand.{Declaration};
+ghost use Rattle.cp_skel.specs.Ordered.{IsOrdered};
+ghost use Rattle.cp_skel.specs.Trees.{variables_view, limits_view, mark_view, outcome_view, label_view, tree_view};
+ghost use Rattle.cp_search.specs.Roots as plain;
+ghost use Rattle.cp_search.specs.RootView.{root_view};
+ghost use Rattle.cp_search.specs.Marks.{IsShapeAt};
+ghost use Rattle.cp_search.specs.Unexpanded.{label_of, AreLabelsOf, IsMarked, HasOutcome};
+ghost use Rattle.cp_search.specs.Judging.{judged_view, judged_nodes, AreJudged};
+ghost use Rattle.cp_search.specs.Table.{AreFlagsOf, rows_view, IsTable};
+ghost use Rattle.cp_search.specs.Marking.{HasShapesWithin};
+ghost use Rattle.cp_search.specs.Labelling.{AreLabelled};
+ghost use Rattle.cp_search.specs.declared.root.Root as program;
+
+use crate::judging::{Judged, judge_each};
+use crate::marking::{derivable, mark_of, realised, shapes};
+use crate::root::Root;
+use crate::table::table_of;
+use cp_skel::{Limits, Mark, Outcome, Tree, TreeNode};
+use std::alloc::{AllocError, Global};
+
+/// The label of a root that is not expanded.
+fn label(alloc: Global, judged: Judged, mark: Mark) -> TreeNode
+    ensures { label_view result ≡ label_of (variables_view judged.root.skeleton.variables) (judged_view judged) (judged_nodes judged) (mark_view mark) }
+{
+    let Judged { root, unrealised } = judged;
+    let Root {
+        operation,
+        skeleton,
+        dead: _,
+    } = root;
+    TreeNode {
+        parent: None,
+        operation,
+        skeleton,
+        unrealised,
+        test: None,
+        patterns: Vec::new(alloc),
+        children: Vec::new(alloc),
+        mark: Some(mark),
+    }
+}
+
+/// The labels of the roots, in their order.
+fn labels(
+    alloc: Global,
+    judged: Vec<Judged>,
+    table: &[Vec<bool>],
+    shapes: &[bool],
+    limits: Limits,
+) -> Result<Vec<TreeNode>, AllocError>
+    requires judged { AreJudged judged.items }
+    requires table { IsTable (map judged_view judged.items) (rows_view table.now) }
+    requires shapes { AreFlagsOf (IsShapeAt (map judged_view judged.items)) shapes.now }
+    requires within { HasShapesWithin (map judged_view judged.items) }
+    ensures { IfOk result (λ labels. AreLabelled (limits_view limits) judged.items labels.items) }
+{
+    let mut rest = judged;
+    rest.reverse();
+    let mut labels = Vec::new(alloc);
+    while let Some(each) = rest.pop() {
+        let mark = mark_of(&each, labels.len(), table, shapes, limits);
+        labels.push(label(alloc, each, mark))?;
+    }
+    Ok(labels)
+}
+
+/// Whether the label has this mark.
+fn has_mark(label: &TreeNode, mark: Mark) -> bool
+    ensures { IsTrue result ↔ (label.now.mark ≡ Some mark) }
+{
+    label.mark == Some(mark)
+}
+
+/// Whether some label has this mark.
+fn is_marked(labels: &[TreeNode], mark: Mark) -> bool
+    ensures { IsTrue result ↔ IsMarked (map label_view labels.now) (mark_view mark) }
+{
+    for label in labels {
+        if has_mark(label, mark) {
+            return true;
+        }
+    }
+    false
+}
+
+/// How the search ended that left these labels.
+fn outcome_of(labels: &[TreeNode]) -> Outcome
+    ensures { HasOutcome (map label_view labels.now) (outcome_view result) }
+{
+    if is_marked(labels, Mark::LimitSteps) {
+        return Outcome::LimitSteps;
+    }
+    if is_marked(labels, Mark::LimitStrands) {
+        return Outcome::LimitStrands;
+    }
+    Outcome::Complete
+}
+
+/// The tree of these roots when no label may be expanded. The error is that memory ran out.
+pub(crate) fn tree_of(alloc: Global, roots: Vec<Root>, limits: Limits) -> Result<Tree, AllocError>
+    requires ordered { (r : plain.Root) → IsIn r (map root_view roots.items) → IsOrdered r.skeleton }
+    ensures labels { IfOk result (λ t. (variables : List Declaration) → ((r : program.Root) → IsIn r roots.items → variables_view r.skeleton.variables ≡ variables)
+        → AreLabelsOf variables (limits_view limits) (map root_view roots.items) (tree_view t).labels) }
+    ensures outcome { IfOk result (λ t. HasOutcome (tree_view t).labels (tree_view t).outcome) }
+{
+    let judged = judge_each(alloc, roots)?;
+    let table = table_of(alloc, &judged)?;
+    let derivable = derivable(alloc, &judged)?;
+    let realised = realised(alloc, &table, &derivable)?;
+    let shapes = shapes(alloc, &table, &realised)?;
+    let nodes = labels(alloc, judged, &table, &shapes, limits)?;
+    let outcome = outcome_of(&nodes);
+    Ok(Tree { nodes, outcome })
+}
