@@ -11,13 +11,12 @@ use Rattle.cp_sexpr.specs.Syntax.{Forms}
 use Rattle.cp_sexpr.specs.Reading.{IsReading}
 use Rattle.cp_sexpr.proofs.Unique.{one_reading_of}
 use Rattle.cp_language.proofs.OneAnswer.{one_first}
-use Rattle.cp_app.specs.Profile.{refusals_of}
 use Rattle.cp_app.specs.Headline.{most_bytes, IsAccepted, IsRefusedFor, AreTrue, SaysOutcomes, IsAnalysed, HasReported, HasBrokenOff, HasRefused, WasTooLong, TookAtMost}
 use Rattle.cp_app.specs.Steps.{IsCauseFor, HasStopped, outcomes_status, IsWholeReport, HasWritten, HasEnded, HasExecuted}
 use Rattle.cp_app.specs.Loading.{IsLoaded}
 use Rattle.cp_app.specs.Analysis.{HaveTrees, problems_of}
 use Rattle.cp_app.proofs.Trees.{are_true}
-use Rattle.cp_language.specs.Input.{Entry}
+use Rattle.cp_language.specs.Input.{Entry, faults_of}
 use Rattle.cp_language.specs.Report.{report_text}
 use Rattle.std.proofs.Common.{subst}
 use Rattle.cp_app.specs.declared.stopped.Stopped.{Stopped}
@@ -41,7 +40,7 @@ pub accepted_or_refused : (input : List ℕ) (fs : Forms) (r : Refusal) → IsAc
 accepted_or_refused input fs r accepted (inl reading) = let e = one_reading_of input (Ok fs) (Err r) accepted.read reading in cc
 accepted_or_refused input fs r accepted (inr (gs, reading, first)) =
     let e : fs ≡ gs = same_forms fs gs (Ok fs) (Ok gs) refl refl (one_reading_of input (Ok fs) (Ok gs) accepted.read reading) in
-    none_listed (refusals_of gs) r (ap refusals_of (sym e) ∙ accepted.well_formed) first.listed
+    none_listed (faults_of gs) r (ap faults_of (sym e) ∙ accepted.well_formed) first.listed
 
 -- an input is refused for one fault
 pub one_refusal : (input : List ℕ) (r s : Refusal) → IsRefusedFor input r → IsRefusedFor input s → r ≡ s
@@ -50,7 +49,7 @@ one_refusal input r s (inl reading) (inr (gs, again, first)) = let e = one_readi
 one_refusal input r s (inr (fs, reading, first)) (inl again) = let e = one_reading_of input (Ok fs) (Err s) reading again in absurd (cc)
 one_refusal input r s (inr (fs, reading, first)) (inr (gs, again, other)) =
     let e : fs ≡ gs = same_forms fs gs (Ok fs) (Ok gs) refl refl (one_reading_of input (Ok fs) (Ok gs) reading again) in
-    one_first (refusals_of gs) r s (rw e at first) other
+    one_first (faults_of gs) r s (rw e at first) other
 
 -- ---- what was written
 

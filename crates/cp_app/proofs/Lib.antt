@@ -1,7 +1,5 @@
 pub mod Putting
 pub mod Taking
-pub mod NotYet
-pub mod OneInstance
 pub mod Trees
 pub mod Endings
 pub mod LoadedProblems

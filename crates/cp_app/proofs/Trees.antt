@@ -9,19 +9,17 @@ use Rattle.cp_skel.specs.declared.tree.Tree.{Tree as ProgramTree}
 use Rattle.std.proofs.Common.{add-one, Bool, true, false}
 use Rattle.cp_app.specs.Steps.{is_complete}
 use Rattle.cp_model.specs.Lists.{item_at, IsIn, here, there}
-use Rattle.cp_model.proofs.LawLists.{in_append}
-use Rattle.cp_model.specs.Term.{Sort, text_sort, datum_sort, name_sort, skey_sort, akey_sort, Variable, atom_of_variable, atom_term, variables_of}
+use Rattle.cp_model.proofs.LawLists.{in_append, in_append_left, in_append_right}
+use Rattle.cp_model.specs.Term.{Sort, text_sort, datum_sort, name_sort, skey_sort, akey_sort, Variable, atom_of_variable, Term, atom_term, variables_of}
 use Rattle.cp_model.specs.Strand.{Declaration}
 use Rattle.cp_model.specs.Bundle.{Node}
-use Rattle.cp_model.specs.Skeleton.{OrderPair}
 use Rattle.cp_model.specs.Problem.{variable_terms, declared_sort, IsDeclared, IsOwnProblem, variables_of_skeleton}
-use Rattle.cp_model.specs.Tree.{Mark, dead, Outcome, complete, at_step_limit, at_strand_limit, Label, Tree, Limits, IsTrueOf}
-use Rattle.cp_completeness.specs.Normal.{with_pairs}
+use Rattle.cp_model.specs.Tree.{Mark, Outcome, complete, at_step_limit, at_strand_limit, Label, Tree, Limits, IsTrueOf}
 use Rattle.cp_sexpr.specs.Syntax as syntax
 use Rattle.cp_sexpr.specs.Syntax.{Forms}
 use Rattle.cp_sexpr.specs.View.{view}
 use Rattle.cp_language.specs.Problems.{Problem}
-use Rattle.cp_language.specs.Report.{variables_of_terms, HasItsVariables}
+use Rattle.cp_language.specs.Report.{variables_of_terms, occurring, HasItsVariables}
 use Rattle.cp_language.specs.Input.{Entry, faults_of, input_of}
 use Rattle.cp_load.specs.Inputs.{problem_view, entries_view, entries_of}
 use Rattle.cp_load.specs.declared.input.Problem.{Problem as ProgramProblem}
@@ -29,12 +27,14 @@ use Rattle.cp_load.specs.declared.input.Input.{Input}
 use Rattle.cp_sexpr.specs.declared.form.Form as form
 use Rattle.std.specs.declared.alloc.Global.{Global}
 use Rattle.std.specs.Prelude.{Vec}
-use Rattle.cp_search.specs.Unexpanded.{tree_of_one, IsUnexpanded, dead_problem, normal_form}
+use Rattle.cp_search.specs.Roots.{Root}
+use Rattle.cp_search.specs.Unexpanded.{label_of, IsUnexpanded, LeavesNothingOut}
+use Rattle.cp_search.specs.Variables.{HasDeclaredVariables}
+use Rattle.cp_search.proofs.VariablesOfRoots.{roots_declared}
+use Rattle.cp_skel.proofs.DeclaredRoles.{declared_prefixes}
 use Rattle.cp_wellformed.proofs.Problems as wellformed
-use Rattle.cp_app.specs.Profile.{not_yet, refusals_of}
 use Rattle.cp_app.specs.Headline.{IsTrueTree, TreeIsTrue, AreTrue}
 use Rattle.cp_app.specs.Analysis.{IsAnalysable, IsAnalysableIf, AreAnalysable, HaveTrees, HasTreeBehind, problems_of}
-use Rattle.cp_app.proofs.OneInstance.{one_instance}
 
 -- ---- variables
 
@@ -65,32 +65,58 @@ own_term_declared all n (d ∷ ds) h x m =
     (own_term_declared all (suc n) ds (λ i d' at. let e : n + suc i ≡ suc n + i = omega arith in subst (λ k. item_at all k ≡ Some d') e (h (suc i) d' at)) x)
     (in_append (variables_of (atom_term (atom_of_variable (record { sort = d.sort; number = n })))) (variables_of_terms (variable_terms (suc n) ds)) m)
 
--- a label of the problem's variables, strands, assumptions and map, without a test
-all_declared : (p : Problem) → IsOwnProblem p.variables p.skeleton → (x : Variable) → IsIn x (variables_of_skeleton p.skeleton ++ variables_of_terms p.skeleton.from_problem.values) → IsDeclared p.variables x
-all_declared p h x m =
-    let l : List Variable = variables_of_skeleton p.skeleton in
-    let v : List Variable = variables_of_terms p.skeleton.from_problem.values in
-    ⊎_elim (h.closed x) (of_values x) (in_append l v m)
-  where
-    of_values : (x : Variable) → IsIn x (variables_of_terms p.skeleton.from_problem.values) → IsDeclared p.variables x
-    of_values x m = own_term_declared p.variables 0 p.variables (λ i d at. let e : i ≡ 0 + i = omega arith in subst (λ k. item_at p.variables k ≡ Some d) e at) x (subst (λ ts. IsIn x (variables_of_terms ts)) h.values m)
+-- what is in the variables of terms is in those of one of them, and back
+in_one_term : (ts : List Term) (x : Variable) → IsIn x (variables_of_terms ts) → (t : Term) × IsIn t ts × IsIn x (variables_of t)
+in_one_term [] x m = elim m [ ]
+in_one_term (t ∷ ts) x m = ⊎_elim (λ q. (t, here, q)) (λ q. let r = in_one_term ts x q in (r.0, there r.1, r.2)) (in_append (variables_of t) (variables_of_terms ts) m)
 
-own_variables : (p : Problem) (pairs : List OrderPair) (nodes : List Node) (mark : Mark) (outcome : Outcome) → IsOwnProblem p.variables p.skeleton
-    → (l : Label) → IsIn l (tree_of_one p.variables (with_pairs p.skeleton pairs) nodes mark outcome).labels → HasItsVariables p l
-own_variables p pairs nodes mark outcome h _ (there m) = elim m [ ]
-own_variables p pairs nodes mark outcome h _ here = record {
-  later = [];
-  variables = sym (append-nil p.variables);
-  declared = λ x m. all_declared p h x (subst (λ (ys : List Variable). IsIn x ys) (append-nil ((variables_of_skeleton p.skeleton ++ variables_of_terms p.skeleton.from_problem.values) ++ []) ∙ append-nil (variables_of_skeleton p.skeleton ++ variables_of_terms p.skeleton.from_problem.values)) m);
+in_all_terms : (ts : List Term) (t : Term) (x : Variable) → IsIn t ts → IsIn x (variables_of t) → IsIn x (variables_of_terms ts)
+in_all_terms [] t x l m = elim l [ ]
+in_all_terms (t ∷ ts) _ x here m = in_append_left (variables_of_terms ts) m
+in_all_terms (t ∷ ts) u x (there l) m = in_append_right (variables_of t) (in_all_terms ts u x l m)
+
+-- the problem's own variables are declared
+own_declared : (p : Problem) → IsOwnProblem p.variables p.skeleton → HasDeclaredVariables p.variables p.skeleton
+own_declared p h = record {
+  occurring = h.closed;
+  mapped = λ t x inp m. own_term_declared p.variables 0 p.variables (λ i d at. let e : i ≡ 0 + i = omega arith in subst (λ k. item_at p.variables k ≡ Some d) e at) x
+      (subst (λ ts. IsIn x (variables_of_terms ts)) h.values (in_all_terms p.skeleton.from_problem.values t x inp m));
 }
 
+-- so are those of a label without a test and patterns, where those of its skeleton and its map are
+label_declared : (variables : List Declaration) (root : Root) (nodes : List Node) (mark : Mark) → HasDeclaredVariables variables root.skeleton → (x : Variable) → IsIn x (occurring (label_of variables root nodes mark)) → IsDeclared variables x
+label_declared variables root nodes mark h x m =
+    let own : List Variable = variables_of_skeleton root.skeleton in
+    let mapped : List Variable = variables_of_terms root.skeleton.from_problem.values in
+    let short : IsIn x (own ++ mapped) = subst (λ (ys : List Variable). IsIn x ys) (append-nil ((own ++ mapped) ++ []) ∙ append-nil (own ++ mapped)) m in
+    ⊎_elim (h.occurring x) (λ q. let r = in_one_term root.skeleton.from_problem.values x q in h.mapped r.0 x r.1 r.2) (in_append own mapped short)
+
+place_of_listed : (ls : List Label) (l : Label) → IsIn l ls → (i : ℕ) × (item_at ls i ≡ Some l)
+place_of_listed [] l listed = elim listed [ ]
+place_of_listed (l ∷ ls) _ here = (0, refl)
+place_of_listed (l ∷ ls) m (there listed) = let r = place_of_listed ls m listed in (suc r.0, r.1)
+
+item_of_as_long : (ls : List Label) (rs : List Root) (i : ℕ) (l : Label) → length ls ≡ length rs → item_at ls i ≡ Some l → (r : Root) × (item_at rs i ≡ Some r)
+item_of_as_long [] rs i l e at = absurd (cc)
+item_of_as_long (m ∷ ls) [] i l e at = absurd (omega (arith, e))
+item_of_as_long (m ∷ ls) (r ∷ rs) zero l e at = (r, refl)
+item_of_as_long (m ∷ ls) (r ∷ rs) (suc i) l e at = item_of_as_long ls rs i l (omega (arith, e)) at
+
 has_variables : (limits : Limits) (p : Problem) (t : Tree) → IsOwnProblem p.variables p.skeleton → IsUnexpanded p.skeleton p.variables limits t → (l : Label) → IsIn l t.labels → HasItsVariables p l
-has_variables limits p _ own (dead_problem clash) l listed = own_variables p p.skeleton.pairs [] dead complete own l listed
-has_variables limits p _ own (normal_form {pairs} {nodes} {mark} {outcome} consistent pairs_are listed_nodes ends) l listed = own_variables p pairs nodes mark outcome own l listed
+has_variables limits p t own exact l listed =
+    let place = place_of_listed t.labels l listed in
+    let root = item_of_as_long t.labels exact.roots place.0 l exact.labels.count place.1 in
+    let label = exact.labels.each place.0 root.0 l root.1 place.1 in
+    let declared = roots_declared p.variables p.skeleton exact.roots (own_declared p own) exact.are_roots place.0 root.0 root.1 in
+    subst (HasItsVariables p) (sym label.same) (record {
+      later = [];
+      variables = sym (append-nil p.variables);
+      declared = label_declared p.variables root.0 label.nodes label.mark declared;
+    })
 
 -- the tree of an unexpanded label is true and has its variables
-pub unexpanded_tree : (limits : Limits) (p : Problem) (t : Tree) → IsAnalysable p → IsTrueOf p.protocol p.skeleton limits t → IsUnexpanded p.skeleton p.variables limits t → IsTrueTree limits p t
-unexpanded_tree limits p t good truth exact = record { truth = truth; exact = exact; variables = has_variables limits p t good.own exact }
+pub unexpanded_tree : (limits : Limits) (p : Problem) (t : Tree) → IsAnalysable p → IsTrueOf p.protocol p.skeleton limits t → LeavesNothingOut p.protocol p.skeleton t → IsUnexpanded p.skeleton p.variables limits t → IsTrueTree limits p t
+unexpanded_tree limits p t good truth nothing exact = record { truth = truth; nothing_left_out = nothing; exact = exact; variables = has_variables limits p t good.own exact }
 
 -- ---- loops
 
@@ -146,31 +172,23 @@ analysable_all : (es : List Entry) → ((e : Entry) (p : Problem) → IsIn e es 
 analysable_all [] each = tt
 analysable_all (e ∷ es) each = (analysable_if e.problem (λ p is. each e p here is), analysable_all es (λ d p listed is. each d p (there listed) is))
 
-front_none : {A : Type 0} (xs ys : List A) → xs ++ ys ≡ [] → xs ≡ []
-front_none [] ys none = refl
-front_none (x ∷ xs) ys none = absurd (cc)
-
-back_none : {A : Type 0} (xs ys : List A) → xs ++ ys ≡ [] → ys ≡ []
-back_none [] ys none = none
-back_none (x ∷ xs) ys none = absurd (cc)
-
 -- The problems of an input of which nothing is refused are analysable.
-pub analysable_input : (fs : Forms) (es : List Entry) → refusals_of fs ≡ [] → es ≡ input_of fs → AreAnalysable (problems_of es)
+pub analysable_input : (fs : Forms) (es : List Entry) → faults_of fs ≡ [] → es ≡ input_of fs → AreAnalysable (problems_of es)
 analysable_input fs es none same =
-    let well_formed = front_none (faults_of fs) (not_yet fs) none in
-    let none_later = back_none (faults_of fs) (not_yet fs) none in
-    rw (sym same) at (analysable_all (input_of fs) (λ e p listed is. record {
-      is_skeleton = wellformed.are_skeletons fs e p well_formed listed is;
-      own = wellformed.map_to_themselves fs e p well_formed listed is;
-      one = one_instance fs e p none_later listed is;
+    rw (sym same) at (analysable_all (input_of fs) (λ e p listed is.
+    let skeleton = wellformed.are_skeletons fs e p none listed is in
+    record {
+      is_skeleton = skeleton;
+      own = wellformed.map_to_themselves fs e p none listed is;
+      declared = declared_prefixes p.protocol p.skeleton (λ r inp. (wellformed.roles_are_well_formed fs e p r none listed is inp).trace) skeleton;
     }))
 
 -- ---- answers
 
 pub true_tree_if : {A : Type 0} (limits : Limits) (p : Problem) (r : Result ProgramTree A) → IsAnalysable p → IfOk r (λ t. IsTrueOf p.protocol p.skeleton limits (tree_view t))
-    → IfOk r (λ t. IsUnexpanded p.skeleton p.variables limits (tree_view t)) → IfOk r (λ t. IsTrueTree limits p (tree_view t))
-true_tree_if limits p (Ok t) good truth exact = unexpanded_tree limits p (tree_view t) good truth exact
-true_tree_if limits p (Err e) good truth exact = tt
+    → IfOk r (λ t. LeavesNothingOut p.protocol p.skeleton (tree_view t)) → IfOk r (λ t. IsUnexpanded p.skeleton p.variables limits (tree_view t)) → IfOk r (λ t. IsTrueTree limits p (tree_view t))
+true_tree_if limits p (Ok t) good truth nothing exact = unexpanded_tree limits p (tree_view t) good truth nothing exact
+true_tree_if limits p (Err e) good truth nothing exact = tt
 
 -- ---- outcomes
 

@@ -5,14 +5,14 @@ use Rattle.cp_model.specs.Problem.{IsOwnProblem}
 use Rattle.cp_model.specs.Tree.{Limits, Tree}
 use Rattle.cp_language.specs.Problems.{Problem}
 use Rattle.cp_language.specs.Input.{Entry}
-use Rattle.cp_search.specs.Unexpanded.{HasOneInstance}
+use Rattle.cp_skel.specs.DeclaredPrefixes.{HasDeclaredPrefixes}
 use Rattle.cp_app.specs.Headline.{IsTrueTree, TreeIsTrue}
 
--- A problem is a skeleton that maps to itself, and has at most one instance of a role.
+-- A problem is a skeleton that maps to itself, and the roles of its instances declare the variables of their prefixes.
 pub record IsAnalysable (p : Problem) : Type 0 where
   pub is_skeleton : IsSkeleton p.protocol p.skeleton
   pub own : IsOwnProblem p.variables p.skeleton
-  pub one : HasOneInstance p.skeleton
+  pub declared : HasDeclaredPrefixes p.skeleton
 
 abbrev pub IsAnalysableIf : Option Problem → Type 0
 IsAnalysableIf None = Unit {0}

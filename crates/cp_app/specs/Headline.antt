@@ -11,10 +11,9 @@ use Rattle.cp_sexpr.specs.Syntax.{Forms}
 use Rattle.cp_sexpr.specs.Reading.{IsReading}
 use Rattle.cp_language.specs.Problems.{Problem}
 use Rattle.cp_language.specs.Faults.{IsFirstFault}
-use Rattle.cp_language.specs.Input.{Entry, input_of}
+use Rattle.cp_language.specs.Input.{Entry, faults_of, input_of}
 use Rattle.cp_language.specs.Report.{HasItsVariables, report_text}
-use Rattle.cp_search.specs.Unexpanded.{IsUnexpanded}
-use Rattle.cp_app.specs.Profile.{refusals_of}
+use Rattle.cp_search.specs.Unexpanded.{IsUnexpanded, LeavesNothingOut}
 
 -- ---- the input
 
@@ -26,18 +25,19 @@ most_bytes = 1048576
 pub record IsAccepted (input : List ℕ) (fs : Forms) : Type 0 where
   pub short : length input ≤ most_bytes
   pub read : IsReading input (Ok fs)
-  pub well_formed : refusals_of fs ≡ []
+  pub well_formed : faults_of fs ≡ []
 
 -- The whole input is refused so: the reader refuses it, or this is the first fault of its forms.
 abbrev pub IsRefusedFor : List ℕ → Refusal → Type 0
-IsRefusedFor input r = IsReading input (Err r) ⊎ ((fs : Forms) × IsReading input (Ok fs) × IsFirstFault (refusals_of fs) r)
+IsRefusedFor input r = IsReading input (Err r) ⊎ ((fs : Forms) × IsReading input (Ok fs) × IsFirstFault (faults_of fs) r)
 
 -- ---- the report
 
--- Each problem has its tree, which is true of it, is that of a label that is not expanded, and whose labels have their
--- variables.
+-- Each problem has its tree, which is true of it, leaves nothing out at a limit either, is that of the roots of which none
+-- is expanded, and whose labels have their variables.
 pub record IsTrueTree (limits : Limits) (p : Problem) (t : Tree) : Type 0 where
   pub truth : IsTrueOf p.protocol p.skeleton limits t
+  pub nothing_left_out : LeavesNothingOut p.protocol p.skeleton t
   pub exact : IsUnexpanded p.skeleton p.variables limits t
   pub variables : (l : Label) → IsIn l t.labels → HasItsVariables p l
 

@@ -1,4 +1,3 @@
-pub mod Profile
 pub mod Headline
 pub mod Steps
 pub mod Loading

@@ -2,7 +2,7 @@
 #![tactic(auto)]
 
 mod analysing;
-mod profile;
+mod loading;
 mod reading;
 #[cfg(test)]
 mod rows_tests;

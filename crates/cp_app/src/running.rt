@@ -12,7 +12,7 @@ ghost use Rattle.cp_skel.specs.Trees.{limits_view};
 ghost use Rattle.cp_words.specs.Command.{command_of};
 
 use crate::analysing::{are_complete, trees_of};
-use crate::profile::load_accepted;
+use crate::loading::load_accepted;
 use crate::reading::read_all;
 use crate::stopped::Stopped;
 use crate::writing::{put_line, put_pieces};
@@ -128,8 +128,7 @@ fn execute<S: Source, O: Sink>(
 /// - `Limit`: the whole report was put, and some outcome is a limit;
 /// - `Usage`: the words are no command, and nothing was read;
 /// - `TooLong`: the source held more than 1,048,576 bytes;
-/// - `Refused`: the input is not well formed, or it holds what this version does not analyse: a second `defstrand` in
-///   one problem, or `precedes`; at the place of the first fault;
+/// - `Refused`: the input is not well formed; at the place of the first fault;
 /// - `ReadFault`, `WriteFault`: the source, or the sink for the output, failed;
 /// - `Memory`: a growth in memory was refused.
 ///

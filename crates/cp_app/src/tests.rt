@@ -1,6 +1,7 @@
 // What a run answers to small inputs, over a source and sinks in memory.
 mod refusals;
 mod reports;
+mod several;
 
 use super::*;
 use cp_base::{MemSink, MemSource, Source, Status};

@@ -1,5 +1,5 @@
 // Inputs that are refused, with their line.
-use super::{COMMAND, ONE_ROLE, joined, run_over};
+use super::{COMMAND, NEEDHAM_SCHROEDER, ONE_ROLE, joined, run_over};
 use std::alloc::{AllocError, Global};
 use std::test::Fail;
 
@@ -31,19 +31,14 @@ const TEXTS: &[(&str, &str, &str)] = &[
         "refused 2:67 UniqNowhere\n",
     ),
     (
-        ONE_ROLE,
-        "\n(defskeleton p (vars) (defstrand r 1) (defstrand r 1))",
-        "refused 2:39 OutOfProfile\n",
-    ),
-    (
-        ONE_ROLE,
-        "\n(defskeleton p (vars) (defstrand r 1) (precedes))",
-        "refused 2:39 OutOfProfile\n",
+        NEEDHAM_SCHROEDER,
+        "(defskeleton ns (vars) (defstrand init 3) (defstrand resp 3) (precedes ((0 2) (1 0)) ((1 1) (0 1))))",
+        "refused 4:86 CyclicOrder\n",
     ),
     (
         ONE_ROLE,
         "\n(defskeleton p (vars) (defstrand r 1) (defstrand z 1))",
-        "refused 2:39 OutOfProfile\n",
+        "refused 2:50 UnknownRole\n",
     ),
     (
         ONE_ROLE,
