@@ -33,17 +33,17 @@ module _ (roots : List Root) where
   one_of i j h g there back (inr (inl l)) = absurd (h.new j (l, back, there))
   one_of i j h g there back (inr (inr e)) = e
 
-  -- Of realised roots no two are isomorphic.
+  -- Of candidates roots no two are isomorphic.
   pub one_realised : (i j : ℕ) → IsCandidate roots i → IsCandidate roots j → EmbedsAt roots i j → EmbedsAt roots j i → i ≡ j
   one_realised i j h g there back = one_of i j h g there back (ordered i j)
 
-  module _ (table : List (List Bool)) (is : IsTable roots table) (realised : List Bool) (are : AreFlagsOf (IsCandidate roots) realised) where
-    minimal : (i : ℕ) → flag_at realised i ≡ true → (j : ℕ) × IsMinimalBelow (entry_at table) (flag_at realised) (length realised) i j
-    minimal = minimal_below (entry_at table) (flag_at realised)
+  module _ (table : List (List Bool)) (is : IsTable roots table) (candidates : List Bool) (are : AreFlagsOf (IsCandidate roots) candidates) where
+    minimal : (i : ℕ) → flag_at candidates i ≡ true → (j : ℕ) × IsMinimalBelow (entry_at table) (flag_at candidates) (length candidates) i j
+    minimal = minimal_below (entry_at table) (flag_at candidates)
         (λ i h. (is i i).1 (itself roots i ((are i).0 h)))
         (λ i j k h g. (is i k).1 (embeds_on roots i j k ((is i j).0 h) ((is j k).0 g)))
         (λ i j a b h g. one_realised i j ((are i).0 a) ((are j).0 b) ((is i j).0 h) ((is j i).0 g))
-        (length realised)
+        (length candidates)
 
     pub shapes_within : HasShapesWithin roots
     shapes_within i h =
@@ -51,14 +51,14 @@ module _ (roots : List Root) where
           m.0,
           (
             record {
-              realised = (are m.0).0 m.1.chosen;
-              least = λ k r other embeds. other (m.1.least k (flag_within realised k ((are k).1 r)) ((are k).1 r) ((is k m.0).1 embeds));
+              candidate = (are m.0).0 m.1.chosen;
+              least = λ k r other embeds. other (m.1.least k (flag_within candidates k ((are k).1 r)) ((are k).1 r) ((is k m.0).1 embeds));
             },
             (is m.0 i).0 m.1.below,
           ),
         )
 
--- A loop over the realised roots that embed in one.
+-- A loop over the candidates roots that embed in one.
 module _ (roots : List Root) (i n : ℕ) (before : (k : ℕ) → k < n → IsCandidate roots k → EmbedsAt roots k i → k ≡ i) (this : IsCandidate roots n → EmbedsAt roots n i → n ≡ i) where
   by_split : (k : ℕ) → (k < n) ⊎ (k ≡ n) → IsCandidate roots k → EmbedsAt roots k i → k ≡ i
   by_split k (inl l) r h = before k l r h

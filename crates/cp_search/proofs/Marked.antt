@@ -12,7 +12,7 @@ use Rattle.cp_derive.specs.Unrealised.{ListsUnrealised, IsUnrealisedAt}
 use Rattle.cp_search.specs.Roots.{Root}
 use Rattle.cp_search.specs.Marks.{IsLeast, IsEarlierCopy, IsNew, IsCandidate, HasMark, dead_root, seen_before, as_shape, as_instance, above_bound, within_bound}
 use Rattle.cp_search.specs.Judging.{AreUnrealisedOf}
-use Rattle.cp_search.specs.Marking.{IsDerivableAt, FindsLeast, IsMarkOfRealised, is_shape, is_instance}
+use Rattle.cp_search.specs.Marking.{IsDerivableAt, FindsLeast, IsMarkOfCandidate, is_shape, is_instance}
 
 none_listed : (k : Skeleton) (n : Node) {D : Type 0} → IsIn n [] ⊎ D → D
 none_listed k n (inl h) = elim h [ ]
@@ -75,7 +75,7 @@ module _ (limits : Limits) (roots : List Root) (i : ℕ) (root : Root) (nodes : 
     marked_seen j first = seen_before lives (judged.listed lives) first
 
     module _ (new : IsNew roots i) where
-      none_left : (mark : Mark) → ListsUnrealised root.skeleton [] → IsMarkOfRealised roots i mark → HasMark limits roots i root [] mark
+      none_left : (mark : Mark) → ListsUnrealised root.skeleton [] → IsMarkOfCandidate roots i mark → HasMark limits roots i root [] mark
       none_left shape lists (is_shape h) = as_shape lives lists h
       none_left (instance_of j) lists (is_instance other first) = as_instance lives lists new other first
       none_left dead lists h = elim h [ ]
@@ -83,7 +83,7 @@ module _ (limits : Limits) (roots : List Root) (i : ℕ) (root : Root) (nodes : 
       none_left limit_steps lists h = elim h [ ]
       none_left limit_strands lists h = elim h [ ]
 
-      pub marked_realised : (mark : Mark) → nodes ≡ [] → IsMarkOfRealised roots i mark → HasMark limits roots i root nodes mark
+      pub marked_realised : (mark : Mark) → nodes ≡ [] → IsMarkOfCandidate roots i mark → HasMark limits roots i root nodes mark
       marked_realised mark none h = subst (λ ns. HasMark limits roots i root ns mark) (sym none) (none_left mark (subst (ListsUnrealised root.skeleton) none (judged.listed lives)) h)
 
 pub marked_above : (limits : Limits) (roots : List Root) (i : ℕ) (root : Root) (ns : List Program) → AreUnrealisedOf root (map node_view ns) → root.dead ≡ false → IsNew roots i → (length ns == 0) ≡ false → limits.strands < length root.skeleton.strands →

@@ -119,10 +119,10 @@ module _ (protocol : Protocol) (variables : List Declaration) (k : Skeleton) (li
   -- A root that is a shape is marked so, or at a limit.
   shape_left : (i : ℕ) (root : Root) (nodes : List Node) (mark : Mark) → item_at roots i ≡ Some root → IsShapeAt roots i → HasMark limits roots i root nodes mark → IsLeft mark
   shape_left i root nodes mark at s (dead_root d) =
-      let q : s.realised.root ≡ root = same_item (item_at roots i) s.realised.root root s.realised.at at in
-      let lives : root.dead ≡ false = subst (λ (r : Root). r.dead ≡ false) q s.realised.lives in
+      let q : s.candidate.root ≡ root = same_item (item_at roots i) s.candidate.root root s.candidate.at at in
+      let lives : root.dead ≡ false = subst (λ (r : Root). r.dead ≡ false) q s.candidate.lives in
       absurd (cc)
-  shape_left i root nodes mark at s (seen_before {j = j} d u l) = absurd (s.realised.new j l.holds)
+  shape_left i root nodes mark at s (seen_before {j = j} d u l) = absurd (s.candidate.new j l.holds)
   shape_left i root nodes mark at s (as_shape d u t) = at_shape
   shape_left i root nodes mark at s (as_instance d u n t l) = absurd (t s)
   shape_left i root nodes mark at s (above_bound d u n l) = at_strands

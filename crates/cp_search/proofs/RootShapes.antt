@@ -38,7 +38,7 @@ module _ (protocol : Protocol) (variables : List Declaration) (k : Skeleton) (li
       let r = root_of variables limits roots labels are i l at in
       let s = root_of variables limits roots labels are j m au in
       let into : Embeds r.root.skeleton m.skeleton = subst (λ (x : Skeleton). Embeds x m.skeleton) (sym (same_skeleton variables limits roots i r.root l r.given)) embeds in
-      (marked_shape j m s f).is_shape.least i (marked_shape i l r e).is_shape.realised ne
+      (marked_shape j m s f).is_shape.least i (marked_shape i l r e).is_shape.candidate ne
       (record {
         first = r.root;
         second = s.root;

@@ -1,4 +1,4 @@
--- Roots that are realised, and what is found among them.
+-- Candidates for shapes, and what is found among them.
 use Rattle.std.specs.Prelude.{◌≡◌, ℕ, List, false, Option, Some, None}
 use Rattle.cp_model.specs.Lists.{item_at}
 use Rattle.cp_model.specs.Derivable.{AllDerivable}
@@ -18,11 +18,11 @@ abbrev pub FindsLeast : (ℕ → Type 0) → Option ℕ → Type 0
 FindsLeast fact (Some n) = IsLeast fact n
 FindsLeast fact None = (n : ℕ) → fact n → ⊥
 
--- Some shape embeds in each root that is realised.
+-- Some shape embeds in each candidate.
 abbrev pub HasShapesWithin : List Root → Type 0
 HasShapesWithin roots = (i : ℕ) → IsCandidate roots i → (j : ℕ) × IsShapeWithin roots i j
 
--- How a realised root is marked: as a shape, or else as an instance of the first shape that embeds in it.
-pub data IsMarkOfRealised (roots : List Root) (i : ℕ) : Mark → Type 0 where
-  is_shape : IsShapeAt roots i → IsMarkOfRealised roots i shape
-  is_instance : {j : ℕ} → (IsShapeAt roots i → ⊥) → IsLeast (IsShapeWithin roots i) j → IsMarkOfRealised roots i (instance_of j)
+-- How a candidate is marked: as a shape, or else as an instance of the first shape that embeds in it.
+pub data IsMarkOfCandidate (roots : List Root) (i : ℕ) : Mark → Type 0 where
+  is_shape : IsShapeAt roots i → IsMarkOfCandidate roots i shape
+  is_instance : {j : ℕ} → (IsShapeAt roots i → ⊥) → IsLeast (IsShapeWithin roots i) j → IsMarkOfCandidate roots i (instance_of j)

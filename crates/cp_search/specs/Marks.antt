@@ -40,7 +40,7 @@ pub record IsCandidate (roots : List Root) (i : ℕ) : Type 0 where
 
 -- Root number i is a candidate, and no other candidate embeds in it.
 pub record IsShapeAt (roots : List Root) (i : ℕ) : Type 0 where
-  pub realised : IsCandidate roots i
+  pub candidate : IsCandidate roots i
   pub least : (j : ℕ) → IsCandidate roots j → j ≢ i → EmbedsAt roots j i → ⊥
 
 -- Root number j is a shape and embeds in root number i.

@@ -15,7 +15,7 @@ ghost use Rattle.cp_search.specs.Labelling.{AreLabelled};
 ghost use Rattle.cp_search.specs.declared.root.Root as program;
 
 use crate::judging::{Judged, judge_each};
-use crate::marking::{derivable, mark_of, realised, shapes};
+use crate::marking::{candidates, derivable, mark_of, shapes};
 use crate::root::Root;
 use crate::table::table_of;
 use cp_skel::{Limits, Mark, Outcome, Tree, TreeNode};
@@ -109,8 +109,8 @@ pub(crate) fn tree_of(alloc: Global, roots: Vec<Root>, limits: Limits) -> Result
     let judged = judge_each(alloc, roots)?;
     let table = table_of(alloc, &judged)?;
     let derivable = derivable(alloc, &judged)?;
-    let realised = realised(alloc, &table, &derivable)?;
-    let shapes = shapes(alloc, &table, &realised)?;
+    let candidates = candidates(alloc, &table, &derivable)?;
+    let shapes = shapes(alloc, &table, &candidates)?;
     let nodes = labels(alloc, judged, &table, &shapes, limits)?;
     let outcome = outcome_of(&nodes);
     Ok(Tree { nodes, outcome })

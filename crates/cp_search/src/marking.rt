@@ -6,7 +6,7 @@ ghost use Rattle.cp_search.specs.Roots as plain;
 ghost use Rattle.cp_search.specs.Marks.{IsEarlierCopy, IsCandidate, IsShapeAt, IsShapeWithin, HasMark};
 ghost use Rattle.cp_search.specs.Judging.{judged_view, judged_nodes, IsJudged, AreJudged};
 ghost use Rattle.cp_search.specs.Table.{AreFlagsOf, rows_view, IsTable};
-ghost use Rattle.cp_search.specs.Marking.{IsDerivableAt, FindsLeast, HasShapesWithin, IsMarkOfRealised};
+ghost use Rattle.cp_search.specs.Marking.{IsDerivableAt, FindsLeast, HasShapesWithin, IsMarkOfCandidate};
 
 use crate::judging::Judged;
 use crate::table::{entry_at, flag_at};
@@ -37,8 +37,9 @@ pub(crate) fn derivable(alloc: Global, judged: &[Judged]) -> Result<Vec<bool>, A
     Ok(flags)
 }
 
-/// For each root whether it is realised: it lives, all its receptions are derivable, and no earlier root is isomorphic to it.
-pub(crate) fn realised(
+/// For each root whether it is a candidate for a shape: it lives, all its receptions are derivable, and no earlier root is
+/// isomorphic to it.
+pub(crate) fn candidates(
     alloc: Global,
     table: &[Vec<bool>],
     derivable: &[bool],
@@ -52,15 +53,15 @@ pub(crate) fn realised(
     Ok(flags)
 }
 
-/// Whether a root is realised and no other realised root embeds in it.
-fn is_shape(table: &[Vec<bool>], realised: &[bool], i: usize) -> bool
-    ensures { (roots : List plain.Root) → IsTable roots (rows_view table.now) → AreFlagsOf (IsCandidate roots) realised.now → IsTrue result ↔ IsShapeAt roots i }
+/// Whether a root is a candidate and no other candidate embeds in it.
+fn is_shape(table: &[Vec<bool>], candidates: &[bool], i: usize) -> bool
+    ensures { (roots : List plain.Root) → IsTable roots (rows_view table.now) → AreFlagsOf (IsCandidate roots) candidates.now → IsTrue result ↔ IsShapeAt roots i }
 {
-    if !flag_at(realised, i) {
+    if !flag_at(candidates, i) {
         return false;
     }
-    for j in 0..realised.len() {
-        if j != i && flag_at(realised, j) && entry_at(table, j, i) {
+    for j in 0..candidates.len() {
+        if j != i && flag_at(candidates, j) && entry_at(table, j, i) {
             return false;
         }
     }
@@ -71,14 +72,14 @@ fn is_shape(table: &[Vec<bool>], realised: &[bool], i: usize) -> bool
 pub(crate) fn shapes(
     alloc: Global,
     table: &[Vec<bool>],
-    realised: &[bool],
+    candidates: &[bool],
 ) -> Result<Vec<bool>, AllocError>
-    ensures flags { IfOk result (λ flags. (roots : List plain.Root) → IsTable roots (rows_view table.now) → AreFlagsOf (IsCandidate roots) realised.now → AreFlagsOf (IsShapeAt roots) flags.items) }
-    ensures within { IfOk result (λ flags. (roots : List plain.Root) → IsTable roots (rows_view table.now) → AreFlagsOf (IsCandidate roots) realised.now → HasShapesWithin roots) }
+    ensures flags { IfOk result (λ flags. (roots : List plain.Root) → IsTable roots (rows_view table.now) → AreFlagsOf (IsCandidate roots) candidates.now → AreFlagsOf (IsShapeAt roots) flags.items) }
+    ensures within { IfOk result (λ flags. (roots : List plain.Root) → IsTable roots (rows_view table.now) → AreFlagsOf (IsCandidate roots) candidates.now → HasShapesWithin roots) }
 {
     let mut flags = Vec::new(alloc);
-    for i in 0..realised.len() {
-        flags.push(is_shape(table, realised, i))?;
+    for i in 0..candidates.len() {
+        flags.push(is_shape(table, candidates, i))?;
     }
     Ok(flags)
 }
@@ -95,9 +96,9 @@ fn shape_within(table: &[Vec<bool>], shapes: &[bool], i: usize) -> Option<usize>
     None
 }
 
-/// The mark of a realised root. The only shape that embeds in a shape is itself.
-fn mark_of_realised(table: &[Vec<bool>], shapes: &[bool], i: usize) -> Mark
-    ensures { (roots : List plain.Root) → IsTable roots (rows_view table.now) → AreFlagsOf (IsShapeAt roots) shapes.now → HasShapesWithin roots → IsCandidate roots i → IsMarkOfRealised roots i (mark_view result) }
+/// The mark of a candidate. The only shape that embeds in a shape is itself.
+fn mark_of_candidate(table: &[Vec<bool>], shapes: &[bool], i: usize) -> Mark
+    ensures { (roots : List plain.Root) → IsTable roots (rows_view table.now) → AreFlagsOf (IsShapeAt roots) shapes.now → HasShapesWithin roots → IsCandidate roots i → IsMarkOfCandidate roots i (mark_view result) }
 {
     let Some(j) = shape_within(table, shapes, i) else {
         return Mark::Shape;
@@ -126,7 +127,7 @@ pub(crate) fn mark_of(
         return Mark::Seen(j);
     }
     if judged.unrealised.is_empty() {
-        return mark_of_realised(table, shapes, i);
+        return mark_of_candidate(table, shapes, i);
     }
     if judged.root.skeleton.strands.len() > limits.strands as usize {
         return Mark::LimitStrands;

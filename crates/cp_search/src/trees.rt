@@ -17,13 +17,16 @@ use std::alloc::{AllocError, Global};
 ///
 /// - the problem itself, where it has no normal form, is dead;
 /// - one that is isomorphic to an earlier one is seen, as the first of these;
-/// - one all of whose receptions can be derived is a shape, or, where another such root embeds in it, an instance of the first
-///   shape that does;
+/// - one all of whose receptions can be derived is a shape, or, where another such root embeds in it, an instance of the
+///   first shape that does;
 /// - any other is at the bound on strands, if it has more, listeners counted, and else at the step limit.
 ///
-/// The outcome is at the step limit where some root is, else at the bound on strands where some root is, and else complete:
-/// then every execution of the problem is an execution of a shape. At a limit too every execution of the problem is one of a
-/// shape or of a label at the limit. The error is that memory ran out.
+/// The outcome is at the step limit where some root is, else at the bound on strands where some root is, and else
+/// complete: then every execution of the problem is an execution of a shape. At a limit too every execution of the problem
+/// is one of a shape or of a label at the limit.
+///
+/// The problem has to be a skeleton over the protocol that maps to itself, the role of each instance has to declare the
+/// variables of its prefix, and no step may be allowed. The error is that memory ran out.
 pub fn unexpanded(
     alloc: Global,
     protocol: &Protocol,

@@ -19,11 +19,11 @@ labels-requires c =
     let is : IsTable all (rows_view c.in_ok-table.table.items) = subst (λ (js : List Judged). IsTable (map judged_view js) (rows_view c.in_ok-table.table.items)) c.deref.ensures.value c.in_ok-table.ensures in
     let derivable : AreFlagsOf (IsDerivableAt all) c.in_ok-derivable.derivable.items =
     subst (λ (js : List Judged). AreFlagsOf (IsDerivableAt (map judged_view js)) c.in_ok-derivable.derivable.items) c.deref-2.ensures.value c.in_ok-derivable.ensures.flags in
-    let realised : AreFlagsOf (IsCandidate all) c.in_ok-realised.realised.items =
-    c.in_ok-realised.ensures all (subst (λ (t : List (Vec Bool Global)). IsTable all (rows_view t)) (sym c.deref-3.ensures.value) is)
+    let candidates : AreFlagsOf (IsCandidate all) c.in_ok-candidates.candidates.items =
+    c.in_ok-candidates.ensures all (subst (λ (t : List (Vec Bool Global)). IsTable all (rows_view t)) (sym c.deref-3.ensures.value) is)
     (subst (AreFlagsOf (IsDerivableAt all)) (sym c.deref-4.ensures.value) derivable) in
     let table : IsTable all (rows_view c.deref-5.result.now) = subst (λ (t : List (Vec Bool Global)). IsTable all (rows_view t)) (sym c.deref-5.ensures.value) is in
-    let flags : AreFlagsOf (IsCandidate all) c.deref-6.result.now = subst (AreFlagsOf (IsCandidate all)) (sym c.deref-6.ensures.value) realised in
+    let flags : AreFlagsOf (IsCandidate all) c.deref-6.result.now = subst (AreFlagsOf (IsCandidate all)) (sym c.deref-6.ensures.value) candidates in
     record {
       judged = c.in_ok-judged.ensures.judged;
       table = subst (λ (t : List (Vec Bool Global)). IsTable all (rows_view t)) (sym c.deref-7.ensures.value) is;

@@ -18,9 +18,9 @@ loop-j-preserved c = λ roots is are.
 pub returns : goal.returns
 returns c = λ roots is are. (
   λ _. record {
-    realised = (are c.args.i).0 (sym c.flag_at.ensures ∙ c.if-not-flag_at.false);
+    candidate = (are c.args.i).0 (sym c.flag_at.ensures ∙ c.if-not-flag_at.false);
     least = λ j r other h. other (c.loop-j.invariant roots is are j
-        (let l : j < length c.args.realised.now = flag_within c.args.realised.now j ((are j).1 r) in let k = c.loop-j-test.false in omega (arith, l, k)) r h);
+        (let l : j < length c.args.candidates.now = flag_within c.args.candidates.now j ((are j).1 r) in let k = c.loop-j-test.false in omega (arith, l, k)) r h);
   },
   λ _. refl,
 )

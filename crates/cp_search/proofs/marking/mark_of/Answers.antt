@@ -22,8 +22,8 @@ returns-then-is_empty c = λ roots is are within at judged.
     let new : IsNew roots c.args.i = subst (FindsLeast (IsEarlierCopy roots c.args.i)) c.in_default.is (c.earlier_copy.ensures roots is) in
     let none = no_nodes c.args.judged.now.unrealised.items (sym (ap (λ (n : ℕ). n == 0) c.args.judged.now.unrealised.ok.0) ∙ (sym c.is_empty.ensures ∙ c.if-is_empty.true)) in
     let derivable = derivable_at roots c.args.i (judged_view c.args.judged.now) (judged_nodes c.args.judged.now) judged at c.if-judged.false none in
-    marked_realised (limits_view c.args.limits) roots c.args.i (judged_view c.args.judged.now) (judged_nodes c.args.judged.now) judged c.if-judged.false new (mark_view c.mark_of_realised.result) none
-    (c.mark_of_realised.ensures roots is are within (is_realised roots c.args.i derivable new))
+    marked_realised (limits_view c.args.limits) roots c.args.i (judged_view c.args.judged.now) (judged_nodes c.args.judged.now) judged c.if-judged.false new (mark_view c.mark_of_candidate.result) none
+    (c.mark_of_candidate.ensures roots is are within (is_realised roots c.args.i derivable new))
 
 pub returns-then-len-limits : goal.returns-then-len-limits
 returns-then-len-limits c = λ roots is are within at judged.

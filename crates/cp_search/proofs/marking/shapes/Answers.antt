@@ -12,7 +12,7 @@ loop-i-preserved c = λ roots is are.
 pub returns-clause-flags : goal.returns-clause-flags
 returns-clause-flags c = λ roots is are.
     all_flags (IsShapeAt roots) c.loop-i.flags.items c.loop-i.i (c.loop-i.invariant roots is are)
-    (λ i h. let l : i < length c.args.realised.now = flag_within c.args.realised.now i ((are i).1 h.realised) in let k = c.loop-i-test.false in omega (arith, l, k))
+    (λ i h. let l : i < length c.args.candidates.now = flag_within c.args.candidates.now i ((are i).1 h.candidate) in let k = c.loop-i-test.false in omega (arith, l, k))
 
 pub returns-clause-within : goal.returns-clause-within
-returns-clause-within c = λ roots is are. shapes_within roots (rows_view c.args.table.now) is c.args.realised.now are
+returns-clause-within c = λ roots is are. shapes_within roots (rows_view c.args.table.now) is c.args.candidates.now are

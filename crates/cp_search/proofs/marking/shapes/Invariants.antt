@@ -6,4 +6,4 @@ use Rattle.cp_search.proofs.Flags.{AreFlagsTo}
 use Rattle.cp_search.proofs.marking.shapes.Given as goal
 
 abbrev pub invariant-loop-i : goal.invariant-loop-i
-invariant-loop-i l = (roots : List Root) → IsTable roots (rows_view l.table) → AreFlagsOf (IsCandidate roots) l.realised → AreFlagsTo (IsShapeAt roots) l.flags.items l.i
+invariant-loop-i l = (roots : List Root) → IsTable roots (rows_view l.table) → AreFlagsOf (IsCandidate roots) l.candidates → AreFlagsTo (IsShapeAt roots) l.flags.items l.i

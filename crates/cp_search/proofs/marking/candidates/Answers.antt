@@ -3,8 +3,8 @@ use Rattle.cp_term.proofs.CarriedTerms.{not_both}
 use Rattle.cp_search.specs.Marks.{IsCandidate}
 use Rattle.cp_search.proofs.Flags.{flag_within, next_flag, all_flags}
 use Rattle.cp_search.proofs.Marked.{is_derivable, told_realised}
-use Rattle.cp_search.proofs.marking.realised.Goals as goal
-use Rattle.cp_search.proofs.marking.realised.Goals.{then-flag_at, else-flag_at}
+use Rattle.cp_search.proofs.marking.candidates.Goals as goal
+use Rattle.cp_search.proofs.marking.candidates.Goals.{then-flag_at, else-flag_at}
 
 pub loop-i-preserved : goal.loop-i-preserved
 loop-i-preserved c = λ roots is are.

@@ -4,7 +4,7 @@ use Rattle.cp_search.specs.Marks.{IsCandidate}
 use Rattle.cp_search.specs.Table.{rows_view, AreFlagsOf, IsTable}
 use Rattle.cp_search.specs.Marking.{IsDerivableAt}
 use Rattle.cp_search.proofs.Flags.{AreFlagsTo}
-use Rattle.cp_search.proofs.marking.realised.Given as goal
+use Rattle.cp_search.proofs.marking.candidates.Given as goal
 
 abbrev pub invariant-loop-i : goal.invariant-loop-i
 invariant-loop-i l = (roots : List Root) → IsTable roots (rows_view l.table) → AreFlagsOf (IsDerivableAt roots) l.derivable → AreFlagsTo (IsCandidate roots) l.flags.items l.i
