@@ -2,6 +2,7 @@
 mod refusals;
 mod reports;
 mod several;
+mod several_more;
 
 use super::*;
 use cp_base::{MemSink, MemSource, Source, Status};
