@@ -13,7 +13,7 @@ use Rattle.cp_model.proofs.LawLists.{in_append, in_append_left, in_append_right}
 use Rattle.cp_model.specs.Term.{Sort, text_sort, datum_sort, name_sort, skey_sort, akey_sort, Variable, atom_of_variable, Term, atom_term, variables_of}
 use Rattle.cp_model.specs.Strand.{Declaration}
 use Rattle.cp_model.specs.Bundle.{Node}
-use Rattle.cp_model.specs.Problem.{variable_terms, declared_sort, IsDeclared, IsOwnProblem, variables_of_skeleton}
+use Rattle.cp_model.specs.Problem.{variable_terms, declared_sort, IsDeclared, IsPointOfView, variables_of_skeleton}
 use Rattle.cp_model.specs.Tree.{Mark, Outcome, complete, at_step_limit, at_strand_limit, Label, Tree, Limits, IsTrueOf}
 use Rattle.cp_sexpr.specs.Syntax as syntax
 use Rattle.cp_sexpr.specs.Syntax.{Forms}
@@ -29,7 +29,7 @@ use Rattle.std.specs.declared.alloc.Global.{Global}
 use Rattle.std.specs.Prelude.{Vec}
 use Rattle.cp_search.specs.Roots.{Root}
 use Rattle.cp_search.specs.Unexpanded.{label_of, IsUnexpanded, LeavesNothingOut}
-use Rattle.cp_search.specs.Variables.{HasDeclaredVariables}
+use Rattle.cp_model.specs.Problem.{HasDeclaredVariables}
 use Rattle.cp_search.proofs.VariablesOfRoots.{roots_declared}
 use Rattle.cp_skel.proofs.DeclaredRoles.{declared_prefixes}
 use Rattle.cp_wellformed.proofs.Problems as wellformed
@@ -76,7 +76,7 @@ in_all_terms (t ∷ ts) _ x here m = in_append_left (variables_of_terms ts) m
 in_all_terms (t ∷ ts) u x (there l) m = in_append_right (variables_of t) (in_all_terms ts u x l m)
 
 -- the problem's own variables are declared
-own_declared : (p : Problem) → IsOwnProblem p.variables p.skeleton → HasDeclaredVariables p.variables p.skeleton
+own_declared : (p : Problem) → IsPointOfView p.variables p.skeleton → HasDeclaredVariables p.variables p.skeleton
 own_declared p h = record {
   occurring = h.closed;
   mapped = λ t x inp m. own_term_declared p.variables 0 p.variables (λ i d at. let e : i ≡ 0 + i = omega arith in subst (λ k. item_at p.variables k ≡ Some d) e at) x
@@ -102,7 +102,7 @@ item_of_as_long (m ∷ ls) [] i l e at = absurd (omega (arith, e))
 item_of_as_long (m ∷ ls) (r ∷ rs) zero l e at = (r, refl)
 item_of_as_long (m ∷ ls) (r ∷ rs) (suc i) l e at = item_of_as_long ls rs i l (omega (arith, e)) at
 
-has_variables : (limits : Limits) (p : Problem) (t : Tree) → IsOwnProblem p.variables p.skeleton → IsUnexpanded p.skeleton p.variables limits t → (l : Label) → IsIn l t.labels → HasItsVariables p l
+has_variables : (limits : Limits) (p : Problem) (t : Tree) → IsPointOfView p.variables p.skeleton → IsUnexpanded p.skeleton p.variables limits t → (l : Label) → IsIn l t.labels → HasItsVariables p l
 has_variables limits p t own exact l listed =
     let place = place_of_listed t.labels l listed in
     let root = item_of_as_long t.labels exact.roots place.0 l exact.labels.count place.1 in

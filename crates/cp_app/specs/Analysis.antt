@@ -1,7 +1,7 @@
 -- How the problems of an input are analysed.
 use Rattle.std.specs.Prelude.{◌≡◌, ◌++◌, List, [], ◌∷◌, map, Option, Some, None}
 use Rattle.cp_model.specs.Skeleton.{IsSkeleton}
-use Rattle.cp_model.specs.Problem.{IsOwnProblem}
+use Rattle.cp_model.specs.Problem.{IsPointOfView}
 use Rattle.cp_model.specs.Tree.{Limits, Tree}
 use Rattle.cp_language.specs.Problems.{Problem}
 use Rattle.cp_language.specs.Input.{Entry}
@@ -11,7 +11,7 @@ use Rattle.cp_app.specs.Headline.{IsTrueTree, TreeIsTrue}
 -- A problem is a skeleton that maps to itself, and the roles of its instances declare the variables of their prefixes.
 pub record IsAnalysable (p : Problem) : Type 0 where
   pub is_skeleton : IsSkeleton p.protocol p.skeleton
-  pub own : IsOwnProblem p.variables p.skeleton
+  pub own : IsPointOfView p.variables p.skeleton
   pub declared : HasDeclaredPrefixes p.skeleton
 
 abbrev pub IsAnalysableIf : Option Problem → Type 0

@@ -5,7 +5,7 @@ use Rattle.cp_model.specs.Term.{Variable, text_variable, name_variable, Term, at
 use Rattle.cp_model.specs.Strand.{send, OriginatesInTerms, Role, IsHeight}
 use Rattle.cp_model.specs.Bundle.{Node, node_at}
 use Rattle.cp_model.specs.Skeleton.{instance, skeleton_trace, OrderStep, along_strand_of, along_pair, Before, IsOrigin, GivesAssumptions, IsSkeleton}
-use Rattle.cp_model.specs.Problem.{variables_of_skeleton, IsDeclared, IsOwnProblem}
+use Rattle.cp_model.specs.Problem.{variables_of_skeleton, IsDeclared, IsPointOfView}
 use Rattle.cp_model.specs.Single.{IsOneSendingStrand}
 use Rattle.cp_model.specs.Example.{example_key, example_inverse, example_role, example_protocol, example_assumptions, example_skeleton}
 use Rattle.cp_model.proofs.SingleTraces.{only_place}
@@ -107,5 +107,5 @@ closed x (there (there (there here))) = refl
 closed x (there (there (there (there here)))) = refl
 closed x (there (there (there (there (there h))))) = elim h [ ]
 
-pub example_problem : IsOwnProblem example_role.variables example_skeleton
-example_problem = record { strands = refl; values = refl; closed = closed }
+pub example_problem : IsPointOfView example_role.variables example_skeleton
+example_problem = record { strands = refl; values = refl; closed = closed; assumed = record { non = λ v h. h; penetrator_non = λ v h. h; unique = λ u h. h }; pairs = refl }

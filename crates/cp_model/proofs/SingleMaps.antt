@@ -4,7 +4,7 @@ use Rattle.cp_model.specs.Lists.{item_at, IsIn}
 use Rattle.cp_model.specs.Term.{Sort, text_sort, datum_sort, name_sort, skey_sort, akey_sort, SymmetricTerm, skey_variable, ltk_term, PairTerm, akey_variable, pubk_term, KeyTerm, symmetric_term, asymmetric_term, AtomTerm, text_variable, datum_variable, name_variable, key_term, Term, tag_term, atom_term, pair_term, enc_term, atom_of_variable, flag_of, Substitution, apply_to_symmetric, apply_to_half, apply_to_key, apply_to_atom, apply_to, unchanged, composed}
 use Rattle.cp_model.specs.Strand.{Declaration}
 use Rattle.cp_model.specs.Skeleton.{listener, Skeleton}
-use Rattle.cp_model.specs.Problem.{numbers_from, variable_terms, IsOwnProblem}
+use Rattle.cp_model.specs.Problem.{numbers_from, variable_terms, IsPointOfView}
 use Rattle.cp_model.specs.Homomorphism.{SkeletonMap, IsHomomorphism, CarriesHomomorphism, text_in, datum_in, name_in, skey_in, akey_in, substitution_by, number_or, strand_in, map_from_problem}
 
 -- A place of the numbers from n on holds its own number, or nothing.
@@ -102,7 +102,7 @@ composed_unchanged s = λ i. record {
 abbrev pub standing_still : SkeletonMap
 standing_still = record { strands = λ s. s; terms = unchanged }
 
-pub own_map : (variables : List Declaration) (k : Skeleton) → IsOwnProblem variables k → map_from_problem k ≡ standing_still
+pub own_map : (variables : List Declaration) (k : Skeleton) → IsPointOfView variables k → map_from_problem k ≡ standing_still
 own_map variables k own =
     let p : strand_in k.from_problem.strands ≡ (λ s. s) = ap strand_in own.strands ∙ λ i s. own_strands k.strands s i in
     let q : substitution_by k.from_problem.values ≡ unchanged = ap substitution_by own.values ∙ own_substitution variables in
@@ -124,7 +124,7 @@ maps_to_itself k = record {
   unique = λ u h. subst (λ v. IsIn (record { value = v; origin = u.origin }) k.assumptions.uniquely_originating) (sym (atom_unchanged u.value)) h;
 }
 
-pub own_homomorphism : (variables : List Declaration) (k : Skeleton) → IsOwnProblem variables k → IsHomomorphism k k (map_from_problem k)
+pub own_homomorphism : (variables : List Declaration) (k : Skeleton) → IsPointOfView variables k → IsHomomorphism k k (map_from_problem k)
 own_homomorphism variables k own = subst (IsHomomorphism k k) (sym (own_map variables k own)) (maps_to_itself k)
 
 -- A problem's own skeleton carries a homomorphism from itself.
@@ -136,7 +136,7 @@ same_terms : (ts : List Term) → map (apply_to unchanged) ts ≡ ts
 same_terms [] = refl
 same_terms (t ∷ ts) = (λ i. term_unchanged t i ∷ same_terms ts i)
 
-pub own_carries : (variables : List Declaration) (k : Skeleton) → IsOwnProblem variables k → CarriesHomomorphism k k
+pub own_carries : (variables : List Declaration) (k : Skeleton) → IsPointOfView variables k → CarriesHomomorphism k k
 own_carries variables k own = record {
   homomorphism = own_homomorphism variables k own;
   strands = ap (λ (f : SkeletonMap). map f.strands k.from_problem.strands) (own_map variables k own) ∙ same_numbers k.from_problem.strands;

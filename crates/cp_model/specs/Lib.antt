@@ -8,6 +8,7 @@ pub mod Skeleton
 pub mod Order
 pub mod Standing
 pub mod Homomorphism
+pub mod Stated
 pub mod Problem
 pub mod Single
 pub mod Composition

@@ -1,9 +1,10 @@
--- Problems: skeletons that map to themselves.
+-- Problems: point-of-view skeletons, which map to themselves.
 use Rattle.std.specs.Prelude.{◌≡◌, ℕ, suc, List, [], ◌∷◌, ◌++◌, Option, Some, None}
 use Rattle.cp_model.specs.Lists.{item_at, IsIn}
-use Rattle.cp_model.specs.Term.{Sort, Variable, AtomTerm, atom_of_variable, Term, atom_term, variables_of_atom}
+use Rattle.cp_model.specs.Term.{Sort, Variable, AtomTerm, atom_of_variable, Term, atom_term, variables_of_atom, variables_of}
 use Rattle.cp_model.specs.Strand.{Declaration, variables_of_trace}
 use Rattle.cp_model.specs.Skeleton.{SkeletonStrand, skeleton_trace, UniqueAt, Assumptions, Skeleton}
+use Rattle.cp_model.specs.Stated.{HasOwnAssumptions}
 
 -- The variables that occur in strands.
 abbrev pub variables_of_strands : List SkeletonStrand → List Variable
@@ -43,9 +44,17 @@ declared_sort (Some d) = Some d.sort
 abbrev pub IsDeclared : List Declaration → Variable → Type 0
 IsDeclared ds x = declared_sort (item_at ds x.number) ≡ Some x.sort
 
--- The skeleton of a problem with these variables: it maps each of its strands and each of its variables to itself,
--- and all variables that occur in it are among them.
-pub record IsOwnProblem (variables : List Declaration) (k : Skeleton) : Type 0 where
+-- Each variable that occurs in the skeleton, or in a term of its map from the problem, is declared.
+pub record HasDeclaredVariables (variables : List Declaration) (k : Skeleton) : Type 0 where
+  pub occurring : (x : Variable) → IsIn x (variables_of_skeleton k) → IsDeclared variables x
+  pub mapped : (t : Term) (x : Variable) → IsIn t k.from_problem.values → IsIn x (variables_of t) → IsDeclared variables x
+
+-- A point-of-view skeleton (CPSA Primer, "Input"): the skeleton of a problem with these variables. It maps each of its
+-- strands and each of its variables to itself; all variables that occur in it are among them; and what the problem
+-- states itself it has: its own assumptions are among the skeleton's, and its own pairs are the skeleton's.
+pub record IsPointOfView (variables : List Declaration) (k : Skeleton) : Type 0 where
   pub strands : k.from_problem.strands ≡ numbers_from 0 k.strands
   pub values : k.from_problem.values ≡ variable_terms 0 variables
   pub closed : (x : Variable) → IsIn x (variables_of_skeleton k) → IsDeclared variables x
+  pub assumed : HasOwnAssumptions k
+  pub pairs : k.from_problem.pairs ≡ k.pairs

@@ -8,6 +8,7 @@ use Rattle.cp_model.specs.Skeleton.{Skeleton, IsSkeleton}
 use Rattle.cp_model.specs.Derivable.{IsUnrealised}
 use Rattle.cp_model.specs.Standing.{IsRealised}
 use Rattle.cp_model.specs.Homomorphism.{CarriesHomomorphism, Embeds, IsCompleteList}
+use Rattle.cp_model.specs.Stated.{KeepsStated}
 
 -- How a label was made: from the problem itself, by a collapse (each strand's lowest equal), by one of the steps
 -- that an authentication test allows, or by generalising.
@@ -116,15 +117,29 @@ pub record ReachedStrands (limits : Limits) (tree : Tree) : Type 0 where
   pub left : IsOpen tree label
   pub above : limits.strands < length label.skeleton.strands
 
--- What is true of the tree that is printed for a problem. Each label denotes a skeleton over the protocol. Each shape
--- is realised, and carries a homomorphism from the problem; no shape embeds in another; where the outcome is complete,
--- every bundle in which the problem stands contains a shape through which that standing factors; and a limit is the
+-- The skeletons of the labels that are shapes or at a limit.
+abbrev pub if_left : Option Mark → Skeleton → List Skeleton → List Skeleton
+if_left (Some shape) k ks = k ∷ ks
+if_left (Some limit_steps) k ks = k ∷ ks
+if_left (Some limit_strands) k ks = k ∷ ks
+if_left _ k ks = ks
+
+abbrev pub skeletons_left : List Label → List Skeleton
+skeletons_left [] = []
+skeletons_left (l ∷ ls) = if_left l.mark l.skeleton (skeletons_left ls)
+
+-- What is true of the tree that is printed for a problem. Each label denotes a skeleton over the protocol, which carries a
+-- homomorphism from the problem and keeps what the problem states itself. Each shape is realised; no shape embeds in
+-- another; where the outcome is complete, every bundle in which the problem stands contains a shape through which that
+-- standing factors; at a limit too it contains a shape or a label at a limit through which it does; and a limit is the
 -- outcome only where its stated bound was reached.
 pub record IsTrueOf (protocol : Protocol) (problem : Skeleton) (limits : Limits) (tree : Tree) : Type 0 where
   pub skeletons : (i : ℕ) (l : Label) → item_at tree.labels i ≡ Some l → IsSkeleton protocol l.skeleton
+  pub from_problem : (i : ℕ) (l : Label) → item_at tree.labels i ≡ Some l → CarriesHomomorphism problem l.skeleton
+  pub stated : (i : ℕ) (l : Label) → item_at tree.labels i ≡ Some l → KeepsStated problem l.skeleton
   pub realised : (i : ℕ) (l : Label) → item_at tree.labels i ≡ Some l → l.mark ≡ Some shape → IsRealised protocol l.skeleton
-  pub from_problem : (i : ℕ) (l : Label) → item_at tree.labels i ≡ Some l → l.mark ≡ Some shape → CarriesHomomorphism problem l.skeleton
   pub none_embeds : (i j : ℕ) (l m : Label) → item_at tree.labels i ≡ Some l → item_at tree.labels j ≡ Some m → l.mark ≡ Some shape → m.mark ≡ Some shape → i ≢ j → Embeds l.skeleton m.skeleton → ⊥
   pub nothing_missed : tree.outcome ≡ complete → IsCompleteList protocol problem (shapes_of tree.labels)
+  pub nothing_left_out : IsCompleteList protocol problem (skeletons_left tree.labels)
   pub steps_reached : tree.outcome ≡ at_step_limit → ReachedSteps limits tree
   pub strands_reached : tree.outcome ≡ at_strand_limit → ReachedStrands limits tree

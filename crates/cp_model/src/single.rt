@@ -3,7 +3,7 @@
 ghost use Rattle.std.specs.Prelude.{◌≡◌, ℕ, List, [], ◌∷◌};
 ghost use Rattle.cp_model.specs.Example.{example_protocol, example_role, example_skeleton};
 ghost use Rattle.cp_model.specs.Homomorphism.{CarriesHomomorphism, IsCompleteList};
-ghost use Rattle.cp_model.specs.Problem.{IsOwnProblem};
+ghost use Rattle.cp_model.specs.Problem.{IsPointOfView};
 ghost use Rattle.cp_model.specs.Single.{IsOneSendingStrand};
 ghost use Rattle.cp_model.specs.Skeleton.{Skeleton, instance};
 ghost use Rattle.cp_model.specs.Standing.{IsRealised};
@@ -25,7 +25,7 @@ pub fn one_strand_is_its_own_complete_list()
 
 /// The law that the skeleton of a problem carries a homomorphism from itself, its own map.
 pub fn skeleton_maps_from_itself()
-    ensures { (variables : List Declaration) (k : Skeleton) → IsOwnProblem variables k → CarriesHomomorphism k k }
+    ensures { (variables : List Declaration) (k : Skeleton) → IsPointOfView variables k → CarriesHomomorphism k k }
 {}
 
 /// The law that a skeleton meets the premises of the laws above: an instance of a role that sends a text under a
@@ -33,5 +33,5 @@ pub fn skeleton_maps_from_itself()
 #[tactic(auto, using(crate::proofs::SingleExample::example_sends, crate::proofs::SingleExample::example_problem))]
 pub fn one_sending_strand_example()
     ensures sending { IsOneSendingStrand example_protocol example_skeleton }
-    ensures problem { IsOwnProblem example_role.variables example_skeleton }
+    ensures problem { IsPointOfView example_role.variables example_skeleton }
 {}

@@ -6,7 +6,7 @@ ghost use Rattle.cp_model.specs.Bundle.{Bundle};
 ghost use Rattle.cp_model.specs.Skeleton.{OrderPair, Skeleton, IsSkeleton};
 ghost use Rattle.cp_model.specs.Standing.{Standing, StandsIn};
 ghost use Rattle.cp_model.specs.Homomorphism.{CarriesHomomorphism};
-ghost use Rattle.cp_model.specs.Problem.{IsOwnProblem};
+ghost use Rattle.cp_model.specs.Problem.{IsPointOfView};
 ghost use Rattle.cp_model.specs.Derivable.{KeepsAssumptions};
 ghost use Rattle.cp_completeness.specs.Normal.{skeleton_under, AddOnlyOriginPairs, LosesNoStanding};
 ghost use Rattle.cp_normal.specs.Agreeing.{SaysTheSame};
@@ -40,7 +40,7 @@ pub fn unifiers_are_determined()
 pub fn normal_forms_keep_what_is_stated()
     ensures skeleton { (protocol : Protocol) (k r : Skeleton) → IsNormalFormOf k r → IsSkeleton protocol k → IsSkeleton protocol r }
     ensures itself { (k r : Skeleton) → IsNormalFormOf k r → IsNormalFormOf r r }
-    ensures homomorphism { (variables : List Declaration) (problem k r : Skeleton) → IsOwnProblem variables problem → IsNormalFormOf k r → CarriesHomomorphism problem k → CarriesHomomorphism problem r }
+    ensures homomorphism { (variables : List Declaration) (problem k r : Skeleton) → IsPointOfView variables problem → IsNormalFormOf k r → CarriesHomomorphism problem k → CarriesHomomorphism problem r }
     ensures assumptions { (protocol : Protocol) (k : Skeleton) → IsSkeleton protocol k → IsNormal k → KeepsAssumptions k }
     ensures substitution { (k l : Skeleton) → NarrowsTo k l → (s : Substitution) × SaysTheSame (skeleton_under s k) l }
     ensures standing { (k l : Skeleton) (b : Bundle) (h : Standing) → NarrowsTo k l → StandsIn k b h → StandsIn l b h → (s : Substitution) × SaysTheSame (skeleton_under s k) l × ((t : Term) → value_of (after h.values s) t ≡ value_of h.values t) }

@@ -3,7 +3,7 @@ use Rattle.std.proofs.Common.{◌≡◌, List, ◌++◌, map, ap, ◌∙◌}
 use Rattle.cp_model.specs.Lists.{IsIn}
 use Rattle.cp_model.specs.Strand.{Declaration, Protocol}
 use Rattle.cp_model.specs.Skeleton.{Skeleton, IsSkeleton}
-use Rattle.cp_model.specs.Problem.{IsOwnProblem}
+use Rattle.cp_model.specs.Problem.{IsPointOfView}
 use Rattle.cp_term.specs.Table.{Declared}
 use Rattle.cp_skel.specs.View.{skeleton_view}
 use Rattle.cp_skel.specs.declared.skeleton.Skeleton.{Skeleton as Program}
@@ -22,7 +22,7 @@ use Rattle.cp_search.proofs.SoundRoots.{listed_is_skeleton, are_sound}
 pub in_order : (protocol : Protocol) (k : Skeleton) → IsSkeleton protocol k → IsInOrder k
 in_order protocol k sk = record { order_pairs = sk.order_pairs; no_cycle = sk.no_cycle; origins = sk.origins }
 
-module _ (protocol : Protocol) (variables : List Declaration) (k : Skeleton) (sk : IsSkeleton protocol k) (own : IsOwnProblem variables k) (collapses : List Program) (are : AreCollapses k (map skeleton_view collapses)) where
+module _ (protocol : Protocol) (variables : List Declaration) (k : Skeleton) (sk : IsSkeleton protocol k) (own : IsPointOfView variables k) (collapses : List Program) (are : AreCollapses k (map skeleton_view collapses)) where
   pub collapse_in_order : (l : Program) → IsIn l collapses → IsInOrder (skeleton_view l)
   collapse_in_order l i = in_order protocol (skeleton_view l) (listed_is_skeleton protocol variables k sk own are.each (skeleton_view l) (into_map skeleton_view i))
 

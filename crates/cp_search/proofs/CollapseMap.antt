@@ -5,7 +5,7 @@ use Rattle.cp_model.specs.Term.{Sort, Variable, atom_of_variable, Term, atom_ter
 use Rattle.cp_model.specs.Strand.{Event, send, recv, Role, Declaration, Protocol}
 use Rattle.cp_model.specs.Bundle.{Node, node_at}
 use Rattle.cp_model.specs.Skeleton.{instance, listener, term_event_at, OrderPair, Skeleton, OrderStep, along_strand_of, along_pair, Before, IsOrderPair, IsSkeleton}
-use Rattle.cp_model.specs.Problem.{numbers_from, variable_terms, declared_sort, IsDeclared, IsOwnProblem}
+use Rattle.cp_model.specs.Problem.{numbers_from, variable_terms, declared_sort, IsDeclared, IsPointOfView}
 use Rattle.cp_model.specs.Homomorphism.{GoesToInstance, IsHomomorphism, substitution_by, number_or, strand_in, map_from_problem, CarriesHomomorphism}
 use Rattle.cp_model.proofs.LawLists.{item_below, map_of_item}
 use Rattle.cp_model.proofs.LawStandings.{strand_of_event}
@@ -93,7 +93,7 @@ each_same : (f g : ℕ → ℕ) (ns : List ℕ) → ((n : ℕ) → IsIn n ns →
 each_same f g [] same = refl
 each_same f g (n ∷ ns) same = ap₂ ◌∷◌ (same n here) (each_same f g ns (λ m i. same m (there i)))
 
-module _ (protocol : Protocol) (variables : List Declaration) (k l : Skeleton) (p : List ℕ) (sk : IsSkeleton protocol k) (own : IsOwnProblem variables k) (c : IsCollapsed k p l) where
+module _ (protocol : Protocol) (variables : List Declaration) (k l : Skeleton) (p : List ℕ) (sk : IsSkeleton protocol k) (own : IsPointOfView variables k) (c : IsCollapsed k p l) where
   abbrev f : Substitution
   f = c.unifier
 

@@ -5,7 +5,7 @@ use Rattle.cp_model.specs.Lists.{IsIn, here, there}
 use Rattle.cp_model.specs.Strand.{Declaration}
 use Rattle.cp_model.specs.Skeleton.{Skeleton}
 use Rattle.cp_model.specs.Tree.{by_collapse}
-use Rattle.cp_model.specs.Problem.{IsOwnProblem}
+use Rattle.cp_model.specs.Problem.{IsPointOfView}
 use Rattle.cp_model.proofs.LawLists.{in_append_left, in_append_right}
 use Rattle.cp_normal.specs.Partitions.{place_in}
 use Rattle.cp_normal.specs.Collapsing.{IsCollapse, AreCollapsesBy, no_collapses, collapse_by, AreCollapses}
@@ -38,7 +38,7 @@ listed_of (m ∷ ls) roots l (rs, others, f, rest, e) (there i) =
 
 -- ---- the partitions
 
-module _ (variables : List Declaration) (k : Skeleton) (own : IsOwnProblem variables k) where
+module _ (variables : List Declaration) (k : Skeleton) (own : IsPointOfView variables k) where
   partition_read : (p : List ℕ) (l : Skeleton) → IsCollapse k p l → firsts l.from_problem.strands ≡ p
   partition_read p l c = ap firsts (c.collapsed.from_problem.strands ∙ ap (map (place_in p)) own.strands) ∙ firsts_of_places k p c.partition
 

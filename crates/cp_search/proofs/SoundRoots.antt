@@ -7,7 +7,7 @@ use Rattle.cp_model.specs.Skeleton.{Skeleton, IsSkeleton}
 use Rattle.cp_model.specs.Derivable.{KeepsAssumptions}
 use Rattle.cp_model.specs.Standing.{Standing, StandsIn, StandsApart}
 use Rattle.cp_model.specs.Homomorphism.{CarriesHomomorphism, FactorsThrough}
-use Rattle.cp_model.specs.Problem.{IsOwnProblem}
+use Rattle.cp_model.specs.Problem.{IsPointOfView}
 use Rattle.cp_model.specs.Tree.{Operation, by_problem, by_collapse}
 use Rattle.cp_model.proofs.LawLists.{in_append, in_append_left, in_append_right}
 use Rattle.cp_model.proofs.SingleMaps.{own_carries}
@@ -62,7 +62,7 @@ among_first : (k : Skeleton) (forms : List Skeleton) (r : Root) → IsIn r (map 
 among_first k [] r i = elim i [ ]
 among_first k (f ∷ fs) r i = i
 
-module _ (protocol : Protocol) (variables : List Declaration) (k : Skeleton) (sk : IsSkeleton protocol k) (own : IsOwnProblem variables k) where
+module _ (protocol : Protocol) (variables : List Declaration) (k : Skeleton) (sk : IsSkeleton protocol k) (own : IsPointOfView variables k) where
   form_is_sound : (l r : Skeleton) (by : Operation) → IsSkeleton protocol l → CarriesHomomorphism k l → IsNormalFormOf l r → IsSoundRoot protocol k (living by r)
   form_is_sound l r by sl carries f =
       let sr = form_is_skeleton protocol l r f sl in

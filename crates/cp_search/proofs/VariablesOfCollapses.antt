@@ -16,7 +16,7 @@ use Rattle.cp_normal.specs.Collapsing.{IsCollapsed, IsCollapse, AreCollapsesBy, 
 use Rattle.cp_normal.proofs.AssumptionImages.{assumptions_are}
 use Rattle.cp_normal.proofs.Places.{taken, place_of_own}
 use Rattle.cp_normal.proofs.SameStrands.{same_trace}
-use Rattle.cp_search.specs.Variables.{HasDeclaredVariables}
+use Rattle.cp_model.specs.Problem.{HasDeclaredVariables}
 use Rattle.cp_search.proofs.NoNewVariables.{KeepsDeclared, AgreeOnDeclared, no_new, of_atom, of_term}
 
 -- ---- where the variables of lists are

@@ -6,7 +6,7 @@ use Rattle.cp_model.specs.Skeleton.{OrderPair, Skeleton}
 use Rattle.cp_model.proofs.LawLists.{in_append}
 use Rattle.cp_completeness.specs.Normal.{with_pairs}
 use Rattle.cp_normal.specs.Exact.{HasForms, refuted, branching, cyclic, normal, EachHasForms, no_more, and_then}
-use Rattle.cp_search.specs.Variables.{HasDeclaredVariables}
+use Rattle.cp_model.specs.Problem.{HasDeclaredVariables}
 use Rattle.cp_search.proofs.VariablesUnder.{branches_declared}
 
 module _ (variables : List Declaration) where

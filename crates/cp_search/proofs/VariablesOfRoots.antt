@@ -8,7 +8,7 @@ use Rattle.cp_model.proofs.LawLists.{in_append}
 use Rattle.cp_completeness.proofs.Under.{in_map}
 use Rattle.cp_normal.proofs.Strayed.{at_is_in}
 use Rattle.cp_search.specs.Roots.{Root, living, first_roots, AreFormsOfCollapses, no_collapses, forms_of_one, AreRoots}
-use Rattle.cp_search.specs.Variables.{HasDeclaredVariables}
+use Rattle.cp_model.specs.Problem.{HasDeclaredVariables}
 use Rattle.cp_search.proofs.VariablesOfForms.{forms_declared}
 use Rattle.cp_search.proofs.VariablesOfCollapses.{collapses_declared}
 use Rattle.cp_search.proofs.InReportOrder.{declared_listed}

@@ -23,7 +23,7 @@ use Rattle.cp_normal.specs.Straying.{IsFirstStray}
 use Rattle.cp_normal.proofs.Heard.{heard_if_listed}
 use Rattle.cp_normal.proofs.Narrowed.{same_variables, of_skeleton}
 use Rattle.cp_normal.proofs.SameSkeletons.{carried_variables}
-use Rattle.cp_search.specs.Variables.{HasDeclaredVariables}
+use Rattle.cp_model.specs.Problem.{HasDeclaredVariables}
 use Rattle.cp_search.proofs.NoNewVariables.{KeepsDeclared, AgreeOnDeclared, no_new, of_term}
 
 -- All variables of the atom are declared.

@@ -3,7 +3,6 @@ pub mod Sound
 pub mod Marks
 pub mod Unexpanded
 pub mod RootView
-pub mod Variables
 pub mod FirstPlaces
 pub mod Gathering
 pub mod Table

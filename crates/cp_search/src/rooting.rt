@@ -1,7 +1,7 @@
 // The roots of a problem.
 ghost use Rattle.std.specs.Prelude.{◌≡◌, map, IfOk};
 ghost use Rattle.cp_model.specs.Lists.{IsIn};
-ghost use Rattle.cp_model.specs.Problem.{IsOwnProblem};
+ghost use Rattle.cp_model.specs.Problem.{IsPointOfView};
 ghost use Rattle.cp_model.specs.Skeleton.{IsSkeleton};
 ghost use Rattle.cp_skel.specs.DeclaredPrefixes.{HasDeclaredPrefixes};
 ghost use Rattle.cp_skel.specs.Trees.{variables_view};
@@ -32,7 +32,7 @@ pub fn roots(
     problem: &Skeleton,
 ) -> Result<Vec<Root>, AllocError>
     requires skeleton { IsSkeleton (protocol_view protocol.now) (skeleton_view problem.now) }
-    requires own { IsOwnProblem (variables_view problem.now.variables) (skeleton_view problem.now) }
+    requires own { IsPointOfView (variables_view problem.now.variables) (skeleton_view problem.now) }
     requires declared { HasDeclaredPrefixes (skeleton_view problem.now) }
     ensures exact { IfOk result (λ rs. AreRoots (skeleton_view problem.now) (map root_view rs.items)) }
     ensures sound { IfOk result (λ rs. AreSound (protocol_view protocol.now) (skeleton_view problem.now) (map root_view rs.items)) }

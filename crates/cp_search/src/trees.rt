@@ -1,6 +1,6 @@
 // The tree of a problem when no label may be expanded.
 ghost use Rattle.std.specs.Prelude.{◌≡◌, IfOk};
-ghost use Rattle.cp_model.specs.Problem.{IsOwnProblem};
+ghost use Rattle.cp_model.specs.Problem.{IsPointOfView};
 ghost use Rattle.cp_model.specs.Skeleton.{IsSkeleton};
 ghost use Rattle.cp_model.specs.Tree.{IsTrueOf};
 ghost use Rattle.cp_skel.specs.DeclaredPrefixes.{HasDeclaredPrefixes};
@@ -34,7 +34,7 @@ pub fn unexpanded(
     limits: Limits,
 ) -> Result<Tree, AllocError>
     requires skeleton { IsSkeleton (protocol_view protocol.now) (skeleton_view problem.now) }
-    requires own { IsOwnProblem (variables_view problem.now.variables) (skeleton_view problem.now) }
+    requires own { IsPointOfView (variables_view problem.now.variables) (skeleton_view problem.now) }
     requires declared { HasDeclaredPrefixes (skeleton_view problem.now) }
     requires no_steps { limits.steps ≡ 0 }
     ensures true_tree { IfOk result (λ t. IsTrueOf (protocol_view protocol.now) (skeleton_view problem.now) (limits_view limits) (tree_view t)) }

@@ -7,7 +7,7 @@ use Rattle.cp_model.specs.Term.{AtomTerm, variables_of, Substitution, apply_to_a
 use Rattle.cp_model.specs.Strand.{Declaration, Role, Protocol, prefix_of, variables_of_trace}
 use Rattle.cp_model.specs.Bundle.{node_at}
 use Rattle.cp_model.specs.Skeleton.{SkeletonStrand, instance, listener, skeleton_trace, Assumptions, Skeleton, GivesAssumptions, IsSkeleton}
-use Rattle.cp_model.specs.Problem.{variables_of_strands, variables_of_atoms, variables_of_uniques, variables_of_assumptions, variables_of_skeleton, IsOwnProblem}
+use Rattle.cp_model.specs.Problem.{variables_of_strands, variables_of_atoms, variables_of_uniques, variables_of_assumptions, variables_of_skeleton, IsPointOfView}
 use Rattle.cp_sexpr.specs.Syntax.{Form, Forms}
 use Rattle.cp_language.specs.Words.{TopHead, protocol_form, problem_form, free_form, top_out_of_profile, no_top, top_head}
 use Rattle.cp_language.specs.Faults.{fault_unless, place_of, items_of}
@@ -48,7 +48,7 @@ strands_declared roles full (s ∷ ss) h =
 -- The problem is a skeleton over its protocol that maps to itself, and the protocol's roles are sound.
 pub record IsSoundProblem (p : Problem) : Type 0 where
   pub skeleton : IsSkeleton p.protocol p.skeleton
-  pub own : IsOwnProblem p.variables p.skeleton
+  pub own : IsPointOfView p.variables p.skeleton
   pub roles : AreSoundRoles p.protocol.roles
 
 module _ (protocol : Protocol) (ds : List Declaration) (body : List Form) (strands : List SkeletonStrand) (full : List Declaration)
@@ -108,7 +108,7 @@ module _ (protocol : Protocol) (ds : List Declaration) (body : List Form) (stran
       (both_declared full (variables_of_atoms all.non_originating) (variables_of_atoms all.penetrator_non_originating) (atoms_declared full all.non_originating non_declared) (atoms_declared full all.penetrator_non_originating penetrator_non_declared))
       (uniques.uniques_declared k full (λ n s at. strand_declared protocol.roles full s (sound s (item_in strands n s at))) all.uniquely_originating have_origins))
 
-  is_own : IsOwnProblem full k
+  is_own : IsPointOfView full k
   is_own = record { strands = refl; values = refl; closed = all_declared }
 
 abbrev at_start : Stage
@@ -198,7 +198,7 @@ pub are_skeletons : (fs : Forms) (e : Entry) (p : Problem) → faults_of fs ≡ 
 are_skeletons fs e p faultless i at = (problems_sound fs faultless e i p at).skeleton
 
 -- Each problem of well-formed input maps to itself.
-pub map_to_themselves : (fs : Forms) (e : Entry) (p : Problem) → faults_of fs ≡ [] → IsIn e (input_of fs) → e.problem ≡ Some p → IsOwnProblem p.variables p.skeleton
+pub map_to_themselves : (fs : Forms) (e : Entry) (p : Problem) → faults_of fs ≡ [] → IsIn e (input_of fs) → e.problem ≡ Some p → IsPointOfView p.variables p.skeleton
 map_to_themselves fs e p faultless i at = (problems_sound fs faultless e i p at).own
 
 well_formed_role : (r : Role) → IsSoundRole r → IsWellFormedRole r

@@ -6,7 +6,7 @@ ghost use Rattle.std.specs.Prelude.{◌≡◌, [], Some};
 ghost use Rattle.cp_language.specs.Input.{Entry, faults_of, input_of};
 ghost use Rattle.cp_language.specs.Problems.{Problem};
 ghost use Rattle.cp_model.specs.Lists.{IsIn};
-ghost use Rattle.cp_model.specs.Problem.{IsOwnProblem};
+ghost use Rattle.cp_model.specs.Problem.{IsPointOfView};
 ghost use Rattle.cp_model.specs.Skeleton.{IsSkeleton};
 ghost use Rattle.cp_model.specs.Strand.{Role};
 ghost use Rattle.cp_sexpr.specs.Syntax.{Forms};
@@ -18,7 +18,7 @@ ghost use Rattle.cp_wellformed.specs.Role.{IsWellFormedRole};
 #[tactic(auto, using(crate::proofs::Problems::are_skeletons))]
 pub fn problems_of_input_are_skeletons()
     ensures skeletons { (fs : Forms) (e : Entry) (p : Problem) → faults_of fs ≡ [] → IsIn e (input_of fs) → e.problem ≡ Some p → IsSkeleton p.protocol p.skeleton }
-    ensures own { (fs : Forms) (e : Entry) (p : Problem) → faults_of fs ≡ [] → IsIn e (input_of fs) → e.problem ≡ Some p → IsOwnProblem p.variables p.skeleton }
+    ensures own { (fs : Forms) (e : Entry) (p : Problem) → faults_of fs ≡ [] → IsIn e (input_of fs) → e.problem ≡ Some p → IsPointOfView p.variables p.skeleton }
 {}
 
 /// The law that the roles of the protocols of these problems are well formed: each identifier names its own variable, all
