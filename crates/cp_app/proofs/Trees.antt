@@ -27,10 +27,10 @@ use Rattle.cp_load.specs.declared.input.Input.{Input}
 use Rattle.cp_sexpr.specs.declared.form.Form as form
 use Rattle.std.specs.declared.alloc.Global.{Global}
 use Rattle.std.specs.Prelude.{Vec}
-use Rattle.cp_search.specs.Roots.{Root}
+use Rattle.cp_roots.specs.Roots.{Root}
 use Rattle.cp_search.specs.Unexpanded.{label_of, IsUnexpanded, LeavesNothingOut}
 use Rattle.cp_model.specs.Problem.{HasDeclaredVariables}
-use Rattle.cp_search.proofs.VariablesOfRoots.{roots_declared}
+use Rattle.cp_roots.proofs.VariablesOfRoots.{roots_declared}
 use Rattle.cp_skel.proofs.DeclaredRoles.{declared_prefixes}
 use Rattle.cp_wellformed.proofs.Problems as wellformed
 use Rattle.cp_app.specs.Headline.{IsTrueTree, TreeIsTrue, AreTrue}

@@ -2,7 +2,7 @@
 use Rattle.std.proofs.Common.{◌≡◌, ◌⊎◌, inl, inr, ℕ, ◌+◌, ◌<◌, List, Bool, true, length, Some, sym, subst, ◌∙◌, arith}
 use Rattle.cp_model.specs.Homomorphism.{Embeds}
 use Rattle.cp_model.proofs.LawEmbeddings.{embeds_same, embeds_then}
-use Rattle.cp_search.specs.Roots.{Root}
+use Rattle.cp_roots.specs.Roots.{Root}
 use Rattle.cp_search.specs.Marks.{EmbedsAt, IsCandidate}
 use Rattle.cp_search.specs.Table.{flag_at, entry_at, AreFlagsOf, IsTable}
 use Rattle.cp_search.specs.Marking.{HasShapesWithin}

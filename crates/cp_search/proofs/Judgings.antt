@@ -6,11 +6,11 @@ use Rattle.cp_model.proofs.LawLists.{in_append, in_append_right}
 use Rattle.cp_skel.specs.Ordered.{IsOrdered}
 use Rattle.cp_skel.proofs.Items.{item-found, map-length}
 use Rattle.cp_skel.specs.View.{skeleton_view}
-use Rattle.cp_search.specs.Roots.{Root as Plain}
-use Rattle.cp_search.specs.RootView.{root_view}
+use Rattle.cp_roots.specs.Roots.{Root as Plain}
+use Rattle.cp_roots.specs.RootView.{root_view}
 use Rattle.cp_search.specs.Judging.{judged_view, IsJudged, AreJudged}
 use Rattle.cp_search.specs.declared.judging.Judged.{Judged}
-use Rattle.cp_search.specs.declared.root.Root.{Root}
+use Rattle.cp_roots.specs.declared.root.Root.{Root}
 
 pub in_map : {A B : Type 0} (f : A → B) (xs : List A) (x : A) → IsIn x xs → IsIn (f x) (map f xs)
 in_map f (y ∷ xs) x here = here

@@ -13,14 +13,14 @@ use Rattle.cp_skel.specs.declared.tree.Mark.TheVariants.{Shape, Dead, Seen, Inst
 use Rattle.cp_skel.specs.declared.tree.TreeNode.{TreeNode}
 use Rattle.cp_skel.proofs.Items.{item-drop, item-there}
 use Rattle.cp_normal.proofs.Descending.{end_cases, length_with, at_place}
-use Rattle.cp_search.specs.Roots.{Root}
-use Rattle.cp_search.specs.RootView.{root_view}
+use Rattle.cp_roots.specs.Roots.{Root}
+use Rattle.cp_roots.specs.RootView.{root_view}
 use Rattle.cp_search.specs.Marks.{HasMark}
 use Rattle.cp_search.specs.Unexpanded.{label_of, IsLabelOf, AreLabelsOf, IsMarked}
 use Rattle.cp_search.specs.Judging.{judged_view, judged_nodes}
 use Rattle.cp_search.specs.Labelling.{IsLabelled, AreLabelled}
 use Rattle.cp_search.specs.declared.judging.Judged.{Judged}
-use Rattle.cp_search.specs.declared.root.Root.{Root as Program}
+use Rattle.cp_roots.specs.declared.root.Root.{Root as Program}
 use Rattle.cp_search.proofs.Judgings.{in_map, root_of}
 
 -- ---- labels one after the other

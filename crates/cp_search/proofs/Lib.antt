@@ -1,21 +1,8 @@
-pub mod NoNewVariables
-pub mod VariablesUnder
-pub mod VariablesOfForms
-pub mod VariablesOfCollapses
-pub mod InReportOrder
-pub mod VariablesOfRoots
 pub mod RootMarks
 pub mod RootShapes
 pub mod RootCovering
 pub mod RootLimits
 pub mod RootTrees
-pub mod Firsts
-pub mod CollapseMap
-pub mod PutForms
-pub mod EachCollapse
-pub mod RootsSoFar
-pub mod SoundRoots
-pub mod AllRoots
 pub mod Judgings
 pub mod Tables
 pub mod Flags
@@ -24,4 +11,3 @@ pub mod Copies
 pub mod Marked
 pub mod Labels
 pub mod Unexpanding
-pub mod FewInstances

@@ -9,7 +9,7 @@ use Rattle.cp_model.specs.Skeleton.{Skeleton}
 use Rattle.cp_model.specs.Derivable.{AllDerivable}
 use Rattle.cp_model.specs.Tree.{Mark, shape, dead, instance_of, seen, limit_steps, limit_strands, Limits}
 use Rattle.cp_derive.specs.Unrealised.{ListsUnrealised, IsUnrealisedAt}
-use Rattle.cp_search.specs.Roots.{Root}
+use Rattle.cp_roots.specs.Roots.{Root}
 use Rattle.cp_search.specs.Marks.{IsLeast, IsEarlierCopy, IsNew, IsCandidate, HasMark, dead_root, seen_before, as_shape, as_instance, above_bound, within_bound}
 use Rattle.cp_search.specs.Judging.{AreUnrealisedOf}
 use Rattle.cp_search.specs.Marking.{IsDerivableAt, FindsLeast, IsMarkOfCandidate, is_shape, is_instance}

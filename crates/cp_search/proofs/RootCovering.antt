@@ -11,8 +11,8 @@ use Rattle.cp_model.specs.Tree.{Mark, shape, dead, seen, instance_of, limit_step
 use Rattle.cp_model.proofs.LawStandings.{standing_through}
 use Rattle.cp_model.proofs.LawEmbeddings.{embeds_then}
 use Rattle.cp_completeness.proofs.Embedded.{apart_through, factors_after}
-use Rattle.cp_search.specs.Roots.{Root}
-use Rattle.cp_search.specs.Sound.{AreSound, StandsThroughRoot}
+use Rattle.cp_roots.specs.Roots.{Root}
+use Rattle.cp_roots.specs.Sound.{AreSound, StandsThroughRoot}
 use Rattle.cp_search.specs.Marks.{IsLeast, EmbedsAt, IsEarlierCopy, IsNew, IsShapeAt, HasMark, dead_root, seen_before, as_shape, as_instance, above_bound, within_bound}
 use Rattle.cp_search.specs.Unexpanded.{AreLabelsOf, IsMarked, if_left, skeletons_left}
 use Rattle.cp_search.proofs.RootMarks.{HasLabel, label_at, same_skeleton, same_mark}

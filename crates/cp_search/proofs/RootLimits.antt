@@ -6,7 +6,7 @@ use Rattle.cp_model.specs.Skeleton.{Skeleton}
 use Rattle.cp_model.specs.Derivable.{IsUnrealised}
 use Rattle.cp_model.specs.Tree.{limit_steps, limit_strands, Label, Tree, Limits, is_expanded, expanded_count, IsOpen, ReachedSteps, ReachedStrands}
 use Rattle.cp_hom.proofs.Listed.{in_item}
-use Rattle.cp_search.specs.Roots.{Root}
+use Rattle.cp_roots.specs.Roots.{Root}
 use Rattle.cp_search.specs.Unexpanded.{AreLabelsOf, IsMarked}
 use Rattle.cp_search.proofs.RootMarks.{root_of, same_skeleton, mark_is, steps_says, strands_says}
 

@@ -8,7 +8,7 @@ use Rattle.cp_model.specs.Derivable.{AllDerivable, IsUnrealised}
 use Rattle.cp_model.specs.Tree.{Mark, shape, limit_steps, limit_strands, Label, Limits}
 use Rattle.cp_model.proofs.LawLists.{item_below, item_there}
 use Rattle.cp_derive.specs.Unrealised.{IsUnrealisedAt, ListsUnrealised}
-use Rattle.cp_search.specs.Roots.{Root}
+use Rattle.cp_roots.specs.Roots.{Root}
 use Rattle.cp_search.specs.Marks.{IsShapeAt, HasMark, dead_root, seen_before, as_shape, as_instance, above_bound, within_bound}
 use Rattle.cp_search.specs.Unexpanded.{IsLabelOf, AreLabelsOf}
 

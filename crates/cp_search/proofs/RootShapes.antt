@@ -7,8 +7,8 @@ use Rattle.cp_model.specs.Standing.{IsRealised}
 use Rattle.cp_model.specs.Homomorphism.{CarriesHomomorphism, Embeds}
 use Rattle.cp_model.specs.Tree.{shape, Label, Limits}
 use Rattle.cp_soundness.proofs.Realised.{realised}
-use Rattle.cp_search.specs.Roots.{Root}
-use Rattle.cp_search.specs.Sound.{AreSound}
+use Rattle.cp_roots.specs.Roots.{Root}
+use Rattle.cp_roots.specs.Sound.{AreSound}
 use Rattle.cp_search.specs.Unexpanded.{AreLabelsOf}
 use Rattle.cp_search.proofs.RootMarks.{HasRoot, root_of, same_skeleton, mark_is, IsMarkedShape, shape_says}
 

@@ -6,8 +6,8 @@ use Rattle.cp_model.specs.Skeleton.{Skeleton}
 use Rattle.cp_model.specs.Homomorphism.{CarriesHomomorphism, IsCompleteList}
 use Rattle.cp_model.specs.Tree.{Outcome, complete, at_step_limit, at_strand_limit, limit_steps, limit_strands, Label, Tree, Limits, shapes_of, ReachedStrands, IsTrueOf}
 use Rattle.cp_hom.proofs.Listed.{in_item}
-use Rattle.cp_search.specs.Roots.{Root}
-use Rattle.cp_search.specs.Sound.{AreSound}
+use Rattle.cp_roots.specs.Roots.{Root}
+use Rattle.cp_roots.specs.Sound.{AreSound}
 use Rattle.cp_search.specs.Unexpanded.{AreLabelsOf, IsMarked, HasOutcome, some_at_step_limit, some_at_strand_limit, none_at_limit, LeavesNothingOut}
 use Rattle.cp_search.proofs.RootShapes.{are_skeletons, shapes_realised, labels_from_problem, none_embeds_in_another}
 use Rattle.cp_search.proofs.RootCovering.{left_cover, shapes_cover}

@@ -13,7 +13,7 @@ use Rattle.cp_skel.proofs.Items.{item-drop, item-there}
 use Rattle.cp_hom.specs.Maps.{map_view}
 use Rattle.cp_hom.specs.declared.mapping.Map.{Map}
 use Rattle.cp_normal.proofs.Descending.{at_place}
-use Rattle.cp_search.specs.Roots.{Root}
+use Rattle.cp_roots.specs.Roots.{Root}
 use Rattle.cp_search.specs.Marks.{EmbedsAt}
 use Rattle.cp_search.specs.Judging.{judged_view}
 use Rattle.cp_search.specs.declared.judging.Judged.{Judged}

@@ -8,9 +8,9 @@ use Rattle.cp_hom.proofs.Listed.{in_item}
 use Rattle.cp_term.specs.Table.{Declared}
 use Rattle.cp_skel.specs.Ordered.{IsOrdered}
 use Rattle.cp_skel.specs.Trees.{variables_view}
-use Rattle.cp_search.specs.Roots.{Root}
-use Rattle.cp_search.specs.Sound.{AreSound}
-use Rattle.cp_search.specs.declared.root.Root as program
+use Rattle.cp_roots.specs.Roots.{Root}
+use Rattle.cp_roots.specs.Sound.{AreSound}
+use Rattle.cp_roots.specs.declared.root.Root as program
 
 -- Sound roots are ordered.
 pub are_ordered : (protocol : Protocol) (k : Skeleton) (roots : List Root) → AreSound protocol k roots → (r : Root) → IsIn r roots → IsOrdered r.skeleton

@@ -4,8 +4,8 @@ use Rattle.cp_model.specs.Lists.{IsIn}
 use Rattle.cp_model.specs.Bundle.{Node}
 use Rattle.cp_model.specs.RunView.{node_view}
 use Rattle.cp_derive.specs.Unrealised.{ListsUnrealised}
-use Rattle.cp_search.specs.Roots.{Root}
-use Rattle.cp_search.specs.RootView.{root_view}
+use Rattle.cp_roots.specs.Roots.{Root}
+use Rattle.cp_roots.specs.RootView.{root_view}
 use Rattle.cp_search.specs.declared.judging.Judged.{Judged}
 
 -- The unrealised receptions of a root that lives; of one that is dead none are listed.

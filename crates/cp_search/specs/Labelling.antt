@@ -4,7 +4,7 @@ use Rattle.cp_model.specs.Lists.{item_at}
 use Rattle.cp_model.specs.Tree.{Mark, Limits}
 use Rattle.cp_skel.specs.Trees.{variables_view, label_view}
 use Rattle.cp_skel.specs.declared.tree.TreeNode.{TreeNode}
-use Rattle.cp_search.specs.Roots.{Root}
+use Rattle.cp_roots.specs.Roots.{Root}
 use Rattle.cp_search.specs.Marks.{HasMark}
 use Rattle.cp_search.specs.Unexpanded.{label_of}
 use Rattle.cp_search.specs.Judging.{judged_view, judged_nodes}

@@ -1,10 +1,5 @@
-pub mod Roots
-pub mod Sound
 pub mod Marks
 pub mod Unexpanded
-pub mod RootView
-pub mod FirstPlaces
-pub mod Gathering
 pub mod Table
 pub mod Judging
 pub mod Marking

@@ -3,7 +3,7 @@ use Rattle.std.specs.Prelude.{◌≡◌, ℕ, List, false, Option, Some, None}
 use Rattle.cp_model.specs.Lists.{item_at}
 use Rattle.cp_model.specs.Derivable.{AllDerivable}
 use Rattle.cp_model.specs.Tree.{Mark, shape, instance_of}
-use Rattle.cp_search.specs.Roots.{Root}
+use Rattle.cp_roots.specs.Roots.{Root}
 use Rattle.cp_search.specs.Marks.{IsLeast, IsCandidate, IsShapeAt, IsShapeWithin}
 
 -- Root number i lives, and all its receptions are derivable.

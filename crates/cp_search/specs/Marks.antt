@@ -6,7 +6,7 @@ use Rattle.cp_model.specs.Derivable.{AllDerivable}
 use Rattle.cp_model.specs.Homomorphism.{Embeds}
 use Rattle.cp_model.specs.Tree.{Mark, shape, dead, seen, instance_of, limit_steps, limit_strands, Limits}
 use Rattle.cp_derive.specs.Unrealised.{ListsUnrealised}
-use Rattle.cp_search.specs.Roots.{Root}
+use Rattle.cp_roots.specs.Roots.{Root}
 
 -- The least number of which something holds.
 pub record IsLeast (P : ℕ → Type 0) (n : ℕ) : Type 0 where

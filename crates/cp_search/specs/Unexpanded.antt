@@ -6,7 +6,7 @@ use Rattle.cp_model.specs.Bundle.{Node}
 use Rattle.cp_model.specs.Skeleton.{Skeleton}
 use Rattle.cp_model.specs.Homomorphism.{CarriesHomomorphism, IsCompleteList}
 use Rattle.cp_model.specs.Tree.{Mark, shape, limit_steps, limit_strands, Outcome, complete, at_step_limit, at_strand_limit, Label, Tree, Limits}
-use Rattle.cp_search.specs.Roots.{Root, AreRoots}
+use Rattle.cp_roots.specs.Roots.{Root, AreRoots}
 use Rattle.cp_search.specs.Marks.{HasMark}
 
 -- The label of these variables that a root gives, with its unrealised receptions and its mark.

@@ -3,11 +3,11 @@ ghost use Rattle.std.specs.Prelude.{◌≡◌, map, IfOk};
 ghost use Rattle.cp_model.specs.Lists.{IsIn};
 ghost use Rattle.cp_skel.specs.Ordered.{IsOrdered};
 ghost use Rattle.cp_skel.specs.View.{skeleton_view};
-ghost use Rattle.cp_search.specs.Roots as plain;
-ghost use Rattle.cp_search.specs.RootView.{root_view};
+ghost use Rattle.cp_roots.specs.Roots as plain;
+ghost use Rattle.cp_roots.specs.RootView.{root_view};
 ghost use Rattle.cp_search.specs.Judging.{IsJudged, AreJudged};
 
-use crate::root::Root;
+use cp_roots::Root;
 use cp_derive::unrealised;
 use cp_skel::Node;
 use std::alloc::{AllocError, Global};

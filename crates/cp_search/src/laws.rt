@@ -3,8 +3,8 @@ ghost use Rattle.std.specs.Prelude.{◌≡◌, List};
 ghost use Rattle.cp_model.specs.Strand.{Declaration, Protocol};
 ghost use Rattle.cp_model.specs.Skeleton.{Skeleton};
 ghost use Rattle.cp_model.specs.Tree.{Tree, Limits, IsTrueOf};
-ghost use Rattle.cp_search.specs.Roots.{Root};
-ghost use Rattle.cp_search.specs.Sound.{AreSound};
+ghost use Rattle.cp_roots.specs.Roots.{Root};
+ghost use Rattle.cp_roots.specs.Sound.{AreSound};
 ghost use Rattle.cp_search.specs.Unexpanded.{AreLabelsOf, HasOutcome, LeavesNothingOut};
 
 /// Where the roots of a problem are sound, the tree of the labels that they give when none may be expanded is true of the

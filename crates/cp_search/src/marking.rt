@@ -2,7 +2,7 @@
 ghost use Rattle.std.specs.Prelude.{◌≡◌, ◌↔◌, List, map, Some, IsTrue, IfOk};
 ghost use Rattle.cp_model.specs.Lists.{item_at};
 ghost use Rattle.cp_skel.specs.Trees.{limits_view, mark_view};
-ghost use Rattle.cp_search.specs.Roots as plain;
+ghost use Rattle.cp_roots.specs.Roots as plain;
 ghost use Rattle.cp_search.specs.Marks.{IsEarlierCopy, IsCandidate, IsShapeAt, IsShapeWithin, HasMark};
 ghost use Rattle.cp_search.specs.Judging.{judged_view, judged_nodes, IsJudged, AreJudged};
 ghost use Rattle.cp_search.specs.Table.{AreFlagsOf, rows_view, IsTable};

@@ -5,7 +5,7 @@ ghost use Rattle.cp_model.specs.Homomorphism.{Embeds};
 ghost use Rattle.cp_model.specs.Lists.{IsIn, item_at};
 ghost use Rattle.cp_skel.specs.Ordered.{IsOrdered};
 ghost use Rattle.cp_skel.specs.View.{skeleton_view};
-ghost use Rattle.cp_search.specs.Roots as plain;
+ghost use Rattle.cp_roots.specs.Roots as plain;
 ghost use Rattle.cp_search.specs.Judging.{judged_view};
 ghost use Rattle.cp_search.specs.Table.{flag_at, rows_view, entry_at, IsTable, TellsEmbedding};
 

@@ -9,7 +9,7 @@ ghost use Rattle.cp_skel.specs.Trees.{variables_view, limits_view, tree_view};
 ghost use Rattle.cp_search.specs.Unexpanded.{IsUnexpanded, LeavesNothingOut};
 
 use crate::labelling::tree_of;
-use crate::rooting::roots;
+use cp_roots::roots;
 use cp_skel::{Limits, Protocol, Skeleton, Tree};
 use std::alloc::{AllocError, Global};
 

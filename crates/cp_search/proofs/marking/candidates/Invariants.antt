@@ -1,5 +1,5 @@
 use Rattle.std.proofs.Common.{List}
-use Rattle.cp_search.specs.Roots.{Root}
+use Rattle.cp_roots.specs.Roots.{Root}
 use Rattle.cp_search.specs.Marks.{IsCandidate}
 use Rattle.cp_search.specs.Table.{rows_view, AreFlagsOf, IsTable}
 use Rattle.cp_search.specs.Marking.{IsDerivableAt}

@@ -1,0 +1,14 @@
+pub mod NoNewVariables
+pub mod VariablesUnder
+pub mod VariablesOfForms
+pub mod VariablesOfCollapses
+pub mod InReportOrder
+pub mod VariablesOfRoots
+pub mod Firsts
+pub mod CollapseMap
+pub mod PutForms
+pub mod EachCollapse
+pub mod RootsSoFar
+pub mod SoundRoots
+pub mod AllRoots
+pub mod FewInstances

@@ -1,0 +1,135 @@
+-- Normal forms that are put behind other roots.
+use Rattle.std.proofs.Common.{◌≡◌, ◌⊎◌, inl, inr, ℕ, List, [], ◌∷◌, ◌++◌, map, length, reverse, nat_eq, true, false, refl, sym, ap, ap₂, ◌∙◌, subst, append_assoc, arith, eq-eqb, eqb-true}
+use Rattle.std.proofs.lemmas.List.{reverse-append, reverse-reverse, map-append, append-nil}
+use Rattle.cp_model.specs.Lists.{IsIn, here, there}
+use Rattle.cp_model.specs.Skeleton.{Skeleton}
+use Rattle.cp_model.specs.Tree.{Operation, by_problem, by_collapse}
+use Rattle.cp_model.proofs.LawLists.{in_append, in_append_left, in_append_right}
+use Rattle.cp_term.specs.Table.{Declared}
+use Rattle.cp_skel.specs.Trees.{operation_view}
+use Rattle.cp_skel.specs.View.{skeleton_view}
+use Rattle.cp_skel.specs.declared.skeleton.Skeleton.{Skeleton as Program}
+use Rattle.cp_skel.specs.declared.tree.Operation.{Operation as How}
+use Rattle.cp_normal.proofs.Descending.{only}
+use Rattle.cp_roots.specs.declared.root.Root.{Root}
+use Rattle.cp_roots.specs.FirstPlaces.{firsts}
+use Rattle.cp_roots.specs.RootView.{root_view}
+use Rattle.cp_roots.specs.Roots as plain
+use Rattle.cp_roots.specs.Roots.{in_report_order, living, first_roots}
+use Rattle.cp_roots.specs.Gathering.{AllHave, RootsHave, AreNormalForms, PutsForms, PutsCollapse, AreFirstRoots}
+
+-- The root that is made so, of this skeleton.
+abbrev pub root_of : How → Program → Root
+root_of by k = record { operation = by; skeleton = k; dead = false }
+
+-- ---- lists
+
+pub next_first : {A : Type 0} (left rest : List A) (x : A) → left ≡ rest ++ x ∷ [] → reverse left ≡ x ∷ reverse rest
+next_first left rest x e = ap reverse e ∙ reverse-append rest (x ∷ [])
+
+-- Roots with one more.
+have_more : (variables : List Declared) (old new : List Root) (r : Root) → new ≡ old ++ r ∷ [] → r.skeleton.variables ≡ variables → RootsHave variables old → RootsHave variables new
+have_more variables old new r e same have s i = by (in_append old (r ∷ []) (subst (IsIn s) e i))
+  where
+    by : IsIn s old ⊎ IsIn s (r ∷ []) → s.skeleton.variables ≡ variables
+    by (inl j) = have s j
+    by (inr j) = subst (λ (m : Root). m.skeleton.variables ≡ variables) (sym (only j)) same
+
+have_last : (variables : List Declared) (left rest : List Program) (k : Program) → left ≡ rest ++ k ∷ [] → AllHave variables left → k.variables ≡ variables
+have_last variables left rest k e have = have k (subst (IsIn k) (sym e) (in_append_right rest here))
+
+have_front : (variables : List Declared) (left rest : List Program) (k : Program) → left ≡ rest ++ k ∷ [] → AllHave variables left → AllHave variables rest
+have_front variables left rest k e have m i = have m (subst (IsIn m) (sym e) (in_append_left (k ∷ []) i))
+
+pub back_again : {A : Type 0} (x : A) (xs : List A) → IsIn x (reverse xs) → IsIn x xs
+back_again x [] i = i
+back_again x (y ∷ ys) i = by (in_append (reverse ys) (y ∷ []) (subst (IsIn x) (reverse-append (y ∷ []) ys) i)) (back_again x ys)
+  where
+    by : IsIn x (reverse ys) ⊎ IsIn x (y ∷ []) → (IsIn x (reverse ys) → IsIn x ys) → IsIn x (y ∷ ys)
+    by (inl j) back = there (back j)
+    by (inr j) back = subst (λ z. IsIn z (y ∷ ys)) (sym (only j)) here
+
+pub have_reversed : (variables : List Declared) (all ks : List Program) → all ≡ reverse ks → AllHave variables ks → AllHave variables all
+have_reversed variables all ks e have k i = have k (back_again k ks (subst (IsIn k) e i))
+
+-- ---- one after the other
+
+-- Of the forms, which are taken from the end, those that are left are still to be put.
+pub record PutsSoFar (by : Operation) (all left : List Program) (start now : List Root) : Type 0 where
+  pub roots : map root_view now ++ map (living by) (map skeleton_view (reverse left)) ≡ map root_view start ++ map (living by) (map skeleton_view (reverse all))
+  pub have : (variables : List Declared) → RootsHave variables start → AllHave variables all → RootsHave variables now
+  pub left_have : (variables : List Declared) → AllHave variables all → AllHave variables left
+
+pub none_put : (by : Operation) (all : List Program) (roots : List Root) → PutsSoFar by all all roots roots
+none_put by all roots = record { roots = refl; have = λ variables old forms. old; left_have = λ variables forms. forms }
+
+-- The last of those that are left is put with its assumptions listed.
+pub next_put : (by : Operation) (all left rest : List Program) (start now new : List Root) (how : How) (k in_order : Program) → PutsSoFar by all left start now → left ≡ rest ++ k ∷ [] →
+    skeleton_view in_order ≡ in_report_order (skeleton_view k) → in_order.variables ≡ k.variables → operation_view how ≡ by → new ≡ now ++ root_of how in_order ∷ [] → PutsSoFar by all rest start new
+next_put by all left rest start now new how k in_order part popped same named made e = record {
+  roots =
+      ap (λ (rs : List plain.Root). rs ++ map (living by) (map skeleton_view (reverse rest)))
+      (ap (map root_view) e ∙ map-append root_view now (root_of how in_order ∷ []) ∙ ap₂ (λ o l. map root_view now ++ record { operation = o; skeleton = l; dead = false } ∷ []) made same)
+      ∙ append_assoc (map root_view now) (living by (skeleton_view k) ∷ []) (map (living by) (map skeleton_view (reverse rest)))
+      ∙ ap (λ (ks : List Program). map root_view now ++ map (living by) (map skeleton_view ks)) (sym (next_first left rest k popped))
+      ∙ part.roots;
+  have = λ variables old forms. have_more variables now new (root_of how in_order) e (named ∙ have_last variables left rest k popped (part.left_have variables forms)) (part.have variables old forms);
+  left_have = λ variables forms. have_front variables left rest k popped (part.left_have variables forms);
+}
+
+pub all_put : (by : Operation) (forms all left : List Program) (start now : List Root) → all ≡ reverse forms → left ≡ [] → PutsSoFar by all left start now → PutsForms by forms start now
+all_put by forms all left start now e done part = record {
+  roots =
+      sym (append-nil (map root_view now))
+      ∙ ap (λ (ks : List Program). map root_view now ++ map (living by) (map skeleton_view (reverse ks))) (sym done)
+      ∙ part.roots
+      ∙ ap (λ (ks : List Program). map root_view start ++ map (living by) (map skeleton_view ks)) (ap reverse e ∙ reverse-reverse forms);
+  variables = λ variables old have. part.have variables old (have_reversed variables all forms e have);
+}
+
+-- ---- the first roots, and those of a collapse
+
+pub none_there : {A : Type 0} (xs : List A) (n : ℕ) → n ≡ length xs → nat_eq n 0 ≡ true → xs ≡ []
+none_there [] n e t = refl
+none_there (x ∷ xs) n e t = let z : n ≡ 0 = eqb-true n 0 t in absurd (omega (arith, e, z))
+
+some_there : {A : Type 0} (xs : List A) (n : ℕ) → n ≡ length xs → nat_eq n 0 ≡ false → xs ≡ [] → ⊥
+some_there xs n e t none = let z : true ≡ false = sym (eq-eqb n 0 (e ∙ ap length none)) ∙ t in cc
+
+module _ (k : Program) (copied : Program) (same : skeleton_view copied ≡ skeleton_view k) (named : copied.variables ≡ k.variables) where
+  -- The problem itself, dead.
+  pub dead_root : (another : Program) (how : How) (forms : List Program) (empty roots : List Root) → forms ≡ [] → AreNormalForms (skeleton_view copied) (map skeleton_view forms) → skeleton_view another ≡ skeleton_view k → another.variables ≡ k.variables →
+      operation_view how ≡ by_problem → empty ≡ [] → roots ≡ empty ++ record { operation = how; skeleton = another; dead = true } ∷ [] → AreFirstRoots (skeleton_view k) k.variables roots
+  dead_root another how forms empty roots none are alike names made start e =
+      let r : Root = record { operation = how; skeleton = another; dead = true } in
+      let one : roots ≡ r ∷ [] = e ∙ ap (λ (rs : List Root). rs ++ r ∷ []) start in
+      record {
+        forms = [];
+        are_forms = subst (λ (l : Skeleton). AreNormalForms l []) same (subst (λ (ls : List Program). AreNormalForms (skeleton_view copied) (map skeleton_view ls)) none are);
+        whole = ap (map root_view) one ∙ ap (λ o. record { operation = o; skeleton = skeleton_view another; dead = true } ∷ []) made ∙ ap (λ (l : Skeleton). record { operation = by_problem; skeleton = l; dead = true } ∷ []) alike;
+        same_variables = have_more k.variables empty roots r e names (λ s i. elim (subst (IsIn s) start i) [ ]);
+      }
+
+  -- The normal forms, where there is one.
+  some_living : (forms : List Program) (empty roots : List Root) → (forms ≡ [] → ⊥) → AreNormalForms (skeleton_view copied) (map skeleton_view forms) → ((r : Program) → IsIn r forms → r.variables ≡ copied.variables) →
+      empty ≡ [] → PutsForms by_problem forms empty roots → AreFirstRoots (skeleton_view k) k.variables roots
+  some_living [] empty roots none are names start puts = absurd (none refl)
+  some_living (f ∷ forms) empty roots none are names start puts = record {
+    forms = map skeleton_view (f ∷ forms);
+    are_forms = subst (λ (l : Skeleton). AreNormalForms l (map skeleton_view (f ∷ forms))) same are;
+    whole = puts.roots ∙ ap (λ (rs : List Root). map root_view rs ++ map (living by_problem) (map skeleton_view (f ∷ forms))) start;
+    same_variables = puts.variables k.variables (λ s i. elim (subst (IsIn s) start i) [ ]) (λ r i. names r i ∙ named);
+  }
+
+  pub living_roots : (forms : List Program) (n : ℕ) (empty roots : List Root) → n ≡ length forms → nat_eq n 0 ≡ false → AreNormalForms (skeleton_view copied) (map skeleton_view forms) → ((r : Program) → IsIn r forms → r.variables ≡ copied.variables) →
+      empty ≡ [] → PutsForms by_problem forms empty roots → AreFirstRoots (skeleton_view k) k.variables roots
+  living_roots forms n empty roots count test = some_living forms empty roots (some_there forms n count test)
+
+pub collapse_put : (l : Program) (by : Operation) (partition places : List ℕ) (forms : List Program) (old new : List Root) → AreNormalForms (skeleton_view l) (map skeleton_view forms) → ((r : Program) → IsIn r forms → r.variables ≡ l.variables) →
+    places ≡ l.from_problem.strands.items → partition ≡ firsts places → by ≡ by_collapse partition → PutsForms by forms old new → PutsCollapse l old new
+collapse_put l by partition places forms old new are names at read made puts = record {
+  forms = map skeleton_view forms;
+  are_forms = are;
+  roots = puts.roots ∙ ap (λ o. map root_view old ++ map (living o) (map skeleton_view forms)) (made ∙ ap by_collapse (read ∙ ap firsts at));
+  variables = λ variables have same. puts.variables variables have (λ r i. names r i ∙ same);
+}

@@ -1,0 +1,5 @@
+pub mod Roots
+pub mod Sound
+pub mod RootView
+pub mod FirstPlaces
+pub mod Gathering

@@ -1,5 +1,0 @@
-use Rattle.cp_search.proofs.VariablesOfRoots.{roots_declared}
-use Rattle.cp_search.proofs.variables_law.roots_have_declared_variables.Goals as goal
-
-pub returns : goal.returns
-returns c = roots_declared
