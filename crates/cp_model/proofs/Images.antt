@@ -30,3 +30,7 @@ into_mapped f (y ∷ ys) x (there i) = there (into_mapped f ys x i)
 
 pub mapped_images : {A B : Type 0} (f : A → B) (xs : List A) → AreImages f xs (map f xs)
 mapped_images f xs y = (in_mapped f xs y, λ r. subst (λ z. IsIn z (map f xs)) r.image (into_mapped f xs r.item r.listed))
+
+-- What a function makes of some of the items is among what it makes of all.
+pub images_within : {A B : Type 0} (f : A → B) (xs all : List A) (ys zs : List B) → AreImages f xs ys → AreImages f all zs → ((x : A) → IsIn x xs → IsIn x all) → (y : B) → IsIn y ys → IsIn y zs
+images_within f xs all ys zs p q within y i = let r = (p y).0 i in (q y).1 (record { item = r.item; listed = within r.item r.listed; image = r.image })

@@ -20,3 +20,4 @@ pub mod OriginTrail
 pub mod SameTests
 pub mod Images
 pub mod StatedItself
+pub mod StatedStays
