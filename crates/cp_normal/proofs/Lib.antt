@@ -26,6 +26,7 @@ pub mod Fewer
 pub mod Reaching
 pub mod Keeping
 pub mod Homomorphic
+pub mod StatedForms
 pub mod Greatest
 pub mod Heard
 pub mod Strayed
@@ -38,6 +39,7 @@ pub mod Ranked
 pub mod StrayedText
 pub mod AssumptionImages
 pub mod Merged
+pub mod StatedCollapse
 pub mod MergedSkeletons
 pub mod Lowest
 pub mod StandingPartition

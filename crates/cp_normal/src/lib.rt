@@ -33,7 +33,9 @@ mod tests;
 mod valuing;
 
 pub use carrying::carries_non_originating;
-pub use collapsing::{collapses_are_determined, collapses_are_listed, collapses_cover};
+pub use collapsing::{
+    collapses_are_determined, collapses_are_listed, collapses_cover, collapses_keep_what_is_stated,
+};
 pub use examples::{stray_text_example, two_strands_of_one_role_example};
 pub use identifying::collapses;
 pub use laws::{
