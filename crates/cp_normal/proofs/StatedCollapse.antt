@@ -1,5 +1,5 @@
 -- A collapse of a skeleton that keeps what its problem states keeps it too.
-use Rattle.std.proofs.Common.{◌≡◌, ◌↔◌, ◌<◌, ◌+◌, ℕ, List, Some, length, map, sym, ap, ◌∙◌, subst, arith}
+use Rattle.std.proofs.Common.{◌≡◌, ◌↔◌, ◌<◌, ◌+◌, ℕ, List, Some, length, sym, ap, ◌∙◌, subst, arith}
 use Rattle.cp_model.specs.Lists.{item_at, IsIn}
 use Rattle.cp_model.specs.Term.{Variable, AtomTerm, variables_of_atom, Term, Substitution, apply_to, apply_to_atom}
 use Rattle.cp_model.specs.Strand.{Event, send, recv, Declaration, Protocol}

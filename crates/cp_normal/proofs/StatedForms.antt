@@ -1,5 +1,5 @@
 -- A normal form of a skeleton that keeps what its problem states keeps it too.
-use Rattle.std.proofs.Common.{◌≡◌, ◌≤◌, List, length, refl, sym, ap, subst, le_refl, inl}
+use Rattle.std.proofs.Common.{◌≤◌, List, length, sym, subst, le_refl, inl, arith}
 use Rattle.cp_model.specs.Lists.{IsIn}
 use Rattle.cp_model.specs.Strand.{Declaration}
 use Rattle.cp_model.specs.Skeleton.{SkeletonStrand, Assumptions, Skeleton}
@@ -8,12 +8,11 @@ use Rattle.cp_model.specs.Homomorphism.{CarriesHomomorphism}
 use Rattle.cp_model.specs.Stated.{KeepsStated}
 use Rattle.cp_model.proofs.StatedStays.{stated_stays}
 use Rattle.cp_completeness.specs.Normal.{skeleton_under}
-use Rattle.cp_completeness.proofs.Mapped.{carried_under}
 use Rattle.cp_completeness.proofs.StatedSteps.{stated_under, stated_with_pairs}
 use Rattle.cp_normal.specs.Agreeing.{AreSameStrands, no_strands, same_strands, SaysTheSame}
-use Rattle.cp_normal.specs.Narrowing.{IsNarrowed, NarrowsTo, none, one, IsNormalFormOf}
+use Rattle.cp_normal.specs.Narrowing.{NarrowsTo, none, one, IsNormalFormOf}
 use Rattle.cp_normal.proofs.SameFacts.{same_before}
-use Rattle.cp_normal.proofs.Homomorphic.{narrowed_carries, narrows_carries}
+use Rattle.cp_normal.proofs.Homomorphic.{narrowed_carries}
 
 as_many : {ss ts : List SkeletonStrand} → AreSameStrands ss ts → length ss ≤ length ts
 as_many no_strands = le_refl 0
