@@ -67,3 +67,10 @@ pub mod Putting
 pub mod Tallest
 pub mod Collected
 pub mod Ending
+pub mod NoNewVariables
+pub mod VariablesUnder
+pub mod VariablesOfForms
+pub mod VariablesOfCollapses
+pub mod Within
+pub mod FormsOf
+pub mod BySubstitution

@@ -127,12 +127,12 @@ module _ (protocol : Protocol) (variables : List Declaration) (problem k l : Ske
   own_pairs : (r : OrderPair) → IsIn r l.from_problem.pairs ↔ (IsImageOfOne (pair_image last) problem.from_problem.pairs r × (r.earlier.strand ≡ r.later.strand → ⊥))
   own_pairs r = (
     λ i. let h = (c.from_problem.pairs r).0 i in
-    let o = ((keeps.pairs h.0.0).0 h.0.1).0 in
-    (record { item = o.item; listed = o.listed; image = pair_goes o.item o.listed ∙ ap (pair_in p) o.image ∙ h.0.2 }, h.1),
+        let o = ((keeps.pairs h.0.0).0 h.0.1).0 in
+        (record { item = o.item; listed = o.listed; image = pair_goes o.item o.listed ∙ ap (pair_in p) o.image ∙ h.0.2 }, h.1),
     λ h. let o = h.0 in
-    let q = pair_image first o.item in
-    let e : pair_in p q ≡ r = sym (pair_goes o.item o.listed) ∙ o.image in
-    (c.from_problem.pairs r).1 ((q, (keeps.pairs q).1 (record { item = o.item; listed = o.listed; image = λ j. q }, was_between q r e h.1), e), h.1),
+        let q = pair_image first o.item in
+        let e : pair_in p q ≡ r = sym (pair_goes o.item o.listed) ∙ o.image in
+        (c.from_problem.pairs r).1 ((q, (keeps.pairs q).1 (record { item = o.item; listed = o.listed; image = λ j. q }, was_between q r e h.1), e), h.1),
   )
 
   pair_before : (r : OrderPair) → IsIn r l.from_problem.pairs → Before l r.earlier r.later
