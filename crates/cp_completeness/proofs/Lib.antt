@@ -8,6 +8,7 @@ pub mod Losing
 pub mod Weaker
 pub mod Skeletons
 pub mod Mapped
+pub mod StatedSteps
 pub mod Spoken
 pub mod Embedded
 pub mod Sources

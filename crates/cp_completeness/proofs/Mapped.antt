@@ -170,7 +170,7 @@ module _ (variables : List Declaration) (problem k : Skeleton) (s : Substitution
   values : map (apply_to before) (variable_terms 0 variables) ≡ k.from_problem.values
   values = ap (map (apply_to before)) (sym own.values) ∙ carries.values
 
-  agree_declared : (x : Variable) → IsDeclared variables x → apply_to_atom (composed before s) (atom_of_variable x) ≡ apply_to_atom after_all (atom_of_variable x)
+  pub agree_declared : (x : Variable) → IsDeclared variables x → apply_to_atom (composed before s) (atom_of_variable x) ≡ apply_to_atom after_all (atom_of_variable x)
   agree_declared x is =
       let old : item_at k.from_problem.values x.number ≡ Some (apply_to before (atom_term (atom_of_variable x))) =
       subst (λ (ts : List Term). item_at ts x.number ≡ Some (apply_to before (atom_term (atom_of_variable x)))) values (map_of_item (apply_to before) (variable_terms 0 variables) x.number (atom_term (atom_of_variable x)) (declared_at variables x is)) in
@@ -202,7 +202,7 @@ module _ (problem k : Skeleton) (pairs : List OrderPair) (all : (p : OrderPair) 
   step_more (along_strand_of ev) = along_strand_of ev
   step_more (along_pair {p = p} inp) = along_pair (all p inp)
 
-  before_more : {x y : Node} → Before k x y → Before (with_pairs k pairs) x y
+  pub before_more : {x y : Node} → Before k x y → Before (with_pairs k pairs) x y
   before_more (one_step p) = one_step (step_more p)
   before_more (more_steps p q) = more_steps (step_more p) (before_more q)
 

@@ -17,6 +17,6 @@ pub use laws::{
 pub use steps::{
     branches_lose_no_standing, homomorphisms_stay, no_results_where_it_stands_nowhere,
     origin_pairs_lose_no_standing, skeletons_stay_skeletons, steps_compose,
-    weaker_loses_no_standing,
+    weaker_loses_no_standing, what_is_stated_stays,
 };
 pub use testing::{authentication_test, opened_text_example};

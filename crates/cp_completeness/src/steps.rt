@@ -9,6 +9,7 @@ ghost use Rattle.cp_model.specs.Standing.{Standing, StandsIn, StandsApart};
 ghost use Rattle.cp_model.specs.Homomorphism.{CarriesHomomorphism, FactorsThrough, Covers};
 ghost use Rattle.cp_model.specs.Problem.{IsPointOfView};
 ghost use Rattle.cp_model.specs.Derivable.{OriginatesAtTerm};
+ghost use Rattle.cp_model.specs.Stated.{KeepsStated};
 ghost use Rattle.cp_completeness.specs.Normal.{IsCarriedAt, with_pairs, AddOnlyOriginPairs, skeleton_under, LosesNoStanding, AreBranches, SaysNoMore};
 
 /// No result at all loses no standing: where some node carries a non-originating value; where a unique value has two
@@ -59,4 +60,10 @@ pub fn skeletons_stay_skeletons()
 pub fn homomorphisms_stay()
     ensures substitution { (variables : List Declaration) (problem k : Skeleton) (s : Substitution) → IsPointOfView variables problem → CarriesHomomorphism problem k → CarriesHomomorphism problem (skeleton_under s k) }
     ensures pairs { (problem k : Skeleton) (pairs : List OrderPair) → ((p : OrderPair) → IsIn p k.pairs → IsIn p pairs) → CarriesHomomorphism problem k → CarriesHomomorphism problem (with_pairs k pairs) }
+{}
+
+/// A skeleton that keeps what its problem states keeps it under a substitution, and with more pairs.
+pub fn what_is_stated_stays()
+    ensures substitution { (variables : List Declaration) (problem k : Skeleton) (s : Substitution) → IsPointOfView variables problem → CarriesHomomorphism problem k → KeepsStated problem k → KeepsStated problem (skeleton_under s k) }
+    ensures pairs { (problem k : Skeleton) (pairs : List OrderPair) → ((p : OrderPair) → IsIn p k.pairs → IsIn p pairs) → KeepsStated problem k → KeepsStated problem (with_pairs k pairs) }
 {}

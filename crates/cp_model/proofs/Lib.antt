@@ -18,3 +18,6 @@ pub mod RunLinks
 pub mod FirstCarrying
 pub mod OriginTrail
 pub mod SameTests
+pub mod Images
+pub mod StatedItself
+pub mod StatedStays

@@ -24,6 +24,6 @@ pub use message::Msg;
 pub use origin::origin_before;
 pub use single::{
     one_sending_strand_example, one_sending_strand_is_realised,
-    one_strand_is_its_own_complete_list, skeleton_maps_from_itself,
+    one_strand_is_its_own_complete_list, skeleton_keeps_what_it_states, skeleton_maps_from_itself,
 };
 pub use strand::{Event, Node, Strand};

@@ -5,8 +5,9 @@ ghost use Rattle.cp_model.specs.Example.{example_protocol, example_role, example
 ghost use Rattle.cp_model.specs.Homomorphism.{CarriesHomomorphism, IsCompleteList};
 ghost use Rattle.cp_model.specs.Problem.{IsPointOfView};
 ghost use Rattle.cp_model.specs.Single.{IsOneSendingStrand};
-ghost use Rattle.cp_model.specs.Skeleton.{Skeleton, instance};
+ghost use Rattle.cp_model.specs.Skeleton.{IsSkeleton, Skeleton, instance};
 ghost use Rattle.cp_model.specs.Standing.{IsRealised};
+ghost use Rattle.cp_model.specs.Stated.{KeepsStated};
 ghost use Rattle.cp_model.specs.Strand.{Declaration, Protocol, Role};
 ghost use Rattle.cp_model.specs.Term.{Substitution};
 
@@ -26,6 +27,11 @@ pub fn one_strand_is_its_own_complete_list()
 /// The law that the skeleton of a problem carries a homomorphism from itself, its own map.
 pub fn skeleton_maps_from_itself()
     ensures { (variables : List Declaration) (k : Skeleton) → IsPointOfView variables k → CarriesHomomorphism k k }
+{}
+
+/// The law that the skeleton of a problem keeps what it states itself.
+pub fn skeleton_keeps_what_it_states()
+    ensures { (protocol : Protocol) (variables : List Declaration) (k : Skeleton) → IsSkeleton protocol k → IsPointOfView variables k → KeepsStated k k }
 {}
 
 /// The law that a skeleton meets the premises of the laws above: an instance of a role that sends a text under a

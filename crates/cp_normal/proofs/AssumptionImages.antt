@@ -21,7 +21,7 @@ pub record AreAssumptionsIn (p : List ℕ) (f : Substitution) (a b : Assumptions
   pub unique : AreImages (unique_in p f) a.uniquely_originating b.uniquely_originating
 
 -- Images that are gathered, each once, are exactly the images.
-gathered_images : {A B : Type 0} {has : List B → B → Bool} {onto : List B → List B → List B} → IsGathering has onto → (f : A → B) (xs : List A) → AreImages f xs (onto [] (map f xs))
+pub gathered_images : {A B : Type 0} {has : List B → B → Bool} {onto : List B → List B → List B} → IsGathering has onto → (f : A → B) (xs : List A) → AreImages f xs (onto [] (map f xs))
 gathered_images g f xs y = (
   λ i. in_map f y xs (⊎_elim (λ j. elim j [ ]) (λ j. j) (onto-only g [] (map f xs) y i)),
   λ h. onto-takes g [] (map f xs) y (subst (λ z. IsIn z (map f xs)) h.2 (into_map f h.1)),

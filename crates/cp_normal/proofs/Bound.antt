@@ -7,7 +7,7 @@ use Rattle.cp_unify.proofs.Members.{in_cases}
 use Rattle.cp_unify.proofs.Deciding.{occurs_tells}
 use Rattle.cp_unify.proofs.Occurring.{Leaves, leaves_variables_of, leaves_atom}
 
-own_variable : (s : Sort) (n : ℕ) → (let x : Variable = record { sort = s; number = n } in IsIn x (variables_of_atom (atom_of_variable x)))
+pub own_variable : (s : Sort) (n : ℕ) → (let x : Variable = record { sort = s; number = n } in IsIn x (variables_of_atom (atom_of_variable x)))
 own_variable text_sort n = here
 own_variable datum_sort n = here
 own_variable name_sort n = here
@@ -26,7 +26,7 @@ module _ (s : Substitution) (idempotent : (t : Term) → apply_to s (apply_to s 
   pub gone : (x : Variable) → (Leaves s x → ⊥) → (t : Term) → IsIn x (variables_of (apply_to s t)) → ⊥
   gone x taken t i = taken (leaves_variables_of s (apply_to s t) (idempotent t) x i)
 
-  left_or_taken : (x : Variable) → Leaves s x ⊎ (Leaves s x → ⊥)
+  pub left_or_taken : (x : Variable) → Leaves s x ⊎ (Leaves s x → ⊥)
   left_or_taken x = elim (occurs_tells (variables_of_atom (apply_to_atom s (atom_of_variable x))) x) [
     | inl p ↦ inl (leaves_variables_of s (apply_to s (atom_term (atom_of_variable x))) (idempotent (atom_term (atom_of_variable x))) x p.1)
     | inr p ↦ inr (λ left. p.1 (subst (λ (u : AtomTerm). IsIn x (variables_of_atom u)) (sym left) (own_variable x.sort x.number)))

@@ -44,7 +44,7 @@ module _ (problem k l : Skeleton) (s : SaysTheSame k l) where
   }
 
 module _ (variables : List Declaration) (problem : Skeleton) (own : IsPointOfView variables problem) where
-  narrowed_carries : (k l : Skeleton) → IsNarrowed k l → CarriesHomomorphism problem k → CarriesHomomorphism problem l
+  pub narrowed_carries : (k l : Skeleton) → IsNarrowed k l → CarriesHomomorphism problem k → CarriesHomomorphism problem l
   narrowed_carries k l s c = same_carries problem (skeleton_under s.unifier k) l s.same (carried_under variables problem k s.unifier own c)
 
   pub narrows_carries : {k l : Skeleton} → NarrowsTo k l → CarriesHomomorphism problem k → CarriesHomomorphism problem l

@@ -26,6 +26,7 @@ pub mod Fewer
 pub mod Reaching
 pub mod Keeping
 pub mod Homomorphic
+pub mod StatedForms
 pub mod Greatest
 pub mod Heard
 pub mod Strayed
@@ -38,6 +39,7 @@ pub mod Ranked
 pub mod StrayedText
 pub mod AssumptionImages
 pub mod Merged
+pub mod StatedCollapse
 pub mod MergedSkeletons
 pub mod Lowest
 pub mod StandingPartition
@@ -65,3 +67,10 @@ pub mod Putting
 pub mod Tallest
 pub mod Collected
 pub mod Ending
+pub mod NoNewVariables
+pub mod VariablesUnder
+pub mod VariablesOfForms
+pub mod VariablesOfCollapses
+pub mod Within
+pub mod FormsOf
+pub mod BySubstitution

@@ -99,10 +99,10 @@ module _ (g : Assignment) (k m : Skeleton) (step : IsNarrowed k m) (r : Substitu
       ∙ ap (value_of g) message
 
 -- The substitution of the steps is solved where it leaves the values.
-solved_unchanged : (g : Assignment) (t : Term) → value_of (after g unchanged) t ≡ value_of g t
+pub solved_unchanged : (g : Assignment) (t : Term) → value_of (after g unchanged) t ≡ value_of g t
 solved_unchanged g t = value_after g unchanged t ∙ ap (value_of g) (term_unchanged t)
 
-solved_both : (g : Assignment) (s r : Substitution) → ((t : Term) → value_of (after g s) t ≡ value_of g t) → ((t : Term) → value_of (after g r) t ≡ value_of g t) → (t : Term) → value_of (after g (composed s r)) t ≡ value_of g t
+pub solved_both : (g : Assignment) (s r : Substitution) → ((t : Term) → value_of (after g s) t ≡ value_of g t) → ((t : Term) → value_of (after g r) t ≡ value_of g t) → (t : Term) → value_of (after g (composed s r)) t ≡ value_of g t
 solved_both g s r p q t =
     value_after g (composed s r) t
     ∙ ap (value_of g) (term_composed s r t)

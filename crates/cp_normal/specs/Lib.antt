@@ -18,3 +18,4 @@ pub mod Extending
 pub mod CollapsingExample
 pub mod Merging
 pub mod Partials
+pub mod BySubstitution

@@ -1,12 +1,14 @@
 // Laws of collapses: each stands as the contract of a function that does nothing.
 ghost use Rattle.std.specs.Prelude.{◌≡◌, ◌⊎◌, ℕ, List, ◌∷◌};
-ghost use Rattle.cp_model.specs.Strand.{Protocol};
+ghost use Rattle.cp_model.specs.Strand.{Declaration, Protocol};
 ghost use Rattle.cp_model.specs.Term.{Term, apply_to};
 ghost use Rattle.cp_model.specs.Bundle.{Bundle, IsBundle};
 ghost use Rattle.cp_model.specs.Given.{listed};
 ghost use Rattle.cp_model.specs.Skeleton.{Skeleton, IsSkeleton};
 ghost use Rattle.cp_model.specs.Standing.{Standing, StandsIn, StandsApart};
-ghost use Rattle.cp_model.specs.Homomorphism.{IsHomomorphism, IsCompleteList};
+ghost use Rattle.cp_model.specs.Homomorphism.{CarriesHomomorphism, IsHomomorphism, IsCompleteList};
+ghost use Rattle.cp_model.specs.Problem.{IsPointOfView};
+ghost use Rattle.cp_model.specs.Stated.{KeepsStated};
 ghost use Rattle.cp_normal.specs.Collapsing.{onto_blocks, IsCollapsed, HasNoCycle, IsImpossible, IsCollapse, AreCollapses, StandsThroughCollapse};
 
 /// The assumptions of a skeleton whose strands are merged by a partition are in the order in which a report lists them.
@@ -31,4 +33,10 @@ pub fn collapses_are_determined()
     ensures possible { (k l : Skeleton) (p : List ℕ) → IsCollapse k p l → IsImpossible k p → ⊥ }
     ensures partitions { (k : Skeleton) (ls ms : List Skeleton) → (a : AreCollapses k ls) → (b : AreCollapses k ms) → a.partitions ≡ b.partitions }
     ensures unifiers { (k l m : Skeleton) (p : List ℕ) → (c : IsCollapsed k p l) → (d : IsCollapsed k p m) → (u : Term) → apply_to c.unifier u ≡ apply_to d.unifier u }
+{}
+
+/// A skeleton whose strands are merged by a partition keeps what a problem states itself, where the skeleton does and
+/// carries a homomorphism from the problem.
+pub fn collapses_keep_what_is_stated()
+    ensures { (protocol : Protocol) (variables : List Declaration) (problem k l : Skeleton) (p : List ℕ) → IsSkeleton protocol problem → IsPointOfView variables problem → IsSkeleton protocol k → CarriesHomomorphism problem k → IsCollapsed k p l → KeepsStated problem k → KeepsStated problem l }
 {}

@@ -7,6 +7,7 @@ ghost use Rattle.cp_model.specs.Skeleton.{OrderPair, Skeleton, IsSkeleton};
 ghost use Rattle.cp_model.specs.Standing.{Standing, StandsIn};
 ghost use Rattle.cp_model.specs.Homomorphism.{CarriesHomomorphism};
 ghost use Rattle.cp_model.specs.Problem.{IsPointOfView};
+ghost use Rattle.cp_model.specs.Stated.{KeepsStated};
 ghost use Rattle.cp_model.specs.Derivable.{KeepsAssumptions};
 ghost use Rattle.cp_completeness.specs.Normal.{skeleton_under, AddOnlyOriginPairs, LosesNoStanding};
 ghost use Rattle.cp_normal.specs.Agreeing.{SaysTheSame};
@@ -34,13 +35,15 @@ pub fn unifiers_are_determined()
 {}
 
 /// A normal form of a skeleton over a protocol is one, and is a normal form of itself; it carries a homomorphism from
-/// the problem where the skeleton does; and where a skeleton is normal its assumptions are true of it. What is narrowed
-/// by steps is the skeleton under one substitution, strand by strand at its place; and where both stand in a bundle by
-/// one standing, that standing solves the substitution: each term keeps its value under it.
+/// the problem where the skeleton does, and then keeps what the problem states where the skeleton does; and where a
+/// skeleton is normal its assumptions are true of it. What is narrowed by steps is the skeleton under one substitution,
+/// strand by strand at its place; and where both stand in a bundle by one standing, that standing solves the
+/// substitution: each term keeps its value under it.
 pub fn normal_forms_keep_what_is_stated()
     ensures skeleton { (protocol : Protocol) (k r : Skeleton) → IsNormalFormOf k r → IsSkeleton protocol k → IsSkeleton protocol r }
     ensures itself { (k r : Skeleton) → IsNormalFormOf k r → IsNormalFormOf r r }
     ensures homomorphism { (variables : List Declaration) (problem k r : Skeleton) → IsPointOfView variables problem → IsNormalFormOf k r → CarriesHomomorphism problem k → CarriesHomomorphism problem r }
+    ensures stated { (variables : List Declaration) (problem k r : Skeleton) → IsPointOfView variables problem → IsNormalFormOf k r → CarriesHomomorphism problem k → KeepsStated problem k → KeepsStated problem r }
     ensures assumptions { (protocol : Protocol) (k : Skeleton) → IsSkeleton protocol k → IsNormal k → KeepsAssumptions k }
     ensures substitution { (k l : Skeleton) → NarrowsTo k l → (s : Substitution) × SaysTheSame (skeleton_under s k) l }
     ensures standing { (k l : Skeleton) (b : Bundle) (h : Standing) → NarrowsTo k l → StandsIn k b h → StandsIn l b h → (s : Substitution) × SaysTheSame (skeleton_under s k) l × ((t : Term) → value_of (after h.values s) t ≡ value_of h.values t) }

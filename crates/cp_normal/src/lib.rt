@@ -13,6 +13,7 @@ mod cycles;
 mod events;
 mod examples;
 mod extending;
+mod forms_law;
 #[cfg(test)]
 mod forms_tests;
 mod hearing;
@@ -33,8 +34,11 @@ mod tests;
 mod valuing;
 
 pub use carrying::carries_non_originating;
-pub use collapsing::{collapses_are_determined, collapses_are_listed, collapses_cover};
+pub use collapsing::{
+    collapses_are_determined, collapses_are_listed, collapses_cover, collapses_keep_what_is_stated,
+};
 pub use examples::{stray_text_example, two_strands_of_one_role_example};
+pub use forms_law::forms_come_by_substitutions;
 pub use identifying::collapses;
 pub use laws::{
     agreeing_skeletons_stand_alike, contradictory_skeletons_stand_nowhere,

@@ -1,7 +1,3 @@
-pub mod NoNewVariables
-pub mod VariablesUnder
-pub mod VariablesOfForms
-pub mod VariablesOfCollapses
 pub mod InReportOrder
 pub mod VariablesOfRoots
 pub mod Firsts

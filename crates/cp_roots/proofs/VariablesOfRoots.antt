@@ -9,8 +9,8 @@ use Rattle.cp_completeness.proofs.Under.{in_map}
 use Rattle.cp_normal.proofs.Strayed.{at_is_in}
 use Rattle.cp_roots.specs.Roots.{Root, living, first_roots, AreFormsOfCollapses, no_collapses, forms_of_one, AreRoots}
 use Rattle.cp_model.specs.Problem.{HasDeclaredVariables}
-use Rattle.cp_roots.proofs.VariablesOfForms.{forms_declared}
-use Rattle.cp_roots.proofs.VariablesOfCollapses.{collapses_declared}
+use Rattle.cp_normal.proofs.VariablesOfForms.{forms_declared}
+use Rattle.cp_normal.proofs.VariablesOfCollapses.{collapses_declared}
 use Rattle.cp_roots.proofs.InReportOrder.{declared_listed}
 
 module _ (variables : List Declaration) where

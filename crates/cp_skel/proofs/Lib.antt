@@ -32,3 +32,6 @@ pub mod EachOnce
 pub mod StrandsGive
 pub mod SameLists
 pub mod DeclaredRoles
+pub mod UnderVariables
+pub mod DeclaredChanges
+pub mod Carrying

@@ -107,7 +107,7 @@ event-stays None p i e h ev = absurd (cc)
 event-stays (Some k) p i e h ev = h k refl ev
 
 module _ (old new : Skeleton) (strand : SkeletonStrand) (behind : new.strands ≡ old.strands ++ strand ∷ []) (pairs : new.pairs ≡ old.pairs) where
-  stays : (s : ℕ) (k : SkeletonStrand) → item_at old.strands s ≡ Some k → item_at new.strands s ≡ Some k
+  pub stays : (s : ℕ) (k : SkeletonStrand) → item_at old.strands s ≡ Some k → item_at new.strands s ≡ Some k
   stays s k e = ap (λ ss. item_at ss s) behind ∙ item-first old.strands (strand ∷ []) s k e
 
   pub appended-grows : Grows old new

@@ -21,3 +21,9 @@ pub record ChangesOrderOnly (old new : program.Skeleton) : Type 0 where
   pub strands : (skeleton_view new).strands ≡ (skeleton_view old).strands
   pub assumptions : (skeleton_view new).assumptions ≡ (skeleton_view old).assumptions
   pub from_problem : (skeleton_view new).from_problem ≡ (skeleton_view old).from_problem
+
+-- The same of plain skeletons.
+pub record DiffersInOrder (old new : Skeleton) : Type 0 where
+  pub strands : new.strands ≡ old.strands
+  pub assumptions : new.assumptions ≡ old.assumptions
+  pub from_problem : new.from_problem ≡ old.from_problem

@@ -7,6 +7,7 @@ mod atom;
 mod bridging;
 #[cfg(test)]
 mod calls_tests;
+mod changes_laws;
 mod changing;
 #[cfg(test)]
 mod changing_tests;
@@ -46,11 +47,15 @@ mod substituting;
 mod tests;
 mod tree;
 mod valuing;
+mod variables_laws;
 mod ways;
 
 pub use adding::add_given;
 pub use applying::applied;
 pub use atom::Atom;
+pub use changes_laws::{
+    changes_keep_homomorphisms, changes_keep_what_is_stated, extensions_fit, order_keeps_skeletons,
+};
 pub use collecting::{add_atom, add_atoms, add_unique};
 pub use giving::{applied_atom, has_atom, has_unique, missing, origin};
 pub use laws::{
@@ -68,3 +73,4 @@ pub use skeleton::{
     Assumptions, FromProblem, Instance, Node, OrderPair, Skeleton, Strand, UniqueAt,
 };
 pub use tree::{Limits, Mark, Operation, Outcome, Test, Tree, TreeNode};
+pub use variables_laws::changes_keep_declared_variables;

@@ -8,6 +8,7 @@ use Rattle.cp_model.specs.Strand.{Declaration, Role, Protocol, prefix_of, variab
 use Rattle.cp_model.specs.Bundle.{node_at}
 use Rattle.cp_model.specs.Skeleton.{SkeletonStrand, instance, listener, skeleton_trace, Assumptions, Skeleton, GivesAssumptions, IsSkeleton}
 use Rattle.cp_model.specs.Problem.{variables_of_strands, variables_of_atoms, variables_of_uniques, variables_of_assumptions, variables_of_skeleton, IsPointOfView}
+use Rattle.cp_model.specs.Stated.{HasOwnAssumptions}
 use Rattle.cp_sexpr.specs.Syntax.{Form, Forms}
 use Rattle.cp_language.specs.Words.{TopHead, protocol_form, problem_form, free_form, top_out_of_profile, no_top, top_head}
 use Rattle.cp_language.specs.Faults.{fault_unless, place_of, items_of}
@@ -23,7 +24,7 @@ use Rattle.cp_wellformed.proofs.Instances.{trace_taken, more_declared, Extends}
 use Rattle.cp_wellformed.proofs.Strands.{IsSoundStrand, AreSoundStrands, protocol_listed, strands_sound}
 use Rattle.cp_wellformed.proofs.Bodies.{SaysBody, says_body}
 use Rattle.cp_wellformed.proofs.Values.{AtomsDeclared, atoms_declared, stated_declared}
-use Rattle.cp_wellformed.proofs.Atoms.{atoms_added, onto_declared, given_declared, given_there, non_given, penetrator_non_given}
+use Rattle.cp_wellformed.proofs.Atoms.{atoms_kept, atoms_added, onto_declared, given_declared, given_there, non_given, penetrator_non_given}
 use Rattle.cp_wellformed.proofs.Uniques as uniques
 use Rattle.cp_wellformed.proofs.Leading.{no_cycle, are_pairs}
 
@@ -108,8 +109,15 @@ module _ (protocol : Protocol) (ds : List Declaration) (body : List Form) (stran
       (both_declared full (variables_of_atoms all.non_originating) (variables_of_atoms all.penetrator_non_originating) (atoms_declared full all.non_originating non_declared) (atoms_declared full all.penetrator_non_originating penetrator_non_declared))
       (uniques.uniques_declared k full (λ n s at. strand_declared protocol.roles full s (sound s (item_in strands n s at))) all.uniquely_originating have_origins))
 
+  own_assumed : HasOwnAssumptions k
+  own_assumed = record {
+    non = λ v i. atoms_kept own.non_originating (given_non strands) v i;
+    penetrator_non = λ v i. atoms_kept own.penetrator_non_originating (given_penetrator_non strands) v i;
+    unique = λ u i. uniques.uniques_kept own.uniquely_originating (given_uniques 0 strands) u i;
+  }
+
   is_own : IsPointOfView full k
-  is_own = record { strands = refl; values = refl; closed = all_declared }
+  is_own = record { strands = refl; values = refl; closed = all_declared; assumed = own_assumed; pairs = refl }
 
 abbrev at_start : Stage
 at_start = record { after_strand = false; after_item = false }

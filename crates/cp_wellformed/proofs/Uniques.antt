@@ -42,7 +42,7 @@ this_unique : (b : Bool) (before : List UniqueAt) (u : UniqueAt) → has_unique 
 this_unique true before u e = unique_there before u e
 this_unique false before u e = in_append_right before here
 
-uniques_kept : (before us : List UniqueAt) (w : UniqueAt) → IsIn w before → IsIn w (uniques_onto before us)
+pub uniques_kept : (before us : List UniqueAt) (w : UniqueAt) → IsIn w before → IsIn w (uniques_onto before us)
 uniques_kept before [] w p = p
 uniques_kept before (u ∷ us) w p = uniques_kept (if has_unique before u then before else before ++ u ∷ []) us w (kept_unique (has_unique before u) before u w p)
 

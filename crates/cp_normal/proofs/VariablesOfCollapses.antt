@@ -17,7 +17,7 @@ use Rattle.cp_normal.proofs.AssumptionImages.{assumptions_are}
 use Rattle.cp_normal.proofs.Places.{taken, place_of_own}
 use Rattle.cp_normal.proofs.SameStrands.{same_trace}
 use Rattle.cp_model.specs.Problem.{HasDeclaredVariables}
-use Rattle.cp_roots.proofs.NoNewVariables.{KeepsDeclared, AgreeOnDeclared, no_new, of_atom, of_term}
+use Rattle.cp_normal.proofs.NoNewVariables.{KeepsDeclared, AgreeOnDeclared, no_new, of_atom, of_term}
 
 -- ---- where the variables of lists are
 

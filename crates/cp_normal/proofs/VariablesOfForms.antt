@@ -7,7 +7,7 @@ use Rattle.cp_model.proofs.LawLists.{in_append}
 use Rattle.cp_completeness.specs.Normal.{with_pairs}
 use Rattle.cp_normal.specs.Exact.{HasForms, refuted, branching, cyclic, normal, EachHasForms, no_more, and_then}
 use Rattle.cp_model.specs.Problem.{HasDeclaredVariables}
-use Rattle.cp_roots.proofs.VariablesUnder.{branches_declared}
+use Rattle.cp_normal.proofs.VariablesUnder.{branches_declared}
 
 module _ (variables : List Declaration) where
   with_pairs_declared : (k : Skeleton) (pairs : List OrderPair) → HasDeclaredVariables variables k → HasDeclaredVariables variables (with_pairs k pairs)

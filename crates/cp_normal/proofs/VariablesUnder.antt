@@ -1,20 +1,17 @@
 -- The variables of a skeleton under a substitution, and of the branches by a unique value that strays, are declared.
-use Rattle.std.proofs.Common.{◌≡◌, List, Some, refl, sym, ap, ◌∙◌, subst}
+use Rattle.std.proofs.Common.{◌≡◌, List, Some, refl, sym, subst}
 use Rattle.cp_model.specs.Lists.{IsIn, here, there}
-use Rattle.cp_model.specs.Term.{Variable, AtomTerm, atom_term, Term, IsCarriedByTerm, variables_of_atom, variables_of, value_of_atom, after, Substitution, apply_to_atom, apply_to}
+use Rattle.cp_model.specs.Term.{Variable, AtomTerm, atom_term, Term, IsCarriedByTerm, variables_of_atom, variables_of, Substitution, apply_to}
 use Rattle.cp_model.specs.Strand.{Declaration, Event, send, recv, payload}
 use Rattle.cp_model.specs.Bundle.{Node, node_at}
 use Rattle.cp_model.specs.Skeleton.{skeleton_trace, FromProblem, Skeleton, term_event_at}
 use Rattle.cp_model.specs.Problem.{IsDeclared, variables_of_assumptions, variables_of_skeleton}
 use Rattle.cp_model.proofs.LawLists.{in_append_left}
 use Rattle.cp_model.proofs.LawStandings.{strand_of_event}
-use Rattle.cp_model.proofs.LawTerms.{atom_after}
 use Rattle.cp_completeness.specs.Normal.{skeleton_under}
 use Rattle.cp_completeness.proofs.Images.{event_on}
-use Rattle.cp_completeness.proofs.Mapped.{agree_atom}
 use Rattle.cp_completeness.proofs.Under.{in_strands, in_map}
 use Rattle.cp_completeness.proofs.Values.{in_trace}
-use Rattle.cp_unify.proofs.Free.{free}
 use Rattle.cp_normal.specs.Agreeing.{SaysTheSame}
 use Rattle.cp_normal.specs.Branched.{AreInOrder, no_atoms, never_equal_to, unified_with}
 use Rattle.cp_normal.specs.Hearing.{heard_before}
@@ -24,11 +21,19 @@ use Rattle.cp_normal.proofs.Heard.{heard_if_listed}
 use Rattle.cp_normal.proofs.Narrowed.{same_variables, of_skeleton}
 use Rattle.cp_normal.proofs.SameSkeletons.{carried_variables}
 use Rattle.cp_model.specs.Problem.{HasDeclaredVariables}
-use Rattle.cp_roots.proofs.NoNewVariables.{KeepsDeclared, AgreeOnDeclared, no_new, of_term}
+use Rattle.cp_normal.proofs.NoNewVariables.{declared_or_not, KeepsDeclared, unifier_none_new, of_term}
 
 -- All variables of the atom are declared.
 abbrev pub IsOfDeclared : List Declaration → AtomTerm → Type 0
 IsOfDeclared variables v = (x : Variable) → IsIn x (variables_of_atom v) → IsDeclared variables x
+
+-- The variables of what an event carries occur in the skeleton.
+pub carried_occurs : (k : Skeleton) (n : Node) (e : Event Term) (v : AtomTerm) → term_event_at k.strands n ≡ Some e → IsCarriedByTerm (atom_term v) (payload e) → (x : Variable) → IsIn x (variables_of_atom v) → IsIn x (variables_of_skeleton k)
+carried_occurs k n e v at carried x i =
+    let st = strand_of_event k.strands n e at in
+    in_append_left (variables_of_assumptions k.assumptions)
+    (in_strands k.strands n.strand st.0 x st.1
+    (in_trace (skeleton_trace st.0) n.index e x (event_on k n st.0 e st.1 at) (carried_variables carried x i)))
 
 module _ (variables : List Declaration) where
   -- What says the same as a skeleton under a substitution that keeps declared variables has declared variables.
@@ -44,22 +49,11 @@ module _ (variables : List Declaration) where
 
   -- A most general unifier of two atoms of declared variables keeps these.
   unifier_keeps : (a b : AtomTerm) (s : Substitution) → IsOfDeclared variables a → IsOfDeclared variables b → IsMostGeneralFor a b s → KeepsDeclared variables s
-  unifier_keeps a b s of_a of_b m = no_new variables (λ g. value_of_atom g a ≡ value_of_atom g b) s made_equal m.general
-    where
-      made_equal : (t : Substitution) → AgreeOnDeclared variables t s → value_of_atom (after free t) a ≡ value_of_atom (after free t) b
-      made_equal t agree =
-          let of_first : apply_to_atom t a ≡ apply_to_atom s a = agree_atom t s a (λ x i. agree x (of_a x i)) in
-          let of_second : apply_to_atom t b ≡ apply_to_atom s b = agree_atom t s b (λ x i. agree x (of_b x i)) in
-          atom_after free t a ∙ ap (value_of_atom free) (of_first ∙ m.unifies ∙ sym of_second) ∙ sym (atom_after free t b)
+  unifier_keeps a b s of_a of_b m = unifier_none_new (IsDeclared variables) (declared_or_not variables) a b s of_a of_b m
 
   -- What an event carries has declared variables.
   carried_declared : (k : Skeleton) (n : Node) (e : Event Term) (v : AtomTerm) → HasDeclaredVariables variables k → term_event_at k.strands n ≡ Some e → IsCarriedByTerm (atom_term v) (payload e) → IsOfDeclared variables v
-  carried_declared k n e v h at carried x i =
-      let st = strand_of_event k.strands n e at in
-      h.occurring x
-      (in_append_left (variables_of_assumptions k.assumptions)
-      (in_strands k.strands n.strand st.0 x st.1
-      (in_trace (skeleton_trace st.0) n.index e x (event_on k n st.0 e st.1 at) (carried_variables carried x i))))
+  carried_declared k n e v h at carried x i = h.occurring x (carried_occurs k n e v at carried x i)
 
   stray_declared : (k : Skeleton) (v : AtomTerm) (x : Node) → HasDeclaredVariables variables k → IsFirstStray k v x → IsOfDeclared variables v
   stray_declared k v x h stray =

@@ -1,0 +1,23 @@
+// Laws on the variables of skeletons that are changed: each stands as the contract of a function that does nothing.
+ghost use Rattle.std.specs.Prelude.{ℕ, List, ◌++◌};
+ghost use Rattle.cp_model.specs.Lists.{IsIn};
+ghost use Rattle.cp_model.specs.Term.{Variable, Term, variables_of};
+ghost use Rattle.cp_model.specs.Strand.{Declaration, Role};
+ghost use Rattle.cp_model.specs.Skeleton.{OrderPair, Skeleton};
+ghost use Rattle.cp_model.specs.Problem.{IsDeclared, HasDeclaredVariables};
+ghost use Rattle.cp_skel.specs.Changing.{AddsListener, IsClosedPrefix, AddsStrand, Extends};
+ghost use Rattle.cp_skel.specs.Ordered.{ordered_by};
+
+/// A skeleton all of whose variables are declared stays one when a listener is added on a term of declared variables; when
+/// an instance is added, or one grows, whose role declares the variables of its prefix, and for whose variables there are
+/// terms of declared variables; when more variables are declared; and when its order changes.
+pub fn changes_keep_declared_variables()
+    ensures listener { (variables : List Declaration) (t : Term) (old new : Skeleton) → AddsListener t old new
+        → ((x : Variable) → IsIn x (variables_of t) → IsDeclared variables x) → HasDeclaredVariables variables old → HasDeclaredVariables variables new }
+    ensures strand { (variables : List Declaration) (role : Role) (height : ℕ) (values : List Term) (old new : Skeleton) → IsClosedPrefix role height → AddsStrand role height values old new
+        → ((t : Term) (x : Variable) → IsIn t values → IsIn x (variables_of t) → IsDeclared variables x) → HasDeclaredVariables variables old → HasDeclaredVariables variables new }
+    ensures extended { (variables : List Declaration) (s height : ℕ) (values : List Term) (old new : Skeleton) → (x : Extends s height values old new) → IsClosedPrefix x.role height
+        → ((t : Term) (x : Variable) → IsIn t values → IsIn x (variables_of t) → IsDeclared variables x) → HasDeclaredVariables variables old → HasDeclaredVariables variables new }
+    ensures more { (variables more : List Declaration) (k : Skeleton) → HasDeclaredVariables variables k → HasDeclaredVariables (variables ++ more) k }
+    ensures order { (variables : List Declaration) (k : Skeleton) (pairs : List OrderPair) → HasDeclaredVariables variables k → HasDeclaredVariables variables (ordered_by k pairs) }
+{}
