@@ -18,7 +18,8 @@ use Rattle.cp_completeness.proofs.Weaker.{stands_too}
 use Rattle.cp_skel.proofs.EachOnce.{listed-non, listed-penetrator-non, listed-unique}
 use Rattle.cp_roots.specs.Roots.{in_report_order}
 use Rattle.cp_model.specs.Problem.{HasDeclaredVariables}
-use Rattle.cp_normal.proofs.VariablesOfCollapses.{atom_with, unique_with, non_declared, penetrator_non_declared, unique_declared}
+use Rattle.cp_skel.proofs.UnderVariables.{atom_with, unique_with}
+use Rattle.cp_normal.proofs.VariablesOfCollapses.{non_declared, penetrator_non_declared, unique_declared}
 
 module _ (k : Skeleton) where
   -- ---- the same assumptions
