@@ -1,12 +1,14 @@
 -- Normal forms come from a skeleton by one substitution each.
-use Rattle.std.proofs.Common.{◌≡◌, inl, List, sym, ap, subst}
+use Rattle.std.proofs.Common.{◌≡◌, inl, List, [], ◌∷◌, map, refl, sym, ap, ap₂, ◌∙◌, subst}
 use Rattle.cp_model.specs.Lists.{IsIn, one_step}
-use Rattle.cp_model.specs.Term.{Term, Assignment, value_of, after, Substitution, unchanged, composed}
+use Rattle.cp_model.specs.Term.{Term, Assignment, value_of, after, Substitution, apply_to, unchanged, composed}
 use Rattle.cp_model.specs.Strand.{send, recv, Protocol}
 use Rattle.cp_model.specs.Bundle.{node_at, Bundle, IsBundle}
-use Rattle.cp_model.specs.Skeleton.{OrderPair, Skeleton, along_pair, IsSkeleton}
+use Rattle.cp_model.specs.Skeleton.{OrderPair, FromProblem, Skeleton, along_pair, IsSkeleton}
 use Rattle.cp_model.specs.Standing.{Standing, StandsIn, StandsApart}
+use Rattle.cp_model.specs.Homomorphism.{FactorsThrough}
 use Rattle.cp_model.proofs.LawLists.{in_append_left}
+use Rattle.cp_model.proofs.LawTerms.{value_after}
 use Rattle.cp_completeness.specs.Normal.{skeleton_under, with_pairs, variables_of_terms, SaysNoMore, LosesNoStanding}
 use Rattle.cp_completeness.proofs.Weaker.{stands_too}
 use Rattle.cp_normal.specs.Agreeing.{SaysTheSame}
@@ -84,6 +86,20 @@ form_solved k r f b h stands stands' =
     stands_too f.narrowed (with_pairs f.narrowed r.pairs) (says_no_more f.narrowed r.pairs (λ p i. (f.pairs p).1 (inl i))) b h
     (subst (λ (d : Skeleton). StandsIn d b h) f.same stands') in
     under.solved h.values (standings_leave under.substitution k f.narrowed b h under.same stands there)
+
+-- ---- a standing that agrees with the substitution
+
+same_under : (g : Assignment) (s : Substitution) → ((t : Term) → value_of (after g s) t ≡ value_of g t) → (ts : List Term) → map (value_of g) ts ≡ map (value_of g) (map (apply_to s) ts)
+same_under g s same [] = refl
+same_under g s same (t ∷ ts) = ap₂ ◌∷◌ (sym (same t) ∙ value_after g s t) (same_under g s same ts)
+
+pub comes_factors : (k r : Skeleton) (h : Standing) (c : ComesBySubstitution k r) → ((t : Term) → value_of (after h.values c.substitution) t ≡ value_of h.values t) → FactorsThrough k h r h
+comes_factors k r h c same = record {
+  strands = ap (λ (f : FromProblem). map h.nodes f.strands) c.same.from_problem;
+  values = same_under h.values c.substitution same k.from_problem.values ∙ ap (λ (f : FromProblem). map (value_of h.values) f.values) c.same.from_problem;
+}
+
+-- ---- all normal forms
 
 pub forms_come : (protocol : Protocol) (k : Skeleton) (rs : List Skeleton) → ((r : Skeleton) → IsIn r rs → IsNormalFormOf k r) → LosesNoStanding protocol k rs → ComeBySubstitutions protocol k rs
 forms_come protocol k rs are loses_none = record { by = λ r i. form_comes k r (are r i); standing = standing }

@@ -17,7 +17,7 @@ use Rattle.cp_unify.specs.Unifiers.{AreAmong, IsMostGeneral}
 use Rattle.cp_normal.specs.Agreeing.{SaysTheSame}
 use Rattle.cp_normal.specs.Narrowing.{IsStray, IsHeardAt, IsNarrowed}
 use Rattle.cp_normal.specs.Branching.{HasFewerVariables}
-use Rattle.cp_normal.proofs.SameSkeletons.{carried_variables}
+use Rattle.cp_skel.proofs.UnderVariables.{carried_variables}
 use Rattle.cp_normal.proofs.Unifying.{most_general_for}
 use Rattle.cp_normal.proofs.Distinct.{distinct, fewer_distinct}
 use Rattle.cp_normal.proofs.Narrowed.{same_variables, under_has_fewer}

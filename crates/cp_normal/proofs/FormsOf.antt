@@ -1,13 +1,13 @@
 -- The normal forms that the rules give are normal forms of the skeleton, and lose none of its standings.
-use Rattle.std.proofs.Common.{◌≡◌, ◌⊎◌, inl, inr, List, [], ◌∷◌, ◌++◌, refl, sym, subst, ⊎_elim}
+use Rattle.std.proofs.Common.{◌≡◌, ◌⊎◌, inl, inr, List, ◌++◌, refl, sym, subst, ⊎_elim}
 use Rattle.cp_model.specs.Lists.{IsIn, here, there}
 use Rattle.cp_model.specs.Term.{AtomTerm}
 use Rattle.cp_model.specs.Strand.{Protocol}
 use Rattle.cp_model.specs.Bundle.{Node}
 use Rattle.cp_model.specs.Given.{listed}
-use Rattle.cp_model.specs.Skeleton.{UniqueAt, OrderPair, Skeleton, IsSkeleton}
+use Rattle.cp_model.specs.Skeleton.{UniqueAt, Skeleton, IsSkeleton}
 use Rattle.cp_model.proofs.LawLists.{in_append, in_append_left, in_append_right}
-use Rattle.cp_completeness.specs.Normal.{with_pairs, LosesNoStanding}
+use Rattle.cp_completeness.specs.Normal.{LosesNoStanding}
 use Rattle.cp_completeness.proofs.Losing.{among_more, through_each}
 use Rattle.cp_skel.proofs.EachOnce.{listed-unique}
 use Rattle.cp_normal.specs.Branched.{AreInOrder, no_atoms, never_equal_to, unified_with}

@@ -11,7 +11,7 @@ use Rattle.cp_completeness.proofs.Skeletons.{carried_under}
 use Rattle.cp_normal.specs.Partitions.{place_in}
 use Rattle.cp_normal.specs.Collapsing.{unique_in, pair_in, HasInstance, IsCollapsed, HasNoCycle}
 use Rattle.cp_normal.proofs.AssumptionImages.{assumptions_are}
-use Rattle.cp_normal.proofs.SameSkeletons.{applies_at}
+use Rattle.cp_skel.proofs.UnderVariables.{applies_at}
 use Rattle.cp_normal.proofs.Merged.{event_in}
 
 module _ (k l : Skeleton) (p : List ℕ) (c : IsCollapsed k p l) where

@@ -1,27 +1,15 @@
 -- A skeleton that says the same as one over a protocol is one.
 use Rattle.std.proofs.Common.{◌≡◌, ℕ, sym, ◌∙◌, subst}
 use Rattle.cp_model.specs.Lists.{IsIn}
-use Rattle.cp_model.specs.Term.{Variable, AtomTerm, Term, IsCarriedByTerm, itself_term, in_left_term, in_right_term, in_plaintext_term, variables_of, variables_of_key, Substitution, apply_to_atom, AgreeOnTerms}
-use Rattle.cp_model.specs.Strand.{send, Role, Protocol, variables_of_prefix, prefix_of, Applies, AppliesAt}
+use Rattle.cp_model.specs.Term.{AtomTerm, Substitution, apply_to_atom, AgreeOnTerms}
+use Rattle.cp_model.specs.Strand.{Role, Protocol, variables_of_prefix, Applies}
 use Rattle.cp_model.specs.Bundle.{Node, node_at}
 use Rattle.cp_model.specs.Skeleton.{UniqueAt, Assumptions, OrderPair, Skeleton, Before, IsOrderPair, IsOrigin, GivesAssumptions, IsSkeleton}
-use Rattle.cp_model.proofs.LawLists.{in_append_left, in_append_right, take_of_item}
-use Rattle.cp_completeness.proofs.Values.{in_trace}
 use Rattle.cp_completeness.proofs.Mapped.{agree_atom}
+use Rattle.cp_skel.proofs.UnderVariables.{applies_at}
 use Rattle.cp_normal.specs.Agreeing.{SaysTheSame}
 use Rattle.cp_normal.proofs.SameStrands.{all_same_back, instance_at}
 use Rattle.cp_normal.proofs.SameFacts.{says_back, same_event, same_before}
-
--- The variables of what a term carries occur in the term.
-pub carried_variables : {v t : Term} → IsCarriedByTerm v t → (x : Variable) → IsIn x (variables_of v) → IsIn x (variables_of t)
-carried_variables itself_term x i = i
-carried_variables (in_left_term {b = b} p) x i = in_append_left (variables_of b) (carried_variables p x i)
-carried_variables (in_right_term {a = a} p) x i = in_append_right (variables_of a) (carried_variables p x i)
-carried_variables (in_plaintext_term {k = k} p) x i = in_append_left (variables_of_key k) (carried_variables p x i)
-
--- An assumption of unique origination that applies has its variables in the prefix.
-pub applies_at : (role : Role) (height : ℕ) (v : AtomTerm) (i : ℕ) → AppliesAt role height v i → Applies role height v
-applies_at role height v i a x inx = in_trace (prefix_of role height) i (send a.0.sent) x (take_of_item height role.trace i (send a.0.sent) a.1 a.0.transmission) (carried_variables a.0.carried x inx)
 
 module _ (k l : Skeleton) (s : SaysTheSame k l) where
   pub same_order_pair : (p : OrderPair) → IsOrderPair k p → IsOrderPair l p

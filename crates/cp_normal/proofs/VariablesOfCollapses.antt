@@ -1,5 +1,5 @@
 -- The variables of collapses are declared.
-use Rattle.std.proofs.Common.{◌≡◌, ℕ, suc, List, [], ◌∷◌, ◌++◌, Some, map, length, refl, sym, ap, ◌∙◌, subst, ⊎_elim, arith}
+use Rattle.std.proofs.Common.{◌≡◌, ℕ, List, [], ◌∷◌, ◌++◌, Some, map, length, sym, ap, ◌∙◌, subst, ⊎_elim, arith}
 use Rattle.cp_model.specs.Lists.{item_at, IsIn, here, there}
 use Rattle.cp_model.specs.Term.{Variable, atom_of_variable, AtomTerm, Term, AgreeOnTerms, variables_of_atom, variables_of, value_of_atom, after, Substitution, apply_to_atom, apply_to, composed}
 use Rattle.cp_model.specs.Strand.{Declaration, Event, send, recv, payload, event_map, Role, prefix_of, variables_of_trace, variables_of_prefix}
@@ -10,29 +10,15 @@ use Rattle.cp_model.proofs.LawTerms.{atom_after, atom_composed}
 use Rattle.cp_completeness.proofs.Mapped.{agree_atom}
 use Rattle.cp_completeness.proofs.Under.{in_trace_under, in_strands, in_atoms, in_uniques, in_map, trace_under}
 use Rattle.cp_unify.proofs.Free.{free}
+use Rattle.cp_skel.proofs.UnderVariables.{strand_with, atom_with, unique_with}
 use Rattle.cp_normal.specs.Agreeing.{same_instance}
-use Rattle.cp_normal.specs.Partitions.{place_in, IdentifiesValues}
-use Rattle.cp_normal.specs.Collapsing.{IsCollapsed, IsCollapse, AreCollapsesBy, no_collapses, collapse_by}
+use Rattle.cp_normal.specs.Partitions.{IsPartition, place_in, IdentifiesValues}
+use Rattle.cp_normal.specs.Collapsing.{IsCollapsed, AreCollapsesBy, no_collapses, collapse_by}
 use Rattle.cp_normal.proofs.AssumptionImages.{assumptions_are}
 use Rattle.cp_normal.proofs.Places.{taken, place_of_own}
 use Rattle.cp_normal.proofs.SameStrands.{same_trace}
 use Rattle.cp_model.specs.Problem.{HasDeclaredVariables}
 use Rattle.cp_normal.proofs.NoNewVariables.{KeepsDeclared, AgreeOnDeclared, no_new, of_atom, of_term}
-
--- ---- where the variables of lists are
-
-strand_with : (ss : List SkeletonStrand) (x : Variable) → IsIn x (variables_of_strands ss) → (n : ℕ) × (st : SkeletonStrand) × (item_at ss n ≡ Some st) × IsIn x (variables_of_trace (skeleton_trace st))
-strand_with [] x i = elim i [ ]
-strand_with (st ∷ ss) x i =
-    ⊎_elim (λ j. (0, st, refl, j)) (λ j. let r = strand_with ss x j in (suc r.0, r.1, r.2, r.3)) (in_append (variables_of_trace (skeleton_trace st)) (variables_of_strands ss) i)
-
-pub atom_with : (vs : List AtomTerm) (x : Variable) → IsIn x (variables_of_atoms vs) → (v : AtomTerm) × IsIn v vs × IsIn x (variables_of_atom v)
-atom_with [] x i = elim i [ ]
-atom_with (v ∷ vs) x i = ⊎_elim (λ j. (v, here, j)) (λ j. let r = atom_with vs x j in (r.0, there r.1, r.2)) (in_append (variables_of_atom v) (variables_of_atoms vs) i)
-
-pub unique_with : (us : List UniqueAt) (x : Variable) → IsIn x (variables_of_uniques us) → (u : UniqueAt) × IsIn u us × IsIn x (variables_of_atom u.value)
-unique_with [] x i = elim i [ ]
-unique_with (u ∷ us) x i = ⊎_elim (λ j. (u, here, j)) (λ j. let r = unique_with us x j in (r.0, there r.1, r.2)) (in_append (variables_of_atom u.value) (variables_of_uniques us) i)
 
 -- ---- traces under a substitution that keeps declared variables
 
@@ -87,10 +73,7 @@ value_composed t d x =
     ∙ atom_after free t (apply_to_atom d (atom_of_variable x))
     ∙ ap (value_of_atom free) (sym (atom_composed d t (atom_of_variable x)))
 
-module _ (variables : List Declaration) (k : Skeleton) (h : HasDeclaredVariables variables k) (p : List ℕ) (l : Skeleton) (part : IsCollapse k p l) where
-  abbrev collapsed : IsCollapsed k p l
-  collapsed = part.collapsed
-
+module _ (variables : List Declaration) (k : Skeleton) (h : HasDeclaredVariables variables k) (p : List ℕ) (l : Skeleton) (part : IsPartition k p) (collapsed : IsCollapsed k p l) where
   abbrev f : Substitution
   f = collapsed.unifier
 
@@ -141,7 +124,7 @@ module _ (variables : List Declaration) (k : Skeleton) (h : HasDeclaredVariables
       let n = collapsed.count in
       let r = taken p (length p) place (omega (arith, below, n)) in
       let within = r.1 in
-      let each = part.partition.each in
+      let each = part.each in
       let st = item_there k.strands r.0 (omega (arith, within, each)) in
       from_strand place r.0 t st.0 at (place_of_own p r.0 place r.2 r.3) st.1
 
@@ -192,5 +175,5 @@ module _ (variables : List Declaration) (k : Skeleton) (h : HasDeclaredVariables
 
 pub collapses_declared : (variables : List Declaration) (k : Skeleton) → HasDeclaredVariables variables k → (ps : List (List ℕ)) (ls : List Skeleton) → AreCollapsesBy k ps ls → (l : Skeleton) → IsIn l ls → HasDeclaredVariables variables l
 collapses_declared variables k h _ _ no_collapses l i = elim i [ ]
-collapses_declared variables k h _ _ (collapse_by {p = p} {l = m} {ps = ps} {ls = ls} one more) l here = collapse_declared variables k h p m one
+collapses_declared variables k h _ _ (collapse_by {p = p} {l = m} {ps = ps} {ls = ls} one more) l here = collapse_declared variables k h p m one.partition one.collapsed
 collapses_declared variables k h _ _ (collapse_by {p = p} {l = m} {ps = ps} {ls = ls} one more) l (there i) = collapses_declared variables k h ps ls more l i

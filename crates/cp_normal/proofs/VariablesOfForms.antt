@@ -1,30 +1,25 @@
--- The variables of normal forms are declared.
-use Rattle.std.proofs.Common.{List, [], ◌∷◌, ⊎_elim}
-use Rattle.cp_model.specs.Lists.{IsIn, here, there}
+-- The variables of what comes from a skeleton by a substitution, and so of normal forms, are declared.
+use Rattle.std.proofs.Common.{List}
+use Rattle.cp_model.specs.Lists.{IsIn}
 use Rattle.cp_model.specs.Strand.{Declaration}
 use Rattle.cp_model.specs.Skeleton.{OrderPair, Skeleton}
-use Rattle.cp_model.proofs.LawLists.{in_append}
-use Rattle.cp_completeness.specs.Normal.{with_pairs}
-use Rattle.cp_normal.specs.Exact.{HasForms, refuted, branching, cyclic, normal, EachHasForms, no_more, and_then}
 use Rattle.cp_model.specs.Problem.{HasDeclaredVariables}
-use Rattle.cp_normal.proofs.VariablesUnder.{branches_declared}
+use Rattle.cp_completeness.specs.Normal.{skeleton_under, with_pairs}
+use Rattle.cp_normal.specs.BySubstitution.{ComesBySubstitution}
+use Rattle.cp_normal.specs.Exact.{HasForms}
+use Rattle.cp_normal.proofs.BySubstitution.{form_comes}
+use Rattle.cp_normal.proofs.FormsOf.{are_normal_forms}
+use Rattle.cp_normal.proofs.VariablesUnder.{all_declared, given_under, agreeing_declared}
 
-module _ (variables : List Declaration) where
-  with_pairs_declared : (k : Skeleton) (pairs : List OrderPair) → HasDeclaredVariables variables k → HasDeclaredVariables variables (with_pairs k pairs)
+module _ (ds : List Declaration) where
+  with_pairs_declared : (k : Skeleton) (pairs : List OrderPair) → HasDeclaredVariables ds k → HasDeclaredVariables ds (with_pairs k pairs)
   with_pairs_declared k pairs h = record { occurring = h.occurring; mapped = h.mapped }
 
-  only_one : (k r : Skeleton) → HasDeclaredVariables variables k → IsIn r (k ∷ []) → HasDeclaredVariables variables r
-  only_one k r h here = h
-  only_one k r h (there i) = elim i [ ]
+  pub comes_declared : (k r : Skeleton) → ComesBySubstitution k r → HasDeclaredVariables ds k → HasDeclaredVariables ds r
+  comes_declared k r c h =
+      let under : Skeleton = skeleton_under c.substitution k in
+      agreeing_declared ds (with_pairs under r.pairs) r c.same
+      (with_pairs_declared under r.pairs (given_under ds c.substitution k (λ x y i j. all_declared ds k h y (c.stays_within.within x y i j))))
 
-  mutual
-    pub forms_declared : {k : Skeleton} {rs : List Skeleton} → HasForms k rs → HasDeclaredVariables variables k → (r : Skeleton) → IsIn r rs → HasDeclaredVariables variables r
-    forms_declared (refuted never) h r i = elim i [ ]
-    forms_declared (branching {k = k} {v = v} {x = x} {branches = branches} sound stray in_order each) h r i = each_declared each (branches_declared variables k v x branches h stray in_order) r i
-    forms_declared (cyclic settled never) h r i = elim i [ ]
-    forms_declared (normal {k = k} {pairs = pairs} settled are sound) h r i = only_one (with_pairs k pairs) r (with_pairs_declared k pairs h) i
-
-    each_declared : {ks rs : List Skeleton} → EachHasForms ks rs → ((k : Skeleton) → IsIn k ks → HasDeclaredVariables variables k) → (r : Skeleton) → IsIn r rs → HasDeclaredVariables variables r
-    each_declared no_more all r i = elim i [ ]
-    each_declared (and_then {k = k} {ks = ks} {rs = rs} {ss = ss} one more) all r i =
-        ⊎_elim (λ j. forms_declared one (all k here) r j) (λ j. each_declared more (λ l m. all l (there m)) r j) (in_append rs ss i)
+  pub forms_declared : {k : Skeleton} {rs : List Skeleton} → HasForms k rs → HasDeclaredVariables ds k → (r : Skeleton) → IsIn r rs → HasDeclaredVariables ds r
+  forms_declared {k} has h r i = comes_declared k r (form_comes k r (are_normal_forms has r i)) h

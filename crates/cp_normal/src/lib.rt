@@ -32,6 +32,7 @@ mod substituting;
 #[cfg(test)]
 mod tests;
 mod valuing;
+mod variables_laws;
 
 pub use carrying::carries_non_originating;
 pub use collapsing::{
@@ -49,3 +50,7 @@ pub use normalising::normalise;
 pub use origins::{has_two_origins, loses_origin};
 pub use pairs::added_pairs;
 pub use substituting::under;
+pub use variables_laws::{
+    collapses_have_declared_variables, normal_forms_have_declared_variables,
+    substitutions_keep_declared_variables,
+};

@@ -8,6 +8,7 @@ ghost use Rattle.cp_completeness.specs.Normal.{with_pairs, LosesNoStanding};
 ghost use Rattle.cp_skel.specs.DeclaredPrefixes.{HasDeclaredPrefixes};
 ghost use Rattle.cp_skel.specs.View.{pair_view, skeleton_view};
 ghost use Rattle.cp_skel.specs.declared.skeleton.Skeleton as program;
+ghost use Rattle.cp_normal.specs.BySubstitution.{ComeBySubstitutions};
 ghost use Rattle.cp_normal.specs.Candidates.{candidate_view, IsInOrder, PutsForm, AreForms};
 ghost use Rattle.cp_normal.specs.Exact.{HasForms};
 ghost use Rattle.cp_normal.specs.Narrowing.{IsNormalFormOf};
@@ -69,7 +70,8 @@ fn forms_of(alloc: Global, candidates: Vec<Candidate>) -> Result<Vec<Skeleton>, 
 /// then its index, then the order in which a report lists unique values: the problem's own first, then those that the
 /// strands' roles give, strand by strand, and at last any others. The atoms are taken in the order of the receptions and
 /// then of their positions, each once. At last the pairs from recorded origins to receptions of other strands that carry
-/// the value are added; where they close a cycle, there is no normal form. Equal normal forms are kept.
+/// the value are added; where they close a cycle, there is no normal form. Equal normal forms are kept. Each normal form is
+/// the skeleton under one substitution, whatever the bundle that it stands in, with the pairs that are added.
 ///
 /// Each of the skeleton's own pairs has to go from a transmission to a reception of another strand, which are both there;
 /// they have to close no cycle; and each recorded origin has to be a transmission of a role strand that carries the value.
@@ -83,6 +85,7 @@ pub fn normalise(alloc: Global, k: Skeleton) -> Result<Vec<Skeleton>, AllocError
     ensures forms { IfOk result (λ ks. (r : Plain) → IsIn r (map skeleton_view ks.items) → IsNormalFormOf (skeleton_view k) r) }
     ensures loses_none { IfOk result (λ ks. (protocol : Protocol) → IsSkeleton protocol (skeleton_view k) → LosesNoStanding protocol (skeleton_view k) (map skeleton_view ks.items)) }
     ensures exact { IfOk result (λ ks. HasForms (skeleton_view k) (map skeleton_view ks.items)) }
+    ensures by_substitutions { IfOk result (λ ks. (protocol : Protocol) → IsSkeleton protocol (skeleton_view k) → ComeBySubstitutions protocol (skeleton_view k) (map skeleton_view ks.items)) }
     ensures declared { IfOk result (λ ks. (r : program.Skeleton) → IsIn r ks.items → HasDeclaredPrefixes (skeleton_view r)) }
     ensures variables { IfOk result (λ ks. (r : program.Skeleton) → IsIn r ks.items → r.variables ≡ k.variables) }
 {

@@ -1,5 +1,5 @@
 -- A skeleton whose assumptions stand in the order of a report says what it said before: the assumptions are the same.
-use Rattle.std.proofs.Common.{◌++◌, ℕ, List, refl, ⊎_elim}
+use Rattle.std.proofs.Common.{◌++◌, ℕ, List, length, refl, le_refl, ⊎_elim}
 use Rattle.cp_model.specs.Lists.{IsIn, one_step, more_steps}
 use Rattle.cp_model.specs.Term.{Variable, AtomTerm, Substitution}
 use Rattle.cp_model.specs.Strand.{Role, Declaration, Protocol}
@@ -10,13 +10,16 @@ use Rattle.cp_model.specs.Standing.{Standing, StandsIn, StandsApart}
 use Rattle.cp_model.specs.Homomorphism.{SkeletonMap, GoesToInstance, IsHomomorphism, map_from_problem, CarriesHomomorphism, FactorsThrough}
 use Rattle.cp_model.specs.Problem.{IsDeclared, variables_of_strands, variables_of_atoms, variables_of_uniques, variables_of_assumptions}
 use Rattle.cp_model.specs.Given.{listed}
+use Rattle.cp_model.specs.Stated.{KeepsStated}
 use Rattle.cp_model.proofs.LawLists.{in_append, in_append_left}
+use Rattle.cp_model.proofs.StatedStays.{stated_stays}
 use Rattle.cp_completeness.specs.Normal.{SaysNoMore}
 use Rattle.cp_completeness.proofs.Weaker.{stands_too}
 use Rattle.cp_skel.proofs.EachOnce.{listed-non, listed-penetrator-non, listed-unique}
 use Rattle.cp_roots.specs.Roots.{in_report_order}
 use Rattle.cp_model.specs.Problem.{HasDeclaredVariables}
-use Rattle.cp_normal.proofs.VariablesOfCollapses.{atom_with, unique_with, non_declared, penetrator_non_declared, unique_declared}
+use Rattle.cp_skel.proofs.UnderVariables.{atom_with, unique_with}
+use Rattle.cp_normal.proofs.VariablesOfCollapses.{non_declared, penetrator_non_declared, unique_declared}
 
 module _ (k : Skeleton) where
   -- ---- the same assumptions
@@ -112,6 +115,10 @@ module _ (k : Skeleton) where
 
   pub carries_listed : (problem : Skeleton) → CarriesHomomorphism problem k → CarriesHomomorphism problem (in_report_order k)
   carries_listed problem c = record { homomorphism = homomorphism_listed problem (map_from_problem k) c.homomorphism; strands = c.strands; values = c.values }
+
+  pub stated_listed : (problem : Skeleton) → KeepsStated problem k → KeepsStated problem (in_report_order k)
+  stated_listed problem =
+      stated_stays problem k (in_report_order k) refl (le_refl (length k.strands)) (record { non = still_non; penetrator_non = still_penetrator_non; unique = still_unique }) (λ x y before. still_before before)
 
   says_no_more : SaysNoMore (in_report_order k) k
   says_no_more = record {

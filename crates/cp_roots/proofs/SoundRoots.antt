@@ -8,15 +8,19 @@ use Rattle.cp_model.specs.Derivable.{KeepsAssumptions}
 use Rattle.cp_model.specs.Standing.{Standing, StandsIn, StandsApart}
 use Rattle.cp_model.specs.Homomorphism.{CarriesHomomorphism, FactorsThrough}
 use Rattle.cp_model.specs.Problem.{IsPointOfView}
+use Rattle.cp_model.specs.Stated.{KeepsStated}
 use Rattle.cp_model.specs.Tree.{Operation, by_problem, by_collapse}
 use Rattle.cp_model.proofs.LawLists.{in_append, in_append_left, in_append_right}
 use Rattle.cp_model.proofs.SingleMaps.{own_carries}
+use Rattle.cp_model.proofs.StatedItself.{keeps_its_own}
 use Rattle.cp_completeness.proofs.Under.{in_map, factors_then}
 use Rattle.cp_normal.specs.Narrowing.{IsNormalFormOf}
 use Rattle.cp_normal.specs.Collapsing.{IsCollapse, AreCollapsesBy, no_collapses, collapse_by, AreCollapses}
 use Rattle.cp_normal.proofs.Descending.{in_place, at_place}
 use Rattle.cp_normal.proofs.Having.{in_cases, into_map}
 use Rattle.cp_normal.proofs.Homomorphic.{form_carries}
+use Rattle.cp_normal.proofs.StatedForms.{form_keeps}
+use Rattle.cp_normal.proofs.StatedCollapse.{collapse_keeps}
 use Rattle.cp_normal.proofs.Keeping.{form_is_skeleton, normal_keeps_assumptions}
 use Rattle.cp_normal.proofs.CollapsesCover.{collapses_are_complete}
 use Rattle.cp_normal.proofs.MergedSkeletons.{merged_is_skeleton}
@@ -24,7 +28,7 @@ use Rattle.cp_roots.specs.FirstPlaces.{firsts}
 use Rattle.cp_roots.specs.Roots.{Root, living, first_roots}
 use Rattle.cp_roots.specs.Sound.{StandsThroughRoot, AreSound}
 use Rattle.cp_roots.specs.Gathering.{AreNormalForms}
-use Rattle.cp_roots.proofs.InReportOrder.{skeleton_listed, assumptions_listed, carries_listed, stands_listed, apart_listed, factors_listed}
+use Rattle.cp_roots.proofs.InReportOrder.{skeleton_listed, assumptions_listed, carries_listed, stated_listed, stands_listed, apart_listed, factors_listed}
 use Rattle.cp_roots.proofs.CollapseMap.{collapse_carries}
 use Rattle.cp_roots.proofs.EachCollapse.{AreOfEach, roots_of, listed_of}
 
@@ -33,6 +37,7 @@ record IsSoundRoot (protocol : Protocol) (k : Skeleton) (root : Root) : Type 0 w
   skeleton : IsSkeleton protocol root.skeleton
   assumptions : root.dead ≡ false → KeepsAssumptions root.skeleton
   from_problem : CarriesHomomorphism k root.skeleton
+  stated : KeepsStated k root.skeleton
   nowhere : root.dead ≡ true → (b : Bundle) (g : Standing) → IsBundle protocol b → StandsIn root.skeleton b g → StandsApart root.skeleton g → ⊥
 
 not_true : {A : Type 0} → false ≡ true → A
@@ -63,33 +68,35 @@ among_first k [] r i = elim i [ ]
 among_first k (f ∷ fs) r i = i
 
 module _ (protocol : Protocol) (variables : List Declaration) (k : Skeleton) (sk : IsSkeleton protocol k) (own : IsPointOfView variables k) where
-  form_is_sound : (l r : Skeleton) (by : Operation) → IsSkeleton protocol l → CarriesHomomorphism k l → IsNormalFormOf l r → IsSoundRoot protocol k (living by r)
-  form_is_sound l r by sl carries f =
+  form_is_sound : (l r : Skeleton) (by : Operation) → IsSkeleton protocol l → CarriesHomomorphism k l → KeepsStated k l → IsNormalFormOf l r → IsSoundRoot protocol k (living by r)
+  form_is_sound l r by sl carries keeps f =
       let sr = form_is_skeleton protocol l r f sl in
       record {
         skeleton = skeleton_listed r protocol sr;
         assumptions = λ e. assumptions_listed r (normal_keeps_assumptions protocol r sr f.normal);
         from_problem = carries_listed r k (form_carries variables k own l r f carries);
+        stated = stated_listed r k (form_keeps variables k own l r f carries keeps);
         nowhere = λ e. not_true e;
       }
 
-  forms_are_sound : (l : Skeleton) (rs : List Skeleton) (by : Operation) → IsSkeleton protocol l → CarriesHomomorphism k l → ((r : Skeleton) → IsIn r rs → IsNormalFormOf l r) → (root : Root) → IsIn root (map (living by) rs) → IsSoundRoot protocol k root
-  forms_are_sound l rs by sl carries forms root i =
+  forms_are_sound : (l : Skeleton) (rs : List Skeleton) (by : Operation) → IsSkeleton protocol l → CarriesHomomorphism k l → KeepsStated k l → ((r : Skeleton) → IsIn r rs → IsNormalFormOf l r) → (root : Root) → IsIn root (map (living by) rs) → IsSoundRoot protocol k root
+  forms_are_sound l rs by sl carries keeps forms root i =
       let r = in_map (living by) rs root i in
-      subst (IsSoundRoot protocol k) r.2 (form_is_sound l r.0 by sl carries (forms r.0 r.1))
+      subst (IsSoundRoot protocol k) r.2 (form_is_sound l r.0 by sl carries keeps (forms r.0 r.1))
 
   dead_is_sound : AreNormalForms k [] → IsSoundRoot protocol k (record { operation = by_problem; skeleton = k; dead = true })
   dead_is_sound f = record {
     skeleton = sk;
     assumptions = λ e. not_false e;
     from_problem = own_carries variables k own;
+    stated = keeps_its_own protocol variables k sk own;
     nowhere = λ e b g is stands apart. let a = f.loses_none protocol sk b g is stands apart in elim a.listed [ ];
   }
 
   first_are_sound : (forms : List Skeleton) → AreNormalForms k forms → (root : Root) → IsIn root (first_roots k forms) → IsSoundRoot protocol k root
   first_are_sound [] f root here = dead_is_sound f
   first_are_sound [] f root (there i) = elim i [ ]
-  first_are_sound (r ∷ rs) f root i = forms_are_sound k (r ∷ rs) by_problem sk (own_carries variables k own) f.forms root i
+  first_are_sound (r ∷ rs) f root i = forms_are_sound k (r ∷ rs) by_problem sk (own_carries variables k own) (keeps_its_own protocol variables k sk own) f.forms root i
 
   -- ---- the collapses
 
@@ -108,7 +115,8 @@ module _ (protocol : Protocol) (variables : List Declaration) (k : Skeleton) (sk
   each_is_sound no_collapses roots none root i = elim (subst (IsIn root) none i) [ ]
   each_is_sound (collapse_by {p = p} {l = l} c cs) roots (rs, others, f, rest, e) root i =
       either_is_sound root (roots_of l rs) others
-      (forms_are_sound l rs (by_collapse (firsts l.from_problem.strands)) (collapse_is_skeleton p l c) (collapse_carries protocol variables k l p sk own c.collapsed) f.forms)
+      (forms_are_sound l rs (by_collapse (firsts l.from_problem.strands)) (collapse_is_skeleton p l c) (collapse_carries protocol variables k l p sk own c.collapsed)
+      (collapse_keeps protocol variables k k l p sk own sk (own_carries variables k own) c.collapsed (keeps_its_own protocol variables k sk own)) f.forms)
       (each_is_sound cs others rest) (subst (IsIn root) e i)
 
   -- ---- all roots
@@ -140,6 +148,7 @@ module _ (protocol : Protocol) (variables : List Declaration) (k : Skeleton) (sk
       skeletons = λ i root at. (root_is_sound i root at).skeleton;
       assumptions = λ i root at lives. (root_is_sound i root at).assumptions lives;
       from_problem = λ i root at. (root_is_sound i root at).from_problem;
+      stated = λ i root at. (root_is_sound i root at).stated;
       nowhere = λ i root at dead. (root_is_sound i root at).nowhere dead;
       covers = covers;
     }

@@ -1,5 +1,5 @@
 -- A skeleton that is changed goes on to carry the homomorphism from its problem, and to keep what that states itself.
-use Rattle.std.proofs.Common.{◌≡◌, ◌≢◌, ◌⊎◌, inl, inr, ◌↔◌, ℕ, suc, ◌<◌, ◌≤◌, List, [], ◌∷◌, ◌++◌, map, length, refl, sym, ap, ◌∙◌, subst, le_trans, le_refl, arith}
+use Rattle.std.proofs.Common.{◌≡◌, ◌≢◌, ◌⊎◌, inl, inr, ℕ, zero, suc, ◌<◌, ◌≤◌, List, [], ◌∷◌, ◌++◌, map, length, refl, sym, ap, ◌∙◌, subst, le_trans, le_refl, arith}
 use Rattle.std.specs.Prelude.{Some}
 use Rattle.cp_model.specs.Lists.{item_at, IsIn, there, one_step, more_steps}
 use Rattle.cp_model.specs.Term.{AtomTerm, Term, Substitution, apply_to, apply_to_atom, AgreeOnTerms}
@@ -7,8 +7,9 @@ use Rattle.cp_model.specs.Strand.{Role, Protocol, variables_of_prefix}
 use Rattle.cp_model.specs.Bundle.{Node, node_at}
 use Rattle.cp_model.specs.Skeleton.{SkeletonStrand, instance, listener, UniqueAt, Assumptions, OrderPair, FromProblem, Skeleton, OrderStep, along_strand_of, along_pair, Before, IsOrderPair, IsOrigin, GivesAssumptions, IsSkeleton}
 use Rattle.cp_model.specs.Homomorphism.{SkeletonMap, mapped, GoesToInstance, IsHomomorphism, substitution_by, strand_in, map_from_problem, CarriesHomomorphism}
-use Rattle.cp_model.specs.Stated.{unique_image, pair_image, IsImageOfOne, AreImages, HasOwnAssumptions, KeepsStated}
+use Rattle.cp_model.specs.Stated.{KeepsStated}
 use Rattle.cp_model.proofs.LawLists.{in_append_left, variables_of_higher, item_below, item_there}
+use Rattle.cp_model.proofs.StatedStays.{stated_stays}
 use Rattle.cp_skel.specs.Given.{AddsOnce}
 use Rattle.cp_skel.specs.Changing.{AddsListener, IsClosedPrefix, AddsStrand, CanExtend, Extends}
 use Rattle.cp_skel.specs.Ordered.{IsOrdered, ordered_by, DiffersInOrder}
@@ -67,39 +68,20 @@ module _ (problem old new : Skeleton) (more : SaysMore old new) (carries : Carri
 
 -- ---- what the problem states itself
 
-abbrev map_by : FromProblem → SkeletonMap
-map_by p = record { strands = strand_in p.strands; terms = substitution_by p.values }
+all_below : (m n : ℕ) → ((s : ℕ) → s < m → s < n) → m ≤ n
+all_below zero n h = omega arith
+all_below (suc m) n h = let l : m < n = h m (omega arith) in omega (arith, l)
 
-module _ (problem old new : Skeleton) (more : SaysMore old new) (stated : KeepsStated problem old) where
-  abbrev back : old.from_problem ≡ new.from_problem
-  back = sym more.from_problem
-
+module _ (problem old new : Skeleton) (more : SaysMore old new) where
   strand_too : (s : ℕ) (st : SkeletonStrand) → item_at old.strands s ≡ Some st → s < length new.strands
   strand_too s (instance role height terms) at = let r = more.instances s role height terms at in item_below new.strands s (instance role r.0 r.1) r.2
   strand_too s (listener t) at = item_below new.strands s (listener t) (more.listeners s t at)
 
-  still_in_range : (s : ℕ) → IsIn s new.from_problem.strands → s < length new.strands
-  still_in_range s i =
-      let st = item_there old.strands s (stated.in_range s (subst (λ (p : FromProblem). IsIn s p.strands) more.from_problem i)) in
-      strand_too s st.0 st.1
+  as_many : length old.strands ≤ length new.strands
+  as_many = all_below (length old.strands) (length new.strands) (λ s below. let st = item_there old.strands s below in strand_too s st.0 st.1)
 
-  still_own : HasOwnAssumptions new
-  still_own = record {
-    non = λ v i. more.non v (stated.assumed.non v (subst (λ (p : FromProblem). IsIn v p.assumptions.non_originating) more.from_problem i));
-    penetrator_non = λ v i. more.penetrator_non v (stated.assumed.penetrator_non v (subst (λ (p : FromProblem). IsIn v p.assumptions.penetrator_non_originating) more.from_problem i));
-    unique = λ u i. more.unique u (stated.assumed.unique u (subst (λ (p : FromProblem). IsIn u p.assumptions.uniquely_originating) more.from_problem i));
-  }
-
-  pub keeps_stated : KeepsStated problem new
-  keeps_stated = record {
-    in_range = still_in_range;
-    non = subst (λ (p : FromProblem). AreImages (apply_to_atom (map_by p).terms) problem.from_problem.assumptions.non_originating p.assumptions.non_originating) back stated.non;
-    penetrator_non = subst (λ (p : FromProblem). AreImages (apply_to_atom (map_by p).terms) problem.from_problem.assumptions.penetrator_non_originating p.assumptions.penetrator_non_originating) back stated.penetrator_non;
-    unique = subst (λ (p : FromProblem). AreImages (unique_image (map_by p)) problem.from_problem.assumptions.uniquely_originating p.assumptions.uniquely_originating) back stated.unique;
-    assumed = still_own;
-    pairs = subst (λ (p : FromProblem). (q : OrderPair) → IsIn q p.pairs ↔ (IsImageOfOne (pair_image (map_by p)) problem.from_problem.pairs q × (q.earlier.strand ≢ q.later.strand))) back stated.pairs;
-    ordered = λ q i. more.ordered q.earlier q.later (stated.ordered q (subst (λ (p : FromProblem). IsIn q p.pairs) more.from_problem i));
-  }
+  pub keeps_stated : KeepsStated problem old → KeepsStated problem new
+  keeps_stated = stated_stays problem old new (sym more.from_problem) as_many (record { non = more.non; penetrator_non = more.penetrator_non; unique = more.unique }) more.ordered
 
 -- ---- strands more, and a longer one
 

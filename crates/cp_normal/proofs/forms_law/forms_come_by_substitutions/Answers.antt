@@ -1,4 +1,4 @@
-use Rattle.cp_normal.proofs.BySubstitution.{form_comes, come_by_substitutions}
+use Rattle.cp_normal.proofs.BySubstitution.{form_comes, comes_factors, come_by_substitutions}
 use Rattle.cp_normal.proofs.FormsOf.{are_normal_forms, forms_lose_none}
 use Rattle.cp_normal.proofs.forms_law.forms_come_by_substitutions.Goals as goal
 
@@ -10,6 +10,9 @@ returns-clause-loses_none c = λ protocol k rs sk has. forms_lose_none protocol 
 
 pub returns-clause-each : goal.returns-clause-each
 returns-clause-each c = form_comes
+
+pub returns-clause-factors : goal.returns-clause-factors
+returns-clause-factors c = comes_factors
 
 pub returns-clause-all : goal.returns-clause-all
 returns-clause-all c = come_by_substitutions

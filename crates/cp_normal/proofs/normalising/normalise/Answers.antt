@@ -5,6 +5,7 @@ use Rattle.cp_normal.specs.Candidates.{IsOpen}
 use Rattle.cp_normal.specs.Events.{Has}
 use Rattle.cp_normal.specs.declared.candidates.Candidate.{Candidate}
 use Rattle.cp_normal.specs.declared.candidates.Candidate.TheVariants.{Open}
+use Rattle.cp_normal.proofs.BySubstitution.{come_by_substitutions}
 use Rattle.cp_normal.proofs.Declared.{forms_declared}
 use Rattle.cp_normal.proofs.Having.{not_both}
 use Rattle.cp_normal.proofs.TreeOfForms.{has_forms}
@@ -49,6 +50,16 @@ returns-clause-exact c =
     has_forms _ _
     (reached_exact c.args.k c.loop-candidates.candidates.items c.loop-candidates.invariant
     (λ h. not_both c.loop-candidates-test.false (c.some_is_open.ensures.1 (subst (λ (cs : List Candidate). Has IsOpen cs) (sym c.deref.ensures.value) h))) forms.items f))
+    c.forms_of.ensures
+
+pub returns-clause-by_substitutions : goal.returns-clause-by_substitutions
+returns-clause-by_substitutions c =
+    IfOk-weaker c.forms_of.result _ _
+    (λ forms f protocol sk.
+    come_by_substitutions protocol (skeleton_view c.args.k) _ sk
+    (has_forms _ _
+    (reached_exact c.args.k c.loop-candidates.candidates.items c.loop-candidates.invariant
+    (λ h. not_both c.loop-candidates-test.false (c.some_is_open.ensures.1 (subst (λ (cs : List Candidate). Has IsOpen cs) (sym c.deref.ensures.value) h))) forms.items f)))
     c.forms_of.ensures
 
 pub returns-clause-declared : goal.returns-clause-declared
