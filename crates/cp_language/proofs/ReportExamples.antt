@@ -337,13 +337,14 @@ pattern_many = record {
   locals = local akey_sort 0 ∷ local name_sort 21 ∷ local text_sort 20 ∷ [];
 }
 
+-- its assumptions stand in another order than that of a report, and one of them twice
 abbrev skeleton_many : Skeleton
 skeleton_many = record {
   strands =
       instance role_many 3 (substitution_by (name_of 0 ∷ name_of 5 ∷ text_of 1 ∷ key_of (symmetric_term (skey_variable 9)) ∷ key_of (asymmetric_term false (pubk_term (Some []) 0)) ∷ atom_term (datum_variable 4) ∷ []))
       ∷ instance role_many 1 (substitution_by (name_of 6 ∷ name_of 0 ∷ text_of 8 ∷ tag_term [] ∷ key_of (asymmetric_term false (akey_variable 2)) ∷ atom_term (datum_variable 4) ∷ [])) ∷ [];
   pairs = [];
-  assumptions = record { non_originating = key_term (symmetric_term (ltk_term 0 6)) ∷ []; penetrator_non_originating = key_term (symmetric_term (skey_variable 9)) ∷ []; uniquely_originating = [] };
+  assumptions = record { non_originating = key_term (symmetric_term (ltk_term 0 6)) ∷ private_of 0 ∷ key_term (symmetric_term (ltk_term 0 6)) ∷ []; penetrator_non_originating = key_term (symmetric_term (skey_variable 9)) ∷ []; uniquely_originating = [] };
   from_problem = record { strands = 0 ∷ 1 ∷ 0 ∷ []; values = name_of 0 ∷ text_of 1 ∷ key_of (asymmetric_term false (pubk_term (Some []) 0)) ∷ name_of 5 ∷ atom_term (datum_variable 4) ∷ []; assumptions = no_assumptions; pairs = [] };
 }
 
@@ -397,7 +398,7 @@ report_many : report_text (input_of input_many) (tree_many ∷ []) ≡ line (cod
     (line (codes "  (vars (a name) (x text) (e akey) (d data) (b-0 name) (b-1 name) (n text) (k skey))")
     (line (codes "  (defstrand s 3 (a a) (b b-0) (n x) (k k) (e (pubk " ++ 34 ∷ codes "" ++ 34 ∷ codes " a)) (d d))")
     (line (codes "  (defstrand s 1 (a b-1) (b a) (n n) (e e) (d d))")
-    (line (codes "  (non-orig (ltk a b-1))")
+    (line (codes "  (non-orig (privk a) (ltk a b-1))")
     (line (codes "  (pen-non-orig k)")
     (line (codes "  (map (0 1 0) (a a) (x x) (e (pubk " ++ 34 ∷ codes "" ++ 34 ∷ codes " a)) (b b-0) (d d))")
     (line (codes "  (unrealised (0 1))")

@@ -6,6 +6,7 @@ use Rattle.cp_model.specs.Strand.{Event, Declaration, variables_of_prefix}
 use Rattle.cp_model.specs.Bundle.{Node, node_at}
 use Rattle.cp_model.specs.Skeleton.{SkeletonStrand, instance, listener, skeleton_trace, UniqueAt, OrderPair, Skeleton}
 use Rattle.cp_model.specs.Problem.{IsDeclared, variables_of_skeleton}
+use Rattle.cp_model.specs.Given.{listed}
 use Rattle.cp_model.specs.Tree.{Operation, by_problem, by_collapse, by_contraction, by_displacement, by_added_strand, by_added_listener, by_generalising, Mark, shape, dead, seen, instance_of, limit_steps, limit_strands, Outcome, complete, at_step_limit, at_strand_limit, Pattern, Test, Label, Tree, expanded_count, shape_count}
 use Rattle.cp_sexpr.specs.Syntax.{Form}
 use Rattle.cp_sexpr.specs.Spelling.{top_spelling}
@@ -162,6 +163,8 @@ mark_items (Some m) = plain_list (mark_words m) ∷ []
 
 -- ---- labels and trees
 
+-- The items of a label form. The assumptions stand in the order of a report, each once, whatever the order in which the
+-- skeleton has them.
 abbrev pub label_items : List (List ℕ) → List (List ℕ) → Label → List Form
 label_items of_problem names l =
     let named = named_by names in
@@ -170,9 +173,9 @@ label_items of_problem names l =
     ++ item_unless_empty (codes "vars") (vars_from names (occurring l) 0 l.variables)
     ++ map (strand_form named) l.skeleton.strands
     ++ item_unless_empty (codes "precedes") (covering_pairs l.skeleton)
-    ++ item_unless_empty (codes "non-orig") (map (atom_form named) l.skeleton.assumptions.non_originating)
-    ++ item_unless_empty (codes "pen-non-orig") (map (atom_form named) l.skeleton.assumptions.penetrator_non_originating)
-    ++ item_unless_empty (codes "uniq-orig") (map (unique_form named) l.skeleton.assumptions.uniquely_originating)
+    ++ item_unless_empty (codes "non-orig") (map (atom_form named) (listed l.skeleton).non_originating)
+    ++ item_unless_empty (codes "pen-non-orig") (map (atom_form named) (listed l.skeleton).penetrator_non_originating)
+    ++ item_unless_empty (codes "uniq-orig") (map (unique_form named) (listed l.skeleton).uniquely_originating)
     ++ map_form named of_problem l.skeleton ∷ []
     ++ item_unless_empty (codes "unrealised") (map node_form l.unrealised)
     ++ test_items named l.test

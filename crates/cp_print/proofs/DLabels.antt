@@ -1,6 +1,7 @@
 -- A label form item by item.
 use Rattle.std.proofs.Common.{◌≡◌, ℕ, List, [], ◌∷◌, ◌++◌, map, codes, ap, ap₂, ◌∙◌, Result, Ok, Err, IfOk}
 use Rattle.cp_model.specs.Tree.{Label}
+use Rattle.cp_model.specs.Given.{listed}
 use Rattle.cp_sexpr.specs.Syntax.{Form}
 use Rattle.cp_language.specs.Names.{label_names}
 use Rattle.cp_language.specs.Printed.{headed_list, numeral, atom_form, pattern_form}
@@ -21,9 +22,9 @@ module _ (of_problem : List (List ℕ)) (l : Label) where
   abbrev pub assumption_part : List (List ℕ) → List Form → List Form
   assumption_part names before = before
       ++ item_unless_empty (codes "precedes") (covering_pairs l.skeleton)
-      ++ item_unless_empty (codes "non-orig") (map (atom_form (named_by names)) l.skeleton.assumptions.non_originating)
-      ++ item_unless_empty (codes "pen-non-orig") (map (atom_form (named_by names)) l.skeleton.assumptions.penetrator_non_originating)
-      ++ item_unless_empty (codes "uniq-orig") (map (unique_form (named_by names)) l.skeleton.assumptions.uniquely_originating)
+      ++ item_unless_empty (codes "non-orig") (map (atom_form (named_by names)) (listed l.skeleton).non_originating)
+      ++ item_unless_empty (codes "pen-non-orig") (map (atom_form (named_by names)) (listed l.skeleton).penetrator_non_originating)
+      ++ item_unless_empty (codes "uniq-orig") (map (unique_form (named_by names)) (listed l.skeleton).uniquely_originating)
 
   abbrev pub result_part : List (List ℕ) → List Form → List Form
   result_part names before = before

@@ -2,6 +2,7 @@
 ghost use Rattle.std.specs.Prelude.{◌≡◌, ◌++◌, [], ◌∷◌, codes, map, option_map, IfOk, OnOk};
 ghost use Rattle.cp_language.specs.Printed.{headed_list, numeral, atom_form, pattern_form};
 ghost use Rattle.cp_language.specs.Report.{named_by, variables_of_test, occurring, item_unless_empty, parent_items, operation_words, strand_form, covering_pairs, unique_form, map_form, node_form, test_items, mark_items, label_form};
+ghost use Rattle.cp_model.specs.Given.{listed};
 ghost use Rattle.cp_sexpr.specs.View.{view};
 ghost use Rattle.cp_skel.specs.Trees.{operation_view, mark_view, test_view, label_view};
 ghost use Rattle.cp_model.specs.RunView.{node_view};
@@ -20,7 +21,7 @@ use crate::patterns::add_patterns;
 use crate::strands::{add_strand_forms, vars};
 use crate::variables::{add_assumptions, add_strands, add_term, add_terms};
 use cp_sexpr::Form;
-use cp_skel::{Skeleton, Test, TreeNode};
+use cp_skel::{Skeleton, Test, TreeNode, listed};
 use cp_term::Text;
 use std::alloc::{AllocError, Global};
 
@@ -69,7 +70,7 @@ fn add_strand_items(
     add_strand_forms(alloc, naming, &label.skeleton.strands, items)
 }
 
-/// Appends the order and the assumptions.
+/// Appends the order, and the assumptions in the order of a report, each once.
 fn add_assumption_items(
     alloc: Global,
     naming: &Naming<'_>,
@@ -78,11 +79,11 @@ fn add_assumption_items(
 ) -> Result<(), AllocError>
     ensures { OnOk result (map view items.new.items ≡ map view items.old.items
         ++ item_unless_empty (codes "precedes") (covering_pairs (skeleton_view skeleton.now))
-        ++ item_unless_empty (codes "non-orig") (map (atom_form (named_in naming.now)) skeleton.now.assumptions.non_originating.items)
-        ++ item_unless_empty (codes "pen-non-orig") (map (atom_form (named_in naming.now)) skeleton.now.assumptions.penetrator_non_originating.items)
-        ++ item_unless_empty (codes "uniq-orig") (map (unique_form (named_in naming.now)) (map unique_view skeleton.now.assumptions.uniquely_originating.items))) }
+        ++ item_unless_empty (codes "non-orig") (map (atom_form (named_in naming.now)) (listed (skeleton_view skeleton.now)).non_originating)
+        ++ item_unless_empty (codes "pen-non-orig") (map (atom_form (named_in naming.now)) (listed (skeleton_view skeleton.now)).penetrator_non_originating)
+        ++ item_unless_empty (codes "uniq-orig") (map (unique_form (named_in naming.now)) (listed (skeleton_view skeleton.now)).uniquely_originating)) }
 {
-    let assumptions = &skeleton.assumptions;
+    let assumptions = listed(alloc, skeleton)?;
     let precedes = covering_pairs(alloc, skeleton)?;
     add_unless_empty(alloc, "precedes", precedes, items)?;
     let non = atom_forms(alloc, naming, &assumptions.non_originating)?;
