@@ -15,7 +15,7 @@ use Rattle.cp_normal.specs.Agreeing.{SaysTheSame}
 use Rattle.cp_normal.specs.BySubstitution.{StaysWithin, ComesBySubstitution, StandsAmongForms, ComeBySubstitutions}
 use Rattle.cp_normal.specs.Exact.{HasForms}
 use Rattle.cp_normal.specs.Narrowing.{IsNarrowed, NarrowsTo, none, one, IsNormalFormOf}
-use Rattle.cp_normal.proofs.FormsOf.{are_normal_forms, forms_lose_none}
+use Rattle.cp_normal.proofs.FormsOf.{are_normal_forms, lose_no_standing}
 use Rattle.cp_normal.proofs.NarrowedStandings.{LeavesValues, solved_unchanged, solved_both, step_solved, rest_leaves, standings_leave}
 use Rattle.cp_normal.proofs.NarrowedUnder.{says_unchanged, says_both}
 use Rattle.cp_normal.proofs.SameFacts.{says_back, says_with_pairs, same_normal_pairs}
@@ -116,4 +116,4 @@ forms_come protocol k rs are loses_none = record { by = λ r i. form_comes k r (
         }
 
 pub come_by_substitutions : (protocol : Protocol) (k : Skeleton) (rs : List Skeleton) → IsSkeleton protocol k → HasForms k rs → ComeBySubstitutions protocol k rs
-come_by_substitutions protocol k rs sk has = forms_come protocol k rs (are_normal_forms has) (forms_lose_none protocol has sk)
+come_by_substitutions protocol k rs sk has = forms_come protocol k rs (are_normal_forms has) (lose_no_standing protocol k rs sk has)

@@ -118,3 +118,6 @@ module _ (protocol : Protocol) where
     each_loses_none (and_then {k = k} {rs = rs} {ss = ss} first rest) are l here = among_more protocol k rs (rs ++ ss) (λ m j. in_append_left ss j) (forms_lose_none first (are k here))
     each_loses_none (and_then {rs = rs} {ss = ss} first rest) are l (there i) =
         among_more protocol l ss (rs ++ ss) (λ m j. in_append_right rs j) (each_loses_none rest (λ m j. are m (there j)) l i)
+
+pub lose_no_standing : (protocol : Protocol) (k : Skeleton) (rs : List Skeleton) → IsSkeleton protocol k → HasForms k rs → LosesNoStanding protocol k rs
+lose_no_standing protocol k rs sk has = forms_lose_none protocol has sk
