@@ -1,9 +1,9 @@
 -- The variables of a prefix are among those of the whole trace.
-use Rattle.std.proofs.Common.{◌≡◌, ℕ, zero, suc, List, [], ◌∷◌, ◌++◌, take, Some, ◌⊎◌, inl, inr}
-use Rattle.cp_model.specs.Lists.{item_at, IsIn}
-use Rattle.cp_model.specs.Term.{Variable, Term, Substitution, variables_of}
+use Rattle.std.proofs.Common.{ℕ, zero, suc, List, [], ◌∷◌, ◌++◌, take, ◌⊎◌, inl, inr}
+use Rattle.cp_model.specs.Lists.{IsIn}
+use Rattle.cp_model.specs.Term.{Variable, Term, variables_of}
 use Rattle.cp_model.specs.Strand.{Event, payload, Role, Protocol, variables_of_trace}
-use Rattle.cp_model.specs.Skeleton.{instance, Skeleton, IsSkeleton}
+use Rattle.cp_model.specs.Skeleton.{Skeleton, IsSkeleton}
 use Rattle.cp_model.specs.Problem.{IsDeclared}
 use Rattle.cp_model.proofs.LawLists.{in_append, in_append_left, in_append_right}
 use Rattle.cp_skel.specs.DeclaredPrefixes.{HasDeclaredPrefixes}
