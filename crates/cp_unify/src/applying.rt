@@ -14,9 +14,8 @@ use crate::subst::Subst;
 use cp_term::{Shape, Sort, Term, VarId, enc, invert, ltk, pair, pubk, var};
 use std::alloc::{AllocError, Global};
 
-/// The term that a variable of this sort, which is not that of all messages, is bound to.
+/// The term that a variable of this sort is bound to.
 pub(crate) fn bound<'a>(bindings: &'a [Binding], sort: Sort, variable: VarId) -> Option<&'a Term>
-    requires { sort ≢ Sort.Mesg }
     ensures applied { MatchOption result
         (apply_to (as_substitution bindings.now) (variable_term sort variable) ≡ variable_term sort variable)
         (λ t. apply_to (as_substitution bindings.now) (variable_term sort variable) ≡ t.now) }

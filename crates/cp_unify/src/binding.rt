@@ -53,7 +53,6 @@ impl Binding {
 
     /// The sort of the variable and of the term.
     pub fn sort(&self) -> Sort
-        ensures no_message { result ≢ Sort.Mesg }
         ensures sort { (n : ℕ) → variable_term result n
             ≡ atom_term (atom_of_variable (record { sort = sort_of self.now.term; number = n })) }
     {
@@ -65,10 +64,9 @@ impl Binding {
         }
     }
 
-    /// Whether this variable of this sort, which is not that of all messages, is the one that is bound.
+    /// Whether this variable of this sort is the one that is bound.
     pub(crate) fn binds(&self, sort: Sort, variable: VarId) -> bool
-        requires { sort ≢ Sort.Mesg }
-        ensures { IsTrue result ↔ (variable_term sort variable ≡ atom_term (atom_of_variable (variable_of self.now))) }
+            ensures { IsTrue result ↔ (variable_term sort variable ≡ atom_term (atom_of_variable (variable_of self.now))) }
     {
         self.variable == variable && self.sort() == sort
     }

@@ -153,7 +153,6 @@ fn variable_difference(
     b: &Term,
 ) -> Result<Difference, AllocError>
     requires variable { a.now ≡ variable_term sort x }
-    requires no_message { sort ≢ Sort.Mesg }
     ensures { IfOk result (λ d. d ≡ difference_of a.now b.now) }
 {
     match b.shape() {

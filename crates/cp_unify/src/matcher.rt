@@ -29,9 +29,8 @@ fn is_local(locals: Option<&[VarId]>, variable: VarId) -> bool
     }
 }
 
-/// Whether a term has this sort, which is not that of all messages.
+/// Whether a term has this sort.
 fn is_of_sort(term: &Term, sort: Sort) -> bool
-    requires { sort ≢ Sort.Mesg }
     ensures atom { IsTrue result → IsAtom term.now }
     ensures sort { IsAtom term.now → (n : ℕ)
         → result ≡ is_same_sort (atom_of (variable_term sort n)) (atom_of term.now) }
@@ -44,9 +43,8 @@ fn is_of_sort(term: &Term, sort: Sort) -> bool
     }
 }
 
-/// Whether a term is this variable of this sort, which is not that of all messages.
+/// Whether a term is this variable of this sort.
 fn is_variable(term: &Term, sort: Sort, variable: VarId) -> bool
-    requires { sort ≢ Sort.Mesg }
     ensures { IsTrue result ↔ (term.now ≡ variable_term sort variable) }
 {
     match term.shape() {
@@ -55,9 +53,8 @@ fn is_variable(term: &Term, sort: Sort, variable: VarId) -> bool
     }
 }
 
-/// Whether a variable of this sort, which is not that of all messages, is bound to the term, if it is bound.
+/// Whether a variable of this sort is bound to the term, if it is bound.
 fn is_bound_to(bindings: &[Binding], sort: Sort, variable: VarId, term: &Term) -> Option<bool>
-    requires no_message { sort ≢ Sort.Mesg }
     requires atom { IsAtom term.now }
     ensures { result ≡ option_map (λ t. same_atom t (atom_of term.now))
         (bound_term bindings.now (variable_term sort variable)) }
@@ -68,7 +65,7 @@ fn is_bound_to(bindings: &[Binding], sort: Sort, variable: VarId, term: &Term) -
     }
 }
 
-/// Matches a variable of this sort, which is not that of all messages, with a term.
+/// Matches a variable of this sort with a term.
 fn variable_match(
     variable: VarId,
     sort: Sort,
@@ -76,7 +73,6 @@ fn variable_match(
     locals: Option<&[VarId]>,
     given: Subst,
 ) -> Result<Option<Subst>, AllocError>
-    requires { sort ≢ Sort.Mesg }
     ensures { IfOk result (λ found. found
         ≡ matched (is_listed (option_map (λ ns. ns.now) locals.entry)) (variable_term sort variable) term.now given) }
 {
