@@ -147,7 +147,7 @@ fn patterns(rt: HostRuntime) -> Result<(), Fail> {
     let pattern = pattern(rt.alloc())?;
     let again = pattern.copy()?;
     assert!(rt; again.term().same(pattern.term()));
-    assert_eq!(rt; again.locals(), &[VarId::numbered(0)]);
+    assert!(rt; matches!(again.locals(), [id] if id.number() == 0));
     Ok(())
 }
 

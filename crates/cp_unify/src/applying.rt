@@ -1,5 +1,5 @@
 // Terms under substitutions. What does not change is shared.
-ghost use Rattle.std.specs.Prelude.{◌≡◌, ◌≢◌, unwrap_or, MatchOption, IfOk};
+ghost use Rattle.std.specs.Prelude.{◌≡◌, unwrap_or, MatchOption, IfOk};
 ghost use Rattle.cp_model.specs.Term.{Assignment, after, apply_to};
 ghost use Rattle.std.specs.Option.{option_map};
 ghost use Rattle.cp_model.specs.Term.{Term as Plain, KeyTerm, ltk_term, pubk_term, symmetric_term, asymmetric_term, pair_term, enc_term, value_of, atom_term};

@@ -1,5 +1,5 @@
 // Bindings of variables to terms.
-ghost use Rattle.std.specs.Prelude.{◌≡◌, ◌↔◌, ◌≢◌, ℕ, IsTrue, IfOk};
+ghost use Rattle.std.specs.Prelude.{◌≡◌, ◌↔◌, ℕ, IsTrue, IfOk};
 ghost use Rattle.cp_model.specs.Term.{atom_term, atom_of_variable};
 ghost use Rattle.cp_term.specs.Variables.{variable_term};
 ghost use Rattle.cp_unify.specs.Atoms.{IsAtom, atom_of};
@@ -66,7 +66,7 @@ impl Binding {
 
     /// Whether this variable of this sort is the one that is bound.
     pub(crate) fn binds(&self, sort: Sort, variable: VarId) -> bool
-            ensures { IsTrue result ↔ (variable_term sort variable ≡ atom_term (atom_of_variable (variable_of self.now))) }
+        ensures { IsTrue result ↔ (variable_term sort variable ≡ atom_term (atom_of_variable (variable_of self.now))) }
     {
         self.variable == variable && self.sort() == sort
     }
