@@ -1,5 +1,5 @@
 -- What the bindings of locals that were found tell.
-use Rattle.std.proofs.Common.{◌≡◌, ◌≢◌, ℕ, Bool, true, false, if◌then◌else◌, ◌==◌, ◌&&◌, ◌||◌, List, [], ◌∷◌, Option, Some, None, inl, inr, MatchOption, IfSome, IfNone, refl, sym, ap, ap₂, ◌∙◌, subst}
+use Rattle.std.proofs.Common.{◌≡◌, ◌≢◌, ℕ, Bool, true, false, if◌then◌else◌, ◌==◌, ◌&&◌, ◌||◌, List, [], ◌∷◌, Option, Some, None, MatchOption, IfSome, IfNone, refl, sym, ap, ap₂, ◌∙◌, subst}
 use Rattle.std.specs.Prelude.{nat_eq, filter, option_and_then}
 use Rattle.std.specs.Bool.{Decides}
 use Rattle.std.specs.Cmp.Lexicographic.{pointwise}
@@ -10,6 +10,7 @@ use Rattle.cp_model.specs.Lists.{IsIn, here, there}
 use Rattle.cp_model.specs.Term.{Sort, text_sort, datum_sort, name_sort, skey_sort, akey_sort, Variable, SymmetricTerm, skey_variable, ltk_term, PairTerm, akey_variable, pubk_term, KeyTerm, symmetric_term, asymmetric_term, AtomTerm, text_variable, datum_variable, name_variable, key_term, Term, tag_term, atom_term, pair_term, enc_term, atom_of_variable, variables_of_symmetric, variables_of_pair, variables_of_key, variables_of_atom, variables_of, inverse_term, flag_of, Substitution, apply_to_key, apply_to_atom, apply_to}
 use Rattle.cp_model.proofs.LawTerms.{flag_last, atom_unchanged}
 use Rattle.cp_term.specs.Same.{same_flag, same_atom, is_same}
+use Rattle.cp_term.proofs.LocalVariables.{is_numbered, numbered_is_in}
 use Rattle.cp_term.proofs.SameTerms.{bytes_Decides, flag_Decides, purpose_Decides, atom_Decides, same_Decides}
 use Rattle.cp_unify.specs.Bindings.{Binding, sort_of, variable_of, put_term, as_substitution}
 use Rattle.cp_unify.specs.Beside.{Agrees, MatchesBeside, NeverMatchesBeside}
@@ -22,7 +23,7 @@ use Rattle.cp_term.specs.Variables.{variable_term}
 use Rattle.cp_term.specs.declared.variable.Sort.{Sort as ProgramSort}
 use Rattle.cp_term.specs.declared.variable.Sort.TheVariants.{Text, Datum, Name, Skey, Akey}
 use Rattle.cp_unify.proofs.Found.{swap}
-use Rattle.cp_unify.proofs.Members.{in_cases, among_left, among_right}
+use Rattle.cp_unify.proofs.Members.{among_left, among_right}
 use Rattle.cp_unify.proofs.Occurring.{bound, other}
 
 -- The substitution changes only is_local.
@@ -89,25 +90,6 @@ outcome_choice is_local xs e r true up down = record {
   only = λ ls w o. o;
 }
 outcome_choice is_local xs e r false up down = λ s c a w. down refl s c a w
-
--- The locals of a term are those of its variables that have a number listed.
-local_is_numbered : (numbers : List ℕ) (xs : List Variable) (x : Variable) → IsIn x (filter (λ y. is_number_of numbers y.number) xs) → is_number_of numbers x.number ≡ true
-local_is_numbered numbers [] x i = elim i [ ]
-local_is_numbered numbers (y ∷ ys) x i = choose (is_number_of numbers y.number) refl (local_is_numbered numbers ys x) i
-  where
-    choose : (b : Bool) → is_number_of numbers y.number ≡ b → (IsIn x (filter (λ z. is_number_of numbers z.number) ys) → is_number_of numbers x.number ≡ true) →
-        IsIn x (if b then y ∷ filter (λ z. is_number_of numbers z.number) ys else filter (λ z. is_number_of numbers z.number) ys) → is_number_of numbers x.number ≡ true
-    choose true e rest j = elim (in_cases j) [ inl same ↦ ap (λ (z : Variable). is_number_of numbers z.number) same ∙ e | inr more ↦ rest more ]
-    choose false e rest j = rest j
-
-numbered_is_local : (numbers : List ℕ) (xs : List Variable) (x : Variable) → IsIn x xs → is_number_of numbers x.number ≡ true → IsIn x (filter (λ y. is_number_of numbers y.number) xs)
-numbered_is_local numbers [] x i e = elim i [ ]
-numbered_is_local numbers (y ∷ ys) x here e = rw e here
-numbered_is_local numbers (y ∷ ys) x (there i) e = behind (is_number_of numbers y.number) (numbered_is_local numbers ys x i e)
-  where
-    behind : (b : Bool) → IsIn x (filter (λ z. is_number_of numbers z.number) ys) → IsIn x (if b then y ∷ filter (λ z. is_number_of numbers z.number) ys else filter (λ z. is_number_of numbers z.number) ys)
-    behind true j = there j
-    behind false j = j
 
 -- The term of a bound variable; and that one that is not bound is that of no binding.
 agrees_bound : (s : Substitution) (r : List Binding) (x t : AtomTerm) → Agrees s r → bound_term r (atom_term x) ≡ Some t → apply_to_atom s x ≡ t
@@ -300,7 +282,7 @@ changes_only locals (b ∷ bs) h x apart =
 
 -- Where a substitution changes only locals of the pattern, it changes only variables whose numbers are listed.
 changes_listed : (p : Term) (numbers : List ℕ) (s : Substitution) → ChangesOnly (locals_of p numbers) s → ChangesLocals (is_listed (Some numbers)) s
-changes_listed p numbers s c x e = c x (λ i. let f : is_number_of numbers x.number ≡ true = local_is_numbered numbers (variables_of p) x i in cc)
+changes_listed p numbers s c x e = c x (λ i. let f : is_number_of numbers x.number ≡ true = (is_numbered numbers (variables_of p) x i).1 in cc)
 
 changes_any : (s : Substitution) → ChangesLocals (is_listed None) s
 changes_any s x e = absurd (let f : true ≡ false = e in cc)
@@ -309,7 +291,7 @@ answer_some : (p t : Term) (numbers : List ℕ) (answer : Option (List Binding))
     IfSome answer (λ r. IsMatch p t (locals_of p numbers) r)
 answer_some p t numbers None h = tt
 answer_some p t numbers (Some q) h =
-    let only : BindsOnly (locals_of p numbers) q = h.only (locals_of p numbers) (numbered_is_local numbers (variables_of p)) tt in
+    let only : BindsOnly (locals_of p numbers) q = h.only (locals_of p numbers) (numbered_is_in numbers (variables_of p)) tt in
     record { binds_locals = only; matches = h.sound (as_substitution q) (changes_listed p numbers (as_substitution q) (changes_only (locals_of p numbers) q only)) (h.own tt) }
 
 answer_none : (p t : Term) (numbers : List ℕ) (answer : Option (List Binding)) → Outcome (is_listed (Some numbers)) (variables_of p) (IsMade p t) [] answer →
