@@ -1,5 +1,5 @@
 // Variables by their identifiers, and the sorts of terms.
-ghost use Rattle.std.specs.Prelude.{◌≡◌, ◌≢◌, ◌||◌, map, option_map, None};
+ghost use Rattle.std.specs.Prelude.{◌≡◌, ◌||◌, map, option_map, None};
 ghost use Rattle.cp_model.specs.Term.{skey_sort, akey_sort};
 ghost use Rattle.cp_sexpr.specs.View.{view};
 ghost use Rattle.cp_model.specs.Same.{same_sort};
@@ -42,22 +42,11 @@ pub(crate) fn variable_named(variables: &[Declaration], identifier: &[u8]) -> Op
     None
 }
 
-/// The sort of atoms that stands for this one.
-pub(crate) fn atom_sort(sort: Sort) -> Sort
-    ensures of_atoms { result ≢ Sort.Mesg }
-    ensures same { sort_view result ≡ sort_view sort }
-{
-    match sort {
-        Sort::Mesg => Sort::Text,
-        sort => sort,
-    }
-}
-
-/// Whether the sorts of atoms are the same.
+/// Whether the sorts are the same.
 pub(crate) fn is_same_sort(first: Sort, second: Sort) -> bool
     ensures { result ≡ same_sort (sort_view first) (sort_view second) }
 {
-    atom_sort(first) == atom_sort(second)
+    first == second
 }
 
 /// The sort of a term that is no list with a head; none where it cannot be known.

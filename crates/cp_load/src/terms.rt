@@ -10,7 +10,7 @@ ghost use Rattle.cp_forms.specs.Heads.{term_head_view};
 ghost use Rattle.cp_load.specs.Terms.{variable_view};
 ghost use Rattle.cp_load.specs.Applied.{is_name, is_key, purpose_in, key_of_purpose};
 
-use crate::sorts::{Variable, atom_sort, variable_named};
+use crate::sorts::{Variable, variable_named};
 use cp_base::Text;
 use cp_forms::{TermHead, headed, term_head};
 use cp_sexpr::Form;
@@ -32,7 +32,7 @@ pub(crate) fn variable_term(alloc: Global, variable: Variable) -> Result<Term, A
     var(
         alloc,
         VarId::numbered(variable.number),
-        atom_sort(variable.sort),
+        variable.sort,
     )
 }
 

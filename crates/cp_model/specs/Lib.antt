@@ -15,6 +15,7 @@ pub mod Composition
 pub mod Example
 pub mod Derivable
 pub mod Tree
+pub mod Pattern
 pub mod MessageCode
 pub mod KeyView
 pub mod MessageView

@@ -1,25 +1,24 @@
 -- The terms of the declared variables, declaration by declaration.
-use Rattle.std.proofs.Common.{◌≡◌, ◌≢◌, ◌+◌, ◌<◌, ◌≤◌, ℕ, List, [], ◌∷◌, ◌++◌, length, get_or, map, drop, refl, sym, ap, ◌∙◌, add-one, append_assoc}
+use Rattle.std.proofs.Common.{◌≡◌, ◌+◌, ◌<◌, ◌≤◌, ℕ, List, [], ◌∷◌, ◌++◌, length, get_or, map, drop, refl, sym, ap, ◌∙◌, add-one, append_assoc}
 use Rattle.std.proofs.lemmas.List.{append-nil, drop_all}
 use Rattle.cp_model.specs.Term.{Variable, Term, atom_term, atom_of_variable, Substitution, apply_to, composed}
 use Rattle.cp_model.proofs.LawTerms.{atom_composed}
 use Rattle.cp_term.specs.Variables.{variable_term}
 use Rattle.cp_term.specs.declared.variable.Sort.{Sort}
-use Rattle.cp_term.specs.declared.variable.Sort.TheVariants.{Text, Datum, Name, Skey, Akey, Mesg}
+use Rattle.cp_term.specs.declared.variable.Sort.TheVariants.{Text, Datum, Name, Skey, Akey}
 use Rattle.cp_skel.specs.Occurring.{declared_variables, terms_of}
 use Rattle.cp_skel.specs.View.{sort_view, declaration_view}
 use Rattle.cp_skel.specs.declared.protocol.Declaration.{Declaration}
 use Rattle.cp_skel.proofs.Items.{item-drop}
 use Rattle.cp_normal.specs.Values.{term_of_variable}
 
--- A variable of a sort of atoms, as a term.
-pub variable_is : (sort : Sort) (n : ℕ) → sort ≢ Mesg → variable_term sort n ≡ atom_term (atom_of_variable (record { sort = sort_view sort; number = n }))
-variable_is Text n other = refl
-variable_is Datum n other = refl
-variable_is Name n other = refl
-variable_is Skey n other = refl
-variable_is Akey n other = refl
-variable_is Mesg n other = absurd (other refl)
+-- A variable as a term.
+pub variable_is : (sort : Sort) (n : ℕ) → variable_term sort n ≡ atom_term (atom_of_variable (record { sort = sort_view sort; number = n }))
+variable_is Text n = refl
+variable_is Datum n = refl
+variable_is Name n = refl
+variable_is Skey n = refl
+variable_is Akey n = refl
 
 -- One declaration more.
 module _ (f : Substitution) (ds : List Declaration) (n : ℕ) (d : Declaration) (lt : n < length ds) (is : d ≡ get_or ds n d) where

@@ -1,5 +1,5 @@
 // The terms of an instance's variables.
-ghost use Rattle.std.specs.Prelude.{◌≡◌, ◌≢◌, map, IfOk};
+ghost use Rattle.std.specs.Prelude.{◌≡◌, map, IfOk};
 ghost use Rattle.cp_model.specs.Homomorphism.{substitution_by};
 ghost use Rattle.cp_model.specs.Term.{composed};
 ghost use Rattle.cp_skel.specs.Occurring.{declared_variables, terms_of};
@@ -12,17 +12,6 @@ use cp_term::{Sort, Term, VarId, var};
 use cp_unify::{Subst, apply};
 use std::alloc::{AllocError, Global};
 
-/// The sort of atoms that stands for this one.
-fn atom_sort(sort: Sort) -> Sort
-    ensures of_atoms { result ≢ Sort.Mesg }
-    ensures same { sort_view result ≡ sort_view sort }
-{
-    match sort {
-        Sort::Mesg => Sort::Text,
-        sort => sort,
-    }
-}
-
 /// The term of a role's variable in the terms of an instance: the one at the variable's number, if that is of its sort, or
 /// else the variable itself.
 pub(crate) fn term_of_variable(
@@ -33,7 +22,7 @@ pub(crate) fn term_of_variable(
 ) -> Result<Term, AllocError>
     ensures { IfOk result (λ t. t ≡ term_of_variable (substitution_by terms.now) (record { sort = sort_view sort; number = id })) }
 {
-    let variable = var(alloc, id, atom_sort(sort))?;
+    let variable = var(alloc, id, sort)?;
     applied(alloc, terms, &variable)
 }
 

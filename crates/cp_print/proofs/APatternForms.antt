@@ -2,22 +2,23 @@
 use Rattle.std.proofs.Common.{◌≡◌, ℕ, ◌+◌, ◌<◌, List, [], ◌∷◌, ◌++◌, length, get_or, drop, map, sym, ap, ◌∙◌}
 use Rattle.std.proofs.lemmas.List.{append_assoc, map_push}
 use Rattle.cp_print.proofs.Places.{item-drop}
-use Rattle.cp_model.specs.Term.{Variable, variables_of}
+use Rattle.cp_model.specs.Term.{Variable, Term, variables_of}
 use Rattle.cp_model.specs.Tree.{Pattern}
 use Rattle.cp_sexpr.specs.Syntax.{Form}
 use Rattle.cp_language.specs.Printed.{term_form, pattern_form, local_or_name, place_among, locals_in_order}
 
-pub as_pattern : (named : Variable → Form) (p : Pattern) (locals variables found : List Variable) → locals ≡ p.locals → variables ≡ variables_of p.term → found ≡ locals_in_order locals [] variables
-    → term_form (λ x. local_or_name named x (place_among 0 found x)) p.term ≡ pattern_form named p
-as_pattern named p locals variables found l v f =
-    ap (λ ls. term_form (λ x. local_or_name named x (place_among 0 ls x)) p.term) (f ∙ ap (λ ls. locals_in_order ls [] variables) l ∙ ap (λ xs. locals_in_order p.locals [] xs) v)
+pub as_pattern : (named : Variable → Form) (p : Pattern) (t : Term) (locals variables found : List Variable) → t ≡ p.term → locals ≡ p.locals → variables ≡ variables_of p.term → found ≡ locals_in_order locals [] variables
+    → term_form (λ x. local_or_name named x (place_among 0 found x)) t ≡ pattern_form named p
+as_pattern named p t locals variables found e l v f =
+    ap (term_form (λ x. local_or_name named x (place_among 0 found x))) e
+    ∙ ap (λ ls. term_form (λ x. local_or_name named x (place_among 0 ls x)) p.term) (f ∙ ap (λ ls. locals_in_order ls [] variables) l ∙ ap (λ xs. locals_in_order p.locals [] xs) v)
 
 -- what is made of one more item
-pub one_more : {A B C D : Type 0} (viewed : A → B) (made : C → B) (taken : D → C) (items : List D) (i : ℕ) (item : D) (all : List B) (out more : List A) (a : A)
-    → i < length items → item ≡ get_or items i item → viewed a ≡ made (taken item) → more ≡ out ++ a ∷ []
-    → map viewed out ++ map made (map taken (drop i items)) ≡ all → map viewed more ++ map made (map taken (drop (i + 1) items)) ≡ all
-one_more viewed made taken items i item all out more a within at is pushed so_far =
-    ap (λ bs. bs ++ map made (map taken (drop (i + 1) items))) (ap (map viewed) pushed ∙ map_push viewed out a ∙ ap (λ b. map viewed out ++ b ∷ []) is)
-    ∙ append_assoc (map viewed out) (made (taken item) ∷ []) (map made (map taken (drop (i + 1) items)))
-    ∙ ap (λ ds. map viewed out ++ map made (map taken ds)) (sym (item-drop items i item within at))
+pub one_more : {A B D : Type 0} (viewed : A → B) (made : D → B) (items : List D) (i : ℕ) (item : D) (all : List B) (out more : List A) (a : A)
+    → i < length items → item ≡ get_or items i item → viewed a ≡ made item → more ≡ out ++ a ∷ []
+    → map viewed out ++ map made (drop i items) ≡ all → map viewed more ++ map made (drop (i + 1) items) ≡ all
+one_more viewed made items i item all out more a within at is pushed so_far =
+    ap (λ bs. bs ++ map made (drop (i + 1) items)) (ap (map viewed) pushed ∙ map_push viewed out a ∙ ap (λ b. map viewed out ++ b ∷ []) is)
+    ∙ append_assoc (map viewed out) (made item ∷ []) (map made (drop (i + 1) items))
+    ∙ ap (λ ds. map viewed out ++ map made ds) (sym (item-drop items i item within at))
     ∙ so_far

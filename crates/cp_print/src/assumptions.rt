@@ -5,7 +5,6 @@ ghost use Rattle.cp_language.specs.Report.{named_by, unique_form, value_forms, m
 ghost use Rattle.cp_sexpr.specs.View.{view};
 ghost use Rattle.cp_skel.specs.Trees.{test_view};
 ghost use Rattle.cp_skel.specs.View.{unique_view, skeleton_view};
-ghost use Rattle.cp_term.specs.Patterns.{pattern_of};
 ghost use Rattle.cp_print.specs.Named.{named_in};
 
 use crate::items::{node_form, numerals};
@@ -126,7 +125,7 @@ pub(crate) fn pattern_forms(
     names: &[Text],
     patterns: &[Pattern],
 ) -> Result<Vec<Form>, AllocError>
-    ensures { IfOk result (λ fs. map view fs.items ≡ map (pattern_form (named_by names.now)) (map pattern_of patterns.now)) }
+    ensures { IfOk result (λ fs. map view fs.items ≡ map (pattern_form (named_by names.now)) patterns.now) }
 {
     let mut forms = Vec::new(alloc);
     for pattern in patterns {

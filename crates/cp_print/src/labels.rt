@@ -7,7 +7,6 @@ ghost use Rattle.cp_sexpr.specs.View.{view};
 ghost use Rattle.cp_skel.specs.Trees.{operation_view, mark_view, test_view, label_view};
 ghost use Rattle.cp_model.specs.RunView.{node_view};
 ghost use Rattle.cp_skel.specs.View.{strand_view, unique_view, skeleton_view};
-ghost use Rattle.cp_term.specs.Patterns.{pattern_of};
 ghost use Rattle.cp_print.specs.Named.{variable_view, named_in};
 
 use crate::assumptions::{add_test, atom_forms, map_form, pattern_forms, unique_forms};
@@ -106,7 +105,7 @@ fn add_result_items(
         ++ map_form (named_in naming.now) of_problem.now (skeleton_view label.now.skeleton) ∷ []
         ++ item_unless_empty (codes "unrealised") (map node_form (map node_view label.now.unrealised.items))
         ++ test_items (named_in naming.now) (option_map test_view label.now.test)
-        ++ item_unless_empty (codes "escape") (map (pattern_form (named_by naming.now.names.now)) (map pattern_of label.now.patterns.items))
+        ++ item_unless_empty (codes "escape") (map (pattern_form (named_by naming.now.names.now)) label.now.patterns.items)
         ++ item_unless_empty (codes "children") (map numeral label.now.children.items)
         ++ mark_items (option_map mark_view label.now.mark)) }
 {

@@ -32,13 +32,7 @@ pub(crate) struct Naming<'a> {
 pub(crate) fn is_same_sort(first: Sort, second: Sort) -> bool
     ensures { result ≡ same_sort (sort_view first) (sort_view second) }
 {
-    match first {
-        Sort::Text | Sort::Mesg => matches!(second, Sort::Text | Sort::Mesg),
-        Sort::Datum => matches!(second, Sort::Datum),
-        Sort::Name => matches!(second, Sort::Name),
-        Sort::Skey => matches!(second, Sort::Skey),
-        Sort::Akey => matches!(second, Sort::Akey),
-    }
+    first == second
 }
 
 /// The word for a sort.
@@ -46,7 +40,7 @@ pub(crate) fn sort_text(sort: Sort) -> &'static str
     ensures { result.now ≡ sort_text (sort_view sort) }
 {
     match sort {
-        Sort::Text | Sort::Mesg => "text",
+        Sort::Text => "text",
         Sort::Datum => "data",
         Sort::Name => "name",
         Sort::Skey => "skey",

@@ -1,12 +1,12 @@
 // Patterns: their locals, and the variables that are none.
-ghost use Rattle.std.specs.Prelude.{◌≡◌, ◌++◌, [], map, option_map, IfOk, OnOk};
+ghost use Rattle.std.specs.Prelude.{◌≡◌, ◌++◌, [], map, IfOk, OnOk};
 ghost use Rattle.cp_model.specs.Term.{variables_of};
 ghost use Rattle.cp_language.specs.Printed.{variable, locals_in_order, pattern_form};
 ghost use Rattle.cp_language.specs.Report.{named_by, variables_but, variables_of_patterns};
 ghost use Rattle.cp_model.specs.Same.{has_variable};
 ghost use Rattle.cp_sexpr.specs.View.{view};
 ghost use Rattle.cp_skel.specs.View.{sort_view};
-ghost use Rattle.cp_term.specs.Patterns.{variable_numbered, variables_numbered, pattern_of};
+ghost use Rattle.cp_term.specs.Patterns.{numbered};
 ghost use Rattle.cp_print.specs.Named.{variable_view};
 
 use crate::naming::{Naming, Variable, is_same_sort};
@@ -28,31 +28,18 @@ pub(crate) fn has_variable(variables: &[Variable], variable: Variable) -> bool
     false
 }
 
-/// The first of the variables with this number.
-fn variable_numbered(variables: &[Variable], number: usize) -> Option<Variable>
-    ensures { option_map variable_view result ≡ variable_numbered (map variable_view variables.now) number }
-{
-    for variable in variables {
-        if variable.number == number {
-            return Some(*variable);
-        }
-    }
-    None
-}
-
-/// The variables of these numbers, in their order.
-fn variables_numbered(
+/// The variables that have the numbers listed.
+fn numbered(
     alloc: Global,
     variables: &[Variable],
     numbers: &[VarId],
 ) -> Result<Vec<Variable>, AllocError>
-    ensures { IfOk result (λ found. map variable_view found.items ≡ variables_numbered (map variable_view variables.now) numbers.now) }
+    ensures { IfOk result (λ found. map variable_view found.items ≡ numbered numbers.now (map variable_view variables.now)) }
 {
     let mut found = Vec::new(alloc);
-    for id in numbers {
-        let number = id.number();
-        if let Some(variable) = variable_numbered(variables, number) {
-            found.push(variable)?;
+    for variable in variables {
+        if numbers.contains(&VarId::numbered(variable.number)) {
+            found.push(*variable)?;
         }
     }
     Ok(found)
@@ -67,11 +54,11 @@ struct Parts {
 
 fn parts_of(alloc: Global, pattern: &Pattern) -> Result<Parts, AllocError>
     ensures variables { IfOk result (λ parts. map variable_view parts.variables.items ≡ variables_of pattern.now.term) }
-    ensures locals { IfOk result (λ parts. map variable_view parts.locals.items ≡ (pattern_of pattern.now).locals) }
+    ensures locals { IfOk result (λ parts. map variable_view parts.locals.items ≡ pattern.now.locals) }
 {
     let mut variables = Vec::new(alloc);
-    add_term(&pattern.term, &mut variables)?;
-    let locals = variables_numbered(alloc, &variables, pattern.locals.as_slice())?;
+    add_term(pattern.term(), &mut variables)?;
+    let locals = numbered(alloc, &variables, pattern.locals())?;
     Ok(Parts { variables, locals })
 }
 
@@ -97,7 +84,7 @@ pub(crate) fn add_patterns(
     patterns: &[Pattern],
     out: &mut Vec<Variable>,
 ) -> Result<(), AllocError>
-    ensures { OnOk result (map variable_view out.new.items ≡ map variable_view out.old.items ++ variables_of_patterns (map pattern_of patterns.now)) }
+    ensures { OnOk result (map variable_view out.new.items ≡ map variable_view out.old.items ++ variables_of_patterns patterns.now) }
 {
     for pattern in patterns {
         let parts = parts_of(alloc, pattern)?;
@@ -129,7 +116,7 @@ pub(crate) fn pattern_form(
     names: &[Text],
     pattern: &Pattern,
 ) -> Result<Form, AllocError>
-    ensures { IfOk result (λ f. view f ≡ pattern_form (named_by names.now) (pattern_of pattern.now)) }
+    ensures { IfOk result (λ f. view f ≡ pattern_form (named_by names.now) pattern.now) }
 {
     let parts = parts_of(alloc, pattern)?;
     let locals = locals_in_order(alloc, &parts.locals, &parts.variables)?;
@@ -137,5 +124,5 @@ pub(crate) fn pattern_form(
         names,
         locals: &locals,
     };
-    term_form(alloc, &naming, &pattern.term)
+    term_form(alloc, &naming, pattern.term())
 }

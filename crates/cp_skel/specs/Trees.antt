@@ -3,7 +3,6 @@ use Rattle.std.specs.Prelude.{List, map, option_map}
 use Rattle.cp_model.specs.Strand as strand
 use Rattle.cp_model.specs.Tree as tree
 use Rattle.cp_term.specs.Table.{Declared}
-use Rattle.cp_term.specs.Patterns.{pattern_of}
 use Rattle.cp_model.specs.RunView.{node_view}
 use Rattle.cp_skel.specs.View.{sort_view, skeleton_view}
 use Rattle.cp_skel.specs.declared.tree.Limits.{Limits}
@@ -60,7 +59,7 @@ label_view l = record {
   skeleton = skeleton_view l.skeleton;
   unrealised = map node_view l.unrealised.items;
   test = option_map test_view l.test;
-  escape = map pattern_of l.patterns.items;
+  escape = l.patterns.items;
   children = l.children.items;
   mark = option_map mark_view l.mark;
 }

@@ -21,14 +21,13 @@ use Rattle.cp_skel.specs.declared.skeleton.Assumptions.{Assumptions}
 use Rattle.cp_skel.specs.declared.skeleton.FromProblem.{FromProblem}
 use Rattle.cp_skel.specs.declared.skeleton.Skeleton.{Skeleton}
 
--- The sort of atoms; of all messages it says nothing.
+-- The sort.
 abbrev pub sort_view : Sort → model.Sort
 sort_view sorts.Text = model.text_sort
 sort_view sorts.Datum = model.datum_sort
 sort_view sorts.Name = model.name_sort
 sort_view sorts.Skey = model.skey_sort
 sort_view sorts.Akey = model.akey_sort
-sort_view sorts.Mesg = model.text_sort
 
 abbrev pub declaration_view : Declaration → strand.Declaration
 declaration_view d = record { identifier = d.identifier; sort = sort_view d.sort }

@@ -1,5 +1,5 @@
 // Variables that occur in terms and in the prefixes of roles.
-ghost use Rattle.std.specs.Prelude.{◌≡◌, ◌≢◌, ◌&&◌, ◌==◌, map};
+ghost use Rattle.std.specs.Prelude.{◌≡◌, ◌&&◌, ◌==◌, map};
 ghost use Rattle.cp_model.specs.Term.{variables_of, variables_of_atom};
 ghost use Rattle.cp_model.specs.Strand.{variables_of_trace, prefix_of};
 ghost use Rattle.cp_model.specs.Same.{same_sort, has_variable, has_variables};
@@ -22,22 +22,11 @@ pub fn prefix_of(role: &Role, height: usize) -> &[Event]
     prefix
 }
 
-/// The sort of atoms that stands for this one.
-pub(crate) fn atom_sort(sort: Sort) -> Sort
-    ensures of_atoms { result ≢ Sort.Mesg }
-    ensures same { sort_view result ≡ sort_view sort }
-{
-    match sort {
-        Sort::Mesg => Sort::Text,
-        sort => sort,
-    }
-}
-
-/// Whether the sorts of atoms are the same.
+/// Whether the sorts are the same.
 fn is_same_sort(first: Sort, second: Sort) -> bool
     ensures { result ≡ same_sort (sort_view first) (sort_view second) }
 {
-    atom_sort(first) == atom_sort(second)
+    first == second
 }
 
 /// Whether one variable is the other.

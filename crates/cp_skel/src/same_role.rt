@@ -6,18 +6,11 @@ use crate::atom::Atom;
 use crate::protocol::{Declaration, Event, Role};
 use cp_term::Sort;
 
-/// Whether the sorts of atoms are the same; that of all messages stands for that of texts.
+/// Whether the sorts are the same.
 fn is_same_sort(a: Sort, b: Sort) -> bool
     ensures { IsTrue result ↔ (sort_view a ≡ sort_view b) }
 {
-    match (a, b) {
-        (Sort::Text | Sort::Mesg, Sort::Text | Sort::Mesg) => true,
-        (Sort::Datum, Sort::Datum) => true,
-        (Sort::Name, Sort::Name) => true,
-        (Sort::Skey, Sort::Skey) => true,
-        (Sort::Akey, Sort::Akey) => true,
-        _ => false,
-    }
+    a == b
 }
 
 fn is_same_declaration(a: &Declaration, b: &Declaration) -> bool

@@ -1,5 +1,5 @@
 // Terms under the terms of an instance, or of any list. What does not change is shared.
-ghost use Rattle.std.specs.Prelude.{◌≡◌, ◌≢◌, unwrap_or, MatchOption, IfOk};
+ghost use Rattle.std.specs.Prelude.{◌≡◌, unwrap_or, MatchOption, IfOk};
 ghost use Rattle.std.specs.Option.{option_map};
 ghost use Rattle.cp_model.specs.Lists.{item_at};
 ghost use Rattle.cp_model.specs.Homomorphism.{substitution_by};
@@ -31,9 +31,8 @@ pub(crate) fn value_at(values: &[Term], place: usize) -> Option<&Term>
     values.get(place)
 }
 
-/// The term that a variable of this sort, which is not that of all messages, becomes, if it becomes one.
+/// The term that a variable of this sort becomes, if it becomes one.
 pub(crate) fn value_of<'a>(values: &'a [Term], sort: Sort, variable: VarId) -> Option<&'a Term>
-    requires { sort ≢ Sort.Mesg }
     ensures { MatchOption result
         (apply_to (substitution_by values.now) (variable_term sort variable) ≡ variable_term sort variable)
         (λ t. apply_to (substitution_by values.now) (variable_term sort variable) ≡ t.now) }

@@ -6,7 +6,7 @@ ghost use Rattle.cp_skel.specs.Occurring.{is_added};
 ghost use Rattle.cp_skel.specs.Valued.{term_or, valued};
 ghost use Rattle.cp_skel.specs.View.{sort_view, declaration_view, role_view};
 
-use crate::occurring::{atom_sort, is_added, prefix_of};
+use crate::occurring::{is_added, prefix_of};
 use crate::protocol::Role;
 use crate::skeleton::Instance;
 use crate::substituting::value_at;
@@ -25,7 +25,7 @@ fn term_or_variable(
 {
     match term {
         Some(term) => term.copy(),
-        None => var(alloc, id, atom_sort(sort)),
+        None => var(alloc, id, sort),
     }
 }
 

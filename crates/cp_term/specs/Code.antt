@@ -1,10 +1,11 @@
 -- A term written down as a list of tokens, in postfix, from which it is read back by a machine with a stack. So
 -- terms are told apart by lists of numbers.
-use Rattle.std.specs.Prelude.{◌≡◌, ◌⊎◌, ℕ, Bool, List, [], ◌∷◌, ◌++◌, Option, refl}
+use Rattle.std.specs.Prelude.{◌≡◌, ◌⊎◌, ℕ, ◌==◌, if◌then◌else◌, Bool, List, [], ◌∷◌, ◌++◌, Option, refl}
 use Rattle.std.specs.Coded.{Coded, code_by, coded_ℕ, coded_bool, coded_list, coded_option, coded×, coded⊎}
 use Rattle.std.proofs.Common.{inl, inr, ◌∙◌, ap, sym, append_assoc}
 use Rattle.std.proofs.lemmas.List.{append-nil}
-use Rattle.cp_model.specs.Term.{SymmetricTerm, skey_variable, ltk_term, PairTerm, akey_variable, pubk_term, KeyTerm, symmetric_term, asymmetric_term, AtomTerm, text_variable, datum_variable, name_variable, key_term, Term, tag_term, atom_term, pair_term, enc_term}
+use Rattle.cp_model.specs.Term.{Sort, text_sort, datum_sort, name_sort, skey_sort, akey_sort, Variable, SymmetricTerm, skey_variable, ltk_term, PairTerm, akey_variable, pubk_term, KeyTerm, symmetric_term, asymmetric_term, AtomTerm, text_variable, datum_variable, name_variable, key_term, Term, tag_term, atom_term, pair_term, enc_term}
+use Rattle.cp_model.specs.Tree.{Pattern}
 
 abbrev symmetric_parts : SymmetricTerm → ℕ ⊎ (ℕ × ℕ)
 symmetric_parts (skey_variable n) = inl n
@@ -167,3 +168,31 @@ term_back t = ap (λ ts. top (run ts [])) (sym (append-nil (tokens t))) ∙ ap t
 -- A term is told apart from others by its tokens.
 abbrev pub coded_term : Coded Term
 coded_term = code_by (List Token) (coded_list coded_token) tokens term_from term_back
+
+abbrev sort_number : Sort → ℕ
+sort_number text_sort = 0
+sort_number datum_sort = 1
+sort_number name_sort = 2
+sort_number skey_sort = 3
+sort_number akey_sort = 4
+
+abbrev sort_from : ℕ → Sort
+sort_from n = if n == 0 then text_sort else if n == 1 then datum_sort else if n == 2 then name_sort else if n == 3 then skey_sort else akey_sort
+
+pub sort_back : (s : Sort) → sort_from (sort_number s) ≡ s
+sort_back text_sort = refl
+sort_back datum_sort = refl
+sort_back name_sort = refl
+sort_back skey_sort = refl
+sort_back akey_sort = refl
+
+abbrev coded_sort : Coded Sort
+coded_sort = code_by ℕ coded_ℕ sort_number sort_from sort_back
+
+abbrev coded_variable : Coded Variable
+coded_variable = code_by (Sort × ℕ) (coded× coded_sort coded_ℕ) (λ x. (x.sort, x.number)) (λ p. record { sort = p.0; number = p.1 }) (λ x. refl)
+
+-- A pattern is told apart from others by its term and its locals.
+abbrev pub coded_pattern : Coded Pattern
+coded_pattern =
+    code_by (Term × List Variable) (coded× coded_term (coded_list coded_variable)) (λ p. (p.term, p.locals)) (λ p. record { term = p.0; locals = p.1 }) (λ p. refl)

@@ -1,18 +1,21 @@
--- What a pattern of the program stands for.
-use Rattle.std.specs.Prelude.{ℕ, ◌==◌, List, find, Option}
-use Rattle.std.specs.List.{filter_map}
-use Rattle.cp_model.specs.Term.{Variable, variables_of}
+-- Patterns by terms and the numbers of their local variables.
+use Rattle.std.specs.Prelude.{ℕ, Bool, ◌==◌, List, filter}
+use Rattle.std.specs.List.{list_any}
+use Rattle.cp_model.specs.Term.{Variable, Term, variables_of}
 use Rattle.cp_model.specs.Tree.{Pattern}
-use Rattle.cp_term.specs.declared.pattern.Pattern as program
 
--- The first of the variables with this number.
-abbrev pub variable_numbered : List Variable → ℕ → Option Variable
-variable_numbered xs n = find (λ x. x.number == n) xs
+-- The number is listed.
+abbrev pub is_number_of : List ℕ → ℕ → Bool
+is_number_of numbers m = list_any (λ n. n == m) numbers
 
--- The variables of these numbers, in their order; a number that none has counts for nothing.
-abbrev pub variables_numbered : List Variable → List ℕ → List Variable
-variables_numbered xs numbers = filter_map (variable_numbered xs) numbers
+-- Those of the variables that have a number listed.
+abbrev pub numbered : List ℕ → List Variable → List Variable
+numbered numbers = filter (λ x. is_number_of numbers x.number)
 
--- The locals are those variables of the term that have the numbers listed.
-abbrev pub pattern_of : program.Pattern → Pattern
-pattern_of p = record { term = p.term; locals = variables_numbered (variables_of p.term) p.locals }
+-- The local variables of a term: those of its variables that have a number listed.
+abbrev pub locals_of : Term → List ℕ → List Variable
+locals_of t numbers = numbered numbers (variables_of t)
+
+-- The pattern of this term whose local variables are those that have a number listed.
+abbrev pub pattern_by : Term → List ℕ → Pattern
+pattern_by t numbers = record { term = t; locals = locals_of t numbers }

@@ -1,5 +1,5 @@
 // The makers of terms.
-ghost use Rattle.std.specs.Prelude.{◌≡◌, ◌≢◌, ℕ, false, IfOk};
+ghost use Rattle.std.specs.Prelude.{◌≡◌, ℕ, false, IfOk};
 ghost use Rattle.std.specs.Option.{option_map};
 ghost use Rattle.cp_model.specs.Message.{Key, inverse};
 ghost use Rattle.cp_model.specs.Message as message;
@@ -21,9 +21,8 @@ pub fn tag(alloc: Global, text: &str) -> Result<Term, AllocError>
     Term::made(alloc, Node::Tag(text))
 }
 
-/// The variable of this sort. The sort is not that of all messages: a variable of that one is no term yet.
+/// The variable of this sort.
 pub fn var(alloc: Global, id: VarId, sort: Sort) -> Result<Term, AllocError>
-    requires { sort ≢ Sort.Mesg }
     ensures plain { IfOk result (λ t. t ≡ variable_term sort id) }
     ensures value { IfOk result (λ t. (g : Assignment) → value_of g t ≡ value_of_variable g sort id) }
 {
@@ -33,7 +32,6 @@ pub fn var(alloc: Global, id: VarId, sort: Sort) -> Result<Term, AllocError>
         Sort::Name => Term::made(alloc, Node::NameVariable(id)),
         Sort::Skey => Term::made(alloc, Node::SkeyVariable(id)),
         Sort::Akey => Term::made(alloc, Node::AkeyVariable(false, id)),
-        Sort::Mesg => unreachable!(),
     }
 }
 

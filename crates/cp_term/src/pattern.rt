@@ -1,5 +1,7 @@
 // Patterns.
-ghost use Rattle.std.specs.Prelude.{◌≡◌, [], ◌∷◌, ◌++◌, length, IfOk, OnOk, OnErr};
+ghost use Rattle.std.specs.Prelude.{◌≡◌, [], ◌++◌, ◌∷◌, IfOk, OnOk, OnErr};
+ghost use Rattle.cp_model.specs.Pattern.{IsPattern};
+ghost use Rattle.cp_term.specs.Patterns.{locals_of, pattern_by};
 
 use crate::term::Term;
 use crate::variable::VarId;
@@ -55,14 +57,54 @@ impl Locals {
     }
 }
 
-/// An encryption whose local variables stand for any atom of their sort.
+/// An encryption whose local variables stand for any atom of their sort. Contracts see the term and its locals.
 #[derive(Drop)]
 pub struct Pattern {
-    pub term: Term,
-    pub locals: Locals,
+    term: Term,
+    locals: Locals,
+}
+
+impl Model for Pattern {
+    ghost use Rattle.cp_model.specs.Tree.{Pattern as Plain};
+
+    ghost Value = { Plain };
+
+    ghost use Rattle.cp_term.specs.Code.{coded_pattern};
+
+    ghost coded = { coded_pattern };
+
+    ghost use Rattle.cp_model.specs.Pattern.{IsPattern};
+    ghost use Rattle.cp_term.specs.Patterns.{pattern_by};
+
+    ghost view = { λ p. pattern_by p.term p.locals };
+
+    ghost invariant = { λ p. IsPattern (pattern_by p.term p.locals) };
 }
 
 impl Pattern {
+    /// The pattern of this term, whose variables with these numbers are local. That it is one is the caller's condition.
+    pub fn new(term: Term, locals: Locals) -> Pattern
+        requires { IsPattern (pattern_by term locals) }
+        ensures { result ≡ pattern_by term locals }
+    {
+        Pattern { term, locals }
+    }
+
+    /// The term.
+    pub fn term(&self) -> &Term
+        ensures term { result.now ≡ self.now.term }
+        ensures pattern { IsPattern self.now }
+    {
+        &self.term
+    }
+
+    /// The numbers of the local variables.
+    pub fn locals(&self) -> &[VarId]
+        ensures { locals_of self.now.term result.now ≡ self.now.locals }
+    {
+        self.locals.as_slice()
+    }
+
     /// The same pattern again.
     pub fn copy(&self) -> Result<Pattern, AllocError>
         ensures { IfOk result (λ p. p ≡ self.now) }

@@ -9,7 +9,7 @@ use cp_base::Text;
 #[derive(Clone, Copy)]
 pub enum Shape<'a> {
     Tag(&'a str),
-    /// A variable of this sort, which is not that of all messages.
+    /// A variable of this sort.
     Variable(VarId, Sort),
     /// The inverse of a variable of sort akey.
     Inverse(VarId),

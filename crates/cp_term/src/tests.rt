@@ -1,5 +1,5 @@
 // Terms worked out by hand, each public call once, and a long chain.
-ghost use Rattle.std.specs.Prelude.{◌≡◌, ◌≢◌, IfOk};
+ghost use Rattle.std.specs.Prelude.{◌≡◌, IfOk};
 ghost use Rattle.cp_term.specs.Keys.{IsKey};
 ghost use Rattle.cp_term.specs.Variables.{variable_term};
 
@@ -30,7 +30,6 @@ fn first(alloc: Global) -> Result<VarId, AllocError>
 }
 
 fn variable(alloc: Global, sort: Sort) -> Result<Term, AllocError>
-    requires { sort ≢ Sort.Mesg }
     ensures { IfOk result (λ t. t ≡ variable_term sort 0) }
 {
     var(alloc, first(alloc)?, sort)
@@ -133,17 +132,22 @@ fn keys_of_names(rt: HostRuntime) -> Result<(), Fail> {
     Ok(())
 }
 
+/// The text 0 under the symmetric key 1, where that text is local.
+fn pattern(alloc: Global) -> Result<Pattern, AllocError> {
+    let text = VarId::numbered(0);
+    let mut locals = Locals::new(alloc);
+    locals.push(text)?;
+    let key = var(alloc, VarId::numbered(1), Sort::Skey)?;
+    let term = enc(alloc, var(alloc, text, Sort::Text)?, key)?;
+    Ok(Pattern::new(term, locals))
+}
+
 #[test]
 fn patterns(rt: HostRuntime) -> Result<(), Fail> {
-    let mut locals = Locals::new(rt.alloc());
-    locals.push(first(rt.alloc())?)?;
-    let pattern = Pattern {
-        term: sealed(rt.alloc())?,
-        locals,
-    };
+    let pattern = pattern(rt.alloc())?;
     let again = pattern.copy()?;
-    assert!(rt; again.term.same(&pattern.term));
-    assert_eq!(rt; again.locals.as_slice().len(), 1);
+    assert!(rt; again.term().same(pattern.term()));
+    assert!(rt; matches!(again.locals(), [id] if id.number() == 0));
     Ok(())
 }
 

@@ -7,7 +7,7 @@ use cp_base::Text;
 use std::alloc::{AllocError, Global};
 use std::marker::Model;
 
-/// The sort of a variable. All others lie below that of all messages.
+/// The sort of a variable: one of the five sorts of atoms.
 #[derive(Clone, Copy, Debug, PartialEq, Eq)]
 pub enum Sort {
     Text,
@@ -17,8 +17,6 @@ pub enum Sort {
     Skey,
     /// Asymmetric keys.
     Akey,
-    /// All messages.
-    Mesg,
 }
 
 /// A variable: its number, which is its place in the table of variables, counted from 0.

@@ -1,11 +1,11 @@
 -- Looking a variable up in a list of bindings.
-use Rattle.std.proofs.Common.{◌≡◌, ◌≢◌, ◌<◌, ◌≤◌, ◌+◌, ℕ, suc, Bool, true, false, if◌then◌else◌, Some, None, List, [], ◌∷◌, length, get_or, drop, refl, sym, ap, ◌∙◌, add-one, drop-cons}
+use Rattle.std.proofs.Common.{◌≡◌, ◌<◌, ◌≤◌, ◌+◌, ℕ, suc, Bool, true, false, if◌then◌else◌, Some, None, List, [], ◌∷◌, length, get_or, drop, refl, sym, ap, ◌∙◌, add-one, drop-cons}
 use Rattle.std.proofs.lemmas.List.{drop_all}
 use Rattle.cp_model.specs.Term.{text_sort, datum_sort, name_sort, skey_sort, akey_sort, Variable, Term, atom_term, atom_of_variable, apply_to}
 use Rattle.cp_model.proofs.LawTerms.{term_unchanged}
 use Rattle.cp_term.specs.Variables.{variable_term}
 use Rattle.cp_term.specs.declared.variable.Sort.{Sort as ProgramSort}
-use Rattle.cp_term.specs.declared.variable.Sort.TheVariants.{Text, Datum, Name, Skey, Akey, Mesg}
+use Rattle.cp_term.specs.declared.variable.Sort.TheVariants.{Text, Datum, Name, Skey, Akey}
 use Rattle.cp_unify.specs.Bindings.{Binding, variable_of, as_substitution}
 use Rattle.cp_unify.specs.Matched.{bound_term}
 use Rattle.cp_term.specs.Same.{is_same}
@@ -16,18 +16,17 @@ use Rattle.cp_unify.proofs.Occurring.{bound, other}
 pub rest_at : (bs : List Binding) (i : ℕ) (b : Binding) → i < length bs → b ≡ get_or bs i b → drop i bs ≡ b ∷ drop (i + 1) bs
 rest_at bs i b below read = rw add-one (drop-cons bs i b below ∙ ap (λ (c : Binding). c ∷ drop (suc i) bs) (sym read))
 
--- A variable of a sort other than that of all messages is a term.
+-- A variable is a term.
 pub record IsVariableTerm (v : Term) : Type 0 where
   pub variable : Variable
   pub is_variable : v ≡ atom_term (atom_of_variable variable)
 
-pub variable_is_term : (s : ProgramSort) (n : ℕ) → s ≢ Mesg → IsVariableTerm (variable_term s n)
-variable_is_term Text n h = record { variable = record { sort = text_sort; number = n }; is_variable = refl }
-variable_is_term Datum n h = record { variable = record { sort = datum_sort; number = n }; is_variable = refl }
-variable_is_term Name n h = record { variable = record { sort = name_sort; number = n }; is_variable = refl }
-variable_is_term Skey n h = record { variable = record { sort = skey_sort; number = n }; is_variable = refl }
-variable_is_term Akey n h = record { variable = record { sort = akey_sort; number = n }; is_variable = refl }
-variable_is_term Mesg n h = absurd (h refl)
+pub variable_is_term : (s : ProgramSort) (n : ℕ) → IsVariableTerm (variable_term s n)
+variable_is_term Text n = record { variable = record { sort = text_sort; number = n }; is_variable = refl }
+variable_is_term Datum n = record { variable = record { sort = datum_sort; number = n }; is_variable = refl }
+variable_is_term Name n = record { variable = record { sort = name_sort; number = n }; is_variable = refl }
+variable_is_term Skey n = record { variable = record { sort = skey_sort; number = n }; is_variable = refl }
+variable_is_term Akey n = record { variable = record { sort = akey_sort; number = n }; is_variable = refl }
 
 -- From place i on the bindings do to a variable what all do.
 pub record IsYetToFind (bs : List Binding) (i : ℕ) (v : Term) : Type 0 where

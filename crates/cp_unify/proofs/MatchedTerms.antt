@@ -1,54 +1,56 @@
 -- What the bindings of locals that were found tell.
 use Rattle.std.proofs.Common.{◌≡◌, ◌≢◌, ℕ, Bool, true, false, if◌then◌else◌, ◌==◌, ◌&&◌, ◌||◌, List, [], ◌∷◌, Option, Some, None, MatchOption, IfSome, IfNone, refl, sym, ap, ap₂, ◌∙◌, subst}
-use Rattle.std.specs.Prelude.{nat_eq, option_and_then}
-use Rattle.std.specs.List.{list_any}
+use Rattle.std.specs.Prelude.{nat_eq, filter, option_and_then}
 use Rattle.std.specs.Bool.{Decides}
 use Rattle.std.specs.Cmp.Lexicographic.{pointwise}
 use Rattle.std.specs.Option.{option_eq}
 use Rattle.std.proofs.lemmas.Bool.{eqb-true, eq-eqb}
 use Rattle.std.proofs.lemmas.Bool.Decides.{Decides-and}
 use Rattle.cp_model.specs.Lists.{IsIn, here, there}
-use Rattle.cp_model.specs.Term.{Sort, text_sort, datum_sort, name_sort, skey_sort, akey_sort, Variable, SymmetricTerm, skey_variable, ltk_term, PairTerm, akey_variable, pubk_term, KeyTerm, symmetric_term, asymmetric_term, AtomTerm, text_variable, datum_variable, name_variable, key_term, Term, tag_term, atom_term, pair_term, enc_term, atom_of_variable, inverse_term, flag_of, Substitution, apply_to_key, apply_to_atom, apply_to}
+use Rattle.cp_model.specs.Term.{Sort, text_sort, datum_sort, name_sort, skey_sort, akey_sort, Variable, SymmetricTerm, skey_variable, ltk_term, PairTerm, akey_variable, pubk_term, KeyTerm, symmetric_term, asymmetric_term, AtomTerm, text_variable, datum_variable, name_variable, key_term, Term, tag_term, atom_term, pair_term, enc_term, atom_of_variable, variables_of_symmetric, variables_of_pair, variables_of_key, variables_of_atom, variables_of, inverse_term, flag_of, Substitution, apply_to_key, apply_to_atom, apply_to}
 use Rattle.cp_model.proofs.LawTerms.{flag_last, atom_unchanged}
 use Rattle.cp_term.specs.Same.{same_flag, same_atom, is_same}
+use Rattle.cp_term.proofs.LocalVariables.{is_numbered, numbered_is_in}
 use Rattle.cp_term.proofs.SameTerms.{bytes_Decides, flag_Decides, purpose_Decides, atom_Decides, same_Decides}
 use Rattle.cp_unify.specs.Bindings.{Binding, sort_of, variable_of, put_term, as_substitution}
 use Rattle.cp_unify.specs.Beside.{Agrees, MatchesBeside, NeverMatchesBeside}
 use Rattle.cp_unify.specs.Matched.{is_listed, bound_term, is_same_sort, matched_local, matched_variable, matched_names, matched_symmetric, matched_pairs, matched_keys, matched_atoms, matched}
+use Rattle.cp_term.specs.Patterns.{is_number_of, locals_of}
 use Rattle.cp_unify.specs.Matching.{ChangesOnly, BindsOnly, IsMatch, HasNoMatch}
 use Rattle.cp_unify.specs.Atoms.{IsAtom, atom_of}
 use Rattle.cp_term.specs.Keys.{key_as_term, IsKey}
 use Rattle.cp_term.specs.Variables.{variable_term}
 use Rattle.cp_term.specs.declared.variable.Sort.{Sort as ProgramSort}
-use Rattle.cp_term.specs.declared.variable.Sort.TheVariants.{Text, Datum, Name, Skey, Akey, Mesg}
+use Rattle.cp_term.specs.declared.variable.Sort.TheVariants.{Text, Datum, Name, Skey, Akey}
 use Rattle.cp_unify.proofs.Found.{swap}
+use Rattle.cp_unify.proofs.Members.{among_left, among_right}
 use Rattle.cp_unify.proofs.Occurring.{bound, other}
 
 -- The substitution changes only is_local.
 abbrev pub ChangesLocals : (ℕ → Bool) → Substitution → Type 0
 ChangesLocals is_local s = (x : Variable) → is_local x.number ≡ false → apply_to_atom s (atom_of_variable x) ≡ atom_of_variable x
 
--- The bindings are of locals.
-abbrev pub BindsLocals : (ℕ → Bool) → List Binding → Type 0
-BindsLocals is_local [] = Unit {0}
-BindsLocals is_local (b ∷ bs) = (is_local b.number ≡ true) × BindsLocals is_local bs
+-- The list has all locals among these variables.
+abbrev pub HasLocals : (ℕ → Bool) → List Variable → List Variable → Type 0
+HasLocals is_local xs locals = (x : Variable) → IsIn x xs → is_local x.number ≡ true → IsIn x locals
 
 -- q are bindings beside r with which, and with which alone, a substitution that changes only is_local meets an equation.
-pub record MeetsBeside (is_local : ℕ → Bool) (equation : Substitution → Type 0) (r q : List Binding) : Type 0 where
+-- They are of locals among these variables.
+pub record MeetsBeside (is_local : ℕ → Bool) (xs : List Variable) (equation : Substitution → Type 0) (r q : List Binding) : Type 0 where
   pub extends : (s : Substitution) → Agrees s q → Agrees s r
   pub sound : (s : Substitution) → ChangesLocals is_local s → Agrees s q → equation s
   pub general : (s : Substitution) → ChangesLocals is_local s → Agrees s r → equation s → Agrees s q
   pub own : Agrees (as_substitution r) r → Agrees (as_substitution q) q
-  pub only : BindsLocals is_local r → BindsLocals is_local q
+  pub only : (locals : List Variable) → HasLocals is_local xs locals → BindsOnly locals r → BindsOnly locals q
 
-abbrev pub Outcome : (ℕ → Bool) → (Substitution → Type 0) → List Binding → Option (List Binding) → Type 0
-Outcome is_local equation r answer =
-    MatchOption answer ((s : Substitution) → ChangesLocals is_local s → Agrees s r → equation s → ⊥) (λ q. MeetsBeside is_local equation r q)
+abbrev pub Outcome : (ℕ → Bool) → List Variable → (Substitution → Type 0) → List Binding → Option (List Binding) → Type 0
+Outcome is_local xs equation r answer =
+    MatchOption answer ((s : Substitution) → ChangesLocals is_local s → Agrees s r → equation s → ⊥) (λ q. MeetsBeside is_local xs equation r q)
 
-outcome_like : (is_local : ℕ → Bool) (e f : Substitution → Type 0) (r : List Binding) (answer : Option (List Binding)) →
-    ((s : Substitution) → e s → f s) → ((s : Substitution) → f s → e s) → Outcome is_local e r answer → Outcome is_local f r answer
-outcome_like is_local e f r None up down h = λ s c a w. h s c a (down s w)
-outcome_like is_local e f r (Some q) up down h = record {
+outcome_like : (is_local : ℕ → Bool) (xs : List Variable) (e f : Substitution → Type 0) (r : List Binding) (answer : Option (List Binding)) →
+    ((s : Substitution) → e s → f s) → ((s : Substitution) → f s → e s) → Outcome is_local xs e r answer → Outcome is_local xs f r answer
+outcome_like is_local xs e f r None up down h = λ s c a w. h s c a (down s w)
+outcome_like is_local xs e f r (Some q) up down h = record {
   extends = h.extends;
   sound = λ s c a. up s (h.sound s c a);
   general = λ s c a w. h.general s c a (down s w);
@@ -56,64 +58,38 @@ outcome_like is_local e f r (Some q) up down h = record {
   only = h.only;
 }
 
-both_beside : (is_local : ℕ → Bool) (e1 e2 e : Substitution → Type 0) (r q : List Binding) (answer : Option (List Binding)) →
+both_beside : (is_local : ℕ → Bool) (xs ys zs : List Variable) (e1 e2 e : Substitution → Type 0) (r q : List Binding) (answer : Option (List Binding)) →
+    ((x : Variable) → IsIn x xs → IsIn x zs) → ((x : Variable) → IsIn x ys → IsIn x zs) →
     ((s : Substitution) → e1 s → e2 s → e s) → ((s : Substitution) → e s → e1 s) → ((s : Substitution) → e s → e2 s) →
-    MeetsBeside is_local e1 r q → Outcome is_local e2 q answer → Outcome is_local e r answer
-both_beside is_local e1 e2 e r q None up d1 d2 h k = λ s c a w. k s c (h.general s c a (d1 s w)) (d2 s w)
-both_beside is_local e1 e2 e r q (Some p) up d1 d2 h k = record {
+    MeetsBeside is_local xs e1 r q → Outcome is_local ys e2 q answer → Outcome is_local zs e r answer
+both_beside is_local xs ys zs e1 e2 e r q None i1 i2 up d1 d2 h k = λ s c a w. k s c (h.general s c a (d1 s w)) (d2 s w)
+both_beside is_local xs ys zs e1 e2 e r q (Some p) i1 i2 up d1 d2 h k = record {
   extends = λ s a. h.extends s (k.extends s a);
   sound = λ s c a. up s (h.sound s c (k.extends s a)) (k.sound s c a);
   general = λ s c a w. k.general s c (h.general s c a (d1 s w)) (d2 s w);
   own = λ o. k.own (h.own o);
-  only = λ o. k.only (h.only o);
+  only = λ ls w o. k.only ls (λ x i. w x (i2 x i)) (h.only ls (λ x i. w x (i1 x i)) o);
 }
 
-outcome_both : (is_local : ℕ → Bool) (e1 e2 e : Substitution → Type 0) (r : List Binding) (first : Option (List Binding)) (next : List Binding → Option (List Binding)) →
+outcome_both : (is_local : ℕ → Bool) (xs ys zs : List Variable) (e1 e2 e : Substitution → Type 0) (r : List Binding) (first : Option (List Binding)) (next : List Binding → Option (List Binding)) →
+    ((x : Variable) → IsIn x xs → IsIn x zs) → ((x : Variable) → IsIn x ys → IsIn x zs) →
     ((s : Substitution) → e1 s → e2 s → e s) → ((s : Substitution) → e s → e1 s) → ((s : Substitution) → e s → e2 s) →
-    Outcome is_local e1 r first → ((q : List Binding) → Outcome is_local e2 q (next q)) → Outcome is_local e r (option_and_then next first)
-outcome_both is_local e1 e2 e r None next up d1 d2 h k = λ s c a w. h s c a (d1 s w)
-outcome_both is_local e1 e2 e r (Some q) next up d1 d2 h k = both_beside is_local e1 e2 e r q (next q) up d1 d2 h (k q)
+    Outcome is_local xs e1 r first → ((q : List Binding) → Outcome is_local ys e2 q (next q)) → Outcome is_local zs e r (option_and_then next first)
+outcome_both is_local xs ys zs e1 e2 e r None next i1 i2 up d1 d2 h k = λ s c a w. h s c a (d1 s w)
+outcome_both is_local xs ys zs e1 e2 e r (Some q) next i1 i2 up d1 d2 h k = both_beside is_local xs ys zs e1 e2 e r q (next q) i1 i2 up d1 d2 h (k q)
 
 -- What holds anyway, or never.
-outcome_choice : (is_local : ℕ → Bool) (e : Substitution → Type 0) (r : List Binding) (b : Bool) →
+outcome_choice : (is_local : ℕ → Bool) (xs : List Variable) (e : Substitution → Type 0) (r : List Binding) (b : Bool) →
     (b ≡ true → (s : Substitution) → ChangesLocals is_local s → Agrees s r → e s) → (b ≡ false → (s : Substitution) → ChangesLocals is_local s → Agrees s r → e s → ⊥) →
-    Outcome is_local e r (if b then Some r else None)
-outcome_choice is_local e r true up down = record {
+    Outcome is_local xs e r (if b then Some r else None)
+outcome_choice is_local xs e r true up down = record {
   extends = λ s a. a;
   sound = λ s c a. up refl s c a;
   general = λ s c a w. a;
   own = λ o. o;
-  only = λ o. o;
+  only = λ ls w o. o;
 }
-outcome_choice is_local e r false up down = λ s c a w. down refl s c a w
-
--- A number is listed.
-listed : (ns : List ℕ) (m : ℕ) → list_any (λ n. n == m) ns ≡ true → IsIn m ns
-listed [] m e = absurd (let f : false ≡ true = e in cc)
-listed (n ∷ ns) m e = choose (n == m) (eqb-true n m) e (listed ns m)
-  where
-    choose : (b : Bool) → (b ≡ true → n ≡ m) → (b || list_any (λ k. k == m) ns) ≡ true → (list_any (λ k. k == m) ns ≡ true → IsIn m ns) → IsIn m (n ∷ ns)
-    choose true p f rest = subst (λ (k : ℕ). IsIn k (n ∷ ns)) (p refl) here
-    choose false p f rest = there (rest f)
-
-in_list : (ns : List ℕ) (m : ℕ) → IsIn m ns → list_any (λ n. n == m) ns ≡ true
-in_list [] m h = elim h [ ]
-in_list (n ∷ ns) m here = rw (eq-eqb n n refl) refl
-in_list (n ∷ ns) m (there h) = choose (n == m) (in_list ns m h)
-  where
-    choose : (b : Bool) → list_any (λ k. k == m) ns ≡ true → (b || list_any (λ k. k == m) ns) ≡ true
-    choose true e = refl
-    choose false e = e
-
-not_listed : (ns : List ℕ) (m : ℕ) → list_any (λ n. n == m) ns ≡ false → IsIn m ns → ⊥
-not_listed ns m e h = let f = in_list ns m h in cc
-
-is_in_none : (ns : List ℕ) (m : ℕ) → (IsIn m ns → ⊥) → list_any (λ n. n == m) ns ≡ false
-is_in_none ns m apart = choose (list_any (λ n. n == m) ns) (listed ns m)
-  where
-    choose : (b : Bool) → (b ≡ true → IsIn m ns) → b ≡ false
-    choose true p = absurd (apart (p refl))
-    choose false p = refl
+outcome_choice is_local xs e r false up down = λ s c a w. down refl s c a w
 
 -- The term of a bound variable; and that one that is not bound is that of no binding.
 agrees_bound : (s : Substitution) (r : List Binding) (x t : AtomTerm) → Agrees s r → bound_term r (atom_term x) ≡ Some t → apply_to_atom s x ≡ t
@@ -168,7 +144,7 @@ Stands x v s = apply_to_atom s x ≡ v
 
 -- A local that is not bound yet.
 new_local : (is_local : ℕ → Bool) (k : Sort) (m : ℕ) (v : AtomTerm) (r : List Binding) → sort_of v ≡ k → is_local m ≡ true → bound_term r (atom_term (at_sort k m)) ≡ None →
-    MeetsBeside is_local (Stands (at_sort k m) v) r (record { number = m; term = v } ∷ r)
+    MeetsBeside is_local (record { sort = k; number = m } ∷ []) (Stands (at_sort k m) v) r (record { number = m; term = v } ∷ r)
 new_local is_local k m v r sort one free =
     let b : Binding = record { number = m; term = v } in
     let x_is : at_sort k m ≡ atom_of_variable (variable_of b) = ap (λ (j : Sort). at_sort j m) (sym sort) in
@@ -177,30 +153,30 @@ new_local is_local k m v r sort one free =
       sound = λ s c a. ap (apply_to_atom s) x_is ∙ a.0;
       general = λ s c a w. (sym (ap (apply_to_atom s) x_is) ∙ w, a);
       own = λ o. (bound b (as_substitution r), unbound_apart r b (subst (λ (x : AtomTerm). bound_term r (atom_term x) ≡ None) x_is free) (as_substitution r) o);
-      only = λ o. (one, o);
+      only = λ ls w o. (subst (λ (j : Sort). IsIn (record { sort = j; number = m }) ls) (sym sort) (w (record { sort = k; number = m }) here one), o);
     }
 
 local_found : (is_local : ℕ → Bool) (k : Sort) (m : ℕ) (v : AtomTerm) (r : List Binding) → sort_of v ≡ k → is_local m ≡ true → (o : Option AtomTerm) →
-    bound_term r (atom_term (at_sort k m)) ≡ o → Outcome is_local (Stands (at_sort k m) v) r (matched_local m v r o)
+    bound_term r (atom_term (at_sort k m)) ≡ o → Outcome is_local (record { sort = k; number = m } ∷ []) (Stands (at_sort k m) v) r (matched_local m v r o)
 local_found is_local k m v r sort one None e = new_local is_local k m v r sort one e
 local_found is_local k m v r sort one (Some t) e =
-    outcome_choice is_local (Stands (at_sort k m) v) r (same_atom t v)
+    outcome_choice is_local (record { sort = k; number = m } ∷ []) (Stands (at_sort k m) v) r (same_atom t v)
     (λ f s c a. agrees_bound s r (at_sort k m) t a e ∙ (atom_Decides t v).0 f)
     (λ f s c a w. let g : same_atom t v ≡ true = (atom_Decides t v).1 (sym (agrees_bound s r (at_sort k m) t a e) ∙ w) in cc)
 
-variable_matched : (is_local : ℕ → Bool) (k : Sort) (m : ℕ) (v : AtomTerm) (r : List Binding) → Outcome is_local (Stands (at_sort k m) v) r (matched_variable is_local m (at_sort k m) v r)
+variable_matched : (is_local : ℕ → Bool) (k : Sort) (m : ℕ) (v : AtomTerm) (r : List Binding) → Outcome is_local (record { sort = k; number = m } ∷ []) (Stands (at_sort k m) v) r (matched_variable is_local m (at_sort k m) v r)
 variable_matched is_local k m v r = by_sort (is_same_sort (at_sort k m) v) refl
   where
     by_local : sort_of v ≡ k → (c : Bool) → is_local m ≡ c →
-        Outcome is_local (Stands (at_sort k m) v) r (if c then matched_local m v r (bound_term r (atom_term (at_sort k m))) else (if same_atom (at_sort k m) v then Some r else None))
+        Outcome is_local (record { sort = k; number = m } ∷ []) (Stands (at_sort k m) v) r (if c then matched_local m v r (bound_term r (atom_term (at_sort k m))) else (if same_atom (at_sort k m) v then Some r else None))
     by_local sort true e = local_found is_local k m v r sort e (bound_term r (atom_term (at_sort k m))) refl
     by_local sort false e =
-        outcome_choice is_local (Stands (at_sort k m) v) r (same_atom (at_sort k m) v)
+        outcome_choice is_local (record { sort = k; number = m } ∷ []) (Stands (at_sort k m) v) r (same_atom (at_sort k m) v)
         (λ f s c a. c (record { sort = k; number = m }) e ∙ (atom_Decides (at_sort k m) v).0 f)
         (λ f s c a w. let g : same_atom (at_sort k m) v ≡ true = (atom_Decides (at_sort k m) v).1 (sym (c (record { sort = k; number = m }) e) ∙ w) in cc)
 
     by_sort : (b : Bool) → is_same_sort (at_sort k m) v ≡ b →
-        Outcome is_local (Stands (at_sort k m) v) r (if b then (if is_local m then matched_local m v r (bound_term r (atom_term (at_sort k m))) else (if same_atom (at_sort k m) v then Some r else None)) else None)
+        Outcome is_local (record { sort = k; number = m } ∷ []) (Stands (at_sort k m) v) r (if b then (if is_local m then matched_local m v r (bound_term r (atom_term (at_sort k m))) else (if same_atom (at_sort k m) v then Some r else None)) else None)
     by_sort true e = by_local (same_sort_of k m v e) (is_local m) refl
     by_sort false e = λ s c a w. let f : is_same_sort (at_sort k m) v ≡ true = subst (λ (u : AtomTerm). is_same_sort (at_sort k m) u ≡ true) w (sort_matches s k m) in cc
 
@@ -211,12 +187,15 @@ symmetric_atom k = key_term (symmetric_term k)
 abbrev asymmetric_atom : Bool → PairTerm → AtomTerm
 asymmetric_atom f k = key_term (asymmetric_term f k)
 
-symmetric_matched : (is_local : ℕ → Bool) (k j : SymmetricTerm) (r : List Binding) → Outcome is_local (Stands (symmetric_atom k) (symmetric_atom j)) r (matched_symmetric is_local k j r)
+abbrev a_name : ℕ → Variable
+a_name n = record { sort = name_sort; number = n }
+
+symmetric_matched : (is_local : ℕ → Bool) (k j : SymmetricTerm) (r : List Binding) → Outcome is_local (variables_of_symmetric k) (Stands (symmetric_atom k) (symmetric_atom j)) r (matched_symmetric is_local k j r)
 symmetric_matched is_local (skey_variable m) j r = variable_matched is_local skey_sort m (symmetric_atom j) r
 symmetric_matched is_local (ltk_term a b) (skey_variable n) r = λ s c g w. cc
 symmetric_matched is_local (ltk_term a b) (ltk_term c d) r =
-    outcome_both is_local (Stands (name_variable a) (name_variable c)) (Stands (name_variable b) (name_variable d)) (Stands (symmetric_atom (ltk_term a b)) (symmetric_atom (ltk_term c d))) r
-    (matched_names is_local a c r) (matched_names is_local b d)
+    outcome_both is_local (a_name a ∷ []) (a_name b ∷ []) (variables_of_symmetric (ltk_term a b)) (Stands (name_variable a) (name_variable c)) (Stands (name_variable b) (name_variable d)) (Stands (symmetric_atom (ltk_term a b)) (symmetric_atom (ltk_term c d))) r
+    (matched_names is_local a c r) (matched_names is_local b d) (among_left (a_name a ∷ []) (a_name b ∷ [])) (among_right (a_name a ∷ []) (a_name b ∷ []))
     (λ s e f. let e' : s.names a ≡ c = cc in let f' : s.names b ≡ d = cc in ap₂ (λ (m n : ℕ). symmetric_atom (ltk_term m n)) e' f')
     (λ s w. let e : s.names a ≡ c = cc in ap name_variable e) (λ s w. let e : s.names b ≡ d = cc in ap name_variable e)
     (variable_matched is_local name_sort a (name_variable c) r) (λ q. variable_matched is_local name_sort b (name_variable d) q)
@@ -233,38 +212,38 @@ akey_down : (f g x : Bool) → flag_of f x ≡ g → x ≡ flag_of f g
 akey_down f g x e = swap f g x false (e ∙ sym (flag_last g)) ∙ flag_last (flag_of f g)
 
 akey_matched : (is_local : ℕ → Bool) (f : Bool) (m : ℕ) (g : Bool) (j : PairTerm) (r : List Binding) →
-    Outcome is_local (Stands (asymmetric_atom f (akey_variable m)) (asymmetric_atom g j)) r (matched_pairs is_local f (akey_variable m) g j r)
+    Outcome is_local (variables_of_pair (akey_variable m)) (Stands (asymmetric_atom f (akey_variable m)) (asymmetric_atom g j)) r (matched_pairs is_local f (akey_variable m) g j r)
 akey_matched is_local f m g j r =
-    outcome_like is_local (Stands (at_sort akey_sort m) (asymmetric_atom (flag_of f g) j)) (Stands (asymmetric_atom f (akey_variable m)) (asymmetric_atom g j)) r
+    outcome_like is_local (variables_of_pair (akey_variable m)) (Stands (at_sort akey_sort m) (asymmetric_atom (flag_of f g) j)) (Stands (asymmetric_atom f (akey_variable m)) (asymmetric_atom g j)) r
     (matched_pairs is_local f (akey_variable m) g j r)
     (λ s w. let e0 : (s.akeys m).0 ≡ flag_of f g = cc in let e1 : (s.akeys m).1 ≡ j = cc in ap₂ asymmetric_atom (akey_up f g (s.akeys m).0 e0) e1)
     (λ s w. let e0 : flag_of f (s.akeys m).0 ≡ g = cc in let e1 : (s.akeys m).1 ≡ j = cc in ap₂ asymmetric_atom (akey_down f g (s.akeys m).0 e0) e1)
     (variable_matched is_local akey_sort m (asymmetric_atom (flag_of f g) j) r)
 
 pubk_matched : (is_local : ℕ → Bool) (f g : Bool) (p q : Option (List ℕ)) (a b : ℕ) (r : List Binding) (c : Bool) → Decides c ((f ≡ g) × (p ≡ q)) →
-    Outcome is_local (Stands (asymmetric_atom f (pubk_term p a)) (asymmetric_atom g (pubk_term q b))) r (if c then matched_names is_local a b r else None)
+    Outcome is_local (variables_of_pair (pubk_term p a)) (Stands (asymmetric_atom f (pubk_term p a)) (asymmetric_atom g (pubk_term q b))) r (if c then matched_names is_local a b r else None)
 pubk_matched is_local f g p q a b r true d =
     let e : (f ≡ g) × (p ≡ q) = d.0 refl in
-    outcome_like is_local (Stands (name_variable a) (name_variable b)) (Stands (asymmetric_atom f (pubk_term p a)) (asymmetric_atom g (pubk_term q b))) r (matched_names is_local a b r)
+    outcome_like is_local (variables_of_pair (pubk_term p a)) (Stands (name_variable a) (name_variable b)) (Stands (asymmetric_atom f (pubk_term p a)) (asymmetric_atom g (pubk_term q b))) r (matched_names is_local a b r)
     (λ s w. let w' : s.names a ≡ b = cc in ap₂ asymmetric_atom e.0 (ap₂ pubk_term e.1 w'))
     (λ s w. let w' : s.names a ≡ b = cc in ap name_variable w')
     (variable_matched is_local name_sort a (name_variable b) r)
 pubk_matched is_local f g p q a b r false d = λ s c x w. let e0 : f ≡ g = cc in let e1 : p ≡ q = cc in let e : false ≡ true = d.1 (e0, e1) in cc
 
 pairs_matched : (is_local : ℕ → Bool) (f : Bool) (k : PairTerm) (g : Bool) (j : PairTerm) (r : List Binding) →
-    Outcome is_local (Stands (asymmetric_atom f k) (asymmetric_atom g j)) r (matched_pairs is_local f k g j r)
+    Outcome is_local (variables_of_pair k) (Stands (asymmetric_atom f k) (asymmetric_atom g j)) r (matched_pairs is_local f k g j r)
 pairs_matched is_local f (akey_variable m) g j r = akey_matched is_local f m g j r
 pairs_matched is_local f (pubk_term p a) g (akey_variable n) r = λ s c x w. cc
 pairs_matched is_local f (pubk_term p a) g (pubk_term q b) r =
     pubk_matched is_local f g p q a b r (same_flag f g && option_eq (pointwise nat_eq) p q) (Decides-and _ _ (flag_Decides f g) (purpose_Decides p q))
 
-keys_matched : (is_local : ℕ → Bool) (k j : KeyTerm) (r : List Binding) → Outcome is_local (Stands (key_term k) (key_term j)) r (matched_keys is_local k j r)
+keys_matched : (is_local : ℕ → Bool) (k j : KeyTerm) (r : List Binding) → Outcome is_local (variables_of_key k) (Stands (key_term k) (key_term j)) r (matched_keys is_local k j r)
 keys_matched is_local (symmetric_term k) (symmetric_term j) r = symmetric_matched is_local k j r
 keys_matched is_local (asymmetric_term f k) (asymmetric_term g j) r = pairs_matched is_local f k g j r
 keys_matched is_local (symmetric_term k) (asymmetric_term g j) r = λ s c x w. cc
 keys_matched is_local (asymmetric_term f k) (symmetric_term j) r = λ s c x w. cc
 
-atoms_matched : (is_local : ℕ → Bool) (u v : AtomTerm) (r : List Binding) → Outcome is_local (Stands u v) r (matched_atoms is_local u v r)
+atoms_matched : (is_local : ℕ → Bool) (u v : AtomTerm) (r : List Binding) → Outcome is_local (variables_of_atom u) (Stands u v) r (matched_atoms is_local u v r)
 atoms_matched is_local (text_variable m) v r = variable_matched is_local text_sort m v r
 atoms_matched is_local (datum_variable m) v r = variable_matched is_local datum_sort m v r
 atoms_matched is_local (name_variable m) v r = variable_matched is_local name_sort m v r
@@ -275,57 +254,56 @@ atoms_matched is_local (key_term k) _ r = λ s c x w. cc
 abbrev pub IsMade : Term → Term → Substitution → Type 0
 IsMade p t s = apply_to s p ≡ t
 
-tags_matched : (is_local : ℕ → Bool) (x y : List ℕ) (r : List Binding) (b : Bool) → Decides b (x ≡ y) → Outcome is_local (IsMade (tag_term x) (tag_term y)) r (if b then Some r else None)
+tags_matched : (is_local : ℕ → Bool) (x y : List ℕ) (r : List Binding) (b : Bool) → Decides b (x ≡ y) → Outcome is_local [] (IsMade (tag_term x) (tag_term y)) r (if b then Some r else None)
 tags_matched is_local x y r b d =
-    outcome_choice is_local (IsMade (tag_term x) (tag_term y)) r b (λ f s c a. ap tag_term (d.0 f)) (λ f s c a w. let e : x ≡ y = cc in let g : b ≡ true = d.1 e in cc)
+    outcome_choice is_local [] (IsMade (tag_term x) (tag_term y)) r b (λ f s c a. ap tag_term (d.0 f)) (λ f s c a w. let e : x ≡ y = cc in let g : b ≡ true = d.1 e in cc)
 
-pub terms_matched : (is_local : ℕ → Bool) (p t : Term) (r : List Binding) → Outcome is_local (IsMade p t) r (matched is_local p t r)
+pub terms_matched : (is_local : ℕ → Bool) (p t : Term) (r : List Binding) → Outcome is_local (variables_of p) (IsMade p t) r (matched is_local p t r)
 terms_matched is_local (tag_term x) (tag_term y) r = tags_matched is_local x y r (pointwise nat_eq x y) (bytes_Decides x y)
 terms_matched is_local (atom_term u) (atom_term v) r =
-    outcome_like is_local (Stands u v) (IsMade (atom_term u) (atom_term v)) r (matched_atoms is_local u v r)
+    outcome_like is_local (variables_of_atom u) (Stands u v) (IsMade (atom_term u) (atom_term v)) r (matched_atoms is_local u v r)
     (λ s w. ap atom_term w) (λ s w. cc) (atoms_matched is_local u v r)
 terms_matched is_local (pair_term a b) (pair_term c d) r =
-    outcome_both is_local (IsMade a c) (IsMade b d) (IsMade (pair_term a b) (pair_term c d)) r (matched is_local a c r) (matched is_local b d)
+    outcome_both is_local (variables_of a) (variables_of b) (variables_of (pair_term a b)) (IsMade a c) (IsMade b d) (IsMade (pair_term a b) (pair_term c d)) r (matched is_local a c r) (matched is_local b d)
+    (among_left (variables_of a) (variables_of b)) (among_right (variables_of a) (variables_of b))
     (λ s e f. ap₂ pair_term e f) (λ s w. cc) (λ s w. cc) (terms_matched is_local a c r) (λ q. terms_matched is_local b d q)
 terms_matched is_local (enc_term a k) (enc_term b j) r =
-    outcome_both is_local (Stands (key_term k) (key_term j)) (IsMade a b) (IsMade (enc_term a k) (enc_term b j)) r (matched_keys is_local k j r) (matched is_local a b)
+    outcome_both is_local (variables_of_key k) (variables_of a) (variables_of (enc_term a k)) (Stands (key_term k) (key_term j)) (IsMade a b) (IsMade (enc_term a k) (enc_term b j)) r (matched_keys is_local k j r) (matched is_local a b)
+    (among_right (variables_of a) (variables_of_key k)) (among_left (variables_of a) (variables_of_key k))
     (λ s e f. let e' : apply_to_key s k ≡ j = cc in ap₂ enc_term f e') (λ s w. let e : apply_to_key s k ≡ j = cc in ap key_term e) (λ s w. cc)
     (keys_matched is_local k j r) (λ q. terms_matched is_local a b q)
 terms_matched is_local _ _ r = λ s c x w. cc
 
--- The bindings change only the locals that they are of.
-changes_only : (is_local : ℕ → Bool) (r : List Binding) → BindsLocals is_local r → ChangesLocals is_local (as_substitution r)
-changes_only is_local [] h x apart = atom_unchanged (atom_of_variable x)
-changes_only is_local (b ∷ bs) h x apart =
-    other b (as_substitution bs) x (λ e. let n : x.number ≡ b.number = ap (λ (y : Variable). y.number) e in let f : is_local x.number ≡ true = ap is_local n ∙ h.0 in cc)
-    ∙ changes_only is_local bs h.1 x apart
+-- The bindings change only the variables that they are of.
+changes_only : (locals : List Variable) (r : List Binding) → BindsOnly locals r → ChangesOnly locals (as_substitution r)
+changes_only locals [] h x apart = atom_unchanged (atom_of_variable x)
+changes_only locals (b ∷ bs) h x apart =
+    other b (as_substitution bs) x (λ e. apart (subst (λ (y : Variable). IsIn y locals) (sym e) h.0)) ∙ changes_only locals bs h.1 x apart
 
--- Locals that are listed, and those that are not.
-binds_listed : (locals : List ℕ) (r : List Binding) → BindsLocals (is_listed (Some locals)) r → BindsOnly locals r
-binds_listed locals [] h = tt
-binds_listed locals (b ∷ bs) h = (listed locals b.number h.0, binds_listed locals bs h.1)
-
-changes_listed : (locals : List ℕ) (s : Substitution) → ChangesOnly locals s → ChangesLocals (is_listed (Some locals)) s
-changes_listed locals s c x e = c x (not_listed locals x.number e)
+-- Where a substitution changes only locals of the pattern, it changes only variables whose numbers are listed.
+changes_listed : (p : Term) (numbers : List ℕ) (s : Substitution) → ChangesOnly (locals_of p numbers) s → ChangesLocals (is_listed (Some numbers)) s
+changes_listed p numbers s c x e = c x (λ i. let f : is_number_of numbers x.number ≡ true = (is_numbered numbers (variables_of p) x i).1 in cc)
 
 changes_any : (s : Substitution) → ChangesLocals (is_listed None) s
 changes_any s x e = absurd (let f : true ≡ false = e in cc)
 
-answer_some : (p t : Term) (locals : List ℕ) (answer : Option (List Binding)) → Outcome (is_listed (Some locals)) (IsMade p t) [] answer → IfSome answer (λ r. IsMatch p t locals r)
-answer_some p t locals None h = tt
-answer_some p t locals (Some q) h =
-    let only : BindsLocals (is_listed (Some locals)) q = h.only tt in
-    record { binds_locals = binds_listed locals q only; matches = h.sound (as_substitution q) (changes_only (is_listed (Some locals)) q only) (h.own tt) }
+answer_some : (p t : Term) (numbers : List ℕ) (answer : Option (List Binding)) → Outcome (is_listed (Some numbers)) (variables_of p) (IsMade p t) [] answer →
+    IfSome answer (λ r. IsMatch p t (locals_of p numbers) r)
+answer_some p t numbers None h = tt
+answer_some p t numbers (Some q) h =
+    let only : BindsOnly (locals_of p numbers) q = h.only (locals_of p numbers) (numbered_is_in numbers (variables_of p)) tt in
+    record { binds_locals = only; matches = h.sound (as_substitution q) (changes_listed p numbers (as_substitution q) (changes_only (locals_of p numbers) q only)) (h.own tt) }
 
-answer_none : (p t : Term) (locals : List ℕ) (answer : Option (List Binding)) → Outcome (is_listed (Some locals)) (IsMade p t) [] answer → IfNone answer (HasNoMatch p t locals)
-answer_none p t locals None h = λ s c w. h s (changes_listed locals s c) tt w
-answer_none p t locals (Some q) h = tt
+answer_none : (p t : Term) (numbers : List ℕ) (answer : Option (List Binding)) → Outcome (is_listed (Some numbers)) (variables_of p) (IsMade p t) [] answer →
+    IfNone answer (HasNoMatch p t (locals_of p numbers))
+answer_none p t numbers None h = λ s c w. h s (changes_listed p numbers s c) tt w
+answer_none p t numbers (Some q) h = tt
 
 -- A match where each variable is a local.
 pub beside_some : (p t : Term) (r : List Binding) (answer : Option (List Binding)) → answer ≡ matched (is_listed None) p t r → IfSome answer (MatchesBeside p t r)
-beside_some p t r answer e = choose answer (subst (Outcome (is_listed None) (IsMade p t) r) (sym e) (terms_matched (is_listed None) p t r))
+beside_some p t r answer e = choose answer (subst (Outcome (is_listed None) (variables_of p) (IsMade p t) r) (sym e) (terms_matched (is_listed None) p t r))
   where
-    choose : (found : Option (List Binding)) → Outcome (is_listed None) (IsMade p t) r found → IfSome found (MatchesBeside p t r)
+    choose : (found : Option (List Binding)) → Outcome (is_listed None) (variables_of p) (IsMade p t) r found → IfSome found (MatchesBeside p t r)
     choose None h = tt
     choose (Some q) h = record {
       extends = h.extends;
@@ -335,23 +313,23 @@ beside_some p t r answer e = choose answer (subst (Outcome (is_listed None) (IsM
     }
 
 pub beside_none : (p t : Term) (r : List Binding) (answer : Option (List Binding)) → answer ≡ matched (is_listed None) p t r → IfNone answer (NeverMatchesBeside p t r)
-beside_none p t r answer e = choose answer (subst (Outcome (is_listed None) (IsMade p t) r) (sym e) (terms_matched (is_listed None) p t r))
+beside_none p t r answer e = choose answer (subst (Outcome (is_listed None) (variables_of p) (IsMade p t) r) (sym e) (terms_matched (is_listed None) p t r))
   where
-    choose : (found : Option (List Binding)) → Outcome (is_listed None) (IsMade p t) r found → IfNone found (NeverMatchesBeside p t r)
+    choose : (found : Option (List Binding)) → Outcome (is_listed None) (variables_of p) (IsMade p t) r found → IfNone found (NeverMatchesBeside p t r)
     choose None h = λ s a w. h s (changes_any s) a w
     choose (Some q) h = tt
 
 outcome_of : (p t : Term) (locals : List ℕ) (given : List Binding) (answer : Option (List Binding)) → given ≡ [] → answer ≡ matched (is_listed (Some locals)) p t given →
-    Outcome (is_listed (Some locals)) (IsMade p t) [] answer
+    Outcome (is_listed (Some locals)) (variables_of p) (IsMade p t) [] answer
 outcome_of p t locals given answer none e =
-    subst (Outcome (is_listed (Some locals)) (IsMade p t) []) (sym (e ∙ ap (matched (is_listed (Some locals)) p t) none)) (terms_matched (is_listed (Some locals)) p t [])
+    subst (Outcome (is_listed (Some locals)) (variables_of p) (IsMade p t) []) (sym (e ∙ ap (matched (is_listed (Some locals)) p t) none)) (terms_matched (is_listed (Some locals)) p t [])
 
 pub match_some : (p t : Term) (locals : List ℕ) (given : List Binding) (answer : Option (List Binding)) → given ≡ [] → answer ≡ matched (is_listed (Some locals)) p t given →
-    IfSome answer (λ r. IsMatch p t locals r)
+    IfSome answer (λ r. IsMatch p t (locals_of p locals) r)
 match_some p t locals given answer none e = answer_some p t locals answer (outcome_of p t locals given answer none e)
 
 pub match_none : (p t : Term) (locals : List ℕ) (given : List Binding) (answer : Option (List Binding)) → given ≡ [] → answer ≡ matched (is_listed (Some locals)) p t given →
-    IfNone answer (HasNoMatch p t locals)
+    IfNone answer (HasNoMatch p t (locals_of p locals))
 match_none p t locals given answer none e = answer_none p t locals answer (outcome_of p t locals given answer none e)
 
 -- A term of sort akey, and one that is not.
@@ -404,16 +382,15 @@ own_choice true c found r e f = absurd (let g : true ≡ false = e in cc)
 own_choice false true found r e f = refl
 own_choice false false found r e f = absurd (let g : false ≡ true = f in cc)
 
-own_match : (sort : ProgramSort) (n : ℕ) (is_local : ℕ → Bool) (r : List Binding) → sort ≢ Mesg → is_local n ≡ false →
+own_match : (sort : ProgramSort) (n : ℕ) (is_local : ℕ → Bool) (r : List Binding) → is_local n ≡ false →
     Some r ≡ matched is_local (variable_term sort n) (variable_term sort n) r
-own_match Text n is_local r h e = own_choice _ (n == n) _ r e (eq-eqb n n refl)
-own_match Datum n is_local r h e = own_choice _ (n == n) _ r e (eq-eqb n n refl)
-own_match Name n is_local r h e = own_choice _ (n == n) _ r e (eq-eqb n n refl)
-own_match Skey n is_local r h e = own_choice _ (n == n) _ r e (eq-eqb n n refl)
-own_match Akey n is_local r h e = own_choice _ (n == n) _ r e (eq-eqb n n refl)
-own_match Mesg n is_local r h e = absurd (h refl)
+own_match Text n is_local r e = own_choice _ (n == n) _ r e (eq-eqb n n refl)
+own_match Datum n is_local r e = own_choice _ (n == n) _ r e (eq-eqb n n refl)
+own_match Name n is_local r e = own_choice _ (n == n) _ r e (eq-eqb n n refl)
+own_match Skey n is_local r e = own_choice _ (n == n) _ r e (eq-eqb n n refl)
+own_match Akey n is_local r e = own_choice _ (n == n) _ r e (eq-eqb n n refl)
 
-pub variable_matches_itself : (sort : ProgramSort) (n : ℕ) (t : Term) (is_local : ℕ → Bool) (r : List Binding) (listed : Bool) → sort ≢ Mesg → t ≡ variable_term sort n →
+pub variable_matches_itself : (sort : ProgramSort) (n : ℕ) (t : Term) (is_local : ℕ → Bool) (r : List Binding) (listed : Bool) → t ≡ variable_term sort n →
     listed ≡ is_local n → listed ≡ false → Some r ≡ matched is_local (variable_term sort n) t r
-variable_matches_itself sort n t is_local r listed h e is f =
-    own_match sort n is_local r h (sym is ∙ f) ∙ sym (ap (λ (u : Term). matched is_local (variable_term sort n) u r) e)
+variable_matches_itself sort n t is_local r listed e is f =
+    own_match sort n is_local r (sym is ∙ f) ∙ sym (ap (λ (u : Term). matched is_local (variable_term sort n) u r) e)

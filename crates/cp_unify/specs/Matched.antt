@@ -1,17 +1,17 @@
 -- The bindings of variables that make a pattern a term, beside some that there are already. A test says which variables are
 -- local, and may become other terms.
-use Rattle.std.specs.Prelude.{ℕ, Bool, true, false, List, [], ◌∷◌, Option, Some, None, ◌==◌, ◌&&◌, nat_eq, if◌then◌else◌, option_and_then}
-use Rattle.std.specs.List.{list_any}
+use Rattle.std.specs.Prelude.{ℕ, Bool, true, false, List, [], ◌∷◌, Option, Some, None, ◌&&◌, nat_eq, if◌then◌else◌, option_and_then}
 use Rattle.std.specs.Cmp.Lexicographic.{pointwise}
 use Rattle.std.specs.Option.{option_eq}
 use Rattle.cp_model.specs.Term.{SymmetricTerm, skey_variable, ltk_term, PairTerm, akey_variable, pubk_term, KeyTerm, symmetric_term, asymmetric_term, AtomTerm, text_variable, datum_variable, name_variable, key_term, Term, tag_term, atom_term, pair_term, enc_term, atom_of_variable, flag_of}
+use Rattle.cp_term.specs.Patterns.{is_number_of}
 use Rattle.cp_term.specs.Same.{same_flag, same_atom, is_same}
 use Rattle.cp_unify.specs.Bindings.{Binding, variable_of}
 
 -- The test whether a number is listed; where there is no list, each is.
 abbrev pub is_listed : Option (List ℕ) → ℕ → Bool
 is_listed None m = true
-is_listed (Some ns) m = list_any (λ n. n == m) ns
+is_listed (Some ns) m = is_number_of ns m
 
 -- The term of the first binding of a variable, which is given as a term.
 abbrev pub bound_term : List Binding → Term → Option AtomTerm

@@ -1,5 +1,5 @@
 // Terms under substitutions. What does not change is shared.
-ghost use Rattle.std.specs.Prelude.{◌≡◌, ◌≢◌, unwrap_or, MatchOption, IfOk};
+ghost use Rattle.std.specs.Prelude.{◌≡◌, unwrap_or, MatchOption, IfOk};
 ghost use Rattle.cp_model.specs.Term.{Assignment, after, apply_to};
 ghost use Rattle.std.specs.Option.{option_map};
 ghost use Rattle.cp_model.specs.Term.{Term as Plain, KeyTerm, ltk_term, pubk_term, symmetric_term, asymmetric_term, pair_term, enc_term, value_of, atom_term};
@@ -14,9 +14,8 @@ use crate::subst::Subst;
 use cp_term::{Shape, Sort, Term, VarId, enc, invert, ltk, pair, pubk, var};
 use std::alloc::{AllocError, Global};
 
-/// The term that a variable of this sort, which is not that of all messages, is bound to.
+/// The term that a variable of this sort is bound to.
 pub(crate) fn bound<'a>(bindings: &'a [Binding], sort: Sort, variable: VarId) -> Option<&'a Term>
-    requires { sort ≢ Sort.Mesg }
     ensures applied { MatchOption result
         (apply_to (as_substitution bindings.now) (variable_term sort variable) ≡ variable_term sort variable)
         (λ t. apply_to (as_substitution bindings.now) (variable_term sort variable) ≡ t.now) }

@@ -1,5 +1,5 @@
 // Bindings of variables to terms.
-ghost use Rattle.std.specs.Prelude.{◌≡◌, ◌↔◌, ◌≢◌, ℕ, IsTrue, IfOk};
+ghost use Rattle.std.specs.Prelude.{◌≡◌, ◌↔◌, ℕ, IsTrue, IfOk};
 ghost use Rattle.cp_model.specs.Term.{atom_term, atom_of_variable};
 ghost use Rattle.cp_term.specs.Variables.{variable_term};
 ghost use Rattle.cp_unify.specs.Atoms.{IsAtom, atom_of};
@@ -53,7 +53,6 @@ impl Binding {
 
     /// The sort of the variable and of the term.
     pub fn sort(&self) -> Sort
-        ensures no_message { result ≢ Sort.Mesg }
         ensures sort { (n : ℕ) → variable_term result n
             ≡ atom_term (atom_of_variable (record { sort = sort_of self.now.term; number = n })) }
     {
@@ -65,9 +64,8 @@ impl Binding {
         }
     }
 
-    /// Whether this variable of this sort, which is not that of all messages, is the one that is bound.
+    /// Whether this variable of this sort is the one that is bound.
     pub(crate) fn binds(&self, sort: Sort, variable: VarId) -> bool
-        requires { sort ≢ Sort.Mesg }
         ensures { IsTrue result ↔ (variable_term sort variable ≡ atom_term (atom_of_variable (variable_of self.now))) }
     {
         self.variable == variable && self.sort() == sort

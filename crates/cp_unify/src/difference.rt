@@ -1,5 +1,5 @@
 // The first difference of two terms.
-ghost use Rattle.std.specs.Prelude.{◌≡◌, ◌≢◌, true, nat_eq, IfOk};
+ghost use Rattle.std.specs.Prelude.{◌≡◌, true, nat_eq, IfOk};
 ghost use Rattle.std.specs.Cmp.Lexicographic.{pointwise};
 ghost use Rattle.std.specs.Option.{option_map, option_eq};
 ghost use Rattle.cp_model.specs.Term.{atom_term, akey_variable, pubk_term, symmetric_term, ltk_term, tag_term, asymmetric_term, KeyTerm, key_term, inverse_term};
@@ -152,8 +152,7 @@ fn variable_difference(
     a: &Term,
     b: &Term,
 ) -> Result<Difference, AllocError>
-    requires variable { a.now ≡ variable_term sort x }
-    requires no_message { sort ≢ Sort.Mesg }
+    requires { a.now ≡ variable_term sort x }
     ensures { IfOk result (λ d. d ≡ difference_of a.now b.now) }
 {
     match b.shape() {

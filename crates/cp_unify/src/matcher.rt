@@ -1,8 +1,9 @@
 // Matching: values of local variables that make a pattern a term.
-ghost use Rattle.std.specs.Prelude.{◌≡◌, ◌≢◌, ◌↔◌, ◌==◌, ℕ, [], true, IsTrue, IfSome, IfNone, IfOk};
+ghost use Rattle.std.specs.Prelude.{◌≡◌, ◌↔◌, ◌==◌, ℕ, [], true, IsTrue, IfSome, IfNone, IfOk};
 ghost use Rattle.std.specs.Option.{option_map};
 ghost use Rattle.cp_model.specs.Term.{AtomTerm, atom_term, ltk_term, pubk_term, symmetric_term, asymmetric_term, tag_term};
 ghost use Rattle.cp_term.specs.Keys.{key_as_term};
+ghost use Rattle.cp_term.specs.Patterns.{locals_of};
 ghost use Rattle.cp_term.specs.Same.{same_atom};
 ghost use Rattle.cp_term.specs.Variables.{variable_term};
 ghost use Rattle.cp_unify.specs.Atoms.{IsAtom, atom_of};
@@ -29,9 +30,8 @@ fn is_local(locals: Option<&[VarId]>, variable: VarId) -> bool
     }
 }
 
-/// Whether a term has this sort, which is not that of all messages.
+/// Whether a term has this sort.
 fn is_of_sort(term: &Term, sort: Sort) -> bool
-    requires { sort ≢ Sort.Mesg }
     ensures atom { IsTrue result → IsAtom term.now }
     ensures sort { IsAtom term.now → (n : ℕ)
         → result ≡ is_same_sort (atom_of (variable_term sort n)) (atom_of term.now) }
@@ -44,9 +44,8 @@ fn is_of_sort(term: &Term, sort: Sort) -> bool
     }
 }
 
-/// Whether a term is this variable of this sort, which is not that of all messages.
+/// Whether a term is this variable of this sort.
 fn is_variable(term: &Term, sort: Sort, variable: VarId) -> bool
-    requires { sort ≢ Sort.Mesg }
     ensures { IsTrue result ↔ (term.now ≡ variable_term sort variable) }
 {
     match term.shape() {
@@ -55,10 +54,9 @@ fn is_variable(term: &Term, sort: Sort, variable: VarId) -> bool
     }
 }
 
-/// Whether a variable of this sort, which is not that of all messages, is bound to the term, if it is bound.
+/// Whether a variable of this sort is bound to the term, if it is bound.
 fn is_bound_to(bindings: &[Binding], sort: Sort, variable: VarId, term: &Term) -> Option<bool>
-    requires no_message { sort ≢ Sort.Mesg }
-    requires atom { IsAtom term.now }
+    requires { IsAtom term.now }
     ensures { result ≡ option_map (λ t. same_atom t (atom_of term.now))
         (bound_term bindings.now (variable_term sort variable)) }
 {
@@ -68,7 +66,7 @@ fn is_bound_to(bindings: &[Binding], sort: Sort, variable: VarId, term: &Term) -
     }
 }
 
-/// Matches a variable of this sort, which is not that of all messages, with a term.
+/// Matches a variable of this sort with a term.
 fn variable_match(
     variable: VarId,
     sort: Sort,
@@ -76,7 +74,6 @@ fn variable_match(
     locals: Option<&[VarId]>,
     given: Subst,
 ) -> Result<Option<Subst>, AllocError>
-    requires { sort ≢ Sort.Mesg }
     ensures { IfOk result (λ found. found
         ≡ matched (is_listed (option_map (λ ns. ns.now) locals.entry)) (variable_term sort variable) term.now given) }
 {
@@ -254,21 +251,23 @@ fn match_beside(
     }
 }
 
-/// Values of the locals that make the pattern the term; none exactly where none do.
+/// Values of the locals that make the pattern the term; none exactly where none do. The locals are all variables of the
+/// pattern that have the numbers listed.
 pub fn matching(
     alloc: Global,
     pattern: &Term,
     term: &Term,
     locals: &[VarId],
 ) -> Result<Option<Subst>, AllocError>
-    ensures some { IfOk result (λ answer. IfSome answer (λ r. IsMatch pattern.now term.now locals.now r)) }
-    ensures none { IfOk result (λ answer. IfNone answer (HasNoMatch pattern.now term.now locals.now)) }
+    ensures some { IfOk result (λ answer. IfSome answer (λ r. IsMatch pattern.now term.now (locals_of pattern.now locals.now) r)) }
+    ensures none { IfOk result (λ answer. IfNone answer (HasNoMatch pattern.now term.now (locals_of pattern.now locals.now))) }
 {
     match_beside(alloc, pattern, term, Some(locals), Subst::new(alloc))
 }
 
 /// Values of the pattern's variables that make it the term, beside those that are given; none exactly where none do. All
-/// variables of the pattern may have values, and they stand apart from those of the term.
+/// variables of the pattern may have values, and they stand apart from those of the term. Where the given bindings
+/// contradict each other no substitution agrees with them, and either answer meets both clauses.
 pub fn matching_beside(
     alloc: Global,
     pattern: &Term,

@@ -1,13 +1,12 @@
 use Rattle.std.proofs.Common.{◌∙◌, ap}
 use Rattle.std.proofs.lemmas.Result.{IfOk-weaker}
 use Rattle.cp_model.specs.Homomorphism.{substitution_by}
-use Rattle.cp_model.specs.Term.{apply_to, atom_term, atom_of_variable}
+use Rattle.cp_model.specs.Term.{apply_to}
 use Rattle.cp_normal.proofs.DeclaredTerms.{variable_is}
 use Rattle.cp_normal.proofs.valuing.term_of_variable.Goals as goal
 
 pub returns : goal.returns
 returns c =
     IfOk-weaker c.applied.result _ _
-    (λ t h. h ∙ ap (apply_to (substitution_by c.args.terms.now)) (c.in_ok-variable.ensures.plain ∙ variable_is c.atom_sort.result c.args.id c.atom_sort.ensures.of_atoms
-    ∙ ap (λ s. atom_term (atom_of_variable (record { sort = s; number = c.args.id }))) c.atom_sort.ensures.same))
+    (λ t h. h ∙ ap (apply_to (substitution_by c.args.terms.now)) (c.in_ok-variable.ensures.plain ∙ variable_is c.args.sort c.args.id))
     c.applied.ensures

@@ -16,7 +16,7 @@ returns-then-binds c = record {
 
 pub loop-binding-preserved : goal.loop-binding-preserved
 loop-binding-preserved c =
-    found_later _ _ _ _ (variable_is_term c.args.sort c.args.variable c.requires) c.loop-binding.invariant c.loop-binding-test.true c.binding-item.is
+    found_later _ _ _ _ (variable_is_term c.args.sort c.args.variable) c.loop-binding.invariant c.loop-binding-test.true c.binding-item.is
     (λ e. not_both c.if-binds.false (c.binds.ensures.1 e))
 
 pub returns : goal.returns
