@@ -6,7 +6,7 @@ ghost use Rattle.cp_language.specs.Report.{named_by, variables_but, variables_of
 ghost use Rattle.cp_model.specs.Same.{has_variable};
 ghost use Rattle.cp_sexpr.specs.View.{view};
 ghost use Rattle.cp_skel.specs.View.{sort_view};
-ghost use Rattle.cp_term.specs.Patterns.{numbered};
+ghost use Rattle.cp_term.specs.Patterns.{is_number_of, numbered};
 ghost use Rattle.cp_print.specs.Named.{variable_view};
 
 use crate::naming::{Naming, Variable, is_same_sort};
@@ -28,7 +28,14 @@ pub(crate) fn has_variable(variables: &[Variable], variable: Variable) -> bool
     false
 }
 
-/// The variables that have the numbers listed.
+/// Whether the variable has a number listed.
+fn is_numbered(numbers: &[VarId], variable: Variable) -> bool
+    ensures { result ≡ is_number_of numbers.now variable.number }
+{
+    numbers.contains(&VarId::numbered(variable.number))
+}
+
+/// Those of the variables that have a number listed.
 fn numbered(
     alloc: Global,
     variables: &[Variable],
@@ -38,7 +45,7 @@ fn numbered(
 {
     let mut found = Vec::new(alloc);
     for variable in variables {
-        if numbers.contains(&VarId::numbered(variable.number)) {
+        if is_numbered(numbers, *variable) {
             found.push(*variable)?;
         }
     }
