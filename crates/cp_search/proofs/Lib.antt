@@ -4,3 +4,4 @@ pub mod RootShapes
 pub mod RootCovering
 pub mod RootLimits
 pub mod RootTrees
+pub mod Judgings

@@ -76,7 +76,7 @@ left_are_shapes (l ∷ ls) a c =
 
 -- The first of the labels that are isomorphic to one is new.
 first_is_new : (ks : List Skeleton) (i j : ℕ) → IsLeast (IsEarlierCopy ks i) j → IsNew ks j
-first_is_new ks i j l m copy = l.least m copy.0 (lt_trans copy.0 l.holds.0, (embeds_on ks m j i copy.1 l.holds.1, embeds_on ks i j m l.holds.2 copy.2))
+first_is_new ks i j l m copy = l.least m copy.0 (lt_trans copy.0 l.holds.0, embeds_on ks m j i copy.1 l.holds.1, embeds_on ks i j m l.holds.2 copy.2)
 
 -- ---- standings
 

@@ -2,4 +2,4 @@ use Rattle.cp_search.proofs.RootTrees.{true_of}
 use Rattle.cp_search.proofs.laws.root_trees_are_true.Goals as goal
 
 pub returns : goal.returns
-returns c = true_of
+returns c = record { truth = true_of }
