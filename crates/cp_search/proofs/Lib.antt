@@ -5,3 +5,7 @@ pub mod RootCovering
 pub mod RootLimits
 pub mod RootTrees
 pub mod Judgings
+pub mod Marked
+pub mod Chosen
+pub mod Labels
+pub mod Unexpanding
