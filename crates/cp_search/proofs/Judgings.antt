@@ -75,8 +75,7 @@ module _ (ks : List Skeleton) (i : ℕ) (k : Skeleton) (at : item_at ks i ≡ So
   as_copy n h =
       let second = same_item ks i h.1.second k h.1.at_second at in
       let first = same_item ks n h.2.second h.1.first h.2.at_second h.1.at_first in
-      let own = same_item ks i h.2.first k h.2.at_first at in
-      (
+      let own = same_item ks i h.2.first k h.2.at_first at in (
         h.1.first,
         take_of_item i ks n h.1.first h.0 h.1.at_first,
         (

@@ -22,7 +22,9 @@ fn label(alloc: Global, judged: Judged, mark: Mark) -> TreeNode
     ensures { label_view result ≡ label_of (variables_view judged.root.skeleton.variables) (judged_view judged) (judged_nodes judged) (mark_view mark) }
 {
     let Judged {
-        root, unrealised, ..
+        root,
+        unrealised,
+        ..
     } = judged;
     let Root {
         operation,

@@ -36,10 +36,7 @@ fn first_shape(rows: &[Vec<usize>], row: &[usize]) -> Option<usize>
 /// For each candidate the first shape of which it is an instance; none exactly where it is a shape itself. One candidate is an
 /// instance of another that embeds in it where it does not embed in that, or that comes first. The pairs of each go from a
 /// transmission to a reception of another strand, and its order has no cycle. The error is that memory ran out.
-pub fn shapes(
-    alloc: Global,
-    candidates: &[&Skeleton],
-) -> Result<Vec<Option<usize>>, AllocError>
+pub fn shapes(alloc: Global, candidates: &[&Skeleton]) -> Result<Vec<Option<usize>>, AllocError>
     requires ordered { (k : model.Skeleton) → IsIn k (map (λ k. skeleton_view k.now) candidates.now) → IsOrdered k }
     ensures exact { IfOk result (λ marks. AreMarksOf (map (λ k. skeleton_view k.now) candidates.now) marks.items) }
 {
