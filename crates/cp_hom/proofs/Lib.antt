@@ -4,6 +4,7 @@ pub mod Blocked
 pub mod Crowded
 pub mod Embedded
 pub mod Extended
+pub mod Fingerprints
 pub mod Images
 pub mod Itemised
 pub mod Listed

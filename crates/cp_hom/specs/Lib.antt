@@ -2,4 +2,5 @@ pub mod Counting
 pub mod Following
 pub mod Maps
 pub mod Opening
+pub mod Partition
 pub mod Taking

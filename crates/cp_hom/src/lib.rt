@@ -9,6 +9,7 @@ mod looking;
 mod mapping;
 mod matching;
 mod partials;
+mod partition;
 mod placing;
 mod searching;
 mod starting;
@@ -17,3 +18,4 @@ mod tests;
 
 pub use embedding::{embed, isomorphic};
 pub use mapping::Map;
+pub use partition::{fingerprint, may_embed};

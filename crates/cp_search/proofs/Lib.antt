@@ -1,13 +1,11 @@
+pub mod Picked
 pub mod RootMarks
 pub mod RootShapes
 pub mod RootCovering
 pub mod RootLimits
 pub mod RootTrees
 pub mod Judgings
-pub mod Tables
-pub mod Flags
-pub mod Minimal
-pub mod Copies
 pub mod Marked
+pub mod Chosen
 pub mod Labels
 pub mod Unexpanding

@@ -1,121 +1,240 @@
 -- Marks of roots that are not expanded.
-use Rattle.std.proofs.Common.{◌≡◌, ◌↔◌, ◌⊎◌, inl, inr, ℕ, ◌<◌, ◌≤◌, ◌==◌, List, [], ◌∷◌, Bool, true, false, length, map, not, Option, Some, None, refl, sym, subst, ◌∙◌, arith}
-use Rattle.std.specs.Option.{is_some}
-use Rattle.cp_model.specs.Lists.{item_at, IsIn, here}
+use Rattle.std.proofs.Common.{◌≡◌, ◌↔◌, ◌⊎◌, inl, inr, ℕ, zero, suc, ◌+◌, ◌<◌, ◌≤◌, ◌==◌, nat_lt, nat_eq, List, [], ◌∷◌, ◌++◌, Bool, true, false, if◌then◌else◌, length, map, drop, take, get_or, slice_index_or, Option, Some, None, refl, sym, ap, subst, ◌∙◌, arith, eqb-true, eq-eqb}
+use Rattle.std.proofs.lemmas.Bool.{ltb-true, ltb-false}
+use Rattle.std.specs.Prelude.{IfSome}
+use Rattle.cp_model.specs.Lists.{item_at, IsIn, here, there}
 use Rattle.cp_model.specs.Bundle.{Node}
 use Rattle.cp_model.specs.RunView.{node_view}
 use Rattle.cp_model.specs.declared.strand.Node.{Node as Program}
 use Rattle.cp_model.specs.Skeleton.{Skeleton}
-use Rattle.cp_model.specs.Derivable.{AllDerivable}
+use Rattle.cp_model.specs.Derivable.{AllDerivable, IsUnrealised}
 use Rattle.cp_model.specs.Tree.{Mark, shape, dead, instance_of, seen, limit_steps, limit_strands, Limits}
+use Rattle.cp_model.proofs.LawLists.{item_below, item_there, map_of_item}
 use Rattle.cp_derive.specs.Unrealised.{ListsUnrealised, IsUnrealisedAt}
-use Rattle.cp_roots.specs.Roots.{Root}
-use Rattle.cp_search.specs.Marks.{IsLeast, IsEarlierCopy, IsNew, IsCandidate, HasMark, dead_root, seen_before, as_shape, as_instance, above_bound, within_bound}
-use Rattle.cp_search.specs.Judging.{AreUnrealisedOf}
-use Rattle.cp_search.specs.Marking.{IsDerivableAt, FindsLeast, IsMarkOfCandidate, is_shape, is_instance}
+use Rattle.cp_skel.specs.Ordered.{IsOrdered}
+use Rattle.cp_skel.specs.Trees.{mark_view}
+use Rattle.cp_skel.specs.declared.tree.Mark.{Mark as ProgramMark}
+use Rattle.cp_skel.proofs.Items.{item-drop, item-there, map-length}
+use Rattle.cp_term.proofs.CarriedTerms.{not_both}
+use Rattle.cp_shapes.specs.Shapes.{IsLeast, IsShapeAt, IsMarkOf, AreMarksOf}
+use Rattle.cp_shapes.proofs.Gathered.{AreTo, none_to, next_row}
+use Rattle.cp_search.specs.Candidates.{Candidate, skeletons_of, IsLabelAt}
+use Rattle.cp_search.specs.Marks.{IsEarlierCopy, IsNew, HasMark, dead_label, seen_before, as_shape, as_instance, above_bound, within_bound}
+use Rattle.cp_search.specs.Unexpanded.{AreUnrealisedOf}
+use Rattle.cp_search.specs.Judging.{FindsLeast, judged_view, judged_skeleton, judged_nodes, IsJudged, AreJudged}
+use Rattle.cp_search.specs.Marking.{is_no_copy, is_candidate, candidates_from, candidate_mark, mark_by_copy, other_mark}
+use Rattle.cp_search.specs.declared.judging.Judged.{Judged}
+use Rattle.cp_search.proofs.Judgings.{finds_earlier}
 
-none_listed : (k : Skeleton) (n : Node) {D : Type 0} → IsIn n [] ⊎ D → D
-none_listed k n (inl h) = elim h [ ]
-none_listed k n (inr d) = d
+-- ---- what a candidate is
 
--- Where none is listed all are derivable, and conversely.
-pub all_derivable : (k : Skeleton) → ListsUnrealised k [] → AllDerivable k
-all_derivable k lists n t at = none_listed k n (lists.others n t at)
+-- The root lives, has no earlier copy, and nothing of it is unrealised.
+pub record IsWaiting (j : Judged) : Type 0 where
+  pub lives : j.root.dead ≡ false
+  pub new : j.copy ≡ None
+  pub none : length j.unrealised.items ≡ 0
 
-pub none_unrealised : (k : Skeleton) (nodes : List Node) → ListsUnrealised k nodes → AllDerivable k → nodes ≡ []
-none_unrealised k [] lists all = refl
-none_unrealised k (n ∷ ns) lists all = let u : IsUnrealisedAt k n = (lists.each n).0 here in absurd (u.underivable (all n u.message u.reception))
+waiting_by : (j : Judged) (d : Bool) (o : Option ℕ) → j.root.dead ≡ d → j.copy ≡ o → is_candidate j ≡ true → IsWaiting j
+waiting_by j true o p q e = absurd (let h : is_candidate j ≡ false = rw p refl in cc)
+waiting_by j false (Some n) p q e = absurd (let h : is_candidate j ≡ false = (rw p (rw q refl)) in cc)
+waiting_by j false None p q e = record {
+  lives = p;
+  new = q;
+  none = eqb-true (length j.unrealised.items) 0 (let h : is_candidate j ≡ nat_eq (length j.unrealised.items) 0 = (rw p (rw q refl)) in sym h ∙ e);
+}
 
--- ---- what the flags tell
+pub waiting : (j : Judged) → is_candidate j ≡ true → IsWaiting j
+waiting j e = waiting_by j j.root.dead j.copy refl refl e
 
-module _ (root : Root) (nodes : List Node) (judged : AreUnrealisedOf root nodes) where
-  pub derivable_root : root.dead ≡ false → nodes ≡ [] → AllDerivable root.skeleton
-  derivable_root lives none = all_derivable root.skeleton (subst (ListsUnrealised root.skeleton) none (judged.listed lives))
+pub is_waiting : (j : Judged) → IsWaiting j → is_candidate j ≡ true
+is_waiting j w = let p = w.lives in let q = w.new in let n = eq-eqb (length j.unrealised.items) 0 w.none in rw p (rw q n)
 
-  pub none_of_derivable : root.dead ≡ false → AllDerivable root.skeleton → nodes ≡ []
-  none_of_derivable lives all = none_unrealised root.skeleton nodes (judged.listed lives) all
+-- ---- what is unrealised
 
--- The root is at this place, lives, and all its receptions are derivable.
-pub derivable_at : (roots : List Root) (i : ℕ) (root : Root) (nodes : List Node) → AreUnrealisedOf root nodes → item_at roots i ≡ Some root → root.dead ≡ false → nodes ≡ [] → IsDerivableAt roots i
-derivable_at roots i root nodes judged at lives none = record { root = root; at = at; lives = lives; derivable = derivable_root root nodes judged lives none }
+unrealised_first : (k : Skeleton) (n : Node) (ns : List Node) → ListsUnrealised k (n ∷ ns) → IsUnrealised k
+unrealised_first k n ns lists =
+    let u : IsUnrealisedAt k n = (lists.each n).0 here in
+    record { node = n; message = u.message; reception = u.reception; underivable = u.underivable }
 
-pub lives_at : (roots : List Root) (i : ℕ) (root : Root) → item_at roots i ≡ Some root → IsDerivableAt roots i → root.dead ≡ false
-lives_at roots i root at h = let e : Some h.root ≡ Some root = sym h.at ∙ at in let same : h.root ≡ root = cc in subst (λ (r : Root). r.dead ≡ false) same h.lives
+some_unrealised : (k : Skeleton) (ns : List Program) → (length ns ≡ 0 → ⊥) → ListsUnrealised k (map node_view ns) → IsUnrealised k
+some_unrealised k [] some lists = absurd (some refl)
+some_unrealised k (n ∷ ns) some lists = unrealised_first k (node_view n) (map node_view ns) lists
 
-pub none_at : (roots : List Root) (i : ℕ) (root : Root) (nodes : List Node) → AreUnrealisedOf root nodes → item_at roots i ≡ Some root → IsDerivableAt roots i → nodes ≡ []
-none_at roots i root nodes judged at h =
-    let e : Some h.root ≡ Some root = sym h.at ∙ at in
-    let same : h.root ≡ root = cc in
-    none_of_derivable root nodes judged (lives_at roots i root at h) (subst (λ (r : Root). AllDerivable r.skeleton) same h.derivable)
+-- ---- lists
 
-pub is_realised : (roots : List Root) (i : ℕ) → IsDerivableAt roots i → IsNew roots i → IsCandidate roots i
-is_realised roots i h new = record { root = h.root; at = h.at; lives = h.lives; derivable = h.derivable; new = new }
+at_drop : {A : Type 0} (n : ℕ) (xs : List A) (y : A) (ys : List A) → drop n xs ≡ y ∷ ys → item_at xs n ≡ Some y
+at_drop zero [] y ys e = absurd (cc)
+at_drop zero (x ∷ xs) y ys e = let same : x ≡ y = cc in ap Some same
+at_drop (suc n) [] y ys e = absurd (cc)
+at_drop (suc n) (x ∷ xs) y ys e = at_drop n xs y ys e
 
-pub is_derivable : (roots : List Root) (i : ℕ) → IsCandidate roots i → IsDerivableAt roots i
-is_derivable roots i h = record { root = h.root; at = h.at; lives = h.lives; derivable = h.derivable }
+next_drop : {A : Type 0} (n : ℕ) (xs : List A) (y : A) (ys : List A) → drop n xs ≡ y ∷ ys → drop (n + 1) xs ≡ ys
+next_drop zero [] y ys e = absurd (cc)
+next_drop zero (x ∷ xs) y ys e = let same : xs ≡ ys = cc in same
+next_drop (suc n) [] y ys e = absurd (cc)
+next_drop {A} (suc n) (x ∷ xs) y ys e = let q : suc n + 1 ≡ suc (n + 1) = omega arith in subst (λ (m : ℕ). drop m (x ∷ xs) ≡ ys) (sym q) (next_drop n xs y ys e)
 
--- ---- lists of nodes that are empty
+index_at : (ns : List ℕ) (i n : ℕ) → item_at ns i ≡ Some n → slice_index_or ns i 0 ≡ n
+index_at [] i n e = absurd (cc)
+index_at (m ∷ ns) zero n e = let same : m ≡ n = cc in same
+index_at (m ∷ ns) (suc i) n e = index_at ns i n e
 
-pub no_nodes : (ns : List Program) → (length ns == 0) ≡ true → map node_view ns ≡ []
-no_nodes [] e = refl
-no_nodes (n ∷ ns) e = absurd (grind arith)
+pub item_at_index : {A : Type 0} (xs : List A) (i : ℕ) (x : A) → i < length xs → x ≡ get_or xs i x → item_at xs i ≡ Some x
+item_at_index xs i x l is = at_drop i xs x (drop (i + 1) xs) (item-drop xs i x l is)
 
-pub some_nodes : (ns : List Program) → map node_view ns ≡ [] → (length ns == 0) ≡ true
-some_nodes [] e = refl
-some_nodes (n ∷ ns) e = absurd (cc)
+-- A candidate's skeleton is that of one of the roots.
+-- A root whose skeleton this is.
+abbrev HasRoot : List Judged → Skeleton → Type 0
+HasRoot js k = (j : Judged) × IsIn j js × (judged_skeleton j ≡ k)
 
--- ---- the marks
+first_or : (j : Judged) (js : List Judged) (k first : Skeleton) (ls : List Skeleton) → IsIn k (first ∷ ls) → judged_skeleton j ≡ first → (IsIn k ls → HasRoot js k) → HasRoot (j ∷ js) k
+first_or j js k first ls here e rest = (j, here, e)
+first_or j js k first ls (there h) e rest = let r = rest h in (r.0, there r.1, r.2)
 
-module _ (limits : Limits) (roots : List Root) (i : ℕ) (root : Root) (nodes : List Node) (judged : AreUnrealisedOf root nodes) where
-  pub marked_dead : root.dead ≡ true → HasMark limits roots i root nodes dead
-  marked_dead d = subst (λ ns. HasMark limits roots i root ns dead) (sym (judged.dead_none d)) (dead_root d)
+root_by : (n : ℕ) (j : Judged) (js : List Judged) (k : Skeleton) (b : Bool) → is_candidate j ≡ b → (IsIn k (skeletons_of (candidates_from (suc n) js)) → HasRoot js k) → IsIn k (skeletons_of (candidates_from n (j ∷ js))) → HasRoot (j ∷ js) k
+root_by n j js k true e rest i =
+    let same : skeletons_of (candidates_from n (j ∷ js)) ≡ judged_skeleton j ∷ skeletons_of (candidates_from (suc n) js) = rw e refl in
+    first_or j js k (judged_skeleton j) (skeletons_of (candidates_from (suc n) js)) (subst (IsIn k) same i) refl rest
+root_by n j js k false e rest i =
+    let same : skeletons_of (candidates_from n (j ∷ js)) ≡ skeletons_of (candidates_from (suc n) js) = rw e refl in
+    let r = rest (subst (IsIn k) same i) in (r.0, there r.1, r.2)
 
-  module _ (lives : root.dead ≡ false) where
-    pub marked_seen : (j : ℕ) → IsLeast (IsEarlierCopy roots i) j → HasMark limits roots i root nodes (seen j)
-    marked_seen j first = seen_before lives (judged.listed lives) first
+pub candidate_of : (n : ℕ) (js : List Judged) (k : Skeleton) → IsIn k (skeletons_of (candidates_from n js)) → HasRoot js k
+candidate_of n [] k i = elim i [ ]
+candidate_of n (j ∷ js) k i = root_by n j js k (is_candidate j) refl (candidate_of (suc n) js k) i
 
-    module _ (new : IsNew roots i) where
-      none_left : (mark : Mark) → ListsUnrealised root.skeleton [] → IsMarkOfCandidate roots i mark → HasMark limits roots i root [] mark
-      none_left shape lists (is_shape h) = as_shape lives lists h
-      none_left (instance_of j) lists (is_instance other first) = as_instance lives lists new other first
-      none_left dead lists h = elim h [ ]
-      none_left (seen j) lists h = elim h [ ]
-      none_left limit_steps lists h = elim h [ ]
-      none_left limit_strands lists h = elim h [ ]
+pub candidates_ordered : (js : List Judged) (ks : List Skeleton) → ks ≡ skeletons_of (candidates_from 0 js) → ((j : Judged) → IsIn j js → IsOrdered (judged_skeleton j)) → (k : Skeleton) → IsIn k ks → IsOrdered k
+candidates_ordered js ks e all k i = let h = candidate_of 0 js k (subst (IsIn k) e i) in subst IsOrdered h.2 (all h.0 h.1)
 
-      pub marked_realised : (mark : Mark) → nodes ≡ [] → IsMarkOfCandidate roots i mark → HasMark limits roots i root nodes mark
-      marked_realised mark none h = subst (λ ns. HasMark limits roots i root ns mark) (sym none) (none_left mark (subst (ListsUnrealised root.skeleton) none (judged.listed lives)) h)
+-- ---- marks
 
-pub marked_above : (limits : Limits) (roots : List Root) (i : ℕ) (root : Root) (ns : List Program) → AreUnrealisedOf root (map node_view ns) → root.dead ≡ false → IsNew roots i → (length ns == 0) ≡ false → limits.strands < length root.skeleton.strands →
-    HasMark limits roots i root (map node_view ns) limit_strands
-marked_above limits roots i root [] judged lives new some l = absurd (cc)
-marked_above limits roots i root (n ∷ ns) judged lives new some l = above_bound lives (judged.listed lives) new l
+module _ (limits : Limits) (js : List Judged) where
+  abbrev cs : List Candidate
+  cs = candidates_from 0 js
 
-pub marked_within : (limits : Limits) (roots : List Root) (i : ℕ) (root : Root) (ns : List Program) → AreUnrealisedOf root (map node_view ns) → root.dead ≡ false → IsNew roots i → (length ns == 0) ≡ false → length root.skeleton.strands ≤ limits.strands →
-    HasMark limits roots i root (map node_view ns) limit_steps
-marked_within limits roots i root [] judged lives new some l = absurd (cc)
-marked_within limits roots i root (n ∷ ns) judged lives new some l = within_bound lives (judged.listed lives) new l
+  abbrev ks : List Skeleton
+  ks = map judged_skeleton js
 
--- ---- flags
+  -- The mark is that of root number i.
+  abbrev pub IsMarkAt : ℕ → Mark → Type 0
+  IsMarkAt i mark = (j : Judged) → item_at js i ≡ Some j → HasMark limits ks cs i (judged_skeleton j) j.root.dead mark
 
-module _ (roots : List Root) (i : ℕ) where
-  module _ (root : Root) (ns : List Program) (judged : AreUnrealisedOf root (map node_view ns)) (at : item_at roots i ≡ Some root) (b : Bool) where
-    pub told_derivable : root.dead ≡ false → b ≡ (length ns == 0) → (b ≡ true) ↔ IsDerivableAt roots i
-    told_derivable lives e = (
-      λ h. derivable_at roots i root (map node_view ns) judged at lives (no_nodes ns (sym e ∙ h)),
-      λ h. e ∙ some_nodes ns (none_at roots i root (map node_view ns) judged at h),
-    )
+  module _ (i : ℕ) (j : Judged) (at : item_at js i ≡ Some j) (judged : IsJudged (take i ks) j) where
+    at_skeleton : item_at ks i ≡ Some (judged_skeleton j)
+    at_skeleton = map_of_item judged_skeleton js i j at
 
-    pub told_dead : root.dead ≡ true → b ≡ false → (b ≡ true) ↔ IsDerivableAt roots i
-    told_dead d e = (λ h. absurd (cc), λ h. absurd (let l = lives_at roots i root at h in cc))
+    pub found_copy : FindsLeast (IsEarlierCopy ks i) j.copy
+    found_copy = finds_earlier ks i (judged_skeleton j) at_skeleton j.copy judged.copy
 
-  told_found : IsDerivableAt roots i → (found : Option ℕ) → FindsLeast (IsEarlierCopy roots i) found → (b : Bool) → is_some found ≡ not b → (b ≡ true) ↔ IsCandidate roots i
-  told_found derivable None none true e = (λ h. is_realised roots i derivable none, λ r. refl)
-  told_found derivable None none false e = absurd (cc)
-  told_found derivable (Some j) first false e = (λ h. absurd (cc), λ r. absurd (r.new j first.holds))
-  told_found derivable (Some j) first true e = absurd (cc)
+    is_new : j.copy ≡ None → IsNew ks i
+    is_new e = subst (FindsLeast (IsEarlierCopy ks i)) e found_copy
 
-  pub told_realised : IsDerivableAt roots i → (found : Option ℕ) → FindsLeast (IsEarlierCopy roots i) found → (b : Bool) → is_some found ≡ not b → (flag : Bool) → flag ≡ b → (flag ≡ true) ↔ IsCandidate roots i
-  told_realised derivable found least b e flag same =
-      let t = told_found derivable found least b e in
-      (λ h. t.0 (sym same ∙ h), λ r. same ∙ t.1 r)
+    by_bound : j.root.dead ≡ false → IsNew ks i → IsUnrealised (judged_skeleton j) → (b : Bool) → nat_lt limits.strands (length (judged_skeleton j).strands) ≡ b →
+        HasMark limits ks cs i (judged_skeleton j) j.root.dead (if b then limit_strands else limit_steps)
+    by_bound lives new u true e = above_bound lives new u (ltb-true limits.strands (length (judged_skeleton j).strands) e)
+    by_bound lives new u false e = within_bound lives new u (ltb-false limits.strands (length (judged_skeleton j).strands) e)
+
+    by_copy : (o : Option ℕ) → j.copy ≡ o → j.root.dead ≡ false → is_candidate j ≡ false → HasMark limits ks cs i (judged_skeleton j) j.root.dead (mark_by_copy limits (judged_skeleton j) o)
+    by_copy (Some n) e lives other = seen_before lives (subst (FindsLeast (IsEarlierCopy ks i)) e found_copy)
+    by_copy None e lives other =
+        by_bound lives (is_new e)
+        (some_unrealised (judged_skeleton j) j.unrealised.items (λ none. not_both other (is_waiting j (record { lives = lives; new = e; none = none }))) (judged.unrealised.listed lives))
+        (nat_lt limits.strands (length (judged_skeleton j).strands)) refl
+
+    by_life : (d : Bool) → j.root.dead ≡ d → is_candidate j ≡ false → HasMark limits ks cs i (judged_skeleton j) j.root.dead (if d then dead else mark_by_copy limits (judged_skeleton j) j.copy)
+    by_life true e other = dead_label e
+    by_life false e other = by_copy j.copy refl e other
+
+    other_marked : is_candidate j ≡ false → HasMark limits ks cs i (judged_skeleton j) j.root.dead (other_mark limits j)
+    other_marked other = by_life j.root.dead refl other
+
+    module _ (w : IsWaiting j) (place : ℕ) (placed : item_at cs place ≡ Some (record { number = i; skeleton = judged_skeleton j })) (numbers : List ℕ) (numbers_are : numbers ≡ map (λ c. c.number) cs) where
+      own_place : IsLabelAt cs place i
+      own_place = record { candidate = record { number = i; skeleton = judged_skeleton j }; at = placed; number = refl }
+
+      shape_place : (q : ℕ) → q < length (skeletons_of cs) → IsLabelAt cs q (slice_index_or numbers q 0)
+      shape_place q l =
+          let c = item_there cs q (let e = map-length (λ (c : Candidate). c.skeleton) cs in omega (arith, l, e)) in
+          record {
+            candidate = c.0;
+            at = c.1;
+            number = sym (index_at numbers q c.0.number (ap (λ (ns : List ℕ). item_at ns q) numbers_are ∙ map_of_item (λ (c : Candidate). c.number) cs q c.0 c.1));
+          }
+
+      candidate_marked : (o : Option ℕ) → IsMarkOf (skeletons_of cs) place o → HasMark limits ks cs i (judged_skeleton j) j.root.dead (candidate_mark numbers o)
+      candidate_marked None s = as_shape w.lives (is_new w.new) own_place s
+      candidate_marked (Some q) h = as_instance w.lives (is_new w.new) own_place h (shape_place q h.holds.0.within)
+
+  -- The first roots, i of them, are marked, and the next candidate has this place.
+  pub record AreMarkedTo (marks : List ProgramMark) (place i : ℕ) : Type 0 where
+    pub next : candidates_from i (drop i js) ≡ drop place cs
+    pub marked : AreTo IsMarkAt (map mark_view marks) i
+
+  pub none_marked : (marks : List ProgramMark) → marks ≡ [] → AreMarkedTo marks 0 0
+  none_marked marks e = record { next = refl; marked = none_to IsMarkAt (map mark_view marks) (ap (map mark_view) e) }
+
+  module _ (i place : ℕ) (j : Judged) (l : i < length js) (is : j ≡ get_or js i j) (old : List ProgramMark) (so_far : AreMarkedTo old place i) where
+    at_place : item_at js i ≡ Some j
+    at_place = item_at_index js i j l is
+
+    split : drop i js ≡ j ∷ drop (i + 1) js
+    split = item-drop js i j l is
+
+    number_on : suc i ≡ i + 1
+    number_on = omega arith
+
+    only : (mark : Mark) → HasMark limits ks cs i (judged_skeleton j) j.root.dead mark → IsMarkAt i mark
+    only mark h x at = let e : Some j ≡ Some x = sym at_place ∙ at in let same : j ≡ x = cc in subst (λ (y : Judged). HasMark limits ks cs i (judged_skeleton y) y.root.dead mark) same h
+
+    judged_here : AreJudged js → IsJudged (take i ks) j
+    judged_here all = all i j at_place
+
+    pub next_other : AreJudged js → is_candidate j ≡ false → (mark : ProgramMark) → mark_view mark ≡ other_mark limits j → (new : List ProgramMark) → new ≡ old ++ mark ∷ [] → AreMarkedTo new place (i + 1)
+    next_other all other mark is_mark new e = record {
+      next =
+          (let same : candidates_from i (j ∷ drop (i + 1) js) ≡ candidates_from (suc i) (drop (i + 1) js) = rw other refl in
+          ap (λ (n : ℕ). candidates_from n (drop (i + 1) js)) (sym number_on) ∙ (sym same ∙ (sym (ap (candidates_from i) split) ∙ so_far.next)));
+      marked = next_row IsMarkAt mark_view old i mark so_far.marked (only (mark_view mark) (subst (HasMark limits ks cs i (judged_skeleton j) j.root.dead) (sym is_mark) (other_marked i j at_place (judged_here all) other))) new e;
+    }
+
+    module _ (is_one : is_candidate j ≡ true) where
+      behind : drop place cs ≡ record { number = i; skeleton = judged_skeleton j } ∷ candidates_from (suc i) (drop (i + 1) js)
+      behind =
+          let same : candidates_from i (j ∷ drop (i + 1) js) ≡ record { number = i; skeleton = judged_skeleton j } ∷ candidates_from (suc i) (drop (i + 1) js) = rw is_one refl in
+          sym so_far.next ∙ (ap (candidates_from i) split ∙ same)
+
+      placed : item_at cs place ≡ Some (record { number = i; skeleton = judged_skeleton j })
+      placed = at_drop place cs _ _ behind
+
+      pub place_within : (marks : List (Option ℕ)) (given : List Skeleton) → given ≡ skeletons_of cs → AreMarksOf given marks → place < length marks
+      place_within marks given g are =
+          let p = item_below cs place _ placed in
+          let c = are.count in
+          let m = map-length (λ (c : Candidate). c.skeleton) cs in
+          let k : length given ≡ length (skeletons_of cs) = ap length g in
+          omega (arith, p, c, m, k)
+
+      mark_at : (marks : List (Option ℕ)) (given : List Skeleton) → given ≡ skeletons_of cs → AreMarksOf given marks → (o : Option ℕ) → item_at marks place ≡ Some o → IsMarkOf (skeletons_of cs) place o
+      mark_at marks given g are o at = subst (λ (xs : List Skeleton). IsMarkOf xs place o) g (are.each place o at)
+
+      numbered : (o : Option ℕ) → IsMarkOf (skeletons_of cs) place o → (numbers : List ℕ) → numbers ≡ map (λ c. c.number) cs → IfSome o (λ p. p < length numbers)
+      numbered None h numbers e = tt
+      numbered (Some q) h numbers e =
+          let l : q < length (skeletons_of cs) = h.holds.0.within in
+          let m = map-length (λ (c : Candidate). c.skeleton) cs in
+          let n = map-length (λ (c : Candidate). c.number) cs in
+          let k : length numbers ≡ length (map (λ (c : Candidate). c.number) cs) = ap length e in
+          omega (arith, l, m, n, k)
+
+      module _ (marks : List (Option ℕ)) (given : List Skeleton) (g : given ≡ skeletons_of cs) (are : AreMarksOf given marks) (o : Option ℕ) (o_within : place < length marks) (o_is : o ≡ get_or marks place o)
+          (numbers : List ℕ) (numbers_are : numbers ≡ map (λ c. c.number) cs) where
+        pub number_within : IfSome o (λ p. p < length numbers)
+        number_within = numbered o (mark_at marks given g are o (item_at_index marks place o o_within o_is)) numbers numbers_are
+
+        pub next_candidate : AreJudged js → (mark : ProgramMark) → mark_view mark ≡ candidate_mark numbers o → (new : List ProgramMark) → new ≡ old ++ mark ∷ [] → AreMarkedTo new (place + 1) (i + 1)
+        next_candidate all mark is_mark new e = record {
+          next = ap (λ (n : ℕ). candidates_from n (drop (i + 1) js)) (sym number_on) ∙ sym (next_drop place cs _ _ behind);
+          marked = next_row IsMarkAt mark_view old i mark so_far.marked
+              (only (mark_view mark) (subst (HasMark limits ks cs i (judged_skeleton j) j.root.dead) (sym is_mark)
+              (candidate_marked i j at_place (judged_here all) (waiting j is_one) place placed numbers numbers_are o (mark_at marks given g are o (item_at_index marks place o o_within o_is))))) new e;
+        }

@@ -1,26 +1,28 @@
 -- The shapes of an unexpanded tree and its labels at a limit leave nothing out.
-use Rattle.std.proofs.Common.{◌≡◌, ℕ, zero, suc, List, [], ◌∷◌, Option, Some, None, refl, sym, ap, ◌∙◌, subst, lt_trans, true, false}
+use Rattle.std.proofs.Common.{◌≡◌, ℕ, zero, suc, List, [], ◌∷◌, map, Option, Some, None, refl, sym, ap, ◌∙◌, subst, lt_trans, Bool, true, false}
 use Rattle.cp_model.specs.Lists.{item_at, IsIn, here, there}
 use Rattle.cp_model.specs.Strand.{Declaration, Protocol}
-use Rattle.cp_model.specs.Bundle.{Node, Bundle, IsBundle}
-use Rattle.cp_model.specs.Skeleton.{Skeleton}
+use Rattle.cp_model.specs.Bundle.{Bundle, IsBundle}
+use Rattle.cp_model.specs.Skeleton.{Skeleton, IsSkeleton}
 use Rattle.cp_model.specs.Standing.{Standing, StandsIn, StandsApart}
-use Rattle.cp_model.specs.Homomorphism.{Embeds, FactorsThrough, Covers}
-use Rattle.cp_model.specs.Composition.{through}
-use Rattle.cp_model.specs.Tree.{Mark, shape, dead, seen, instance_of, limit_steps, limit_strands, Label, Limits, if_shape, shapes_of}
-use Rattle.cp_model.proofs.LawStandings.{standing_through}
-use Rattle.cp_model.proofs.LawEmbeddings.{embeds_then}
-use Rattle.cp_completeness.proofs.Embedded.{apart_through, factors_after}
+use Rattle.cp_model.specs.Homomorphism.{Embeds, Covers}
+use Rattle.cp_model.specs.Tree.{Mark, shape, dead, seen, instance_of, limit_steps, limit_strands, Label, Limits, if_shape, shapes_of, if_left, skeletons_left}
+use Rattle.cp_model.proofs.LawLists.{item_of_map, map_of_item}
+use Rattle.cp_hom.proofs.Listed.{in_item}
+use Rattle.cp_shapes.specs.Shapes.{IsLeast, EmbedsAt, IsInstanceWithin, IsShapeAt}
+use Rattle.cp_shapes.specs.Through.{StandsThrough}
+use Rattle.cp_shapes.proofs.Instances.{same_item, embeds_on}
+use Rattle.cp_shapes.proofs.Standings.{stands_within}
 use Rattle.cp_roots.specs.Roots.{Root}
 use Rattle.cp_roots.specs.Sound.{AreSound, StandsThroughRoot}
-use Rattle.cp_search.specs.Marks.{IsLeast, EmbedsAt, IsEarlierCopy, IsNew, IsShapeAt, HasMark, dead_root, seen_before, as_shape, as_instance, above_bound, within_bound}
-use Rattle.cp_search.specs.Unexpanded.{AreLabelsOf, IsMarked, if_left, skeletons_left}
-use Rattle.cp_search.proofs.RootMarks.{HasLabel, label_at, same_skeleton, same_mark}
+use Rattle.cp_search.specs.Candidates.{IsCandidate, skeletons_of, IsLabelAt}
+use Rattle.cp_search.specs.Marks.{IsEarlierCopy, IsNew, HasMark, dead_label, seen_before, as_shape, as_instance, above_bound, within_bound}
+use Rattle.cp_search.specs.Unexpanded.{AreLabelsOf, IsMarked}
+use Rattle.cp_search.proofs.Picked.{one_place, skeleton_at_place, skeleton_at_number}
+use Rattle.cp_search.proofs.RootMarks.{HasRoot, root_of, label_at, same_skeleton, same_mark, marked, candidate_label}
+use Rattle.cp_search.proofs.RootShapes.{are_skeletons}
 
 -- ---- lists
-
-same_item : {A : Type 0} (o : Option A) (x y : A) → o ≡ Some x → o ≡ Some y → x ≡ y
-same_item o x y e f = cc
 
 -- The marks of the labels that are left: shapes, and labels at a limit.
 data IsLeft : Mark → Type 0 where
@@ -70,106 +72,118 @@ left_are_shapes (l ∷ ls) a c =
     left_is_shape l.mark l.skeleton (skeletons_left ls) (λ e. a (l, here, e)) (λ e. c (l, here, e))
     ∙ ap (if_shape l.mark l.skeleton) (left_are_shapes ls (none_behind l ls limit_steps a) (none_behind l ls limit_strands c))
 
--- ---- embeddings of roots
+-- ---- the first copy
 
-embeds_both : (roots : List Root) (i j l : ℕ) → EmbedsAt roots i j → EmbedsAt roots j l → EmbedsAt roots i l
-embeds_both roots i j l e f =
-    let q : f.first ≡ e.second = same_item (item_at roots j) f.first e.second f.at_first e.at_second in
-    record {
-      first = e.first;
-      second = f.second;
-      at_first = e.at_first;
-      at_second = f.at_second;
-      embeds = embeds_then e.first.skeleton e.second.skeleton f.second.skeleton e.embeds (subst (λ (r : Root). Embeds r.skeleton f.second.skeleton) q f.embeds);
-    }
-
--- The first of the roots that are isomorphic to one is new.
-first_is_new : (roots : List Root) (i j : ℕ) → IsLeast (IsEarlierCopy roots i) j → IsNew roots j
-first_is_new roots i j l m copy = l.least m copy.0 (lt_trans copy.0 l.holds.0, embeds_both roots m j i copy.1 l.holds.1, embeds_both roots i j m l.holds.2 copy.2)
+-- The first of the labels that are isomorphic to one is new.
+first_is_new : (ks : List Skeleton) (i j : ℕ) → IsLeast (IsEarlierCopy ks i) j → IsNew ks j
+first_is_new ks i j l m copy = l.least m copy.0 (lt_trans copy.0 l.holds.0, embeds_on ks m j i copy.1 l.holds.1, embeds_on ks i j m l.holds.2 copy.2)
 
 -- ---- standings
 
--- The problem's standing factors through a standing apart of root number i.
-record StandsAt (k : Skeleton) (roots : List Root) (b : Bundle) (h : Standing) (i : ℕ) : Type 0 where
-  root : Root
-  at : item_at roots i ≡ Some root
-  standing : Standing
-  stands : StandsIn root.skeleton b standing
-  apart : StandsApart root.skeleton standing
-  factors : FactorsThrough k h root.skeleton standing
-
 module _ (protocol : Protocol) (variables : List Declaration) (k : Skeleton) (limits : Limits) (roots : List Root) (labels : List Label) (sound : AreSound protocol k roots) (are : AreLabelsOf variables limits roots labels) (b : Bundle) (h : Standing) (is : IsBundle protocol b) where
-  -- Where a root stands, one that embeds in it does.
-  stands_within : (i j : ℕ) → EmbedsAt roots j i → StandsAt k roots b h i → StandsAt k roots b h j
-  stands_within i j e st =
-      let q : e.second ≡ st.root = same_item (item_at roots i) e.second st.root e.at_second st.at in
-      let into : Embeds e.first.skeleton st.root.skeleton = subst (λ (r : Root). Embeds e.first.skeleton r.skeleton) q e.embeds in
+  abbrev ks : List Skeleton
+  ks = map (λ l. l.skeleton) labels
+
+  ks_are_skeletons : (l : Skeleton) → IsIn l ks → IsSkeleton protocol l
+  ks_are_skeletons l i =
+      let at = in_item i in
+      let m = item_of_map (λ (x : Label). x.skeleton) labels at.0 l at.1 in
+      subst (IsSkeleton protocol) m.2 (are_skeletons protocol variables k limits roots labels sound are at.0 m.0 m.1)
+
+  -- Where a label stands, one that embeds in it does.
+  within : (i j : ℕ) → EmbedsAt ks j i → StandsThrough k ks b h i → StandsThrough k ks b h j
+  within i j e st = stands_within protocol k ks b h ks_are_skeletons j i e st
+
+  -- The label through which the problem stands.
+  record HasLabelOf (i : ℕ) (st : StandsThrough k ks b h i) : Type 0 where
+    label : Label
+    at : item_at labels i ≡ Some label
+    same : label.skeleton ≡ st.skeleton
+    given : HasRoot variables roots i label
+
+  the_label : (i : ℕ) (st : StandsThrough k ks b h i) → HasLabelOf i st
+  the_label i st =
+      let m = item_of_map (λ (x : Label). x.skeleton) labels i st.skeleton st.at in
+      record { label = m.0; at = m.1; same = m.2; given = root_of variables limits roots labels are i m.0 m.1 }
+
+  lives_where_it_stands : (i : ℕ) (st : StandsThrough k ks b h i) (l : HasLabelOf i st) → l.given.root.dead ≡ true → ⊥
+  lives_where_it_stands i st l d =
+      let same : st.skeleton ≡ l.given.root.skeleton = sym l.same ∙ sym (same_skeleton variables l.given.root l.label l.given.given) in
+      sound.nowhere i l.given.root l.given.at d b st.standing is (subst (λ (x : Skeleton). StandsIn x b st.standing) same st.stands) (subst (λ (x : Skeleton). StandsApart x st.standing) same st.apart)
+
+  -- A label that stands and is left covers.
+  covers_left : (i : ℕ) (st : StandsThrough k ks b h i) (l : HasLabelOf i st) (mark : Mark) → l.label.mark ≡ Some mark → IsLeft mark → Covers (skeletons_left labels) k b h
+  covers_left i st l mark e left = record {
+    skeleton = st.skeleton;
+    listed = subst (λ (x : Skeleton). IsIn x (skeletons_left labels)) l.same (left_listed labels i l.label mark l.at e left);
+    standing = st.standing;
+    stands = st.stands;
+    apart = st.apart;
+    factors = st.factors;
+  }
+
+  -- A label that is a shape is marked so, or at a limit.
+  shape_left : (n q : ℕ) (l : Label) (is_dead : Bool) (mark : Mark) → IsLabelAt are.candidates q n → IsShapeAt (skeletons_of are.candidates) q → item_at labels n ≡ Some l → l.mark ≡ Some mark → HasMark limits ks are.candidates n l.skeleton is_dead mark → IsLeft mark
+  shape_left n q l is_dead mark a s at e (dead_label d) = absurd ((candidate_label variables limits roots labels are q n l a at).lives e)
+  shape_left n q l is_dead mark a s at e (seen_before {n = m} d c) = absurd ((candidate_label variables limits roots labels are q n l a at).not_seen m e)
+  shape_left n q l is_dead mark a s at e (as_shape d new c t) = at_shape
+  shape_left n q l is_dead mark a s at e (as_instance {p = p} {q = r} d new c t f) =
+      let same : p ≡ q = one_place IsCandidate (λ (x : Label). x.skeleton) labels are.candidates are.are_candidates p q n c a in
+      absurd (s.no_instance r (subst (λ (x : ℕ). IsInstanceWithin (skeletons_of are.candidates) x r) same t.holds.1))
+  shape_left n q l is_dead mark a s at e (above_bound d new u t) = at_strands
+  shape_left n q l is_dead mark a s at e (within_bound d new u t) = at_steps
+
+  -- A shape embeds in its instance, as labels.
+  between_labels : (p q i n : ℕ) → IsLabelAt are.candidates p i → IsLabelAt are.candidates q n → EmbedsAt (skeletons_of are.candidates) q p → EmbedsAt ks n i
+  between_labels p q i n a c e =
+      let first = same_item (skeletons_of are.candidates) q e.first c.candidate.skeleton e.at_first (skeleton_at_place IsCandidate (λ (x : Label). x.skeleton) labels are.candidates are.are_candidates q n c) in
+      let second = same_item (skeletons_of are.candidates) p e.second a.candidate.skeleton e.at_second (skeleton_at_place IsCandidate (λ (x : Label). x.skeleton) labels are.candidates are.are_candidates p i a) in
       record {
-        root = e.first;
-        at = e.at_first;
-        standing = through into.0 st.standing;
-        stands = standing_through protocol e.first.skeleton st.root.skeleton into.0 b st.standing (sound.skeletons j e.first e.at_first) (sound.skeletons i st.root st.at) into.1.homomorphism st.stands;
-        apart = apart_through e.first.skeleton st.root.skeleton into.0 st.standing into.1 st.apart;
-        factors = factors_after k e.first.skeleton st.root.skeleton into.0 h st.standing into.1 st.factors;
+        first = c.candidate.skeleton;
+        second = a.candidate.skeleton;
+        at_first = skeleton_at_number IsCandidate (λ (x : Label). x.skeleton) labels are.candidates are.are_candidates q n c;
+        at_second = skeleton_at_number IsCandidate (λ (x : Label). x.skeleton) labels are.candidates are.are_candidates p i a;
+        embeds = subst (λ (x : Skeleton). Embeds x a.candidate.skeleton) first (subst (Embeds e.first) second e.embeds);
       }
 
-  lives_where_it_stands : (i : ℕ) (st : StandsAt k roots b h i) → st.root.dead ≡ true → ⊥
-  lives_where_it_stands i st d = sound.nowhere i st.root st.at d b st.standing is st.stands st.apart
+  covers_at_shape : (n q : ℕ) → IsLabelAt are.candidates q n → IsShapeAt (skeletons_of are.candidates) q → StandsThrough k ks b h n → Covers (skeletons_left labels) k b h
+  covers_at_shape n q a s st =
+      let l = the_label n st in
+      let e = same_mark variables l.given.root l.label l.given.given in
+      covers_left n st l l.given.given.mark e
+      (shape_left n q l.label l.given.root.dead l.given.given.mark a s l.at e (marked variables limits roots labels are n l.label l.given.given.mark l.given l.at e))
 
-  -- A root that is a shape is marked so, or at a limit.
-  shape_left : (i : ℕ) (root : Root) (nodes : List Node) (mark : Mark) → item_at roots i ≡ Some root → IsShapeAt roots i → HasMark limits roots i root nodes mark → IsLeft mark
-  shape_left i root nodes mark at s (dead_root d) =
-      let q : s.candidate.root ≡ root = same_item (item_at roots i) s.candidate.root root s.candidate.at at in
-      let lives : root.dead ≡ false = subst (λ (r : Root). r.dead ≡ false) q s.candidate.lives in
-      absurd (cc)
-  shape_left i root nodes mark at s (seen_before {j = j} d u l) = absurd (s.candidate.new j l.holds)
-  shape_left i root nodes mark at s (as_shape d u t) = at_shape
-  shape_left i root nodes mark at s (as_instance d u n t l) = absurd (t s)
-  shape_left i root nodes mark at s (above_bound d u n l) = at_strands
-  shape_left i root nodes mark at s (within_bound d u n l) = at_steps
+  -- By the mark of a label that stands, but for what happens to one that is seen.
+  covers_by : (i : ℕ) (st : StandsThrough k ks b h i) (l : HasLabelOf i st) (mark : Mark) → ((j : ℕ) → IsLeast (IsEarlierCopy ks i) j → Covers (skeletons_left labels) k b h) → l.label.mark ≡ Some mark →
+      HasMark limits ks are.candidates i l.label.skeleton l.given.root.dead mark → Covers (skeletons_left labels) k b h
+  covers_by i st l mark again e (dead_label d) = absurd (lives_where_it_stands i st l d)
+  covers_by i st l mark again e (seen_before {n = j} d c) = again j c
+  covers_by i st l mark again e (as_shape d new a s) = covers_left i st l shape e at_shape
+  covers_by i st l mark again e (as_instance {p = p} {q = q} {n = n} d new a s c) =
+      covers_at_shape n q c s.holds.0 (within i n (between_labels p q i n a c s.holds.1.embeds) st)
+  covers_by i st l mark again e (above_bound d new u t) = covers_left i st l limit_strands e at_strands
+  covers_by i st l mark again e (within_bound d new u t) = covers_left i st l limit_steps e at_steps
 
-  -- A root that stands and is left covers.
-  covers_left : (i : ℕ) (st : StandsAt k roots b h i) (l : HasLabel variables limits roots labels i st.root) → IsLeft l.given.mark → Covers (skeletons_left labels) k b h
-  covers_left i st l left =
-      let marked = same_mark variables limits roots i st.root l.label l.given in
-      record {
-        skeleton = st.root.skeleton;
-        listed = subst (λ (x : Skeleton). IsIn x (skeletons_left labels)) (sym (same_skeleton variables limits roots i st.root l.label l.given)) (left_listed labels i l.label l.given.mark l.at marked left);
-        standing = st.standing;
-        stands = st.stands;
-        apart = st.apart;
-        factors = st.factors;
-      }
-
-  covers_at_shape : (i : ℕ) → IsShapeAt roots i → StandsAt k roots b h i → Covers (skeletons_left labels) k b h
-  covers_at_shape i s st =
-      let l = label_at variables limits roots labels are i st.root st.at in
-      covers_left i st l (shape_left i st.root l.given.nodes l.given.mark st.at s l.given.has_mark)
-
-  -- By the mark of a root that stands, but for what happens to one that is seen or left.
-  covers_by : (i : ℕ) (st : StandsAt k roots b h i) (nodes : List Node) (mark : Mark) → ((j : ℕ) → IsLeast (IsEarlierCopy roots i) j → Covers (skeletons_left labels) k b h) → (IsLeft mark → Covers (skeletons_left labels) k b h) →
-      HasMark limits roots i st.root nodes mark → Covers (skeletons_left labels) k b h
-  covers_by i st nodes mark again left (dead_root d) = absurd (lives_where_it_stands i st d)
-  covers_by i st nodes mark again left (seen_before {j = j} d u l) = again j l
-  covers_by i st nodes mark again left (as_shape d u s) = left at_shape
-  covers_by i st nodes mark again left (as_instance {j = j} d u n s l) = covers_at_shape j l.holds.0 (stands_within i j l.holds.1 st)
-  covers_by i st nodes mark again left (above_bound d u n l) = left at_strands
-  covers_by i st nodes mark again left (within_bound d u n l) = left at_steps
-
-  covers_at : (i : ℕ) → StandsAt k roots b h i → ((j : ℕ) → IsLeast (IsEarlierCopy roots i) j → Covers (skeletons_left labels) k b h) → Covers (skeletons_left labels) k b h
+  covers_at : (i : ℕ) → StandsThrough k ks b h i → ((j : ℕ) → IsLeast (IsEarlierCopy ks i) j → Covers (skeletons_left labels) k b h) → Covers (skeletons_left labels) k b h
   covers_at i st again =
-      let l = label_at variables limits roots labels are i st.root st.at in
-      covers_by i st l.given.nodes l.given.mark again (covers_left i st l) l.given.has_mark
+      let l = the_label i st in
+      let e = same_mark variables l.given.root l.label l.given.given in
+      covers_by i st l l.given.given.mark again e (marked variables limits roots labels are i l.label l.given.given.mark l.given l.at e)
 
-  covers_at_new : (i : ℕ) → IsNew roots i → StandsAt k roots b h i → Covers (skeletons_left labels) k b h
+  covers_at_new : (i : ℕ) → IsNew ks i → StandsThrough k ks b h i → Covers (skeletons_left labels) k b h
   covers_at_new i new st = covers_at i st (λ j l. absurd (new j l.holds))
+
+  through_label : (i : ℕ) (root : Root) → item_at roots i ≡ Some root → item_at ks i ≡ Some root.skeleton
+  through_label i root at =
+      let l = label_at variables limits roots labels are i root at in
+      map_of_item (λ (x : Label). x.skeleton) labels i l.label l.at ∙ ap Some (sym (same_skeleton variables root l.label l.given))
 
   pub left_cover : StandsIn k b h → Covers (skeletons_left labels) k b h
   left_cover stands =
       let t : StandsThroughRoot k roots b h = sound.covers b h is stands in
-      let st : StandsAt k roots b h t.number = record { root = t.root; at = t.at; standing = t.standing; stands = t.stands; apart = t.apart; factors = t.factors } in
-      covers_at t.number st (λ j l. covers_at_new j (first_is_new roots t.number j l) (stands_within t.number j l.holds.1 st))
+      let st : StandsThrough k ks b h t.number = record { skeleton = t.root.skeleton; at = through_label t.number t.root t.at; standing = t.standing; stands = t.stands; apart = t.apart; factors = t.factors } in
+      covers_at t.number st (λ j l. covers_at_new j (first_is_new ks t.number j l) (within t.number j l.holds.1 st))
 
   -- Where no label is at a limit, the shapes cover.
   pub shapes_cover : (IsMarked labels limit_steps → ⊥) → (IsMarked labels limit_strands → ⊥) → StandsIn k b h → Covers (shapes_of labels) k b h
-  shapes_cover no_steps no_strands stands = subst (λ (ks : List Skeleton). Covers ks k b h) (left_are_shapes labels no_steps no_strands) (left_cover stands)
+  shapes_cover no_steps no_strands stands = subst (λ (xs : List Skeleton). Covers xs k b h) (left_are_shapes labels no_steps no_strands) (left_cover stands)

@@ -8,7 +8,7 @@ use Rattle.cp_model.specs.Tree.{limit_steps, limit_strands, Label, Tree, Limits,
 use Rattle.cp_hom.proofs.Listed.{in_item}
 use Rattle.cp_roots.specs.Roots.{Root}
 use Rattle.cp_search.specs.Unexpanded.{AreLabelsOf, IsMarked}
-use Rattle.cp_search.proofs.RootMarks.{root_of, same_skeleton, mark_is, steps_says, strands_says}
+use Rattle.cp_search.proofs.RootMarks.{root_of, marked, steps_says, strands_says}
 
 -- Where no label has a test, none was expanded.
 none_expanded : (labels : List Label) → ((i : ℕ) (l : Label) → item_at labels i ≡ Some l → l.test ≡ None) → expanded_count labels ≡ 0
@@ -32,25 +32,23 @@ module _ (variables : List Declaration) (limits : Limits) (roots : List Root) (t
   reached_steps none m =
       let p = in_item m.1 in
       let r = root_of variables limits roots tree.labels are p.0 m.0 p.1 in
-      let s = steps_says limits roots p.0 r.root r.given.nodes r.given.mark r.given.has_mark (mark_is variables limits roots p.0 r.root m.0 r.given limit_steps m.2) in
-      let same = same_skeleton variables limits roots p.0 r.root m.0 r.given in
+      let s = steps_says limits _ are.candidates p.0 m.0.skeleton r.root.dead limit_steps (marked variables limits roots tree.labels are p.0 m.0 limit_steps r p.1 m.2) refl in
       record {
         expanded = none_expanded tree.labels no_test ∙ sym none;
         label = m.0;
-        left = open_at_steps m.0 m.1 m.2 (subst IsUnrealised same s.0);
+        left = open_at_steps m.0 m.1 m.2 s.0;
         unexpanded = no_test p.0 m.0 p.1;
-        within = subst (λ (k : Skeleton). length k.strands ≤ limits.strands) same s.1;
+        within = s.1;
       }
 
   pub reached_strands : (IsMarked tree.labels limit_steps → ⊥) → IsMarked tree.labels limit_strands → ReachedStrands limits tree
   reached_strands none m =
       let p = in_item m.1 in
       let r = root_of variables limits roots tree.labels are p.0 m.0 p.1 in
-      let s = strands_says limits roots p.0 r.root r.given.nodes r.given.mark r.given.has_mark (mark_is variables limits roots p.0 r.root m.0 r.given limit_strands m.2) in
-      let same = same_skeleton variables limits roots p.0 r.root m.0 r.given in
+      let s = strands_says limits _ are.candidates p.0 m.0.skeleton r.root.dead limit_strands (marked variables limits roots tree.labels are p.0 m.0 limit_strands r p.1 m.2) refl in
       record {
         no_step_limit = λ l listed e. none (l, listed, e);
         label = m.0;
-        left = open_at_strands m.0 m.1 m.2 (subst IsUnrealised same s.0);
-        above = subst (λ (k : Skeleton). limits.strands < length k.strands) same s.1;
+        left = open_at_strands m.0 m.1 m.2 s.0;
+        above = s.1;
       }

@@ -1,15 +1,13 @@
--- The unexpanded tree of a problem whose roots are sound is true of it and leaves nothing out.
+-- The unexpanded tree of a problem whose roots are sound is true of it.
 use Rattle.std.proofs.Common.{◌≡◌, List}
-use Rattle.cp_model.specs.Lists.{IsIn}
 use Rattle.cp_model.specs.Strand.{Declaration, Protocol}
 use Rattle.cp_model.specs.Skeleton.{Skeleton}
-use Rattle.cp_model.specs.Homomorphism.{CarriesHomomorphism, IsCompleteList}
+use Rattle.cp_model.specs.Homomorphism.{IsCompleteList}
 use Rattle.cp_model.specs.Tree.{Outcome, complete, at_step_limit, at_strand_limit, limit_steps, limit_strands, Label, Tree, Limits, shapes_of, ReachedStrands, IsTrueOf}
-use Rattle.cp_hom.proofs.Listed.{in_item}
 use Rattle.cp_roots.specs.Roots.{Root}
 use Rattle.cp_roots.specs.Sound.{AreSound}
-use Rattle.cp_search.specs.Unexpanded.{AreLabelsOf, IsMarked, HasOutcome, some_at_step_limit, some_at_strand_limit, none_at_limit, LeavesNothingOut}
-use Rattle.cp_search.proofs.RootShapes.{are_skeletons, shapes_realised, labels_from_problem, none_embeds_in_another}
+use Rattle.cp_search.specs.Unexpanded.{AreLabelsOf, IsMarked, HasOutcome, some_at_step_limit, some_at_strand_limit, none_at_limit}
+use Rattle.cp_search.proofs.RootShapes.{are_skeletons, shapes_realised, labels_from_problem, labels_keep_stated, none_embeds_in_another}
 use Rattle.cp_search.proofs.RootCovering.{left_cover, shapes_cover}
 use Rattle.cp_search.proofs.RootLimits.{reached_steps, reached_strands}
 
@@ -30,18 +28,6 @@ strands_left labels outcome (some_at_step_limit m) e = absurd (cc)
 strands_left labels outcome (some_at_strand_limit n m) e = (n, m)
 strands_left labels outcome (none_at_limit n m) e = absurd (cc)
 
--- ---- whatever the outcome
-
-module _ (protocol : Protocol) (variables : List Declaration) (k : Skeleton) (limits : Limits) (roots : List Root) (tree : Tree) (sound : AreSound protocol k roots) (are : AreLabelsOf variables limits roots tree.labels) where
-  listed_from_problem : (l : Label) → IsIn l tree.labels → CarriesHomomorphism k l.skeleton
-  listed_from_problem l listed = let p = in_item listed in labels_from_problem protocol variables k limits roots tree.labels sound are p.0 l p.1
-
-  pub leaves_nothing_out : LeavesNothingOut protocol k tree
-  leaves_nothing_out = record {
-    from_problem = listed_from_problem;
-    covers = λ b h is stands. left_cover protocol variables k limits roots tree.labels sound are b h is stands;
-  }
-
 -- ---- by the outcome
 
 module _ (protocol : Protocol) (variables : List Declaration) (k : Skeleton) (limits : Limits) (roots : List Root) (tree : Tree) (sound : AreSound protocol k roots) (are : AreLabelsOf variables limits roots tree.labels)
@@ -58,9 +44,11 @@ module _ (protocol : Protocol) (variables : List Declaration) (k : Skeleton) (li
   true_of = record {
     skeletons = are_skeletons protocol variables k limits roots tree.labels sound are;
     realised = shapes_realised protocol variables k limits roots tree.labels sound are;
-    from_problem = λ i l at marked. labels_from_problem protocol variables k limits roots tree.labels sound are i l at;
+    from_problem = labels_from_problem protocol variables k limits roots tree.labels sound are;
+    stated = labels_keep_stated protocol variables k limits roots tree.labels sound are;
     none_embeds = none_embeds_in_another protocol variables k limits roots tree.labels sound are;
     nothing_missed = complete_list;
+    nothing_left_out = λ b h is stands. left_cover protocol variables k limits roots tree.labels sound are b h is stands;
     steps_reached = λ e. reached_steps variables limits roots tree are no_steps (steps_left tree.labels tree.outcome outcome e);
     strands_reached = at_strands;
   }

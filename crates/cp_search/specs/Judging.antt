@@ -1,26 +1,42 @@
--- Roots with their unrealised receptions.
-use Rattle.std.specs.Prelude.{◌≡◌, List, [], map, true, false}
-use Rattle.cp_model.specs.Lists.{IsIn}
+-- Roots with what is found of each: its unrealised receptions, and the first earlier one that is isomorphic to it.
+use Rattle.std.specs.Prelude.{◌≡◌, ℕ, List, take, map, Option, Some, None}
+use Rattle.cp_model.specs.Lists.{item_at}
 use Rattle.cp_model.specs.Bundle.{Node}
 use Rattle.cp_model.specs.RunView.{node_view}
-use Rattle.cp_derive.specs.Unrealised.{ListsUnrealised}
+use Rattle.cp_model.specs.Skeleton.{Skeleton}
+use Rattle.cp_model.specs.Homomorphism.{IsIsomorphic}
+use Rattle.cp_skel.specs.View.{skeleton_view}
+use Rattle.cp_hom.specs.Partition.{fingerprint_of}
+use Rattle.cp_shapes.specs.Shapes.{IsLeast}
 use Rattle.cp_roots.specs.Roots.{Root}
 use Rattle.cp_roots.specs.RootView.{root_view}
+use Rattle.cp_search.specs.Unexpanded.{AreUnrealisedOf}
 use Rattle.cp_search.specs.declared.judging.Judged.{Judged}
 
--- The unrealised receptions of a root that lives; of one that is dead none are listed.
-pub record AreUnrealisedOf (root : Root) (nodes : List Node) : Type 0 where
-  pub dead_none : root.dead ≡ true → nodes ≡ []
-  pub listed : root.dead ≡ false → ListsUnrealised root.skeleton nodes
+-- The least number of which something holds; none where it holds of none.
+abbrev pub FindsLeast : (ℕ → Type 0) → Option ℕ → Type 0
+FindsLeast fact (Some n) = IsLeast fact n
+FindsLeast fact None = (n : ℕ) → fact n → ⊥
+
+-- Skeleton number n is isomorphic to k.
+abbrev pub IsCopyAt : List Skeleton → Skeleton → ℕ → Type 0
+IsCopyAt ks k n = (l : Skeleton) × (item_at ks n ≡ Some l) × IsIsomorphic l k
 
 abbrev pub judged_view : Judged → Root
 judged_view j = root_view j.root
 
+abbrev pub judged_skeleton : Judged → Skeleton
+judged_skeleton j = skeleton_view j.root.skeleton
+
 abbrev pub judged_nodes : Judged → List Node
 judged_nodes j = map node_view j.unrealised.items
 
-abbrev pub IsJudged : Judged → Type 0
-IsJudged j = AreUnrealisedOf (judged_view j) (judged_nodes j)
+-- What is found of a root is true, where these skeletons come before it.
+pub record IsJudged (before : List Skeleton) (j : Judged) : Type 0 where
+  pub fingerprint : j.fingerprint ≡ fingerprint_of (judged_skeleton j)
+  pub unrealised : AreUnrealisedOf (judged_view j) (judged_nodes j)
+  pub copy : FindsLeast (IsCopyAt before (judged_skeleton j)) j.copy
 
+-- What is found of each root is true.
 abbrev pub AreJudged : List Judged → Type 0
-AreJudged js = (j : Judged) → IsIn j js → IsJudged j
+AreJudged js = (i : ℕ) (j : Judged) → item_at js i ≡ Some j → IsJudged (take i (map judged_skeleton js)) j

@@ -1,22 +1,20 @@
 -- Labels of roots that are not expanded.
-use Rattle.std.specs.Prelude.{◌≡◌, ℕ, List, length, map, Some}
+use Rattle.std.specs.Prelude.{◌≡◌, ℕ, List, length, Some}
 use Rattle.cp_model.specs.Lists.{item_at}
-use Rattle.cp_model.specs.Tree.{Mark, Limits}
-use Rattle.cp_skel.specs.Trees.{variables_view, label_view}
+use Rattle.cp_skel.specs.Trees.{variables_view, mark_view, label_view}
+use Rattle.cp_skel.specs.declared.tree.Mark.{Mark}
 use Rattle.cp_skel.specs.declared.tree.TreeNode.{TreeNode}
-use Rattle.cp_roots.specs.Roots.{Root}
-use Rattle.cp_search.specs.Marks.{HasMark}
 use Rattle.cp_search.specs.Unexpanded.{label_of}
 use Rattle.cp_search.specs.Judging.{judged_view, judged_nodes}
 use Rattle.cp_search.specs.declared.judging.Judged.{Judged}
 
 -- The label is that of root number i, with its mark.
-pub record IsLabelled (limits : Limits) (roots : List Root) (i : ℕ) (judged : Judged) (label : TreeNode) : Type 0 where
+pub record IsLabelled (marks : List Mark) (i : ℕ) (judged : Judged) (label : TreeNode) : Type 0 where
   pub mark : Mark
-  pub has_mark : HasMark limits roots i (judged_view judged) (judged_nodes judged) mark
-  pub same : label_view label ≡ label_of (variables_view judged.root.skeleton.variables) (judged_view judged) (judged_nodes judged) mark
+  pub at : item_at marks i ≡ Some mark
+  pub same : label_view label ≡ label_of (variables_view judged.root.skeleton.variables) (judged_view judged) (judged_nodes judged) (mark_view mark)
 
 -- The labels are those of the roots, place by place.
-pub record AreLabelled (limits : Limits) (judged : List Judged) (labels : List TreeNode) : Type 0 where
+pub record AreLabelled (judged : List Judged) (marks : List Mark) (labels : List TreeNode) : Type 0 where
   pub count : length labels ≡ length judged
-  pub each : (i : ℕ) (j : Judged) (label : TreeNode) → item_at judged i ≡ Some j → item_at labels i ≡ Some label → IsLabelled limits (map judged_view judged) i j label
+  pub each : (i : ℕ) (j : Judged) (label : TreeNode) → item_at judged i ≡ Some j → item_at labels i ≡ Some label → IsLabelled marks i j label

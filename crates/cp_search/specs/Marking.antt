@@ -1,28 +1,41 @@
--- Candidates for shapes, and what is found among them.
-use Rattle.std.specs.Prelude.{◌≡◌, ℕ, List, false, Option, Some, None}
+-- How the program marks roots.
+use Rattle.std.specs.Prelude.{◌≡◌, ◌==◌, ◌&&◌, not, nat_lt, ℕ, suc, List, [], ◌∷◌, length, map, Bool, true, false, if◌then◌else◌, slice_index_or, Option, Some, None}
 use Rattle.cp_model.specs.Lists.{item_at}
-use Rattle.cp_model.specs.Derivable.{AllDerivable}
-use Rattle.cp_model.specs.Tree.{Mark, shape, instance_of}
-use Rattle.cp_roots.specs.Roots.{Root}
-use Rattle.cp_search.specs.Marks.{IsLeast, IsCandidate, IsShapeAt, IsShapeWithin}
+use Rattle.cp_model.specs.Skeleton.{Skeleton}
+use Rattle.cp_model.specs.Tree.{Mark, shape, dead, seen, instance_of, limit_steps, limit_strands, Limits}
+use Rattle.cp_search.specs.Candidates.{Candidate}
+use Rattle.cp_search.specs.Marks.{HasMark}
+use Rattle.cp_search.specs.Judging.{judged_view, judged_skeleton}
+use Rattle.cp_search.specs.declared.judging.Judged.{Judged}
 
--- Root number i lives, and all its receptions are derivable.
-pub record IsDerivableAt (roots : List Root) (i : ℕ) : Type 0 where
-  pub root : Root
-  pub at : item_at roots i ≡ Some root
-  pub lives : root.dead ≡ false
-  pub derivable : AllDerivable root.skeleton
+abbrev pub is_no_copy : Option ℕ → Bool
+is_no_copy None = true
+is_no_copy (Some n) = false
 
--- The least number of which something holds; none where it holds of none.
-abbrev pub FindsLeast : (ℕ → Type 0) → Option ℕ → Type 0
-FindsLeast fact (Some n) = IsLeast fact n
-FindsLeast fact None = (n : ℕ) → fact n → ⊥
+-- The root lives, no earlier one is isomorphic to it, and none of its receptions is unrealised.
+abbrev pub is_candidate : Judged → Bool
+is_candidate j = if j.root.dead then false else (if is_no_copy j.copy then length j.unrealised.items == 0 else false)
 
--- Some shape embeds in each candidate.
-abbrev pub HasShapesWithin : List Root → Type 0
-HasShapesWithin roots = (i : ℕ) → IsCandidate roots i → (j : ℕ) × IsShapeWithin roots i j
+-- The candidates among roots that are numbered from n on.
+abbrev pub candidates_from : ℕ → List Judged → List Candidate
+candidates_from n [] = []
+candidates_from n (j ∷ js) = if is_candidate j then record { number = n; skeleton = judged_skeleton j } ∷ candidates_from (suc n) js else candidates_from (suc n) js
 
--- How a candidate is marked: as a shape, or else as an instance of the first shape that embeds in it.
-pub data IsMarkOfCandidate (roots : List Root) (i : ℕ) : Mark → Type 0 where
-  is_shape : IsShapeAt roots i → IsMarkOfCandidate roots i shape
-  is_instance : {j : ℕ} → (IsShapeAt roots i → ⊥) → IsLeast (IsShapeWithin roots i) j → IsMarkOfCandidate roots i (instance_of j)
+-- The mark of a candidate: a shape, or an instance of the shape with this place among the candidates, which have these
+-- numbers.
+abbrev pub candidate_mark : List ℕ → Option ℕ → Mark
+candidate_mark numbers None = shape
+candidate_mark numbers (Some place) = instance_of (slice_index_or numbers place 0)
+
+abbrev pub mark_by_copy : Limits → Skeleton → Option ℕ → Mark
+mark_by_copy limits k (Some n) = seen n
+mark_by_copy limits k None = if nat_lt limits.strands (length k.strands) then limit_strands else limit_steps
+
+-- The mark of a root that is no candidate.
+abbrev pub other_mark : Limits → Judged → Mark
+other_mark limits j = if j.root.dead then dead else mark_by_copy limits (judged_skeleton j) j.copy
+
+-- The marks are those of the roots, place by place.
+abbrev pub AreMarked : Limits → List Judged → List Mark → Type 0
+AreMarked limits js marks = (i : ℕ) (j : Judged) (mark : Mark) → item_at js i ≡ Some j → item_at marks i ≡ Some mark →
+    HasMark limits (map judged_skeleton js) (candidates_from 0 js) i (judged_skeleton j) j.root.dead mark

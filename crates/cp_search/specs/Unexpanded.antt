@@ -1,12 +1,13 @@
 -- The tree of a problem when no label may be expanded: its labels are the roots.
-use Rattle.std.specs.Prelude.{◌≡◌, ℕ, List, [], ◌∷◌, length, Option, Some, None}
+use Rattle.std.specs.Prelude.{◌≡◌, ℕ, List, [], ◌∷◌, length, map, true, false, Option, Some, None}
 use Rattle.cp_model.specs.Lists.{item_at, IsIn}
-use Rattle.cp_model.specs.Strand.{Declaration, Protocol}
+use Rattle.cp_model.specs.Strand.{Declaration}
 use Rattle.cp_model.specs.Bundle.{Node}
 use Rattle.cp_model.specs.Skeleton.{Skeleton}
-use Rattle.cp_model.specs.Homomorphism.{CarriesHomomorphism, IsCompleteList}
 use Rattle.cp_model.specs.Tree.{Mark, shape, limit_steps, limit_strands, Outcome, complete, at_step_limit, at_strand_limit, Label, Tree, Limits}
 use Rattle.cp_roots.specs.Roots.{Root, AreRoots}
+use Rattle.cp_derive.specs.Unrealised.{ListsUnrealised}
+use Rattle.cp_search.specs.Candidates.{Candidate, AreCandidates}
 use Rattle.cp_search.specs.Marks.{HasMark}
 
 -- The label of these variables that a root gives, with its unrealised receptions and its mark.
@@ -23,17 +24,26 @@ label_of variables root nodes mark = record {
   mark = Some mark;
 }
 
--- The label is that of root number i.
-pub record IsLabelOf (variables : List Declaration) (limits : Limits) (roots : List Root) (i : ℕ) (root : Root) (label : Label) : Type 0 where
+-- The unrealised receptions of a root that lives; of one that is dead none are listed.
+pub record AreUnrealisedOf (root : Root) (nodes : List Node) : Type 0 where
+  pub dead_none : root.dead ≡ true → nodes ≡ []
+  pub listed : root.dead ≡ false → ListsUnrealised root.skeleton nodes
+
+-- The label is that of the root.
+pub record IsLabelOf (variables : List Declaration) (root : Root) (label : Label) : Type 0 where
   pub nodes : List Node
   pub mark : Mark
-  pub has_mark : HasMark limits roots i root nodes mark
+  pub unrealised : AreUnrealisedOf root nodes
   pub same : label ≡ label_of variables root nodes mark
 
--- The labels are those of the roots, place by place.
+-- The labels are those of the roots, place by place, and are marked by each other.
 pub record AreLabelsOf (variables : List Declaration) (limits : Limits) (roots : List Root) (labels : List Label) : Type 0 where
   pub count : length labels ≡ length roots
-  pub each : (i : ℕ) (root : Root) (label : Label) → item_at roots i ≡ Some root → item_at labels i ≡ Some label → IsLabelOf variables limits roots i root label
+  pub each : (i : ℕ) (root : Root) (label : Label) → item_at roots i ≡ Some root → item_at labels i ≡ Some label → IsLabelOf variables root label
+  pub candidates : List Candidate
+  pub are_candidates : AreCandidates labels candidates
+  pub marked : (i : ℕ) (root : Root) (label : Label) (mark : Mark) → item_at roots i ≡ Some root → item_at labels i ≡ Some label → label.mark ≡ Some mark →
+      HasMark limits (map (λ l. l.skeleton) labels) candidates i label.skeleton root.dead mark
 
 -- Some label has this mark.
 abbrev pub IsMarked : List Label → Mark → Type 0
@@ -51,20 +61,3 @@ pub record IsUnexpanded (k : Skeleton) (variables : List Declaration) (limits : 
   pub are_roots : AreRoots k roots
   pub labels : AreLabelsOf variables limits roots tree.labels
   pub outcome : HasOutcome tree.labels tree.outcome
-
-abbrev pub if_left : Option Mark → Skeleton → List Skeleton → List Skeleton
-if_left (Some shape) k ks = k ∷ ks
-if_left (Some limit_steps) k ks = k ∷ ks
-if_left (Some limit_strands) k ks = k ∷ ks
-if_left _ k ks = ks
-
--- The skeletons of the labels that are shapes or at a limit.
-abbrev pub skeletons_left : List Label → List Skeleton
-skeletons_left [] = []
-skeletons_left (l ∷ ls) = if_left l.mark l.skeleton (skeletons_left ls)
-
--- Whatever the outcome, each label carries a homomorphism from the problem; and whenever the problem stands in a bundle, that
--- standing factors through a shape or a label at a limit.
-pub record LeavesNothingOut (protocol : Protocol) (k : Skeleton) (tree : Tree) : Type 0 where
-  pub from_problem : (l : Label) → IsIn l tree.labels → CarriesHomomorphism k l.skeleton
-  pub covers : IsCompleteList protocol k (skeletons_left tree.labels)

@@ -1,41 +1,87 @@
-// Roots with their unrealised receptions.
+// Roots with what is found of each.
 ghost use Rattle.std.specs.Prelude.{◌≡◌, map, IfOk};
 ghost use Rattle.cp_model.specs.Lists.{IsIn};
 ghost use Rattle.cp_skel.specs.Ordered.{IsOrdered};
 ghost use Rattle.cp_skel.specs.View.{skeleton_view};
+ghost use Rattle.cp_hom.specs.Partition.{fingerprint_of};
 ghost use Rattle.cp_roots.specs.Roots as plain;
 ghost use Rattle.cp_roots.specs.RootView.{root_view};
-ghost use Rattle.cp_search.specs.Judging.{IsJudged, AreJudged};
+ghost use Rattle.cp_model.specs.RunView.{node_view};
+ghost use Rattle.cp_search.specs.Unexpanded.{AreUnrealisedOf};
+ghost use Rattle.cp_search.specs.Judging.{judged_skeleton, FindsLeast, IsCopyAt, IsJudged, AreJudged};
+ghost use Rattle.cp_search.specs.declared.judging.Judged as program;
 
-use cp_roots::Root;
 use cp_derive::unrealised;
-use cp_skel::Node;
+use cp_hom::{fingerprint, isomorphic, may_embed};
+use cp_roots::Root;
+use cp_skel::{Node, Skeleton};
 use std::alloc::{AllocError, Global};
 
-/// A root with its unrealised receptions; of one that is dead none are listed.
+/// A root, its fingerprint, the first of the roots before it that is isomorphic to it, and its unrealised receptions; of one
+/// that is dead none are listed.
 #[derive(Drop)]
 pub(crate) struct Judged {
     pub root: Root,
+    pub fingerprint: usize,
+    pub copy: Option<usize>,
     pub unrealised: Vec<Node>,
 }
 
-/// The root with its unrealised receptions.
-fn judge(alloc: Global, root: Root) -> Result<Judged, AllocError>
-    requires ordered { IsOrdered (skeleton_view root.skeleton) }
-    ensures root { IfOk result (λ j. j.root ≡ root) }
-    ensures judged { IfOk result IsJudged }
+/// The first of the roots that is isomorphic to the skeleton with this fingerprint.
+fn first_copy(
+    alloc: Global,
+    judged: &[Judged],
+    fingerprint: usize,
+    skeleton: &Skeleton,
+) -> Result<Option<usize>, AllocError>
+    requires ordered { IsOrdered (skeleton_view skeleton.now) }
+    requires others_ordered { (j : program.Judged) → IsIn j judged.now → IsOrdered (judged_skeleton j) }
+    requires fingerprint { fingerprint ≡ fingerprint_of (skeleton_view skeleton.now) }
+    requires fingerprints { (j : program.Judged) → IsIn j judged.now → j.fingerprint ≡ fingerprint_of (judged_skeleton j) }
+    ensures { IfOk result (FindsLeast (IsCopyAt (map judged_skeleton judged.now) (skeleton_view skeleton.now))) }
 {
-    if root.dead {
-        return Ok(Judged {
-            root,
-            unrealised: Vec::new(alloc),
-        });
+    for (number, other) in judged.iter().enumerate() {
+        if !may_embed(other.fingerprint, fingerprint) {
+            continue;
+        }
+        if isomorphic(alloc, &other.root.skeleton, skeleton)? {
+            return Ok(Some(number));
+        }
     }
-    let unrealised = unrealised(alloc, &root.skeleton)?;
-    Ok(Judged { root, unrealised })
+    Ok(None)
 }
 
-/// The roots with their unrealised receptions, in their order.
+/// The receptions of a root that are not realised; of one that is dead none are listed.
+fn unrealised_of(alloc: Global, root: &Root) -> Result<Vec<Node>, AllocError>
+    requires ordered { IsOrdered (skeleton_view root.now.skeleton) }
+    ensures { IfOk result (λ nodes. AreUnrealisedOf (root_view root.now) (map node_view nodes.items)) }
+{
+    if root.dead {
+        return Ok(Vec::new(alloc));
+    }
+    unrealised(alloc, &root.skeleton)
+}
+
+/// The root with what is found of it beside those before it.
+fn judge(alloc: Global, before: &[Judged], root: Root) -> Result<Judged, AllocError>
+    requires ordered { IsOrdered (skeleton_view root.skeleton) }
+    requires others_ordered { (j : program.Judged) → IsIn j before.now → IsOrdered (judged_skeleton j) }
+    requires fingerprints { (j : program.Judged) → IsIn j before.now → j.fingerprint ≡ fingerprint_of (judged_skeleton j) }
+    ensures root { IfOk result (λ j. j.root ≡ root) }
+    ensures judged { IfOk result (IsJudged (map judged_skeleton before.now)) }
+{
+    let fingerprint = fingerprint(&root.skeleton);
+    let copy = first_copy(alloc, before, fingerprint, &root.skeleton)?;
+    let unrealised = unrealised_of(alloc, &root)?;
+    Ok(Judged {
+        root,
+        fingerprint,
+        copy,
+        unrealised,
+    })
+}
+
+/// The roots with what is found of each, in their order.
 pub(crate) fn judge_each(alloc: Global, roots: Vec<Root>) -> Result<Vec<Judged>, AllocError>
     requires ordered { (r : plain.Root) → IsIn r (map root_view roots.items) → IsOrdered r.skeleton }
     ensures roots { IfOk result (λ js. map (λ j. j.root) js.items ≡ roots.items) }
@@ -45,7 +91,8 @@ pub(crate) fn judge_each(alloc: Global, roots: Vec<Root>) -> Result<Vec<Judged>,
     rest.reverse();
     let mut judged = Vec::new(alloc);
     while let Some(root) = rest.pop() {
-        judged.push(judge(alloc, root)?)?;
+        let next = judge(alloc, &judged, root)?;
+        judged.push(next)?;
     }
     Ok(judged)
 }

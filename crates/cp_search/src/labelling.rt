@@ -1,23 +1,19 @@
 // The tree of roots that are not expanded.
-ghost use Rattle.std.specs.Prelude.{◌≡◌, ◌↔◌, List, map, Some, IsTrue, IfOk};
+ghost use Rattle.std.specs.Prelude.{◌≡◌, ◌↔◌, List, length, map, Some, IsTrue, IfOk};
 ghost use Rattle.cp_model.specs.Lists.{IsIn};
 ghost use Rattle.cp_model.specs.Strand.{Declaration};
 ghost use Rattle.cp_skel.specs.Ordered.{IsOrdered};
 ghost use Rattle.cp_skel.specs.Trees.{variables_view, limits_view, mark_view, outcome_view, label_view, tree_view};
 ghost use Rattle.cp_roots.specs.Roots as plain;
 ghost use Rattle.cp_roots.specs.RootView.{root_view};
-ghost use Rattle.cp_search.specs.Marks.{IsShapeAt};
 ghost use Rattle.cp_search.specs.Unexpanded.{label_of, AreLabelsOf, IsMarked, HasOutcome};
-ghost use Rattle.cp_search.specs.Judging.{judged_view, judged_nodes, AreJudged};
-ghost use Rattle.cp_search.specs.Table.{AreFlagsOf, rows_view, IsTable};
-ghost use Rattle.cp_search.specs.Marking.{HasShapesWithin};
+ghost use Rattle.cp_search.specs.Judging.{judged_view, judged_nodes};
 ghost use Rattle.cp_search.specs.Labelling.{AreLabelled};
 ghost use Rattle.cp_roots.specs.declared.root.Root as program;
 
 use crate::judging::{Judged, judge_each};
-use crate::marking::{candidates, derivable, mark_of, shapes};
+use crate::marking::marks;
 use cp_roots::Root;
-use crate::table::table_of;
 use cp_skel::{Limits, Mark, Outcome, Tree, TreeNode};
 use std::alloc::{AllocError, Global};
 
@@ -25,7 +21,11 @@ use std::alloc::{AllocError, Global};
 fn label(alloc: Global, judged: Judged, mark: Mark) -> TreeNode
     ensures { label_view result ≡ label_of (variables_view judged.root.skeleton.variables) (judged_view judged) (judged_nodes judged) (mark_view mark) }
 {
-    let Judged { root, unrealised } = judged;
+    let Judged {
+        root,
+        unrealised,
+        ..
+    } = judged;
     let Root {
         operation,
         skeleton,
@@ -43,25 +43,16 @@ fn label(alloc: Global, judged: Judged, mark: Mark) -> TreeNode
     }
 }
 
-/// The labels of the roots, in their order.
-fn labels(
-    alloc: Global,
-    judged: Vec<Judged>,
-    table: &[Vec<bool>],
-    shapes: &[bool],
-    limits: Limits,
-) -> Result<Vec<TreeNode>, AllocError>
-    requires judged { AreJudged judged.items }
-    requires table { IsTable (map judged_view judged.items) (rows_view table.now) }
-    requires shapes { AreFlagsOf (IsShapeAt (map judged_view judged.items)) shapes.now }
-    requires within { HasShapesWithin (map judged_view judged.items) }
-    ensures { IfOk result (λ labels. AreLabelled (limits_view limits) judged.items labels.items) }
+/// The labels of the roots with these marks, in their order.
+fn labels(alloc: Global, judged: Vec<Judged>, marks: &[Mark]) -> Result<Vec<TreeNode>, AllocError>
+    requires { length marks.now ≡ length judged.items }
+    ensures { IfOk result (λ labels. AreLabelled judged.items marks.now labels.items) }
 {
     let mut rest = judged;
     rest.reverse();
     let mut labels = Vec::new(alloc);
     while let Some(each) = rest.pop() {
-        let mark = mark_of(&each, labels.len(), table, shapes, limits);
+        let mark = marks[labels.len()];
         labels.push(label(alloc, each, mark))?;
     }
     Ok(labels)
@@ -107,11 +98,8 @@ pub(crate) fn tree_of(alloc: Global, roots: Vec<Root>, limits: Limits) -> Result
     ensures outcome { IfOk result (λ t. HasOutcome (tree_view t).labels (tree_view t).outcome) }
 {
     let judged = judge_each(alloc, roots)?;
-    let table = table_of(alloc, &judged)?;
-    let derivable = derivable(alloc, &judged)?;
-    let candidates = candidates(alloc, &table, &derivable)?;
-    let shapes = shapes(alloc, &table, &candidates)?;
-    let nodes = labels(alloc, judged, &table, &shapes, limits)?;
+    let marks = marks(alloc, &judged, limits)?;
+    let nodes = labels(alloc, judged, &marks)?;
     let outcome = outcome_of(&nodes);
     Ok(Tree { nodes, outcome })
 }

@@ -5,13 +5,10 @@ ghost use Rattle.cp_model.specs.Skeleton.{Skeleton};
 ghost use Rattle.cp_model.specs.Tree.{Tree, Limits, IsTrueOf};
 ghost use Rattle.cp_roots.specs.Roots.{Root};
 ghost use Rattle.cp_roots.specs.Sound.{AreSound};
-ghost use Rattle.cp_search.specs.Unexpanded.{AreLabelsOf, HasOutcome, LeavesNothingOut};
+ghost use Rattle.cp_search.specs.Unexpanded.{AreLabelsOf, HasOutcome};
 
 /// Where the roots of a problem are sound, the tree of the labels that they give when none may be expanded is true of the
-/// problem: its shapes are realised, carry homomorphisms from it and embed in no other; where it is complete they are a
-/// complete list; and a limit is its outcome only where it was reached. Whatever the outcome, each label carries a
-/// homomorphism from the problem, and the shapes and the labels at a limit are a complete list.
+/// problem.
 pub fn root_trees_are_true()
     ensures truth { (protocol : Protocol) (variables : List Declaration) (k : Skeleton) (limits : Limits) (roots : List Root) (tree : Tree) → AreSound protocol k roots → AreLabelsOf variables limits roots tree.labels → HasOutcome tree.labels tree.outcome → limits.steps ≡ 0 → IsTrueOf protocol k limits tree }
-    ensures nothing_left_out { (protocol : Protocol) (variables : List Declaration) (k : Skeleton) (limits : Limits) (roots : List Root) (tree : Tree) → AreSound protocol k roots → AreLabelsOf variables limits roots tree.labels → LeavesNothingOut protocol k tree }
 {}

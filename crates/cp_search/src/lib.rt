@@ -5,7 +5,6 @@ mod judging;
 mod labelling;
 mod laws;
 mod marking;
-mod table;
 mod trees;
 
 pub use laws::root_trees_are_true;

@@ -6,7 +6,7 @@ ghost use Rattle.cp_model.specs.Tree.{IsTrueOf};
 ghost use Rattle.cp_skel.specs.DeclaredPrefixes.{HasDeclaredPrefixes};
 ghost use Rattle.cp_skel.specs.View.{protocol_view, skeleton_view};
 ghost use Rattle.cp_skel.specs.Trees.{variables_view, limits_view, tree_view};
-ghost use Rattle.cp_search.specs.Unexpanded.{IsUnexpanded, LeavesNothingOut};
+ghost use Rattle.cp_search.specs.Unexpanded.{IsUnexpanded};
 
 use crate::labelling::tree_of;
 use cp_roots::roots;
@@ -38,7 +38,6 @@ pub fn unexpanded(
     requires declared { HasDeclaredPrefixes (skeleton_view problem.now) }
     requires no_steps { limits.steps ≡ 0 }
     ensures true_tree { IfOk result (λ t. IsTrueOf (protocol_view protocol.now) (skeleton_view problem.now) (limits_view limits) (tree_view t)) }
-    ensures nothing_left_out { IfOk result (λ t. LeavesNothingOut (protocol_view protocol.now) (skeleton_view problem.now) (tree_view t)) }
     ensures exact { IfOk result (λ t. IsUnexpanded (skeleton_view problem.now) (variables_view problem.now.variables) (limits_view limits) (tree_view t)) }
 {
     let roots = roots(alloc, protocol, problem)?;

@@ -3,8 +3,8 @@ use Rattle.cp_model.specs.Tree.{IsTrueOf}
 use Rattle.cp_skel.specs.View.{protocol_view, skeleton_view}
 use Rattle.cp_skel.specs.Trees.{variables_view, limits_view, tree_view}
 use Rattle.cp_roots.specs.RootView.{root_view}
-use Rattle.cp_search.specs.Unexpanded.{AreLabelsOf, HasOutcome, IsUnexpanded, LeavesNothingOut}
-use Rattle.cp_search.proofs.RootTrees.{true_of, leaves_nothing_out}
+use Rattle.cp_search.specs.Unexpanded.{AreLabelsOf, HasOutcome, IsUnexpanded}
+use Rattle.cp_search.proofs.RootTrees.{true_of}
 use Rattle.cp_search.proofs.Unexpanding.{are_ordered, same_declarations, from_both}
 use Rattle.cp_search.proofs.trees.unexpanded.Goals as goal
 
@@ -23,18 +23,6 @@ returns-clause-true_tree c =
     (λ t labels outcome.
     true_of protocol variables k (limits_view c.args.limits) roots (tree_view t) c.in_ok-roots.ensures.sound
     (labels variables (same_declarations c.in_ok-roots.roots.items c.args.problem.now.variables c.in_ok-roots.ensures.variables)) outcome c.requires.no_steps)
-    c.tree_of.ensures.labels c.tree_of.ensures.outcome
-
-pub returns-clause-nothing_left_out : goal.returns-clause-nothing_left_out
-returns-clause-nothing_left_out c =
-    let protocol = protocol_view c.args.protocol.now in
-    let k = skeleton_view c.args.problem.now in
-    let variables = variables_view c.args.problem.now.variables in
-    let roots = map root_view c.in_ok-roots.roots.items in
-    from_both c.tree_of.result _ (λ t. HasOutcome (tree_view t).labels (tree_view t).outcome) (λ t. LeavesNothingOut protocol k (tree_view t))
-    (λ t labels outcome.
-    leaves_nothing_out protocol variables k (limits_view c.args.limits) roots (tree_view t) c.in_ok-roots.ensures.sound
-    (labels variables (same_declarations c.in_ok-roots.roots.items c.args.problem.now.variables c.in_ok-roots.ensures.variables)))
     c.tree_of.ensures.labels c.tree_of.ensures.outcome
 
 pub returns-clause-exact : goal.returns-clause-exact

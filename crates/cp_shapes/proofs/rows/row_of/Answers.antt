@@ -1,0 +1,19 @@
+use Rattle.std.proofs.Common.{map}
+use Rattle.cp_skel.specs.View.{skeleton_view}
+use Rattle.cp_shapes.proofs.Rising.{row_without, row_with, whole_row}
+use Rattle.cp_shapes.proofs.Telling.{kept_apart, instance_below}
+use Rattle.cp_shapes.proofs.rows.row_of.Goals as goal
+
+pub loop-shape-preserved-then-not-may_embed : goal.loop-shape-preserved-then-not-may_embed
+loop-shape-preserved-then-not-may_embed c =
+    row_without _ c.args.instance c.loop-shape.shape c.loop-shape.row.items c.loop-shape.invariant
+    (kept_apart (λ k. skeleton_view k.now) c.args.candidates.now c.args.fingerprints.now c.args.instance c.loop-shape.shape c.may_embed.result c.requires.fingerprints c.if-not-may_embed.true c.may_embed.ensures.kept)
+
+pub loop-shape-preserved : goal.loop-shape-preserved
+loop-shape-preserved c =
+    row_with _ c.args.instance c.loop-shape.shape c.loop-shape.row.items c.loop-shape.invariant (c.in_ok-is_instance.ensures.0 c.if-not-branch.false) c.push.new.self.items c.in_ok-push.ensures.items
+
+pub returns : goal.returns
+returns c =
+    whole_row _ c.args.instance c.loop-shape.shape c.loop-shape.row.items c.loop-shape.invariant
+    (λ k h. instance_below (λ k. skeleton_view k.now) c.args.candidates.now c.args.instance k c.loop-shape.shape c.loop-shape-test.false h)

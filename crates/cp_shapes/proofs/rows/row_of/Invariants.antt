@@ -1,0 +1,7 @@
+use Rattle.std.proofs.Common.{map}
+use Rattle.cp_skel.specs.View.{skeleton_view}
+use Rattle.cp_shapes.proofs.Rising.{IsRowTo}
+use Rattle.cp_shapes.proofs.rows.row_of.Given as goal
+
+abbrev pub invariant-loop-shape : goal.invariant-loop-shape
+invariant-loop-shape l = IsRowTo (map (λ k. skeleton_view k.now) l.candidates) l.instance l.row.items l.shape

@@ -1,0 +1,49 @@
+// What each candidate is, by those of which it is an instance.
+ghost use Rattle.std.specs.Prelude.{◌≡◌, ℕ, List, map, IfOk};
+ghost use Rattle.cp_model.specs.Lists.{item_at, IsIn};
+ghost use Rattle.cp_model.specs.Skeleton as model;
+ghost use Rattle.cp_skel.specs.Ordered.{IsOrdered};
+ghost use Rattle.cp_skel.specs.View.{skeleton_view};
+ghost use Rattle.cp_shapes.specs.Shapes.{AreMarksOf};
+ghost use Rattle.cp_shapes.specs.Rows.{IsRowOf, AreRowsOf, is_empty_row, FindsShape, rows_view};
+
+use crate::rows::rows;
+use cp_skel::Skeleton;
+use std::alloc::{AllocError, Global};
+
+/// Whether a candidate is an instance of none.
+fn is_shape(rows: &[Vec<usize>], candidate: usize) -> bool
+    ensures { result ≡ is_empty_row (item_at (rows_view rows.now) candidate) }
+{
+    match rows.get(candidate) {
+        Some(row) => row.is_empty(),
+        None => false,
+    }
+}
+
+/// The first shape of a row: the least of which the candidate that has the row is an instance.
+fn first_shape(rows: &[Vec<usize>], row: &[usize]) -> Option<usize>
+    ensures { (ks : List model.Skeleton) (m : ℕ) → AreRowsOf ks (rows_view rows.now) → IsRowOf ks m row.now → FindsShape ks m result }
+{
+    for candidate in row {
+        if is_shape(rows, *candidate) {
+            return Some(*candidate);
+        }
+    }
+    None
+}
+
+/// For each candidate the first shape of which it is an instance; none exactly where it is a shape itself. One candidate is an
+/// instance of another that embeds in it where it does not embed in that, or that comes first. The pairs of each go from a
+/// transmission to a reception of another strand, and its order has no cycle. The error is that memory ran out.
+pub fn shapes(alloc: Global, candidates: &[&Skeleton]) -> Result<Vec<Option<usize>>, AllocError>
+    requires ordered { (k : model.Skeleton) → IsIn k (map (λ k. skeleton_view k.now) candidates.now) → IsOrdered k }
+    ensures exact { IfOk result (λ marks. AreMarksOf (map (λ k. skeleton_view k.now) candidates.now) marks.items) }
+{
+    let rows = rows(alloc, candidates)?;
+    let mut marks = Vec::new(alloc);
+    for row in &rows {
+        marks.push(first_shape(&rows, row))?;
+    }
+    Ok(marks)
+}

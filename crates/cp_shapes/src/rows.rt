@@ -1,0 +1,88 @@
+// For each candidate those of which it is an instance.
+ghost use Rattle.std.specs.Prelude.{◌≡◌, ◌↔◌, ◌<◌, length, map, IsTrue, IfOk};
+ghost use Rattle.cp_model.specs.Lists.{IsIn};
+ghost use Rattle.cp_model.specs.Skeleton as model;
+ghost use Rattle.cp_skel.specs.Ordered.{IsOrdered};
+ghost use Rattle.cp_skel.specs.View.{skeleton_view};
+ghost use Rattle.cp_hom.specs.Partition.{fingerprint_of};
+ghost use Rattle.cp_shapes.specs.Shapes.{IsInstanceWithin};
+ghost use Rattle.cp_shapes.specs.Rows.{IsRowOf, AreRowsOf, rows_view};
+
+use cp_hom::{embed, fingerprint, may_embed};
+use cp_skel::Skeleton;
+use std::alloc::{AllocError, Global};
+
+/// The fingerprints of the candidates.
+fn fingerprints(alloc: Global, candidates: &[&Skeleton]) -> Result<Vec<usize>, AllocError>
+    ensures { IfOk result (λ numbers. numbers.items ≡ map (λ k. fingerprint_of (skeleton_view k.now)) candidates.now) }
+{
+    let mut numbers = Vec::new(alloc);
+    for candidate in candidates {
+        numbers.push(fingerprint(candidate))?;
+    }
+    Ok(numbers)
+}
+
+/// Whether a candidate is an instance of another: this embeds in it, and it does not embed in this or this comes first.
+fn is_instance(
+    alloc: Global,
+    candidates: &[&Skeleton],
+    instance: usize,
+    shape: usize,
+) -> Result<bool, AllocError>
+    requires ordered { (k : model.Skeleton) → IsIn k (map (λ k. skeleton_view k.now) candidates.now) → IsOrdered k }
+    requires instance_within { instance < length candidates.now }
+    requires shape_within { shape < length candidates.now }
+    ensures { IfOk result (λ flag. IsTrue flag ↔ IsInstanceWithin (map (λ k. skeleton_view k.now) candidates.now) instance shape) }
+{
+    if shape == instance {
+        return Ok(false);
+    }
+    if embed(alloc, candidates[shape], candidates[instance])?.is_none() {
+        return Ok(false);
+    }
+    if shape < instance {
+        return Ok(true);
+    }
+    let back = embed(alloc, candidates[instance], candidates[shape])?;
+    Ok(back.is_none())
+}
+
+/// The candidates of which this one is an instance, in their order.
+fn row_of(
+    alloc: Global,
+    candidates: &[&Skeleton],
+    fingerprints: &[usize],
+    instance: usize,
+) -> Result<Vec<usize>, AllocError>
+    requires ordered { (k : model.Skeleton) → IsIn k (map (λ k. skeleton_view k.now) candidates.now) → IsOrdered k }
+    requires fingerprints { fingerprints.now ≡ map (λ k. fingerprint_of (skeleton_view k.now)) candidates.now }
+    requires within { instance < length candidates.now }
+    ensures { IfOk result (λ row. IsRowOf (map (λ k. skeleton_view k.now) candidates.now) instance row.items) }
+{
+    let own = fingerprints[instance];
+    let mut row = Vec::new(alloc);
+    for shape in 0..candidates.len() {
+        if !may_embed(fingerprints[shape], own) {
+            continue;
+        }
+        if !is_instance(alloc, candidates, instance, shape)? {
+            continue;
+        }
+        row.push(shape)?;
+    }
+    Ok(row)
+}
+
+/// For each candidate those of which it is an instance, in their order.
+pub(crate) fn rows(alloc: Global, candidates: &[&Skeleton]) -> Result<Vec<Vec<usize>>, AllocError>
+    requires ordered { (k : model.Skeleton) → IsIn k (map (λ k. skeleton_view k.now) candidates.now) → IsOrdered k }
+    ensures { IfOk result (λ rows. AreRowsOf (map (λ k. skeleton_view k.now) candidates.now) (rows_view rows.items)) }
+{
+    let fingerprints = fingerprints(alloc, candidates)?;
+    let mut rows = Vec::new(alloc);
+    for instance in 0..candidates.len() {
+        rows.push(row_of(alloc, candidates, &fingerprints, instance)?)?;
+    }
+    Ok(rows)
+}
