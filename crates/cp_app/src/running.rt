@@ -1,6 +1,7 @@
 // The top call.
 ghost use Rattle.std.specs.Prelude.{◌≡◌, ◌≢◌, ◌≤◌, ◌<◌, ◌⊎◌, ◌↔◌, ℕ, List, [], length, map, string_bytes, true, None, Some, IfOk, IfErr};
 ghost use Rattle.cp_app.specs.Headline.{most_bytes, IsAccepted, IsRefusedFor, IsAnalysed, puts_nothing, status_line, HasReported, HasBrokenOff, HasRefused, WasTooLong, TookAtMost, HasLine};
+ghost use Rattle.cp_app.specs.Searched.{HasReportedSearch, HasBrokenOffSearch};
 ghost use Rattle.cp_app.specs.Steps.{IsCauseFor, HasStopped, IsWholeReport, outcomes_status, HasEnded, HasExecuted};
 ghost use Rattle.cp_app.specs.declared.stopped.Stopped.TheVariants as stopped;
 ghost use Rattle.cp_base.specs.Outside.{Rose};
@@ -12,11 +13,11 @@ ghost use Rattle.cp_skel.specs.Trees.{limits_view};
 ghost use Rattle.cp_words.specs.Command.{command_of};
 
 use crate::analysing::{are_complete, trees_of};
-use crate::loading::load_accepted;
 use crate::reading::read_all;
 use crate::stopped::Stopped;
 use crate::writing::{put_line, put_pieces};
 use cp_base::{Sink, Source, Status};
+use cp_load::load;
 use cp_print::print_pieces;
 use cp_sexpr::read;
 use cp_skel::Limits;
@@ -50,8 +51,8 @@ fn report_of(alloc: Global, limits: Limits, input: &[u8]) -> Result<Report, Stop
     ensures cause { IfErr result (IsCauseFor input.now) }
 {
     let forms = read(alloc, input)?;
-    let loaded = load_accepted(alloc, &forms)?;
-    let trees = trees_of(alloc, &loaded, limits)?;
+    let loaded = load(alloc, &forms)?;
+    let trees = trees_of(alloc, &loaded.problems, limits)?;
     let complete = are_complete(&trees);
     let mut text = Vec::new(alloc);
     let mut ends = Vec::new(alloc);
@@ -145,7 +146,7 @@ pub fn run<S: Source, O: Sink, E: Sink>(
     ensures usage { (result ≡ Usage) ↔ (command_of (map string_bytes words.now) ≡ None) }
     ensures usage_reads_nothing { result ≡ Usage → source.new ≡ source.old }
 
-    // What was put is the report of the whole input, with trees that are true of it.
+    // What was put is a report of the whole input, with trees that are true of its problems; at a write fault a part of it.
     ensures reported { (limits : LimitsData) (input before : List ℕ)
         → command_of (map string_bytes words.now) ≡ Some limits → S.left source.old ≡ Some input
         → O.held out.old ≡ Some before → IsAnalysed result
@@ -154,6 +155,18 @@ pub fn run<S: Source, O: Sink, E: Sink>(
         → command_of (map string_bytes words.now) ≡ Some limits → S.left source.old ≡ Some input
         → O.held out.old ≡ Some before → result ≡ WriteFault
         → HasBrokenOff limits input before (S.left source.new) (O.held out.new) }
+
+    // The trees of this report are exactly those of the search.
+    ensures searched { (limits : LimitsData) (input before : List ℕ)
+        → command_of (map string_bytes words.now) ≡ Some limits → S.left source.old ≡ Some input
+        → O.held out.old ≡ Some before → IsAnalysed result
+        → HasReportedSearch limits input before (S.left source.new) (O.held out.new) result }
+    ensures searched_before_fault { (limits : LimitsData) (input before : List ℕ)
+        → command_of (map string_bytes words.now) ≡ Some limits → S.left source.old ≡ Some input
+        → O.held out.old ≡ Some before → result ≡ WriteFault
+        → HasBrokenOffSearch limits input before (S.left source.new) (O.held out.new) }
+
+    // Only accepted input is analysed, and it is read to its end.
     ensures accepted { (input : List ℕ) → S.left source.old ≡ Some input
         → (IsAnalysed result ⊎ (result ≡ WriteFault))
         → (S.left source.new ≡ Some []) × ((fs : Forms) × IsAccepted input fs) }
