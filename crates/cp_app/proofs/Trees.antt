@@ -2,7 +2,7 @@
 use Rattle.std.proofs.Common.{◌≡◌, ℕ, zero, suc, ◌+◌, ◌<◌, ◌≤◌, List, [], ◌∷◌, ◌++◌, length, get_or, take, map, Option, Some, None, ◌⊎◌, inl, inr, refl, sym, ap, ◌∙◌, subst, arith, ⊎_elim}
 use Rattle.std.specs.Prelude.{option_map}
 use Rattle.std.specs.List.{AllZip, cons_option, filter_map}
-use Rattle.std.proofs.lemmas.List.{append-nil, map-append, take_all}
+use Rattle.std.proofs.lemmas.List.{append-nil, take_all}
 use Rattle.std.proofs.lemmas.List.Elements.{filter_map-append}
 use Rattle.std.proofs.Math.Seq.{take-suc}
 use Rattle.std.proofs.Common.{Result, Ok, Err}
@@ -158,13 +158,16 @@ pub none_next : (limits : Limits) (ps : List (Option ProgramProblem)) (i : ℕ) 
 none_next limits ps i o ts lt is none before =
     subst (λ qs. AllZip (IsAnalysisOf limits) qs (map tree_view ts)) (sym (next_stated ps i o lt is ∙ ap (λ q. stated (take i ps) ++ stated (q ∷ [])) none ∙ append-nil (stated (take i ps)))) before
 
-pub tree_next : (limits : Limits) (ps : List (Option ProgramProblem)) (i : ℕ) (o : Option ProgramProblem) (p : ProgramProblem) (old new : List ProgramTree) (t : ProgramTree) → i < length ps → o ≡ get_or ps i o → o ≡ Some p
-    → new ≡ old ++ t ∷ [] → IsAnalysisOf limits (problem_view p) (tree_view t) → AreTreesUpTo limits ps i old → AreTreesUpTo limits ps (i + 1) new
-tree_next limits ps i o p old new t lt is some grew one before =
+-- Behind the old trees stands that of the problem.
+abbrev pub IsBehind : Limits → ProgramProblem → List ProgramTree → List ProgramTree → Type 0
+IsBehind limits p old new = (t : Tree) × IsAnalysisOf limits (problem_view p) t × (map tree_view new ≡ map tree_view old ++ t ∷ [])
+
+pub tree_next : (limits : Limits) (ps : List (Option ProgramProblem)) (i : ℕ) (o : Option ProgramProblem) (p : ProgramProblem) (old new : List ProgramTree) → i < length ps → o ≡ get_or ps i o → o ≡ Some p
+    → IsBehind limits p old new → AreTreesUpTo limits ps i old → AreTreesUpTo limits ps (i + 1) new
+tree_next limits ps i o p old new lt is some (t, one, grew) before =
     let problems : stated (take (i + 1) ps) ≡ stated (take i ps) ++ problem_view p ∷ [] = next_stated ps i o lt is ∙ ap (λ q. stated (take i ps) ++ stated (q ∷ [])) some in
-    let trees : map tree_view new ≡ map tree_view old ++ tree_view t ∷ [] = ap (map tree_view) grew ∙ map-append tree_view old (t ∷ []) in
     subst (λ qs. AllZip (IsAnalysisOf limits) qs (map tree_view new)) (sym problems)
-    (subst (λ us. AllZip (IsAnalysisOf limits) (stated (take i ps) ++ problem_view p ∷ []) us) (sym trees) (zip_behind (IsAnalysisOf limits) (stated (take i ps)) (map tree_view old) (problem_view p) (tree_view t) before one))
+    (subst (λ us. AllZip (IsAnalysisOf limits) (stated (take i ps) ++ problem_view p ∷ []) us) (sym grew) (zip_behind (IsAnalysisOf limits) (stated (take i ps)) (map tree_view old) (problem_view p) t before one))
 
 pub trees_done : (limits : Limits) (ps : List (Option ProgramProblem)) (i : ℕ) (ts : List ProgramTree) → length ps ≤ i → AreTreesUpTo limits ps i ts → AllZip (IsAnalysisOf limits) (stated ps) (map tree_view ts)
 trees_done limits ps i ts h all = rw (take_all i ps h) at all

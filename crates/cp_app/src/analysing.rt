@@ -1,9 +1,10 @@
 // The analysis of the problems of an input.
-ghost use Rattle.std.specs.Prelude.{◌≡◌, map, option_map, IfOk};
+ghost use Rattle.std.specs.Prelude.{◌≡◌, [], ◌∷◌, ◌++◌, map, option_map, IfOk, OnOk};
 ghost use Rattle.std.specs.List.{AllZip, filter_map};
 ghost use Rattle.cp_load.specs.Inputs.{problem_view};
 ghost use Rattle.cp_language.specs.Problems.{Problem as PlainProblem};
 ghost use Rattle.cp_model.specs.Lists.{IsIn};
+ghost use Rattle.cp_model.specs.Tree.{Tree as PlainTree};
 ghost use Rattle.cp_skel.specs.Trees.{limits_view, outcome_view, tree_view};
 ghost use Rattle.cp_app.specs.Analysis.{IsAnalysable, IsAnalysisOf};
 ghost use Rattle.cp_app.specs.Headline.{SaysOutcomes};
@@ -23,7 +24,23 @@ fn tree_of(alloc: Global, problem: &Problem, limits: Limits) -> Result<Tree, All
     unexpanded(alloc, &problem.protocol, &problem.skeleton, limits)
 }
 
-// The trees of the problems, in order; a form that states none has none.
+// Puts the tree of a problem behind others.
+fn add_tree(
+    alloc: Global,
+    problem: &Problem,
+    limits: Limits,
+    trees: &mut Vec<Tree>,
+) -> Result<(), AllocError>
+    requires analysable { IsAnalysable (problem_view problem.now) }
+    requires no_steps { limits.steps ≡ 0 }
+    ensures { OnOk result ((t : PlainTree) × IsAnalysisOf (limits_view limits) (problem_view problem.now) t × (map tree_view trees.new.items ≡ map tree_view trees.old.items ++ t ∷ [])) }
+{
+    let tree = tree_of(alloc, problem, limits)?;
+    trees.push(tree)?;
+    Ok(())
+}
+
+// The trees of the problems, in order.
 pub(crate) fn trees_of(
     alloc: Global,
     problems: &[Option<Problem>],
@@ -36,8 +53,7 @@ pub(crate) fn trees_of(
     let mut trees = Vec::new(alloc);
     for problem in problems {
         if let Some(problem) = problem {
-            let tree = tree_of(alloc, problem, limits)?;
-            trees.push(tree)?;
+            add_tree(alloc, problem, limits, &mut trees)?;
         }
     }
     Ok(trees)

@@ -1,8 +1,8 @@
 // The top call.
-ghost use Rattle.std.specs.Prelude.{◌≡◌, ◌≢◌, ◌≤◌, ◌<◌, ◌⊎◌, ◌↔◌, ℕ, List, [], length, map, string_bytes, true, None, Some, IfOk, IfErr};
+ghost use Rattle.std.specs.Prelude.{◌≡◌, ◌≢◌, ◌≤◌, ◌<◌, ◌⊎◌, ◌↔◌, ℕ, List, [], length, map, string_bytes, true, None, Some, IfOk, IfErr, OnErr};
 ghost use Rattle.cp_app.specs.Headline.{most_bytes, IsAccepted, IsRefusedFor, IsAnalysed, puts_nothing, status_line, HasReported, HasBrokenOff, HasRefused, WasTooLong, TookAtMost, HasLine};
 ghost use Rattle.cp_app.specs.Searched.{HasReportedSearch, HasBrokenOffSearch};
-ghost use Rattle.cp_app.specs.Steps.{IsCauseFor, HasStopped, IsWholeReport, outcomes_status, HasEnded, HasExecuted};
+ghost use Rattle.cp_app.specs.Steps.{IsCauseFor, HasStopped, IsWholeReport, outcomes_status, HasPut, HasEnded, HasExecuted};
 ghost use Rattle.cp_app.specs.declared.stopped.Stopped.TheVariants as stopped;
 ghost use Rattle.cp_base.specs.Outside.{Rose};
 ghost use Rattle.cp_base.specs.declared.place.Refusal.{Refusal as RefusalData};
@@ -16,7 +16,7 @@ use crate::analysing::{are_complete, trees_of};
 use crate::reading::read_all;
 use crate::stopped::Stopped;
 use crate::writing::{put_line, put_pieces};
-use cp_base::{Sink, Source, Status};
+use cp_base::{Failed, Sink, Source, Status};
 use cp_load::load;
 use cp_print::print_pieces;
 use cp_sexpr::read;
@@ -78,6 +78,15 @@ fn make_report<S: Source>(alloc: Global, limits: Limits, source: &mut S) -> Resu
     report_of(alloc, limits, &input)
 }
 
+// Puts a report, one top form a piece.
+fn put_report<O: Sink>(out: &mut O, report: &Report) -> Result<(), Failed>
+    ensures put { (before : List ℕ) → O.held out.old ≡ Some before
+        → HasPut before report.now.text.items (O.held out.new) result }
+    ensures failed { OnErr result (Rose (O.faults out.old) (O.faults out.new)) }
+{
+    put_pieces(out, &report.text, &report.ends)
+}
+
 // Puts the report of what the source holds.
 fn analyse<S: Source, O: Sink>(alloc: Global, limits: Limits, source: &mut S, out: &mut O) -> Status
     requires no_steps { limits.steps ≡ 0 }
@@ -89,7 +98,7 @@ fn analyse<S: Source, O: Sink>(alloc: Global, limits: Limits, source: &mut S, ou
     ensures nothing_put { puts_nothing result ≡ true → out.new ≡ out.old }
 {
     match make_report(alloc, limits, source) {
-        Ok(report) => match put_pieces(out, &report.text, &report.ends) {
+        Ok(report) => match put_report(out, &report) {
             Ok(()) => outcomes_status(report.complete),
             Err(_) => Status::WriteFault,
         },

@@ -1,11 +1,11 @@
-use Rattle.std.proofs.Common.{sym, ap, ◌∙◌, subst}
+use Rattle.std.proofs.Common.{sym, ap, subst}
 use Rattle.cp_skel.specs.Trees.{limits_view}
-use Rattle.cp_app.proofs.Trees.{AreTreesUpTo, is_stated, none_next, tree_next, trees_done}
+use Rattle.cp_app.proofs.Trees.{AreTreesUpTo, IsBehind, is_stated, none_next, tree_next, trees_done}
 use Rattle.cp_app.proofs.analysing.trees_of.Goals as goal
-use Rattle.cp_app.proofs.analysing.trees_of.Goals.{in-Some+in_ok-tree+in_ok-push, in_default}
+use Rattle.cp_app.proofs.analysing.trees_of.Goals.{in-Some+in_ok-add_tree, in_default}
 
-pub tree_of-requires-clause-analysable : goal.tree_of-requires-clause-analysable
-tree_of-requires-clause-analysable c =
+pub add_tree-requires-clause-analysable : goal.add_tree-requires-clause-analysable
+add_tree-requires-clause-analysable c =
     c.requires.analysable _ (is_stated c.args.problems.now c.loop-problem.problem-index c.problem-item.result c.in-Some.problem c.loop-problem-test.true c.problem-item.is c.in-Some.is)
 
 pub loop-problem-preserved : goal.loop-problem-preserved
@@ -14,9 +14,9 @@ loop-problem-preserved c =
     let problems = c.args.problems.now in
     let i = c.loop-problem.problem-index in
     elim c.match-problem.branch [
-      | in-Some+in_ok-tree+in_ok-push w ↦
-          tree_next limits problems i c.problem-item.result w.in-Some.problem c.loop-problem.trees.items c.match-problem.trees.items w.in_ok-tree.tree c.loop-problem-test.true c.problem-item.is w.in-Some.is
-          (ap (λ v. v.items) w.trees-is ∙ w.in_ok-push.ensures.items) w.in_ok-tree.ensures c.loop-problem.invariant
+      | in-Some+in_ok-add_tree w ↦
+          tree_next limits problems i c.problem-item.result w.in-Some.problem c.loop-problem.trees.items c.match-problem.trees.items c.loop-problem-test.true c.problem-item.is w.in-Some.is
+          (subst (IsBehind limits w.in-Some.problem c.loop-problem.trees.items) (ap (λ v. v.items) (sym w.trees-is)) w.in_ok-add_tree.ensures) c.loop-problem.invariant
       | in_default w ↦
           none_next limits problems i c.problem-item.result c.match-problem.trees.items c.loop-problem-test.true c.problem-item.is w.in_default.is
           (subst (λ v. AreTreesUpTo limits problems i v.items) (sym w.trees-is) c.loop-problem.invariant)
