@@ -131,19 +131,28 @@ fn execute<S: Source, O: Sink>(
 /// Runs the command that the words name, over a source, a sink for its output and a sink for errors.
 ///
 /// The words are a name for the program and the command. The command `analyse --limit 0 [--bound N]` reads the source
-/// to its end, at most one byte more than 1,048,576, analyses each problem, makes the whole text of the report, and
-/// only then puts it, one top form a piece. The status says how that ended:
+/// to its end, at most one byte more than 1,048,576, finds the tree of each problem, makes the whole text of the report,
+/// and only then puts it, one top form a piece. The status says how that ended:
 ///
 /// - `Done`: the whole report was put, and each of its outcomes is complete;
 /// - `Limit`: the whole report was put, and some outcome is a limit;
-/// - `Usage`: the words are no command, and nothing was read;
-/// - `TooLong`: the source held more than 1,048,576 bytes;
-/// - `Refused`: the input is not well formed; at the place of the first fault;
+/// - `Usage`: exactly where the words are no command, and nothing was read;
+/// - `TooLong`: exactly where the source held more than 1,048,576 bytes, if it does not fail before and memory lasts;
+/// - `Refused`: exactly where the input is not well formed, under the same condition; at the place of the first fault;
 /// - `ReadFault`, `WriteFault`: the source, or the sink for the output, failed;
 /// - `Memory`: a growth in memory was refused.
 ///
-/// At `WriteFault` a front of the report was put, and at the other statuses but `Done` and `Limit` nothing was. Each
-/// status but `Done` and `Limit` has a line on the sink for errors, and stays as it is where that sink fails.
+/// The report is over all of the input, which is well formed and was read to its end: the forms in order, and behind each
+/// problem its tree, whose labels have their variables. The tree is true of its problem: each label denotes a skeleton over
+/// the protocol, carries a homomorphism from the problem and keeps what the problem states itself; shapes are realised, and
+/// none embeds in another; where the tree is complete, whenever the problem stands in a bundle that standing factors through
+/// a shape, and at a limit through a shape or a label at a limit; and a limit is the outcome only where it was reached.
+/// Besides, each tree is exactly the one of the search.
+///
+/// At `WriteFault` a front of such a report was put, which is shorter than it, and at the other statuses but `Done` and
+/// `Limit` nothing was. Each status but `Done` and `Limit` has a line on the sink for errors, and stays as it is where that
+/// sink fails. What is said of the input and the output holds where the source tells what it had left and the sink what it
+/// holds.
 pub fn run<S: Source, O: Sink, E: Sink>(
     alloc: Global,
     words: &[String],
@@ -155,7 +164,7 @@ pub fn run<S: Source, O: Sink, E: Sink>(
     ensures usage { (result ≡ Usage) ↔ (command_of (map string_bytes words.now) ≡ None) }
     ensures usage_reads_nothing { result ≡ Usage → source.new ≡ source.old }
 
-    // What was put is a report of the whole input, with trees that are true of its problems; at a write fault a part of it.
+    // What was put is a report of the whole input, with trees that are true of its problems; at a write fault a front of one.
     ensures reported { (limits : LimitsData) (input before : List ℕ)
         → command_of (map string_bytes words.now) ≡ Some limits → S.left source.old ≡ Some input
         → O.held out.old ≡ Some before → IsAnalysed result
@@ -165,7 +174,7 @@ pub fn run<S: Source, O: Sink, E: Sink>(
         → O.held out.old ≡ Some before → result ≡ WriteFault
         → HasBrokenOff limits input before (S.left source.new) (O.held out.new) }
 
-    // The trees of this report are exactly those of the search.
+    // The same, and the trees of this report are exactly those of the search.
     ensures searched { (limits : LimitsData) (input before : List ℕ)
         → command_of (map string_bytes words.now) ≡ Some limits → S.left source.old ≡ Some input
         → O.held out.old ≡ Some before → IsAnalysed result
