@@ -1,23 +1,27 @@
 -- What the end of a command that reads says of its input and its output.
 use Rattle.std.proofs.Common.{◌≡◌, ℕ, ◌+◌, ◌<◌, ◌≤◌, List, [], ◌∷◌, length, drop, Bool, true, false, Option, Some, None, Result, Ok, Err, ◌⊎◌, inl, inr, refl, sym, ap, ◌∙◌, arith}
 use Rattle.std.proofs.Math.Seq.{drop-append_seam}
-use Rattle.std.specs.Result.{IfErr}
+use Rattle.std.specs.List.{filter_map}
+use Rattle.std.specs.Result.{IfErr, IsErrAnd}
 use Rattle.cp_base.specs.declared.place.Refusal.{Refusal}
 use Rattle.cp_base.specs.declared.status.Status.{Status}
 use Rattle.cp_base.specs.declared.status.Status.TheVariants.{Done, Limit, Usage, Refused, ReadFault, WriteFault, Memory, TooLong}
 use Rattle.cp_model.specs.Lists.{IsIn}
-use Rattle.cp_model.specs.Tree.{Limits, Tree}
+use Rattle.cp_model.specs.Tree.{Limits, Label, Tree, IsTrueOf}
 use Rattle.cp_sexpr.specs.Syntax.{Forms}
 use Rattle.cp_sexpr.specs.Reading.{IsReading}
 use Rattle.cp_sexpr.proofs.Unique.{one_reading_of}
 use Rattle.cp_language.proofs.OneAnswer.{one_first}
-use Rattle.cp_app.specs.Headline.{most_bytes, IsAccepted, IsRefusedFor, AreTrue, SaysOutcomes, IsAnalysed, HasReported, HasBrokenOff, HasRefused, WasTooLong, TookAtMost}
-use Rattle.cp_app.specs.Steps.{IsCauseFor, HasStopped, outcomes_status, IsWholeReport, HasWritten, HasEnded, HasExecuted}
-use Rattle.cp_app.specs.Loading.{IsLoaded}
-use Rattle.cp_app.specs.Analysis.{HaveTrees, problems_of}
-use Rattle.cp_app.proofs.Trees.{are_true}
-use Rattle.cp_language.specs.Input.{Entry, faults_of}
-use Rattle.cp_language.specs.Report.{report_text}
+use Rattle.cp_app.specs.Headline.{most_bytes, IsAccepted, IsRefusedFor, HaveTrees, SaysOutcomes, IsAnalysed, HasRefused, WasTooLong, TookAtMost}
+use Rattle.cp_app.specs.Searched.{HasReportedSearch, HasBrokenOffSearch}
+use Rattle.cp_app.specs.Steps.{IsCauseFor, HasStopped, outcomes_status, cause_of_load, IsWholeReport, HasWritten, HasEnded, HasExecuted}
+use Rattle.cp_app.specs.Analysis.{IsAnalysisOf}
+use Rattle.cp_app.proofs.Trees.{zip_onto}
+use Rattle.cp_language.specs.Input.{Entry, faults_of, input_of, IsInput}
+use Rattle.cp_language.specs.Report.{report_text, HasItsVariables}
+use Rattle.cp_load.specs.declared.error.LoadError.{LoadError}
+use Rattle.cp_load.specs.declared.error.LoadError.TheVariants as loading
+use Rattle.cp_search.specs.Unexpanded.{IsUnexpanded}
 use Rattle.std.proofs.Common.{subst}
 use Rattle.cp_app.specs.declared.stopped.Stopped.{Stopped}
 use Rattle.cp_app.specs.declared.stopped.Stopped.TheVariants as stopped
@@ -67,25 +71,34 @@ module _ (limits : Limits) (input : List ℕ) (left_new held_old held_new : Opti
   ended_took_at_most Memory ended = ended
   ended_took_at_most TooLong ended = (most_bytes + 1, omega arith, ended.left)
 
-  pub ended_reported : (before : List ℕ) (status : Status) → held_old ≡ Some before → IsAnalysed status → HasEnded limits input left_new held_old held_new status → HasReported limits input before left_new held_new status
-  ended_reported before Done is analysed ended = record { text = ended.text; trees = ended.report.trees; at_end = ended.at_end; held = ended.put before is; report = ended.report.report; outcomes = ended.report.outcomes }
-  ended_reported before Limit is analysed ended = record { text = ended.text; trees = ended.report.trees; at_end = ended.at_end; held = ended.put before is; report = ended.report.report; outcomes = ended.report.outcomes }
-  ended_reported before Usage is analysed ended = absurd ended
-  ended_reported before (Refused r) is (inl e) ended = absurd (cc)
-  ended_reported before (Refused r) is (inr e) ended = absurd (cc)
-  ended_reported before ReadFault is (inl e) ended = absurd (cc)
-  ended_reported before ReadFault is (inr e) ended = absurd (cc)
-  ended_reported before WriteFault is (inl e) ended = absurd (cc)
-  ended_reported before WriteFault is (inr e) ended = absurd (cc)
-  ended_reported before Memory is (inl e) ended = absurd (cc)
-  ended_reported before Memory is (inr e) ended = absurd (cc)
-  ended_reported before TooLong is (inl e) ended = absurd (cc)
-  ended_reported before TooLong is (inr e) ended = absurd (cc)
+  pub ended_searched : (before : List ℕ) (status : Status) → held_old ≡ Some before → IsAnalysed status → HasEnded limits input left_new held_old held_new status → HasReportedSearch limits input before left_new held_new status
+  ended_searched before Done is analysed ended = record {
+    reported = record { text = ended.text; trees = ended.report.trees; at_end = ended.at_end; held = ended.put before is; report = ended.report.report; outcomes = ended.report.outcomes };
+    searched = ended.report.searched;
+  }
+  ended_searched before Limit is analysed ended = record {
+    reported = record { text = ended.text; trees = ended.report.trees; at_end = ended.at_end; held = ended.put before is; report = ended.report.report; outcomes = ended.report.outcomes };
+    searched = ended.report.searched;
+  }
+  ended_searched before Usage is analysed ended = absurd ended
+  ended_searched before (Refused r) is (inl e) ended = absurd (cc)
+  ended_searched before (Refused r) is (inr e) ended = absurd (cc)
+  ended_searched before ReadFault is (inl e) ended = absurd (cc)
+  ended_searched before ReadFault is (inr e) ended = absurd (cc)
+  ended_searched before WriteFault is (inl e) ended = absurd (cc)
+  ended_searched before WriteFault is (inr e) ended = absurd (cc)
+  ended_searched before Memory is (inl e) ended = absurd (cc)
+  ended_searched before Memory is (inr e) ended = absurd (cc)
+  ended_searched before TooLong is (inl e) ended = absurd (cc)
+  ended_searched before TooLong is (inr e) ended = absurd (cc)
 
-  pub ended_broken_off : (before : List ℕ) (status : Status) → held_old ≡ Some before → status ≡ WriteFault → HasEnded limits input left_new held_old held_new status → HasBrokenOff limits input before left_new held_new
+  pub ended_broken_off : (before : List ℕ) (status : Status) → held_old ≡ Some before → status ≡ WriteFault → HasEnded limits input left_new held_old held_new status → HasBrokenOffSearch limits input before left_new held_new
   ended_broken_off before WriteFault is broken (complete, ended) =
       let put = ended.put before is in
-      record { text = ended.text; trees = ended.report.trees; put = put.0; at_end = ended.at_end; held = put.1; report = ended.report.report }
+      record {
+        broken_off = record { text = ended.text; trees = ended.report.trees; put = put.0; shorter = put.1; at_end = ended.at_end; held = put.2; report = ended.report.report };
+        searched = ended.report.searched;
+      }
   ended_broken_off before Done is broken ended = absurd (cc)
   ended_broken_off before Limit is broken ended = absurd (cc)
   ended_broken_off before Usage is broken ended = absurd (cc)
@@ -176,18 +189,30 @@ stopped_behind_end (Err stopped.Memory) bytes input left_new cause short read = 
 
 -- ---- reports
 
-pub whole_report : (limits : Limits) (bytes text : List ℕ) (fs : Forms) (entries : List Entry) (trees : List Tree) (b : Bool) → length bytes ≤ most_bytes → IsReading bytes (Ok fs) → IsLoaded fs entries
-    → HaveTrees limits (problems_of entries) trees → SaysOutcomes (outcomes_status b) trees → text ≡ report_text entries trees → IsWholeReport limits bytes text b
-whole_report limits bytes text fs entries trees b short reading loaded have says printed = record {
-  trees = trees;
-  report = record {
-    forms = fs;
-    accepted = record { short = short; read = reading; well_formed = loaded.well_formed };
-    true_trees = subst (λ es. AreTrue limits es trees) loaded.same (are_true limits entries trees have);
-    printed = printed ∙ ap (λ es. report_text es trees) loaded.same;
-  };
-  outcomes = says;
-}
+pub whole_report : (limits : Limits) (bytes text : List ℕ) (fs : Forms) (entries : List Entry) (trees : List Tree) (b : Bool) → length bytes ≤ most_bytes → IsReading bytes (Ok fs) → IsInput fs (Ok entries)
+    → HaveTrees (IsAnalysisOf limits) entries trees → SaysOutcomes (outcomes_status b) trees → text ≡ report_text entries trees → IsWholeReport limits bytes text b
+whole_report limits bytes text fs entries trees b short reading loaded analysed says printed =
+    let problems = filter_map (λ e. e.problem) (input_of fs) in
+    let all : HaveTrees (IsAnalysisOf limits) (input_of fs) trees = subst (λ es. HaveTrees (IsAnalysisOf limits) es trees) loaded.1 analysed in
+    record {
+      trees = trees;
+      report = record {
+        forms = fs;
+        accepted = record { short = short; read = reading; well_formed = loaded.0 };
+        true_trees = zip_onto (IsAnalysisOf limits) (λ p t. IsTrueOf p.protocol p.skeleton limits t) (λ p t h. h.truth) problems trees all;
+        variables = zip_onto (IsAnalysisOf limits) (λ p t. (l : Label) → IsIn l t.labels → HasItsVariables p l) (λ p t h. h.variables) problems trees all;
+        printed = printed ∙ ap (λ es. report_text es trees) loaded.1;
+      };
+      searched = zip_onto (IsAnalysisOf limits) (λ p t. IsUnexpanded p.skeleton p.variables limits t) (λ p t h. h.searched) problems trees all;
+      outcomes = says;
+    }
+
+-- what the loader refuses, the input is refused for
+pub load_cause : {A : Type 0} (input : List ℕ) (fs : Forms) (e : LoadError) (result : Result A Stopped) → IsErrAnd result (λ cause. cause ≡ cause_of_load e) → IsReading input (Ok fs)
+    → ((r : Refusal) → e ≡ loading.Refused r → IsInput fs (Err r)) → IfErr result (IsCauseFor input)
+load_cause input fs e (Ok x) is reading refused = tt
+load_cause input fs (loading.Refused r) (Err cause) is reading refused = subst (IsCauseFor input) (sym is) (inr (fs, reading, refused r refl))
+load_cause input fs loading.Memory (Err cause) is reading refused = subst (IsCauseFor input) (sym is) tt
 
 pub ended_ok : (limits : Limits) (input : List ℕ) (left_new held_old held_new : Option (List ℕ)) (b : Bool) (s : Status) → s ≡ outcomes_status b → HasWritten limits input left_new held_old held_new b (Ok tt)
     → HasEnded limits input left_new held_old held_new s
@@ -197,11 +222,11 @@ ended_ok limits input left_new held_old held_new false s is written = subst (Has
 -- ---- runs
 
 module _ (o : Option Limits) (input : List ℕ) (left_new held_old held_new : Option (List ℕ)) where
-  pub executed_reported : (limits : Limits) (before : List ℕ) (s : Status) → HasExecuted o input left_new held_old held_new s → o ≡ Some limits → held_old ≡ Some before → IsAnalysed s → HasReported limits input before left_new held_new s
-  executed_reported limits before s executed is held analysed =
-      ended_reported limits input left_new held_old held_new before s held analysed (subst (λ p. HasExecuted p input left_new held_old held_new s) is executed)
+  pub executed_searched : (limits : Limits) (before : List ℕ) (s : Status) → HasExecuted o input left_new held_old held_new s → o ≡ Some limits → held_old ≡ Some before → IsAnalysed s → HasReportedSearch limits input before left_new held_new s
+  executed_searched limits before s executed is held analysed =
+      ended_searched limits input left_new held_old held_new before s held analysed (subst (λ p. HasExecuted p input left_new held_old held_new s) is executed)
 
-  pub executed_broken_off : (limits : Limits) (before : List ℕ) (s : Status) → HasExecuted o input left_new held_old held_new s → o ≡ Some limits → held_old ≡ Some before → s ≡ WriteFault → HasBrokenOff limits input before left_new held_new
+  pub executed_broken_off : (limits : Limits) (before : List ℕ) (s : Status) → HasExecuted o input left_new held_old held_new s → o ≡ Some limits → held_old ≡ Some before → s ≡ WriteFault → HasBrokenOffSearch limits input before left_new held_new
   executed_broken_off limits before s executed is held broken =
       ended_broken_off limits input left_new held_old held_new before s held broken (subst (λ p. HasExecuted p input left_new held_old held_new s) is executed)
 

@@ -1,8 +1,8 @@
 -- A text is put piece by piece.
-use Rattle.std.proofs.Common.{◌≡◌, ℕ, zero, suc, ◌+◌, ◌<◌, Bor, get_or, map, add-one, List, [], ◌∷◌, ◌++◌, length, take, drop, Option, Some, Result, Ok, Err, refl, sym, ap, ◌∙◌, append_assoc}
+use Rattle.std.proofs.Common.{◌≡◌, ◌==◌, Bool, true, false, ℕ, ◌+◌, ◌<◌, ◌≤◌, Bor, get_or, map, add-one, List, [], ◌∷◌, ◌++◌, length, take, drop, Option, Some, Result, Ok, Err, refl, sym, ap, ◌∙◌, append_assoc, length-append, arith}
 use Rattle.std.specs.List.{concat}
 use Rattle.std.specs.Result.{IsErr}
-use Rattle.std.proofs.lemmas.List.{take-append-drop}
+use Rattle.std.proofs.lemmas.List.{take-append-drop, take-append-le}
 use Rattle.std.proofs.Math.Seq.{take-append-add, drop-cons}
 use Rattle.cp_base.specs.declared.status.Failed.{Failed}
 use Rattle.cp_base.specs.Outside.{Puts}
@@ -17,11 +17,6 @@ pub record PutUpTo (text rest : List ℕ) (held_old held_new : Option (List ℕ)
 pub append-empty : (xs : List ℕ) → xs ++ [] ≡ xs
 append-empty [] = refl
 append-empty (x ∷ xs) = ap (λ ys. x ∷ ys) (append-empty xs)
-
-take-of-front : (n : ℕ) (front rest : List ℕ) → (m : ℕ) × (take n front ≡ take m (front ++ rest))
-take-of-front zero front rest = (0, refl)
-take-of-front (suc n) [] rest = (0, refl)
-take-of-front (suc n) (x ∷ xs) rest = let shorter = take-of-front n xs rest in (suc shorter.0, ap (λ ys. x ∷ ys) shorter.1)
 
 -- a text that is split at n is its two parts
 pub both_parts : (n : ℕ) (text part after : List ℕ) → part ≡ take n text → after ≡ drop n text → text ≡ part ++ after
@@ -44,15 +39,21 @@ PutUpTo-all text rest held_old held_new done empty before is =
     done.held before is ∙ ap (λ xs. Some (before ++ xs)) (sym whole)
 
 pub PutUpTo-stop : (text rest part after : List ℕ) (held_old held_middle held_new : Option (List ℕ)) → PutUpTo text rest held_old held_middle → rest ≡ part ++ after
-    → ((before : List ℕ) → held_middle ≡ Some before → (n : ℕ) × (held_new ≡ Some (before ++ take n part)))
-    → (before : List ℕ) → held_old ≡ Some before → (n : ℕ) × (held_new ≡ Some (before ++ take n text))
+    → ((before : List ℕ) → held_middle ≡ Some before → (n : ℕ) × (n < length part) × (held_new ≡ Some (before ++ take n part)))
+    → (before : List ℕ) → held_old ≡ Some before → (n : ℕ) × (n < length text) × (held_new ≡ Some (before ++ take n text))
 PutUpTo-stop text rest part after held_old held_middle held_new done split put before is =
     let stopped = put (before ++ done.front) (done.held before is) in
-    let shorter = take-of-front stopped.0 part after in
-    let taken : done.front ++ take stopped.0 part ≡ take (length done.front + shorter.0) text =
-    ap (λ xs. done.front ++ xs) shorter.1 ∙ sym (take-append-add done.front (part ++ after) shorter.0)
-    ∙ ap (λ xs. take (length done.front + shorter.0) xs) (sym (done.cut ∙ ap (λ xs. done.front ++ xs) split)) in
-    (length done.front + shorter.0, stopped.1 ∙ ap (λ bs. Some bs) (append_assoc before done.front (take stopped.0 part)) ∙ ap (λ xs. Some (before ++ xs)) taken)
+    let whole : text ≡ done.front ++ (part ++ after) = done.cut ∙ ap (λ xs. done.front ++ xs) split in
+    let long : length text ≡ length done.front + (length part + length after) = ap length whole ∙ length-append done.front (part ++ after) ∙ ap (λ n. length done.front + n) (length-append part after) in
+    let shorter : stopped.0 < length part = stopped.1 in
+    let within : stopped.0 ≤ length part = omega (arith, shorter) in
+    let taken : done.front ++ take stopped.0 part ≡ take (length done.front + stopped.0) text =
+    ap (λ xs. done.front ++ xs) (sym (take-append-le stopped.0 part after within)) ∙ sym (take-append-add done.front (part ++ after) stopped.0)
+    ∙ ap (λ xs. take (length done.front + stopped.0) xs) (sym whole) in (
+      length done.front + stopped.0,
+      omega (arith, long, shorter),
+      stopped.2 ∙ ap (λ bs. Some bs) (append_assoc before done.front (take stopped.0 part)) ∙ ap (λ xs. Some (before ++ xs)) taken,
+    )
 
 -- what one call puts
 pub Puts-ok : (held_old held_new : Option (List ℕ)) (piece before : List ℕ) (n : ℕ) → Puts held_old held_new piece (Ok n) → held_old ≡ Some before → held_new ≡ Some (before ++ take n piece)
@@ -61,11 +62,16 @@ Puts-ok held_old held_new piece before n puts is = rw is at puts
 pub Puts-err : (held_old held_new : Option (List ℕ)) (piece before : List ℕ) (failed : Failed) → Puts held_old held_new piece (Err failed) → held_old ≡ Some before → held_new ≡ Some before
 Puts-err held_old held_new piece before failed puts is = rw is at puts
 
-pub Puts-none : (held_old held_new : Option (List ℕ)) (piece before : List ℕ) (failed : Failed) → Puts held_old held_new piece (Err failed) → held_old ≡ Some before → (n : ℕ) × (held_new ≡ Some (before ++ take {A = ℕ} n []))
-Puts-none held_old held_new piece before failed puts is = (0, Puts-err held_old held_new piece before failed puts is ∙ ap (λ bs. Some bs) (sym (append-empty before)))
+pub Puts-none : (held_old held_new : Option (List ℕ)) (piece before : List ℕ) (failed : Failed) → 0 < length piece → Puts held_old held_new piece (Err failed) → held_old ≡ Some before
+    → (n : ℕ) × (n < length piece) × (held_new ≡ Some (before ++ take n piece))
+Puts-none held_old held_new piece before failed some puts is = (0, some, Puts-err held_old held_new piece before failed puts is ∙ ap (λ bs. Some bs) (sym (append-empty before)))
+
+pub some_left : (empty : Bool) (rest : List ℕ) → empty ≡ (length rest == 0) → empty ≡ false → 0 < length rest
+some_left empty [] is some = absurd (let e : true ≡ false = sym is ∙ some in cc)
+some_left empty (x ∷ rest) is some = omega arith
 
 -- what a call that puts a whole text puts
-pub HasPut-err : (before text : List ℕ) (held_new : Option (List ℕ)) (result : Result (Unit {0}) Failed) → IsErr result → (n : ℕ) × (held_new ≡ Some (before ++ take n text)) → HasPut before text held_new result
+pub HasPut-err : (before text : List ℕ) (held_new : Option (List ℕ)) (result : Result (Unit {0}) Failed) → IsErr result → (n : ℕ) × (n < length text) × (held_new ≡ Some (before ++ take n text)) → HasPut before text held_new result
 HasPut-err before text held_new (Ok u) is_err put = absurd (cc)
 HasPut-err before text held_new (Err failed) is_err put = put
 

@@ -1,7 +1,10 @@
 -- The trees of the problems of an input.
-use Rattle.std.proofs.Common.{◌≡◌, ℕ, zero, suc, ◌+◌, ◌<◌, ◌≤◌, List, [], ◌∷◌, ◌++◌, length, get_or, take, drop, map, Option, Some, None, refl, sym, ap, ◌∙◌, subst, arith, ⊎_elim, append_assoc}
+use Rattle.std.proofs.Common.{◌≡◌, ℕ, zero, suc, ◌+◌, ◌<◌, ◌≤◌, List, [], ◌∷◌, ◌++◌, length, get_or, take, map, Option, Some, None, ◌⊎◌, inl, inr, refl, sym, ap, ◌∙◌, subst, arith, ⊎_elim}
 use Rattle.std.specs.Prelude.{option_map}
-use Rattle.std.proofs.lemmas.List.{append-nil, drop_all, take_all}
+use Rattle.std.specs.List.{AllZip, cons_option, filter_map}
+use Rattle.std.proofs.lemmas.List.{append-nil, take_all}
+use Rattle.std.proofs.lemmas.List.Elements.{filter_map-append}
+use Rattle.std.proofs.Math.Seq.{take-suc}
 use Rattle.std.proofs.Common.{Result, Ok, Err}
 use Rattle.std.specs.Result.{IfOk}
 use Rattle.cp_skel.specs.Trees.{outcome_view, tree_view}
@@ -17,24 +20,22 @@ use Rattle.cp_model.specs.Problem.{variable_terms, declared_sort, IsDeclared, Is
 use Rattle.cp_model.specs.Tree.{Mark, Outcome, complete, at_step_limit, at_strand_limit, Label, Tree, Limits, IsTrueOf}
 use Rattle.cp_sexpr.specs.Syntax as syntax
 use Rattle.cp_sexpr.specs.Syntax.{Forms}
-use Rattle.cp_sexpr.specs.View.{view}
+use Rattle.cp_sexpr.specs.View.{view, views}
 use Rattle.cp_language.specs.Problems.{Problem}
 use Rattle.cp_language.specs.Report.{variables_of_terms, occurring, HasItsVariables}
-use Rattle.cp_language.specs.Input.{Entry, faults_of, input_of}
+use Rattle.cp_language.specs.Input.{Entry, faults_of, input_of, IsInput}
 use Rattle.cp_load.specs.Inputs.{problem_view, entries_view, entries_of}
 use Rattle.cp_load.specs.declared.input.Problem.{Problem as ProgramProblem}
 use Rattle.cp_load.specs.declared.input.Input.{Input}
 use Rattle.cp_sexpr.specs.declared.form.Form as form
-use Rattle.std.specs.declared.alloc.Global.{Global}
-use Rattle.std.specs.Prelude.{Vec}
 use Rattle.cp_roots.specs.Roots.{Root}
-use Rattle.cp_search.specs.Unexpanded.{label_of, IsUnexpanded, LeavesNothingOut}
+use Rattle.cp_search.specs.Unexpanded.{label_of, IsUnexpanded}
 use Rattle.cp_model.specs.Problem.{HasDeclaredVariables}
 use Rattle.cp_roots.proofs.VariablesOfRoots.{roots_declared}
 use Rattle.cp_skel.proofs.DeclaredRoles.{declared_prefixes}
 use Rattle.cp_wellformed.proofs.Problems as wellformed
-use Rattle.cp_app.specs.Headline.{IsTrueTree, TreeIsTrue, AreTrue}
-use Rattle.cp_app.specs.Analysis.{IsAnalysable, IsAnalysableIf, AreAnalysable, HaveTrees, HasTreeBehind, problems_of}
+use Rattle.cp_app.specs.Headline.{HaveTrees}
+use Rattle.cp_app.specs.Analysis.{IsAnalysable, IsAnalysisOf}
 
 -- ---- variables
 
@@ -114,81 +115,111 @@ has_variables limits p t own exact l listed =
       declared = label_declared p.variables root.0 label.nodes label.mark declared;
     })
 
--- the tree of an unexpanded label is true and has its variables
-pub unexpanded_tree : (limits : Limits) (p : Problem) (t : Tree) → IsAnalysable p → IsTrueOf p.protocol p.skeleton limits t → LeavesNothingOut p.protocol p.skeleton t → IsUnexpanded p.skeleton p.variables limits t → IsTrueTree limits p t
-unexpanded_tree limits p t good truth nothing exact = record { truth = truth; nothing_left_out = nothing; exact = exact; variables = has_variables limits p t good.own exact }
+-- the tree of a problem is its analysis
+analysis_of : (limits : Limits) (p : Problem) (t : Tree) → IsAnalysable p → IsTrueOf p.protocol p.skeleton limits t → IsUnexpanded p.skeleton p.variables limits t → IsAnalysisOf limits p t
+analysis_of limits p t good truth searched = record { truth = truth; variables = has_variables limits p t good.own searched; searched = searched }
 
--- ---- loops
+pub analysis_if : {A : Type 0} (limits : Limits) (p : Problem) (r : Result ProgramTree A) → IsAnalysable p → IfOk r (λ t. IsTrueOf p.protocol p.skeleton limits (tree_view t))
+    → IfOk r (λ t. IsUnexpanded p.skeleton p.variables limits (tree_view t)) → IfOk r (λ t. IsAnalysisOf limits p (tree_view t))
+analysis_if limits p (Ok t) good truth searched = analysis_of limits p (tree_view t) good truth searched
+analysis_if limits p (Err e) good truth searched = tt
 
-pub analysable_at : (ps : List (Option ProgramProblem)) (i : ℕ) (o : Option ProgramProblem) → i < length ps → o ≡ get_or ps i o → AreAnalysable (map (option_map problem_view) ps) → IsAnalysableIf (option_map problem_view o)
-analysable_at [] i o lt is good = absurd (omega arith)
-analysable_at (q ∷ ps) zero o lt is good = rw (sym is) at good.0
-analysable_at (q ∷ ps) (suc i) o lt is good = analysable_at ps i o (omega arith) is good.1
+-- ---- each problem with its tree
 
-with_tree : (limits : Limits) (o : Option Problem) (os : List (Option Problem)) (old new rest : List Tree) (all : List (Option Problem)) → HasTreeBehind limits o old new
-    → ((ts : List Tree) → HaveTrees limits (o ∷ os) ts → HaveTrees limits all (old ++ ts)) → HaveTrees limits os rest → HaveTrees limits all (new ++ rest)
-with_tree limits None os old new rest all behind before have = rw (sym behind) at (before rest have)
-with_tree limits (Some p) os old new rest all (t, truth, grew) before have =
-    subst (HaveTrees limits all) (sym (ap (λ ts. ts ++ rest) grew ∙ append_assoc old (t ∷ []) rest)) (before (t ∷ rest) (truth, have))
+zip_behind : {A B : Type 0} (P : A → B → Type 0) (xs : List A) (ys : List B) (x : A) (y : B) → AllZip P xs ys → P x y → AllZip P (xs ++ x ∷ []) (ys ++ y ∷ [])
+zip_behind P [] [] x y all one = (one, tt)
+zip_behind P [] (z ∷ ys) x y all one = absurd all
+zip_behind P (w ∷ xs) [] x y all one = absurd all
+zip_behind P (w ∷ xs) (z ∷ ys) x y all one = (all.0, zip_behind P xs ys x y all.1 one)
 
--- What is left to do: with trees for the problems from i on, all have theirs.
-abbrev pub HaveTreesBut : Limits → List (Option ProgramProblem) → ℕ → List Tree → Type 0
-HaveTreesBut limits ps i ts = (rest : List Tree) → HaveTrees limits (map (option_map problem_view) (drop i ps)) rest → HaveTrees limits (map (option_map problem_view) ps) (ts ++ rest)
+pub zip_onto : {A B : Type 0} (P Q : A → B → Type 0) → ((x : A) (y : B) → P x y → Q x y) → (xs : List A) (ys : List B) → AllZip P xs ys → AllZip Q xs ys
+zip_onto P Q f [] [] all = tt
+zip_onto P Q f [] (y ∷ ys) all = absurd all
+zip_onto P Q f (x ∷ xs) [] all = absurd all
+zip_onto P Q f (x ∷ xs) (y ∷ ys) all = (f x y all.0, zip_onto P Q f xs ys all.1)
 
-pub tree_taken : (limits : Limits) (ps : List (Option ProgramProblem)) (i : ℕ) (o : Option ProgramProblem) (old new : List Tree) → drop i ps ≡ o ∷ drop (i + 1) ps
-    → HasTreeBehind limits (option_map problem_view o) old new → HaveTreesBut limits ps i old → HaveTreesBut limits ps (i + 1) new
-tree_taken limits ps i o old new is behind before rest have =
-    with_tree limits (option_map problem_view o) (map (option_map problem_view) (drop (i + 1) ps)) old new rest (map (option_map problem_view) ps) behind
-    (λ ts all. before ts (subst (λ qs. HaveTrees limits (map (option_map problem_view) qs) ts) (sym is) all)) have
+-- ---- the loop over the problems
 
-pub trees_done : (limits : Limits) (ps : List (Option ProgramProblem)) (i : ℕ) (ts : List Tree) → length ps ≤ i → HaveTreesBut limits ps i ts → HaveTrees limits (map (option_map problem_view) ps) ts
-trees_done limits ps i ts h but = subst (HaveTrees limits (map (option_map problem_view) ps)) (append-nil ts) (but [] (subst (λ qs. HaveTrees limits (map (option_map problem_view) qs) []) (sym (drop_all i ps h)) tt))
+-- The problems of the program that are stated.
+abbrev pub stated : List (Option ProgramProblem) → List Problem
+stated = filter_map (option_map problem_view)
 
--- ---- entries
+-- The trees of the first problems, i forms on.
+abbrev pub AreTreesUpTo : Limits → List (Option ProgramProblem) → ℕ → List ProgramTree → Type 0
+AreTreesUpTo limits ps i ts = AllZip (IsAnalysisOf limits) (stated (take i ps)) (map tree_view ts)
 
-pub stated_problems : (fs : List syntax.Form) (ps : List (Option ProgramProblem)) → problems_of (entries_view fs ps) ≡ map (option_map problem_view) (take (length fs) ps)
-stated_problems [] ps = refl
-stated_problems (f ∷ fs) [] = refl
-stated_problems (f ∷ fs) (p ∷ ps) = ap (λ qs. option_map problem_view p ∷ qs) (stated_problems fs ps)
+next_stated : (ps : List (Option ProgramProblem)) (i : ℕ) (o : Option ProgramProblem) → i < length ps → o ≡ get_or ps i o → stated (take (i + 1) ps) ≡ stated (take i ps) ++ stated (o ∷ [])
+next_stated ps i o lt is =
+    let one : take (i + 1) ps ≡ take i ps ++ o ∷ [] = rw add-one (take-suc ps i o lt ∙ ap (λ q. take i ps ++ q ∷ []) (sym is)) in
+    ap stated one ∙ filter_map-append (option_map problem_view) (take i ps) (o ∷ [])
 
-true_onto : (limits : Limits) (o : Option Problem) (ts : List Tree) (first second : List Tree → Type 0) → ((us : List Tree) → first us → second us) → TreeIsTrue limits o ts first → TreeIsTrue limits o ts second
-true_onto limits None ts first second f have = f ts have
-true_onto limits (Some p) [] first second f have = have
-true_onto limits (Some p) (t ∷ ts) first second f have = (have.0, f ts have.1)
+pub none_next : (limits : Limits) (ps : List (Option ProgramProblem)) (i : ℕ) (o : Option ProgramProblem) (ts : List ProgramTree) → i < length ps → o ≡ get_or ps i o → o ≡ None → AreTreesUpTo limits ps i ts
+    → AreTreesUpTo limits ps (i + 1) ts
+none_next limits ps i o ts lt is none before =
+    subst (λ qs. AllZip (IsAnalysisOf limits) qs (map tree_view ts)) (sym (next_stated ps i o lt is ∙ ap (λ q. stated (take i ps) ++ stated (q ∷ [])) none ∙ append-nil (stated (take i ps)))) before
 
--- Each problem has its tree.
-pub are_true : (limits : Limits) (es : List Entry) (ts : List Tree) → HaveTrees limits (problems_of es) ts → AreTrue limits es ts
-are_true limits [] [] have = have
-are_true limits [] (t ∷ ts) have = have
-are_true limits (e ∷ es) ts have = true_onto limits e.problem ts (HaveTrees limits (problems_of es)) (AreTrue limits es) (are_true limits es) have
+-- Behind the old trees stands that of the problem.
+abbrev pub IsBehind : Limits → ProgramProblem → List ProgramTree → List ProgramTree → Type 0
+IsBehind limits p old new = (t : Tree) × IsAnalysisOf limits (problem_view p) t × (map tree_view new ≡ map tree_view old ++ t ∷ [])
+
+pub tree_next : (limits : Limits) (ps : List (Option ProgramProblem)) (i : ℕ) (o : Option ProgramProblem) (p : ProgramProblem) (old new : List ProgramTree) → i < length ps → o ≡ get_or ps i o → o ≡ Some p
+    → IsBehind limits p old new → AreTreesUpTo limits ps i old → AreTreesUpTo limits ps (i + 1) new
+tree_next limits ps i o p old new lt is some (t, one, grew) before =
+    let problems : stated (take (i + 1) ps) ≡ stated (take i ps) ++ problem_view p ∷ [] = next_stated ps i o lt is ∙ ap (λ q. stated (take i ps) ++ stated (q ∷ [])) some in
+    subst (λ qs. AllZip (IsAnalysisOf limits) qs (map tree_view new)) (sym problems)
+    (subst (λ us. AllZip (IsAnalysisOf limits) (stated (take i ps) ++ problem_view p ∷ []) us) (sym grew) (zip_behind (IsAnalysisOf limits) (stated (take i ps)) (map tree_view old) (problem_view p) t before one))
+
+pub trees_done : (limits : Limits) (ps : List (Option ProgramProblem)) (i : ℕ) (ts : List ProgramTree) → length ps ≤ i → AreTreesUpTo limits ps i ts → AllZip (IsAnalysisOf limits) (stated ps) (map tree_view ts)
+trees_done limits ps i ts h all = rw (take_all i ps h) at all
+
+pub is_stated : (ps : List (Option ProgramProblem)) (i : ℕ) (o : Option ProgramProblem) (p : ProgramProblem) → i < length ps → o ≡ get_or ps i o → o ≡ Some p → IsIn (problem_view p) (stated ps)
+is_stated [] i o p lt is some = absurd (omega arith)
+is_stated (q ∷ ps) zero o p lt is some = subst (λ r. IsIn (problem_view p) (stated (r ∷ ps))) (sym some ∙ is) here
+is_stated (None ∷ ps) (suc i) o p lt is some = is_stated ps i o p (omega arith) is some
+is_stated (Some q ∷ ps) (suc i) o p lt is some = there (is_stated ps i o p (omega arith) is some)
 
 -- ---- input of which nothing is refused
 
-analysable_if : (o : Option Problem) → ((p : Problem) → o ≡ Some p → IsAnalysable p) → IsAnalysableIf o
-analysable_if None each = tt
-analysable_if (Some p) each = each p refl
+-- the problems of the program are those of the entries
+stated_problems : (fs : List syntax.Form) (ps : List (Option ProgramProblem)) → length ps ≡ length fs → filter_map (λ e. e.problem) (entries_view fs ps) ≡ stated ps
+stated_problems [] [] same = refl
+stated_problems [] (p ∷ ps) same = absurd (omega (arith, same))
+stated_problems (f ∷ fs) [] same = absurd (omega (arith, same))
+stated_problems (f ∷ fs) (p ∷ ps) same = ap (λ qs. cons_option (option_map problem_view p) qs) (stated_problems fs ps (omega (arith, same)))
 
-analysable_all : (es : List Entry) → ((e : Entry) (p : Problem) → IsIn e es → e.problem ≡ Some p → IsAnalysable p) → AreAnalysable (problems_of es)
-analysable_all [] each = tt
-analysable_all (e ∷ es) each = (analysable_if e.problem (λ p is. each e p here is), analysable_all es (λ d p listed is. each d p (there listed) is))
+mapped-length : (fs : List form.Form) → length (map view fs) ≡ length fs
+mapped-length [] = refl
+mapped-length (f ∷ fs) = ap suc (mapped-length fs)
+
+stated_in : (input : Input) (fs : List form.Form) → input.forms.now ≡ fs → length input.problems.items ≡ length fs → filter_map (λ e. e.problem) (entries_of input) ≡ stated input.problems.items
+stated_in input fs same counted = stated_problems (map view input.forms.now) input.problems.items (counted ∙ ap length (sym same) ∙ sym (mapped-length input.forms.now))
+
+in_next : (o : Option Problem) (ps : List Problem) (p : Problem) → IsIn p (cons_option o ps) → (o ≡ Some p) ⊎ IsIn p ps
+in_next None ps p m = inr m
+in_next (Some q) ps _ here = inl refl
+in_next (Some q) ps p (there m) = inr m
+
+entry_of : (es : List Entry) (p : Problem) → IsIn p (filter_map (λ e. e.problem) es) → (e : Entry) × IsIn e es × (e.problem ≡ Some p)
+entry_of [] p m = elim m [ ]
+entry_of (e ∷ es) p m = ⊎_elim (λ is. (e, here, is)) (λ q. let r = entry_of es p q in (r.0, there r.1, r.2)) (in_next e.problem (filter_map (λ d. d.problem) es) p m)
 
 -- The problems of an input of which nothing is refused are analysable.
-pub analysable_input : (fs : Forms) (es : List Entry) → faults_of fs ≡ [] → es ≡ input_of fs → AreAnalysable (problems_of es)
-analysable_input fs es none same =
-    rw (sym same) at (analysable_all (input_of fs) (λ e p listed is.
-    let skeleton = wellformed.are_skeletons fs e p none listed is in
+analysable_input : (fs : Forms) (es : List Entry) → faults_of fs ≡ [] → es ≡ input_of fs → (p : Problem) → IsIn p (filter_map (λ e. e.problem) es) → IsAnalysable p
+analysable_input fs es none same p listed =
+    let found = entry_of (input_of fs) p (rw same at listed) in
+    let skeleton = wellformed.are_skeletons fs found.0 p none found.1 found.2 in
     record {
       is_skeleton = skeleton;
-      own = wellformed.map_to_themselves fs e p none listed is;
-      declared = declared_prefixes p.protocol p.skeleton (λ r inp. (wellformed.roles_are_well_formed fs e p r none listed is inp).trace) skeleton;
-    }))
+      own = wellformed.map_to_themselves fs found.0 p none found.1 found.2;
+      declared = declared_prefixes p.protocol p.skeleton (λ r inp. (wellformed.roles_are_well_formed fs found.0 p r none found.1 found.2 inp).trace) skeleton;
+    }
 
--- ---- answers
+pub analysable_problems : (input : Input) (fs : List form.Form) → IsInput (views fs) (Ok (entries_of input)) → input.forms.now ≡ fs → length input.problems.items ≡ length fs → (p : Problem) → IsIn p (stated input.problems.items) → IsAnalysable p
+analysable_problems input fs loaded same counted p listed = analysable_input (views fs) (entries_of input) loaded.0 loaded.1 p (rw (sym (stated_in input fs same counted)) at listed)
 
-pub true_tree_if : {A : Type 0} (limits : Limits) (p : Problem) (r : Result ProgramTree A) → IsAnalysable p → IfOk r (λ t. IsTrueOf p.protocol p.skeleton limits (tree_view t))
-    → IfOk r (λ t. LeavesNothingOut p.protocol p.skeleton (tree_view t)) → IfOk r (λ t. IsUnexpanded p.skeleton p.variables limits (tree_view t)) → IfOk r (λ t. IsTrueTree limits p (tree_view t))
-true_tree_if limits p (Ok t) good truth nothing exact = unexpanded_tree limits p (tree_view t) good truth nothing exact
-true_tree_if limits p (Err e) good truth nothing exact = tt
+pub all_analysed : (limits : Limits) (input : Input) (fs : List form.Form) (ts : List Tree) → input.forms.now ≡ fs → length input.problems.items ≡ length fs → AllZip (IsAnalysisOf limits) (stated input.problems.items) ts
+    → HaveTrees (IsAnalysisOf limits) (entries_of input) ts
+all_analysed limits input fs ts same counted all = rw (sym (stated_in input fs same counted)) at all
 
 -- ---- outcomes
 
@@ -225,20 +256,3 @@ complete_next ts i t b lt is test done before = rw add-one (next ts i t lt is (c
 
 pub all_complete : (ts : List ProgramTree) (i : ℕ) → length ts ≤ i → AreCompleteBefore ts i → (t : Tree) → IsIn t (map tree_view ts) → t.outcome ≡ complete
 all_complete ts i h before t listed = before t (rw (sym (take_all i ts h)) at listed)
-
--- ---- the input of the program
-
-mapped-length : (fs : List form.Form) → length (map view fs) ≡ length fs
-mapped-length [] = refl
-mapped-length (f ∷ fs) = ap suc (mapped-length fs)
-
-pub stated_of : (input : Input) (ps : List (Option ProgramProblem)) → ps ≡ take (length input.forms.now) input.problems.items → problems_of (entries_of input) ≡ map (option_map problem_view) ps
-stated_of input ps is =
-    stated_problems (map view input.forms.now) input.problems.items
-    ∙ ap (λ n. map (option_map problem_view) (take n input.problems.items)) (mapped-length input.forms.now)
-    ∙ ap (map (option_map problem_view)) (sym is)
-
-pub have_of : {A : Type 0} (limits : Limits) (input : Input) (ps : List (Option ProgramProblem)) (r : Result (Vec ProgramTree Global) A) → ps ≡ take (length input.forms.now) input.problems.items
-    → IfOk r (λ ts. HaveTrees limits (map (option_map problem_view) ps) (map tree_view ts.items)) → IfOk r (λ ts. HaveTrees limits (problems_of (entries_of input)) (map tree_view ts.items))
-have_of limits input ps (Ok ts) is have = rw (sym (stated_of input ps is)) at have
-have_of limits input ps (Err e) is have = tt

@@ -1,5 +1,6 @@
 -- What `run` promises, top to bottom.
-use Rattle.std.specs.Prelude.{◌≡◌, ◌≢◌, ℕ, ◌+◌, ◌<◌, ◌≤◌, ◌⊎◌, List, [], ◌∷◌, ◌++◌, length, take, drop, Bool, true, false, codes, decimal, Option, Some, None, Ok, Err}
+use Rattle.std.specs.Prelude.{◌≡◌, ◌≢◌, ℕ, ◌+◌, ◌<◌, ◌≤◌, ◌⊎◌, List, [], ◌∷◌, ◌++◌, length, take, drop, Bool, true, false, codes, decimal, Option, Some, Ok, Err}
+use Rattle.std.specs.List.{AllZip, filter_map}
 use Rattle.cp_base.specs.Codes.{code_text}
 use Rattle.cp_base.specs.Outside.{Rose}
 use Rattle.cp_base.specs.declared.place.Refusal.{Refusal}
@@ -13,7 +14,6 @@ use Rattle.cp_language.specs.Problems.{Problem}
 use Rattle.cp_language.specs.Faults.{IsFirstFault}
 use Rattle.cp_language.specs.Input.{Entry, faults_of, input_of}
 use Rattle.cp_language.specs.Report.{HasItsVariables, report_text}
-use Rattle.cp_search.specs.Unexpanded.{IsUnexpanded, LeavesNothingOut}
 
 -- ---- the input
 
@@ -33,29 +33,17 @@ IsRefusedFor input r = IsReading input (Err r) ⊎ ((fs : Forms) × IsReading in
 
 -- ---- the report
 
--- Each problem has its tree, which is true of it, leaves nothing out at a limit either, is that of the roots of which none
--- is expanded, and whose labels have their variables.
-pub record IsTrueTree (limits : Limits) (p : Problem) (t : Tree) : Type 0 where
-  pub truth : IsTrueOf p.protocol p.skeleton limits t
-  pub nothing_left_out : LeavesNothingOut p.protocol p.skeleton t
-  pub exact : IsUnexpanded p.skeleton p.variables limits t
-  pub variables : (l : Label) → IsIn l t.labels → HasItsVariables p l
+-- The problems that entries state have these trees, each its own, in the same order; and P holds of each problem and its tree.
+abbrev pub HaveTrees : (Problem → Tree → Type 0) → List Entry → List Tree → Type 0
+HaveTrees P entries trees = AllZip P (filter_map (λ e. e.problem) entries) trees
 
-abbrev pub TreeIsTrue : Limits → Option Problem → List Tree → (List Tree → Type 0) → Type 0
-TreeIsTrue limits None ts rest = rest ts
-TreeIsTrue limits (Some p) [] rest = ⊥
-TreeIsTrue limits (Some p) (t ∷ ts) rest = IsTrueTree limits p t × rest ts
-
-abbrev pub AreTrue : Limits → List Entry → List Tree → Type 0
-AreTrue limits [] [] = Unit {0}
-AreTrue limits [] (t ∷ ts) = ⊥
-AreTrue limits (e ∷ es) ts = TreeIsTrue limits e.problem ts (AreTrue limits es)
-
--- The text is that of one report over the forms of the input, with a tree after every problem that is true of it.
+-- The text is that of one report over the forms of the input: each problem has its tree, which is true of it and whose labels
+-- have their variables, and the text gives the forms in order and behind each problem its tree.
 pub record IsReportOf (limits : Limits) (input text : List ℕ) (trees : List Tree) : Type 0 where
   pub forms : Forms
   pub accepted : IsAccepted input forms
-  pub true_trees : AreTrue limits (input_of forms) trees
+  pub true_trees : HaveTrees (λ p t. IsTrueOf p.protocol p.skeleton limits t) (input_of forms) trees
+  pub variables : HaveTrees (λ p t. (l : Label) → IsIn l t.labels → HasItsVariables p l) (input_of forms) trees
   pub printed : text ≡ report_text (input_of forms) trees
 
 -- Done says that every outcome is complete, and Limit that some outcome is a limit.
@@ -105,11 +93,12 @@ pub record HasReported (limits : Limits) (input before : List ℕ) (left_new hel
   pub report : IsReportOf limits input text trees
   pub outcomes : SaysOutcomes status trees
 
--- At a write fault the source was read to its end, and what was put is the front of such a text.
+-- At a write fault the source was read to its end, and what was put is the front of such a text, shorter than it.
 pub record HasBrokenOff (limits : Limits) (input before : List ℕ) (left_new held_new : Option (List ℕ)) : Type 0 where
   pub text : List ℕ
   pub trees : List Tree
   pub put : ℕ
+  pub shorter : put < length text
   pub at_end : left_new ≡ Some []
   pub held : held_new ≡ Some (before ++ take put text)
   pub report : IsReportOf limits input text trees

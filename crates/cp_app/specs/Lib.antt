@@ -1,4 +1,4 @@
 pub mod Headline
+pub mod Searched
 pub mod Steps
-pub mod Loading
 pub mod Analysis

@@ -1,5 +1,5 @@
 -- What the steps of a run leave, where the source and the sink tell what they hold.
-use Rattle.std.specs.Prelude.{◌≡◌, ℕ, List, [], ◌++◌, take, Bool, true, false, Option, Some, None, Result, Ok, Err}
+use Rattle.std.specs.Prelude.{◌≡◌, ℕ, ◌<◌, List, [], ◌++◌, length, take, Bool, true, false, Option, Some, None, Result, Ok, Err}
 use Rattle.cp_base.specs.declared.status.Failed.{Failed}
 use Rattle.cp_base.specs.declared.status.Status.{Status}
 use Rattle.cp_base.specs.declared.status.Status.TheVariants as status
@@ -9,6 +9,7 @@ use Rattle.cp_sexpr.specs.declared.error.ReadError.TheVariants as reading
 use Rattle.cp_load.specs.declared.error.LoadError.{LoadError}
 use Rattle.cp_load.specs.declared.error.LoadError.TheVariants as loading
 use Rattle.cp_app.specs.Headline.{IsRefusedFor, IsReportOf, SaysOutcomes, HasRefused, WasTooLong, TookAtMost}
+use Rattle.cp_app.specs.Searched.{AreSearched}
 use Rattle.cp_app.specs.declared.stopped.Stopped.{Stopped}
 use Rattle.cp_app.specs.declared.stopped.Stopped.TheVariants.{Refused, ReadFault, Memory, TooLong}
 
@@ -57,16 +58,17 @@ abbrev pub outcomes_status : Bool → Status
 outcomes_status true = status.Done
 outcomes_status false = status.Limit
 
--- The text is that of a report of the input; and whether every outcome in it is complete.
+-- The text is that of a report of the input, whose trees are those of the search; and whether every outcome in it is complete.
 pub record IsWholeReport (limits : Limits) (input text : List ℕ) (complete : Bool) : Type 0 where
   pub trees : List Tree
   pub report : IsReportOf limits input text trees
+  pub searched : AreSearched limits report.forms trees
   pub outcomes : SaysOutcomes (outcomes_status complete) trees
 
--- The text was put, and at a fault a front of it.
+-- The text was put, and at a fault a front that is shorter.
 abbrev pub HasPut : List ℕ → List ℕ → Option (List ℕ) → Result (Unit {0}) Failed → Type 0
 HasPut before text held_new (Ok u) = held_new ≡ Some (before ++ text)
-HasPut before text held_new (Err failed) = (n : ℕ) × (held_new ≡ Some (before ++ take n text))
+HasPut before text held_new (Err failed) = (n : ℕ) × (n < length text) × (held_new ≡ Some (before ++ take n text))
 
 -- The source was read to its end, and the text of a report of its input was put so.
 pub record HasWritten (limits : Limits) (input : List ℕ) (left_new held_old held_new : Option (List ℕ)) (complete : Bool) (result : Result (Unit {0}) Failed) : Type 0 where

@@ -2,7 +2,6 @@
 #![tactic(auto)]
 
 mod analysing;
-mod loading;
 mod reading;
 #[cfg(test)]
 mod rows_tests;

@@ -1,7 +1,8 @@
 // The top call.
-ghost use Rattle.std.specs.Prelude.{◌≡◌, ◌≢◌, ◌≤◌, ◌<◌, ◌⊎◌, ◌↔◌, ℕ, List, [], length, map, string_bytes, true, None, Some, IfOk, IfErr};
+ghost use Rattle.std.specs.Prelude.{◌≡◌, ◌≢◌, ◌≤◌, ◌<◌, ◌⊎◌, ◌↔◌, ℕ, List, [], length, map, string_bytes, true, None, Some, IfOk, IfErr, OnErr};
 ghost use Rattle.cp_app.specs.Headline.{most_bytes, IsAccepted, IsRefusedFor, IsAnalysed, puts_nothing, status_line, HasReported, HasBrokenOff, HasRefused, WasTooLong, TookAtMost, HasLine};
-ghost use Rattle.cp_app.specs.Steps.{IsCauseFor, HasStopped, IsWholeReport, outcomes_status, HasEnded, HasExecuted};
+ghost use Rattle.cp_app.specs.Searched.{HasReportedSearch, HasBrokenOffSearch};
+ghost use Rattle.cp_app.specs.Steps.{IsCauseFor, HasStopped, IsWholeReport, outcomes_status, HasPut, HasEnded, HasExecuted};
 ghost use Rattle.cp_app.specs.declared.stopped.Stopped.TheVariants as stopped;
 ghost use Rattle.cp_base.specs.Outside.{Rose};
 ghost use Rattle.cp_base.specs.declared.place.Refusal.{Refusal as RefusalData};
@@ -12,11 +13,11 @@ ghost use Rattle.cp_skel.specs.Trees.{limits_view};
 ghost use Rattle.cp_words.specs.Command.{command_of};
 
 use crate::analysing::{are_complete, trees_of};
-use crate::loading::load_accepted;
 use crate::reading::read_all;
 use crate::stopped::Stopped;
 use crate::writing::{put_line, put_pieces};
-use cp_base::{Sink, Source, Status};
+use cp_base::{Failed, Sink, Source, Status};
+use cp_load::load;
 use cp_print::print_pieces;
 use cp_sexpr::read;
 use cp_skel::Limits;
@@ -50,8 +51,8 @@ fn report_of(alloc: Global, limits: Limits, input: &[u8]) -> Result<Report, Stop
     ensures cause { IfErr result (IsCauseFor input.now) }
 {
     let forms = read(alloc, input)?;
-    let loaded = load_accepted(alloc, &forms)?;
-    let trees = trees_of(alloc, &loaded, limits)?;
+    let loaded = load(alloc, &forms)?;
+    let trees = trees_of(alloc, &loaded.problems, limits)?;
     let complete = are_complete(&trees);
     let mut text = Vec::new(alloc);
     let mut ends = Vec::new(alloc);
@@ -77,6 +78,15 @@ fn make_report<S: Source>(alloc: Global, limits: Limits, source: &mut S) -> Resu
     report_of(alloc, limits, &input)
 }
 
+// Puts a report, one top form a piece.
+fn put_report<O: Sink>(out: &mut O, report: &Report) -> Result<(), Failed>
+    ensures put { (before : List ℕ) → O.held out.old ≡ Some before
+        → HasPut before report.now.text.items (O.held out.new) result }
+    ensures failed { OnErr result (Rose (O.faults out.old) (O.faults out.new)) }
+{
+    put_pieces(out, &report.text, &report.ends)
+}
+
 // Puts the report of what the source holds.
 fn analyse<S: Source, O: Sink>(alloc: Global, limits: Limits, source: &mut S, out: &mut O) -> Status
     requires no_steps { limits.steps ≡ 0 }
@@ -88,7 +98,7 @@ fn analyse<S: Source, O: Sink>(alloc: Global, limits: Limits, source: &mut S, ou
     ensures nothing_put { puts_nothing result ≡ true → out.new ≡ out.old }
 {
     match make_report(alloc, limits, source) {
-        Ok(report) => match put_pieces(out, &report.text, &report.ends) {
+        Ok(report) => match put_report(out, &report) {
             Ok(()) => outcomes_status(report.complete),
             Err(_) => Status::WriteFault,
         },
@@ -121,19 +131,28 @@ fn execute<S: Source, O: Sink>(
 /// Runs the command that the words name, over a source, a sink for its output and a sink for errors.
 ///
 /// The words are a name for the program and the command. The command `analyse --limit 0 [--bound N]` reads the source
-/// to its end, at most one byte more than 1,048,576, analyses each problem, makes the whole text of the report, and
-/// only then puts it, one top form a piece. The status says how that ended:
+/// to its end, at most one byte more than 1,048,576, finds the tree of each problem, makes the whole text of the report,
+/// and only then puts it, one top form a piece. The status says how that ended:
 ///
 /// - `Done`: the whole report was put, and each of its outcomes is complete;
 /// - `Limit`: the whole report was put, and some outcome is a limit;
-/// - `Usage`: the words are no command, and nothing was read;
-/// - `TooLong`: the source held more than 1,048,576 bytes;
-/// - `Refused`: the input is not well formed; at the place of the first fault;
+/// - `Usage`: exactly where the words are no command, and nothing was read;
+/// - `TooLong`: exactly where the source held more than 1,048,576 bytes, if it does not fail before and memory lasts;
+/// - `Refused`: exactly where the input is not well formed, under the same condition; at the place of the first fault;
 /// - `ReadFault`, `WriteFault`: the source, or the sink for the output, failed;
 /// - `Memory`: a growth in memory was refused.
 ///
-/// At `WriteFault` a front of the report was put, and at the other statuses but `Done` and `Limit` nothing was. Each
-/// status but `Done` and `Limit` has a line on the sink for errors, and stays as it is where that sink fails.
+/// The report is over all of the input, which is well formed and was read to its end: the forms in order, and behind each
+/// problem its tree, whose labels have their variables. The tree is true of its problem: each label denotes a skeleton over
+/// the protocol, carries a homomorphism from the problem and keeps what the problem states itself; shapes are realised, and
+/// none embeds in another; where the tree is complete, whenever the problem stands in a bundle that standing factors through
+/// a shape, and at a limit through a shape or a label at a limit; and a limit is the outcome only where it was reached.
+/// Besides, each tree is exactly the one of the search.
+///
+/// At `WriteFault` a front of such a report was put, which is shorter than it, and at the other statuses but `Done` and
+/// `Limit` nothing was. Each status but `Done` and `Limit` has a line on the sink for errors, and stays as it is where that
+/// sink fails. What is said of the input and the output holds where the source tells what it had left and the sink what it
+/// holds.
 pub fn run<S: Source, O: Sink, E: Sink>(
     alloc: Global,
     words: &[String],
@@ -145,7 +164,7 @@ pub fn run<S: Source, O: Sink, E: Sink>(
     ensures usage { (result ≡ Usage) ↔ (command_of (map string_bytes words.now) ≡ None) }
     ensures usage_reads_nothing { result ≡ Usage → source.new ≡ source.old }
 
-    // What was put is the report of the whole input, with trees that are true of it.
+    // What was put is a report of the whole input, with trees that are true of its problems; at a write fault a front of one.
     ensures reported { (limits : LimitsData) (input before : List ℕ)
         → command_of (map string_bytes words.now) ≡ Some limits → S.left source.old ≡ Some input
         → O.held out.old ≡ Some before → IsAnalysed result
@@ -154,6 +173,18 @@ pub fn run<S: Source, O: Sink, E: Sink>(
         → command_of (map string_bytes words.now) ≡ Some limits → S.left source.old ≡ Some input
         → O.held out.old ≡ Some before → result ≡ WriteFault
         → HasBrokenOff limits input before (S.left source.new) (O.held out.new) }
+
+    // The same, and the trees of this report are exactly those of the search.
+    ensures searched { (limits : LimitsData) (input before : List ℕ)
+        → command_of (map string_bytes words.now) ≡ Some limits → S.left source.old ≡ Some input
+        → O.held out.old ≡ Some before → IsAnalysed result
+        → HasReportedSearch limits input before (S.left source.new) (O.held out.new) result }
+    ensures searched_before_fault { (limits : LimitsData) (input before : List ℕ)
+        → command_of (map string_bytes words.now) ≡ Some limits → S.left source.old ≡ Some input
+        → O.held out.old ≡ Some before → result ≡ WriteFault
+        → HasBrokenOffSearch limits input before (S.left source.new) (O.held out.new) }
+
+    // Only accepted input is analysed, and it is read to its end.
     ensures accepted { (input : List ℕ) → S.left source.old ≡ Some input
         → (IsAnalysed result ⊎ (result ≡ WriteFault))
         → (S.left source.new ≡ Some []) × ((fs : Forms) × IsAccepted input fs) }

@@ -1,9 +1,7 @@
 use Rattle.cp_load.specs.Inputs.{problem_view}
 use Rattle.cp_skel.specs.Trees.{limits_view}
-use Rattle.cp_app.proofs.Trees.{true_tree_if}
+use Rattle.cp_app.proofs.Trees.{analysis_if}
 use Rattle.cp_app.proofs.analysing.tree_of.Goals as goal
 
 pub returns : goal.returns
-returns c =
-    true_tree_if (limits_view c.args.limits) (problem_view c.args.problem.now) c.unexpanded.result c.requires.analysable (rw c.deref.ensures at c.unexpanded.ensures.true_tree)
-    (rw c.deref.ensures at c.unexpanded.ensures.nothing_left_out) c.unexpanded.ensures.exact
+returns c = analysis_if (limits_view c.args.limits) (problem_view c.args.problem.now) c.unexpanded.result c.requires.analysable (rw c.deref.ensures at c.unexpanded.ensures.true_tree) c.unexpanded.ensures.exact

@@ -4,15 +4,21 @@ use Rattle.cp_words.specs.Command.{command_of}
 use Rattle.cp_app.proofs.Endings as endings
 use Rattle.cp_app.proofs.running.run.Goals as goal
 
-pub returns-clause-reported : goal.returns-clause-reported
-returns-clause-reported g c = λ limits input before command is held analysed.
-    endings.executed_reported (command_of (map string_bytes c.args.words.now)) input (g.S.Source.left c.execute-status.new.source) (g.O.Sink.held c.args.out.now) (g.O.Sink.held c.execute-status.new.out)
+pub returns-clause-searched : goal.returns-clause-searched
+returns-clause-searched g c = λ limits input before command is held analysed.
+    endings.executed_searched (command_of (map string_bytes c.args.words.now)) input (g.S.Source.left c.execute-status.new.source) (g.O.Sink.held c.args.out.now) (g.O.Sink.held c.execute-status.new.out)
     limits before c.execute-status.result (c.execute-status.ensures.executed input is) command held analysed
 
-pub returns-clause-broken_off : goal.returns-clause-broken_off
-returns-clause-broken_off g c = λ limits input before command is held broken.
+pub returns-clause-searched_before_fault : goal.returns-clause-searched_before_fault
+returns-clause-searched_before_fault g c = λ limits input before command is held broken.
     endings.executed_broken_off (command_of (map string_bytes c.args.words.now)) input (g.S.Source.left c.execute-status.new.source) (g.O.Sink.held c.args.out.now) (g.O.Sink.held c.execute-status.new.out)
     limits before c.execute-status.result (c.execute-status.ensures.executed input is) command held broken
+
+pub returns-clause-reported : goal.returns-clause-reported
+returns-clause-reported g c = λ limits input before command is held analysed. (returns-clause-searched g c limits input before command is held analysed).reported
+
+pub returns-clause-broken_off : goal.returns-clause-broken_off
+returns-clause-broken_off g c = λ limits input before command is held broken. (returns-clause-searched_before_fault g c limits input before command is held broken).broken_off
 
 pub returns-clause-accepted : goal.returns-clause-accepted
 returns-clause-accepted g c = λ input is accepted.

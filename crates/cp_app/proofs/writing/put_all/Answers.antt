@@ -1,5 +1,5 @@
-use Rattle.std.proofs.Common.{◌≡◌, ◌++◌, [], take, refl, arith}
-use Rattle.cp_app.proofs.Putting.{both_parts, PutUpTo-more, PutUpTo-stop, Puts-ok, Puts-none, HasPut-err}
+use Rattle.std.proofs.Common.{◌≡◌, ◌++◌, [], take, refl, sym, arith}
+use Rattle.cp_app.proofs.Putting.{append-empty, both_parts, PutUpTo-more, PutUpTo-stop, Puts-ok, Puts-none, some_left, HasPut-err}
 use Rattle.cp_app.proofs.writing.put_all.Goals as goal
 
 pub returns-in_err-count-clause-put : goal.returns-in_err-count-clause-put
@@ -7,9 +7,10 @@ returns-in_err-count-clause-put g c = λ before is.
     let held_old = g.O.Sink.held c.args.out.now in
     let held_middle = g.O.Sink.held c.loop-rest.out in
     let held_new = g.O.Sink.held c.put.new.self in
+    let rest = c.loop-rest.rest.now in
     HasPut-err before c.args.piece.now held_new c.from_residual.result c.from_residual.ensures.0
-    (PutUpTo-stop c.args.piece.now c.loop-rest.rest.now [] c.loop-rest.rest.now held_old held_middle held_new c.loop-rest.invariant.put refl
-    (λ now held. Puts-none held_middle held_new c.loop-rest.rest.now now c.in_err-count.field-0.0 c.in_err-count.ensures.moved held) before is)
+    (PutUpTo-stop c.args.piece.now rest rest [] held_old held_middle held_new c.loop-rest.invariant.put (sym (append-empty rest))
+    (λ now held. Puts-none held_middle held_new rest now c.in_err-count.field-0.0 (some_left _ rest c.is_empty.ensures c.loop-rest-test.true) c.in_err-count.ensures.moved held) before is)
 
 pub loop-rest-preserved : goal.loop-rest-preserved
 loop-rest-preserved g c =

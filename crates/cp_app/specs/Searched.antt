@@ -1,0 +1,23 @@
+-- Which trees a report has: those of the search. This changes with each stage of the search, and what a report is does not.
+use Rattle.std.specs.Prelude.{ℕ, List, Option}
+use Rattle.cp_base.specs.declared.status.Status.{Status}
+use Rattle.cp_model.specs.Tree.{Limits, Tree}
+use Rattle.cp_sexpr.specs.Syntax.{Forms}
+use Rattle.cp_language.specs.Input.{input_of}
+use Rattle.cp_search.specs.Unexpanded.{IsUnexpanded}
+use Rattle.cp_app.specs.Headline.{HaveTrees, HasReported, HasBrokenOff}
+
+-- The tree of each problem that the forms state is exactly that of the search: its labels are the problem's roots, and none is
+-- expanded.
+abbrev pub AreSearched : Limits → Forms → List Tree → Type 0
+AreSearched limits forms trees = HaveTrees (λ p t. IsUnexpanded p.skeleton p.variables limits t) (input_of forms) trees
+
+-- A report was put, and its trees are those of the search.
+pub record HasReportedSearch (limits : Limits) (input before : List ℕ) (left_new held_new : Option (List ℕ)) (status : Status) : Type 0 where
+  pub reported : HasReported limits input before left_new held_new status
+  pub searched : AreSearched limits reported.report.forms reported.trees
+
+-- A report was broken off, and its trees are those of the search.
+pub record HasBrokenOffSearch (limits : Limits) (input before : List ℕ) (left_new held_new : Option (List ℕ)) : Type 0 where
+  pub broken_off : HasBrokenOff limits input before left_new held_new
+  pub searched : AreSearched limits broken_off.report.forms broken_off.trees
