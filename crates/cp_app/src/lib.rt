@@ -4,13 +4,8 @@
 mod analysing;
 mod loading;
 mod reading;
-#[cfg(test)]
-mod rows_tests;
 mod running;
 mod stopped;
 mod writing;
 
 pub use running::run;
-
-#[cfg(test)]
-mod tests;

@@ -12,8 +12,6 @@ mod partials;
 mod placing;
 mod searching;
 mod starting;
-#[cfg(test)]
-mod tests;
 
 pub use embedding::{embed, isomorphic};
 pub use mapping::Map;
