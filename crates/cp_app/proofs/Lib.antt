@@ -2,4 +2,3 @@ pub mod Putting
 pub mod Taking
 pub mod Trees
 pub mod Endings
-pub mod LoadedProblems

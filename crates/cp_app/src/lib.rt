@@ -3,13 +3,8 @@
 
 mod analysing;
 mod reading;
-#[cfg(test)]
-mod rows_tests;
 mod running;
 mod stopped;
 mod writing;
 
 pub use running::run;
-
-#[cfg(test)]
-mod tests;

@@ -17,6 +17,3 @@ pub use sink::Sink;
 pub use source::Source;
 pub use status::{Failed, Status};
 pub use text::Text;
-
-#[cfg(test)]
-mod tests;

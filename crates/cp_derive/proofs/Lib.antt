@@ -12,5 +12,3 @@ pub mod Picking
 pub mod Extending
 pub mod Placing
 pub mod GivenAtNode
-pub mod Unpaired
-pub mod Nodes

@@ -13,8 +13,6 @@ mod laws;
 mod occurrence;
 mod opening;
 mod receptions;
-#[cfg(test)]
-mod tests;
 mod transmission;
 mod walk;
 

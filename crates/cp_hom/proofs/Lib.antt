@@ -10,4 +10,3 @@ pub mod Itemised
 pub mod Listed
 pub mod Ordering
 pub mod Stepping
-pub mod Unordered

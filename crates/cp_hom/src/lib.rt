@@ -13,8 +13,6 @@ mod partition;
 mod placing;
 mod searching;
 mod starting;
-#[cfg(test)]
-mod tests;
 
 pub use embedding::{embed, isomorphic};
 pub use mapping::Map;

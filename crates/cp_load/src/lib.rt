@@ -28,6 +28,3 @@ mod values;
 pub use error::LoadError;
 pub use input::{Input, Problem};
 pub use loading::load;
-
-#[cfg(test)]
-mod tests;

@@ -10,8 +10,6 @@ mod message;
 mod origin;
 mod single;
 mod strand;
-#[cfg(test)]
-mod tests;
 
 pub use bundle::{Bundle, Run};
 pub use key::Key;

@@ -58,7 +58,6 @@ pub mod Imaging
 pub mod Determined
 pub mod ExactBlocks
 pub mod CyclesByPairs
-pub mod MadeByHand
 pub mod Prefixes
 pub mod Backward
 pub mod Joined

@@ -6,16 +6,12 @@
 mod agreeing;
 mod candidates;
 mod carrying;
-#[cfg(test)]
-mod collapses_tests;
 mod collapsing;
 mod cycles;
 mod events;
 mod examples;
 mod extending;
 mod forms_law;
-#[cfg(test)]
-mod forms_tests;
 mod hearing;
 mod identifying;
 mod images;
@@ -29,8 +25,6 @@ mod pairs;
 mod placing;
 mod straying;
 mod substituting;
-#[cfg(test)]
-mod tests;
 mod valuing;
 mod variables_laws;
 

@@ -14,6 +14,3 @@ pub use form::Form;
 pub use laws::{one_reading, reads_back};
 pub use reading::{MAX_LENGTH, read};
 pub use writing::{write, write_top};
-
-#[cfg(test)]
-mod tests;

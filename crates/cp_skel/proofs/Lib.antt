@@ -25,9 +25,7 @@ pub mod Changed
 pub mod Agreeing
 pub mod Grown
 pub mod StaySkeletons
-pub mod ExampleRole
 pub mod PrefixVariables
-mod TwoStrands
 pub mod EachOnce
 pub mod StrandsGive
 pub mod SameLists

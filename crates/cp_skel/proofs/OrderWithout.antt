@@ -232,19 +232,3 @@ module _ (old new : Skeleton) (d : ℕ) (pairs : List OrderPair) (strands : new.
       kept_before between between_ordered new.pairs keeps (node_renumbered d x) (node_renumbered d y) in
       let others : Before between (node_renumbered d x) (node_renumbered d y) ↔ Before old x y = keeps_order old between d strands without ordered x y hx hy in
       (λ b. others.0 (kept.0 b), λ b. kept.1 (others.1 b))
-
--- A skeleton without pairs is ordered.
-rises_alone : (k : Skeleton) → ((p : OrderPair) → IsIn p k.pairs → ⊥) → (x y : Node) → Before k x y → x.index < y.index
-rises_alone k h x y (one_step (along_strand_of {s} {i} p)) = omega arith
-rises_alone k h x y (one_step (along_pair {p = p} m)) = absurd (h p m)
-rises_alone k h x y (more_steps (along_strand_of {s} {i} p) r) = let l : suc i < y.index = rises_alone k h (node_at s (suc i)) y r in omega arith
-rises_alone k h x y (more_steps (along_pair {p = p} m) r) = absurd (h p m)
-
-pub ordered_alone : (k : Skeleton) → ((p : OrderPair) → IsIn p k.pairs → ⊥) → IsOrdered k
-ordered_alone k h = record { order_pairs = λ p m. absurd (h p m); no_cycle = λ n b. let l : n.index < n.index = rises_alone k h n n b in omega arith }
-
-pub ordered_by_none : (k : Skeleton) → k.pairs ≡ [] → IsOrdered k
-ordered_by_none k e = ordered_alone k (λ p m. in_none p (subst (IsIn p) e m))
-  where
-    in_none : (p : OrderPair) → IsIn p [] → ⊥
-    in_none p m = elim m [ ]

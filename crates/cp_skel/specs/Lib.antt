@@ -16,6 +16,5 @@ pub mod Ordered
 pub mod Deleting
 pub mod Bridging
 pub mod Kinds
-pub mod Example
 pub mod Closed
 pub mod Composed

@@ -5,46 +5,28 @@ mod adding;
 mod applying;
 mod atom;
 mod bridging;
-#[cfg(test)]
-mod calls_tests;
 mod changes_laws;
 mod changing;
-#[cfg(test)]
-mod changing_tests;
 mod closing;
 mod collecting;
 mod comparing;
 mod copying;
 mod deleting;
-#[cfg(test)]
-mod deleting_tests;
 mod forgetting;
 mod giving;
 mod joining;
 mod laws;
 mod leading;
-#[cfg(test)]
-mod leading_tests;
 mod listing;
-#[cfg(test)]
-mod listing_tests;
 mod occurring;
 mod order;
-#[cfg(test)]
-mod order_tests;
 mod ordering;
-#[cfg(test)]
-mod ordering_tests;
 mod originating;
-#[cfg(test)]
-mod originating_tests;
 mod protocol;
 mod renumbering;
 mod same_role;
 mod skeleton;
 mod substituting;
-#[cfg(test)]
-mod tests;
 mod tree;
 mod valuing;
 mod variables_laws;

@@ -9,8 +9,6 @@ mod position;
 mod same;
 mod shape;
 mod term;
-#[cfg(test)]
-mod tests;
 mod variable;
 
 pub use cp_base::Text;

@@ -7,8 +7,6 @@ mod composing;
 mod difference;
 mod matcher;
 mod subst;
-#[cfg(test)]
-mod tests;
 mod unifying;
 
 pub use applying::apply;

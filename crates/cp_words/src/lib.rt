@@ -8,6 +8,3 @@ mod parsing;
 
 pub use command::read_command;
 pub use error::WordsError;
-
-#[cfg(test)]
-mod tests;

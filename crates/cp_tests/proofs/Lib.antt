@@ -1,0 +1,3 @@
+pub mod ExampleRole
+pub mod LoadedProblems
+pub mod Nodes

@@ -1,0 +1,12 @@
+use Rattle.std.proofs.Common.{ap, ◌∙◌}
+use Rattle.cp_model.specs.Term.{skey_variable, symmetric_term, enc_term}
+use Rattle.cp_term.specs.Variables.{variable_term}
+use Rattle.cp_term.specs.declared.variable.Sort.TheVariants.{Text, Skey}
+use Rattle.cp_term.proofs.LocalVariables.{text_under_key_is_pattern}
+use Rattle.cp_tests.proofs.terms.pattern.Goals as goal
+
+pub new-requires : goal.new-requires
+new-requires c =
+    text_under_key_is_pattern c.in_ok-term.term c.push.new.self
+    (c.in_ok-term.ensures.plain (symmetric_term (skey_variable 1)) (c.in_ok-key.ensures.plain ∙ ap (variable_term Skey) c.numbered.ensures)
+    ∙ ap (λ b. enc_term b (symmetric_term (skey_variable 1))) (c.in_ok-var.ensures.plain ∙ ap (variable_term Text) c.numbered-text.ensures))

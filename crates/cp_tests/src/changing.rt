@@ -1,0 +1,179 @@
+// A strand that is added to a skeleton and grows, worked out by hand.
+ghost use Rattle.std.specs.Prelude.{◌≡◌, [], ◌∷◌, None, false, map, IfOk};
+ghost use Rattle.cp_model.specs.Term.{pubk_term, asymmetric_term, text_variable, atom_term, enc_term};
+ghost use Rattle.cp_term.specs.Keys.{name_of};
+ghost use Rattle.cp_tests.specs.Example.{example_variables, example_trace, IsExample, example_values, added_values};
+ghost use Rattle.cp_skel.specs.View.{declaration_view, event_view, role_view};
+
+use crate::stated::skeleton_of;
+use cp_model::Node;
+use cp_skel::{Atom, Declaration, Event, Role, Skeleton, UniqueAt};
+use cp_term::{Sort, Term, Text, VarId, enc, invert, pair, pubk, var};
+use std::alloc::{AllocError, Global};
+use std::rc::Rc;
+use std::test::Fail;
+
+fn text(alloc: Global, number: usize) -> Result<Term, AllocError>
+    ensures { IfOk result (λ t. t ≡ atom_term (text_variable number)) }
+{
+    var(alloc, VarId::numbered(number), Sort::Text)
+}
+
+fn name(alloc: Global, number: usize) -> Result<Term, AllocError>
+    ensures { IfOk result (λ t. t ≡ name_of number) }
+{
+    var(alloc, VarId::numbered(number), Sort::Name)
+}
+
+/// A message under the public key of a name.
+fn sealed(alloc: Global, body: Term, number: usize) -> Result<Term, AllocError>
+    ensures { IfOk result (λ t. t ≡ enc_term body (asymmetric_term false (pubk_term None number))) }
+{
+    let key = pubk(alloc, None, name(alloc, number)?)?;
+    enc(alloc, body, key)
+}
+
+fn atom(term: Term) -> Result<Atom, Fail> {
+    match Atom::new(term) {
+        Some(atom) => Ok(atom),
+        None => Err(Fail::new("no atom")),
+    }
+}
+
+fn private_key(alloc: Global, number: usize) -> Result<Atom, Fail> {
+    let key = pubk(alloc, None, name(alloc, number)?)?;
+    atom(invert(alloc, &key)?)
+}
+
+/// The first message: a text and a name under the public key of another.
+fn first(alloc: Global, m: usize, a: usize, b: usize) -> Result<Term, AllocError> {
+    let body = pair(alloc, text(alloc, m)?, name(alloc, a)?)?;
+    sealed(alloc, body, b)
+}
+
+fn trace(alloc: Global) -> Result<Vec<Event>, AllocError>
+    ensures { IfOk result (λ v. map event_view v.items ≡ example_trace) }
+{
+    let first = pair(alloc, text(alloc, 2)?, name(alloc, 0)?)?;
+    let second = pair(alloc, text(alloc, 2)?, text(alloc, 3)?)?;
+    let mut trace = Vec::new(alloc);
+    trace.push(Event::Send(sealed(alloc, first, 1)?))?;
+    trace.push(Event::Receive(sealed(alloc, second, 0)?))?;
+    trace.push(Event::Send(sealed(alloc, text(alloc, 3)?, 1)?))?;
+    Ok(trace)
+}
+
+fn declaration(alloc: Global, identifier: &str, sort: Sort) -> Result<Declaration, AllocError>
+    ensures { IfOk result (λ d. (d.identifier ≡ identifier.now) × (d.sort ≡ sort)) }
+{
+    let identifier = Text::new(alloc, identifier)?;
+    Ok(Declaration { identifier, sort })
+}
+
+fn variables(alloc: Global) -> Result<Vec<Declaration>, AllocError>
+    ensures { IfOk result (λ v. map declaration_view v.items ≡ example_variables) }
+{
+    let mut variables = Vec::new(alloc);
+    variables.push(declaration(alloc, "a", Sort::Name)?)?;
+    variables.push(declaration(alloc, "b", Sort::Name)?)?;
+    variables.push(declaration(alloc, "m", Sort::Text)?)?;
+    variables.push(declaration(alloc, "n", Sort::Text)?)?;
+    Ok(variables)
+}
+
+/// One atom alone.
+fn only(alloc: Global, atom: Atom) -> Result<Vec<Atom>, AllocError> {
+    let mut atoms = Vec::new(alloc);
+    atoms.push(atom)?;
+    Ok(atoms)
+}
+
+/// The private key of b is non-originating, the penetrator does not originate n, and m originates uniquely.
+fn initiator(alloc: Global) -> Result<Rc<Role>, Fail>
+    ensures { IfOk result (λ r. IsExample (role_view r.value)) }
+{
+    let non_originating = only(alloc, private_key(alloc, 1)?)?;
+    let penetrator_non_originating = only(alloc, atom(text(alloc, 3)?)?)?;
+    let uniquely_originating = only(alloc, atom(text(alloc, 2)?)?)?;
+    let role = Role {
+        name: Text::new(alloc, "init")?,
+        variables: variables(alloc)?,
+        trace: trace(alloc)?,
+        non_originating,
+        penetrator_non_originating,
+        uniquely_originating,
+    };
+    Ok(Rc::new(alloc, role)?)
+}
+
+fn values(alloc: Global) -> Result<Vec<Term>, AllocError>
+    ensures { IfOk result (λ v. v.items ≡ example_values) }
+{
+    let mut values = Vec::new(alloc);
+    values.push(name(alloc, 10)?)?;
+    values.push(name(alloc, 11)?)?;
+    values.push(text(alloc, 12)?)?;
+    Ok(values)
+}
+
+fn added(alloc: Global) -> Result<Vec<Term>, AllocError>
+    ensures { IfOk result (λ v. v.items ≡ added_values) }
+{
+    let mut values = Vec::new(alloc);
+    values.push(text(alloc, 13)?)?;
+    Ok(values)
+}
+
+fn is_event(skeleton: &Skeleton, alloc: Global, at: Node, message: &Term) -> Result<bool, Fail> {
+    let Some(strand) = skeleton.strands.get(at.strand) else {
+        return Ok(false);
+    };
+    match strand.event(alloc, at.index)? {
+        Some(event) => Ok(event.payload().same(message)),
+        None => Ok(false),
+    }
+}
+
+fn are_atoms(atoms: &[Atom], wanted: &[&Atom]) -> bool {
+    atoms.len() == wanted.len() && atoms.iter().zip(wanted).all(|(a, b)| a.same(b))
+}
+
+fn is_unique(unique: Option<&UniqueAt>, value: &Atom, origin: Node) -> bool {
+    unique.is_some_and(|u| u.value.same(value) && u.origin == origin)
+}
+
+fn node(strand: usize, index: usize) -> Node {
+    Node { strand, index }
+}
+
+const LISTENER: &str = "(defskeleton u (vars (t text)) (deflistener t))";
+
+#[test]
+fn a_strand_is_added_and_grows(rt: HostRuntime) -> Result<(), Fail> {
+    let alloc = rt.alloc();
+    let role = initiator(alloc)?;
+    let mut skeleton = skeleton_of(alloc, "(defprotocol u basic)", LISTENER)?;
+    let strand = skeleton.add_strand(alloc, &role, 1, &values(alloc)?)?;
+    assert_eq!(rt; strand, 1);
+    assert!(rt; is_event(&skeleton, alloc, node(1, 0), &first(alloc, 12, 10, 11)?)?);
+    assert!(rt; skeleton.assumptions.penetrator_non_originating.is_empty());
+    skeleton.extend(alloc, strand, 3, &added(alloc)?)?;
+    assert!(rt; is_event(&skeleton, alloc, node(1, 0), &first(alloc, 12, 10, 11)?)?);
+    assert!(rt;
+        is_event(
+            &skeleton,
+            alloc,
+            node(1, 2),
+            &sealed(alloc, text(alloc, 13)?, 11)?
+        )?
+    );
+    let key = private_key(alloc, 11)?;
+    let n = atom(text(alloc, 13)?)?;
+    let assumptions = &skeleton.assumptions;
+    assert!(rt; are_atoms(&assumptions.non_originating, &[&key]));
+    assert!(rt; are_atoms(&assumptions.penetrator_non_originating, &[&n]));
+    assert_eq!(rt; assumptions.uniquely_originating.len(), 1);
+    let m = atom(text(alloc, 12)?)?;
+    assert!(rt; is_unique(assumptions.uniquely_originating.first(), &m, node(1, 0)));
+    Ok(())
+}

@@ -1,0 +1,194 @@
+// What can be derived, and what is critical, worked out by hand, and a long chain.
+ghost use Rattle.cp_skel.specs.Ordered.{IsOrdered};
+ghost use Rattle.cp_skel.specs.View.{skeleton_view};
+
+use crate::stated::{NEEDHAM_SCHROEDER, event_at, is_there, skeleton_of, terms_of};
+use cp_derive::{Critical, Known, buildable, critical, critical_in, known, unrealised};
+use cp_model::Node;
+use cp_skel::{Event, Skeleton};
+use cp_term::{Sort, Step, Term, VarId, pair, var};
+use std::alloc::{AllocError, Global};
+use std::test::Fail;
+
+// What was sent, what is secret, a message, and what is critical in it, with the path there; the empty text where all of it
+// can be derived.
+type Row = (
+    &'static [&'static str],
+    &'static [&'static str],
+    &'static str,
+    &'static str,
+    &'static [Step],
+);
+
+const VARIABLES: &str = "(a b name) (n m text) (k skey)";
+
+const CHALLENGE: &[&str] = &["(enc n a (pubk b))"];
+
+const KEYS_AND_NONCE: &[&str] = &["(privk a)", "(privk b)", "n"];
+
+const ROWS: &[Row] = &[
+    (
+        CHALLENGE,
+        KEYS_AND_NONCE,
+        "(enc n m (pubk a))",
+        "(enc n m (pubk a))",
+        &[],
+    ),
+    (CHALLENGE, KEYS_AND_NONCE, "n", "n", &[]),
+    (CHALLENGE, KEYS_AND_NONCE, "(enc n a (pubk b))", "", &[]),
+    (
+        CHALLENGE,
+        KEYS_AND_NONCE,
+        "(cat a m \"hello\" (pubk a))",
+        "",
+        &[],
+    ),
+    (
+        &[],
+        &["n", "m"],
+        "(cat a n m)",
+        "n",
+        &[Step::Right, Step::Left],
+    ),
+    (
+        &["(enc n a k)", "(enc k a (pubk a))", "(privk a)"],
+        &["(privk a)", "k", "n"],
+        "n",
+        "",
+        &[],
+    ),
+];
+
+/// Whether what is critical is this term at this path.
+fn is_critical(found: &Option<Critical>, path: &[Step], term: &Term) -> bool {
+    match found {
+        None => false,
+        Some(critical) => critical.path.as_slice() == path && critical.term.same(term),
+    }
+}
+
+/// The first of these terms, if there is one.
+fn first(alloc: Global, term: &str) -> Result<Option<Term>, Fail> {
+    if term.is_empty() {
+        return Ok(None);
+    }
+    let mut terms = terms_of(alloc, VARIABLES, &[term])?;
+    Ok(terms.pop())
+}
+
+/// Whether what is critical is this, or nothing where it is empty.
+fn is_wanted(alloc: Global, found: &Option<Critical>, row: &Row) -> Result<bool, Fail> {
+    Ok(match first(alloc, row.3)? {
+        Some(term) => is_critical(found, row.4, &term),
+        None => found.is_none(),
+    })
+}
+
+#[test]
+fn messages_from_what_was_sent(rt: HostRuntime) -> Result<(), Fail> {
+    let alloc = rt.alloc();
+    for row in ROWS {
+        let sent = terms_of(alloc, VARIABLES, row.0)?;
+        let secrets = terms_of(alloc, VARIABLES, row.1)?;
+        let known = Known::new(alloc, sent, secrets)?;
+        for message in &terms_of(alloc, VARIABLES, &[row.2])? {
+            assert_eq!(rt; buildable(&known, message), row.3.is_empty(), "{}", row.2);
+            let found = critical_in(alloc, &known, message)?;
+            assert!(rt; is_wanted(alloc, &found, row)?, "{}", row.2);
+        }
+    }
+    Ok(())
+}
+
+/// What is critical at a node that is there. Where the node is a reception, that is nothing exactly where its message can
+/// be derived.
+fn critical_at(alloc: Global, k: &Skeleton, node: Node) -> Result<Option<Critical>, Fail>
+    requires { IsOrdered (skeleton_view k.now) }
+{
+    if !is_there(alloc, k, node)? {
+        return Err(Fail::new("no such node"));
+    }
+    let found = critical(alloc, k, node)?;
+    if let Some(Event::Receive(message)) = event_at(alloc, k, node)? {
+        let known = known(alloc, k, node)?;
+        if buildable(&known, &message) != found.is_none() {
+            return Err(Fail::new("critical, and can be derived"));
+        }
+    }
+    Ok(found)
+}
+
+const ALONE: &str = "(defskeleton ns (vars (a b name) (n1 n2 text)) \
+    (defstrand init 3 (a a) (b b) (n1 n1) (n2 n2)) (non-orig (privk a) (privk b)) (uniq-orig n1))";
+
+const OVERHEARD: &str = "(defskeleton ns (vars (a b name) (n1 n2 text)) \
+    (defstrand init 3 (a a) (b b) (n1 n1) (n2 n2)) (deflistener n1) (non-orig (privk a) (privk b)) (uniq-orig n1))";
+
+const NOTHING_ASSUMED: &str = "(defskeleton ns (vars (a b name) (n1 n2 text)) \
+    (defstrand init 3 (a a) (b b) (n1 n1) (n2 n2)) (deflistener n1))";
+
+fn node((strand, index): (usize, usize)) -> Node {
+    Node { strand, index }
+}
+
+// A problem, a node, what is critical there or the empty text, and all nodes that are not realised. The variables are named
+// as in the problems.
+const NODES: &[(&str, (usize, usize), &str, &[(usize, usize)])] = &[
+    (ALONE, (0, 1), "(enc n1 n2 (pubk a))", &[(0, 1)]),
+    (ALONE, (0, 2), "", &[(0, 1)]),
+    (OVERHEARD, (1, 0), "n1", &[(0, 1), (1, 0)]),
+    (NOTHING_ASSUMED, (0, 1), "", &[]),
+    (NOTHING_ASSUMED, (1, 0), "", &[]),
+];
+
+/// Whether the nodes are those at these places.
+fn are_nodes(nodes: &[Node], places: &[(usize, usize)]) -> bool {
+    nodes.len() == places.len()
+        && nodes
+            .iter()
+            .zip(places)
+            .all(|(n, place)| *n == node(*place))
+}
+
+#[test]
+fn nodes_of_skeletons(rt: HostRuntime) -> Result<(), Fail> {
+    let alloc = rt.alloc();
+    for &(problem, place, wanted, places) in NODES {
+        let k = skeleton_of(alloc, NEEDHAM_SCHROEDER, problem)?;
+        let found = critical_at(alloc, &k, node(place))?;
+        if wanted.is_empty() {
+            assert!(rt; found.is_none(), "{problem}");
+        } else {
+            for term in &terms_of(alloc, "(a b name) (n1 n2 text)", &[wanted])? {
+                assert!(rt; is_critical(&found, &[], term), "{problem}");
+            }
+        }
+        assert!(rt; are_nodes(&unrealised(alloc, &k)?, places), "{problem}");
+    }
+    Ok(())
+}
+
+/// A pair of a and a pair of a and so on, this many deep, and then the last.
+fn chain(alloc: Global, a: &Term, last: &Term, len: u32) -> Result<Term, AllocError> {
+    let mut chain = last.copy()?;
+    for _ in 0..len {
+        chain = pair(alloc, a.copy()?, chain)?;
+    }
+    Ok(chain)
+}
+
+// The work on a chain is a loop: it needs no deep stack.
+#[test]
+fn long_chain(rt: HostRuntime) -> Result<(), Fail> {
+    let alloc = rt.alloc();
+    let a = var(alloc, VarId::numbered(0), Sort::Name)?;
+    let n = var(alloc, VarId::numbered(1), Sort::Text)?;
+    let chain = chain(alloc, &a, &n, 300_000)?;
+    let nothing = Known::new(alloc, Vec::new(alloc), vec![in alloc; n.copy()?]?)?;
+    assert!(rt; !buildable(&nothing, &chain));
+    let found = critical_in(alloc, &nothing, &chain)?;
+    assert!(rt; found.is_some_and(|critical| critical.path.len() == 300_000));
+    let all = Known::new(alloc, vec![in alloc; chain]?, vec![in alloc; n.copy()?]?)?;
+    assert!(rt; buildable(&all, &n));
+    Ok(())
+}

@@ -1,0 +1,159 @@
+// Messages, and runs and bundles worked out by hand.
+use cp_model::{Event, Key, Msg, Node, Run, Strand, bundle_of, origin_before, run_of};
+use std::alloc::{AllocError, Global};
+use std::test::Fail;
+
+const fn node(strand: usize, index: usize) -> Node {
+    Node { strand, index }
+}
+
+fn strand(alloc: Global, events: [Event; 1]) -> Result<Strand, AllocError> {
+    Ok(Strand {
+        events: Vec::from_array(alloc, events)?,
+    })
+}
+
+/// A text and a name, encrypted under the public key of another name.
+fn sealed(alloc: Global) -> Result<Msg, AllocError> {
+    let content = Msg::pair(alloc, Msg::text(alloc, 0)?, Msg::name(alloc, 0)?)?;
+    Msg::enc(alloc, content, Key::pubk(alloc, None, 1)?)
+}
+
+// A key is carried by the message that it is, and not by what is encrypted under it.
+#[test]
+fn carried(rt: HostRuntime) -> Result<(), Fail> {
+    let alloc = rt.alloc();
+    let sealed = sealed(alloc)?;
+    assert!(rt; sealed.carries(&Msg::text(alloc, 0)?) && sealed.carries(&Msg::name(alloc, 0)?));
+    assert!(rt; !sealed.carries(&Msg::datum(alloc, 0)?) && !sealed.carries(&Msg::name(alloc, 1)?));
+    let key = Msg::key(alloc, Key::pubk(alloc, None, 1)?)?;
+    assert!(rt; key.carries(&key) && !sealed.carries(&key));
+    assert!(rt; sealed.same(&sealed.copy()?) && !sealed.same(&key));
+    Ok(())
+}
+
+#[test]
+fn keys(rt: HostRuntime) -> Result<(), Fail> {
+    let alloc = rt.alloc();
+    let public = Key::pubk(alloc, Some("sign"), 2)?;
+    let private = public.inverse()?;
+    assert!(rt; !public.same(&private) && public.same(&private.inverse()?));
+    assert!(rt; !public.same(&Key::pubk(alloc, None, 2)?) && public.same(&public.copy()?));
+    let (first, second) = (Key::ltk(0, 1), Key::skey(0));
+    assert!(rt; first.same(&first.inverse()?) && second.same(&second.inverse()?));
+    assert!(rt; !first.same(&Key::ltk(1, 0)) && !Key::akey(0).same(&Key::akey(0).inverse()?));
+    Ok(())
+}
+
+/// A run of one strand that sends one message.
+fn one_event(alloc: Global) -> Result<Run, AllocError> {
+    let strand = strand(alloc, [Event::Send(sealed(alloc)?)])?;
+    Ok(Run {
+        strands: Vec::from_array(alloc, [strand])?,
+        events: Vec::from_array(alloc, [node(0, 0)])?,
+    })
+}
+
+// The run of one event is a bundle of one strand without links, and back the same run.
+#[test]
+fn one_event_and_back(rt: HostRuntime) -> Result<(), Fail> {
+    let alloc = rt.alloc();
+    let copied = Event::Send(sealed(alloc)?).copy()?;
+    assert!(rt; copied.message().same(&sealed(alloc)?));
+    let bundle = bundle_of(alloc, &one_event(alloc)?)?;
+    assert_eq!(rt;
+        (bundle.strands.len(), bundle.sender(node(0, 0))),
+        (1, None)
+    );
+    let run = run_of(alloc, &bundle)?;
+    assert_eq!(rt;
+        (run.strands.len(), run.events.as_slice()),
+        (1, [node(0, 0)].as_slice())
+    );
+    Ok(())
+}
+
+/// A text, alone or with a tag behind it.
+fn marked(alloc: Global, is_marked: bool) -> Result<Msg, AllocError> {
+    let text = Msg::text(alloc, 7)?;
+    if is_marked {
+        Msg::pair(alloc, text, Msg::tag(alloc, "seen")?)
+    } else {
+        Ok(text)
+    }
+}
+
+/// A strand that receives a text and sends it on with a tag.
+fn forwarding(alloc: Global) -> Result<Strand, AllocError> {
+    let events = [
+        Event::Receive(marked(alloc, false)?),
+        Event::Send(marked(alloc, true)?),
+    ];
+    Ok(Strand {
+        events: Vec::from_array(alloc, events)?,
+    })
+}
+
+/// A run in which two strands send the same text, a third sends it on with a tag, and a fourth receives that.
+fn forwarded(alloc: Global) -> Result<Run, AllocError> {
+    let strands = [
+        strand(alloc, [Event::Send(marked(alloc, false)?)])?,
+        strand(alloc, [Event::Send(marked(alloc, false)?)])?,
+        forwarding(alloc)?,
+        strand(alloc, [Event::Receive(marked(alloc, true)?)])?,
+    ];
+    let events = [node(1, 0), node(0, 0), node(2, 0), node(2, 1), node(3, 0)];
+    Ok(Run {
+        strands: Vec::from_array(alloc, strands)?,
+        events: Vec::from_array(alloc, events)?,
+    })
+}
+
+// Of two events that send the text the first is linked.
+#[test]
+fn linked_to_the_first(rt: HostRuntime) -> Result<(), Fail> {
+    let run = forwarded(rt.alloc())?;
+    let bundle = bundle_of(rt.alloc(), &run)?;
+    assert_eq!(rt; bundle.sender(node(2, 0)), Some(node(1, 0)));
+    assert_eq!(rt; bundle.sender(node(3, 0)), Some(node(2, 1)));
+    assert_eq!(rt; bundle.order.as_slice(), run.events.as_slice());
+    let back = run_of(rt.alloc(), &bundle)?;
+    assert_eq!(rt;
+        (back.strands.len(), back.events.as_slice()),
+        (4, run.events.as_slice())
+    );
+    Ok(())
+}
+
+// The text comes from where it was first sent, the tag and the pair from the strand that sends it on.
+#[test]
+fn origins(rt: HostRuntime) -> Result<(), Fail> {
+    let bundle = bundle_of(rt.alloc(), &forwarded(rt.alloc())?)?;
+    let (text, pair) = (marked(rt.alloc(), false)?, marked(rt.alloc(), true)?);
+    assert_eq!(rt; origin_before(&bundle, node(3, 0), &text), node(1, 0));
+    assert_eq!(rt; origin_before(&bundle, node(3, 0), &pair), node(2, 1));
+    assert_eq!(rt; origin_before(&bundle, node(0, 0), &text), node(0, 0));
+    assert_eq!(rt;
+        origin_before(&bundle, node(2, 1), &Msg::tag(rt.alloc(), "seen")?),
+        node(2, 1)
+    );
+    Ok(())
+}
+
+/// A pair of a text and a pair of that text and so on, this many deep.
+fn chain(alloc: Global, len: u32) -> Result<Msg, AllocError> {
+    let text = Msg::text(alloc, 0)?;
+    let mut chain = text.copy()?;
+    for _ in 0..len {
+        chain = Msg::pair(alloc, text.copy()?, chain)?;
+    }
+    Ok(chain)
+}
+
+// The work on a chain and its drop are loops: neither needs a deep stack.
+#[test]
+fn long_chain(rt: HostRuntime) -> Result<(), Fail> {
+    let chain = chain(rt.alloc(), 300_000)?;
+    assert!(rt; chain.same(&chain) && !chain.carries(&Msg::datum(rt.alloc(), 0)?));
+    Ok(())
+}

@@ -1,0 +1,276 @@
+// Answers of sources and sinks at given calls, also of a run over them, and the texts and numbers that a user sees.
+use crate::stated::{NEEDHAM_SCHROEDER, joined};
+use cp_app::run;
+use cp_base::{
+    Code, Failed, MemSink, MemSource, Place, Refusal, Sink, Source, Status, StdSink, StdSource,
+    Text,
+};
+use std::alloc::{AllocError, Global};
+use std::io;
+use std::io::{Error, ErrorKind, Write};
+use std::test::Fail;
+
+#[test]
+fn statuses_codes_and_texts(rt: HostRuntime) -> Result<(), Fail> {
+    let place = Place { line: 2, col: 7 };
+    let code = Code::Unclosed;
+    let refused = Status::Refused(Refusal { place, code });
+    for (status, number) in [
+        (Status::Done, 0),
+        (Status::Limit, 1),
+        (Status::Usage, 2),
+        (refused, 3),
+        (Status::ReadFault, 4),
+        (Status::WriteFault, 5),
+        (Status::Memory, 6),
+        (Status::TooLong, 7),
+    ] {
+        assert_eq!(rt; status.number(), number);
+    }
+    assert_eq!(rt; code.name(), "Unclosed");
+    let copy = Text::new(rt.alloc(), "n1")?.copy()?;
+    assert_eq!(rt; copy.as_str(), "n1");
+    assert_eq!(rt; copy.as_bytes(), b"n1".as_slice());
+    Ok(())
+}
+
+#[test]
+fn source_in_memory(rt: HostRuntime) -> Result<(), Fail> {
+    let alloc = rt.alloc();
+    let bytes = b"abcdef".to_vec(alloc)?;
+    let mut source = MemSource::new(bytes, [1, 3].to_vec(alloc)?);
+    let mut buf = [b'.'; 4];
+    for (answer, front) in [
+        (Ok(4), b"abcd"),
+        (Err(Failed), b"abcd"),
+        (Ok(2), b"efcd"),
+        (Err(Failed), b"efcd"),
+        (Ok(0), b"efcd"),
+    ] {
+        assert_eq!(rt; source.take(&mut buf), answer);
+        assert_eq!(rt; buf, *front);
+    }
+    Ok(())
+}
+
+#[test]
+fn sink_in_memory(rt: HostRuntime) -> Result<(), Fail> {
+    let alloc = rt.alloc();
+    let mut sink = MemSink::new(alloc, 5, [1].to_vec(alloc)?)?;
+    for (piece, answer, held) in [
+        ("abc", Ok(3), "abc"),
+        ("d", Err(Failed), "abc"),
+        ("defg", Ok(2), "abcde"),
+        ("fg", Err(Failed), "abcde"),
+        ("", Ok(0), "abcde"),
+    ] {
+        assert_eq!(rt; sink.put(piece.as_bytes()), answer);
+        assert_eq!(rt; sink.bytes(), held.as_bytes());
+    }
+    Ok(())
+}
+
+#[test]
+fn source_over_readers(rt: HostRuntime) {
+    let mut source = StdSource::new(rt.stdin());
+    assert_eq!(rt; source.take(&mut []), Ok(0));
+    let mut source = StdSource::new(b"abc".as_slice());
+    let mut buf = [0; 4];
+    assert_eq!(rt; source.take(&mut buf), Ok(3));
+    assert_eq!(rt; buf, *b"abc\0");
+    assert_eq!(rt; source.take(&mut buf), Ok(0));
+}
+
+// A writer that takes at most so many bytes a call, and whose flush may fail.
+#[derive(Drop)]
+struct Narrow {
+    width: usize,
+    flushes: bool,
+}
+
+impl Write for Narrow {
+    fn write(&mut self, buf: &[u8]) -> io::Result<usize> {
+        Ok(buf.len().min(self.width))
+    }
+
+    fn flush(&mut self) -> io::Result<()> {
+        if self.flushes {
+            Ok(())
+        } else {
+            Err(Error::from(ErrorKind::Other))
+        }
+    }
+}
+
+#[test]
+fn sink_over_writers(rt: HostRuntime) {
+    let mut out = StdSink::new(rt.stdout());
+    assert_eq!(rt; out.put(b""), Ok(0));
+    let mut errs = StdSink::new(rt.stderr());
+    assert_eq!(rt; errs.put(b""), Ok(0));
+    for (width, flushes, answer) in [
+        (2, true, Ok(2)),
+        (0, true, Err(Failed)),
+        (2, false, Err(Failed)),
+    ] {
+        let mut sink = StdSink::new(Narrow { width, flushes });
+        assert_eq!(rt; sink.put(b"abc"), answer);
+    }
+}
+
+fn words(alloc: Global, words: &[&str]) -> Result<Vec<String>, AllocError> {
+    let mut all = Vec::new(alloc);
+    for word in words {
+        all.push(String::from_str(alloc, word)?)?;
+    }
+    Ok(all)
+}
+
+/// How a run ended, and what it put on its two sinks.
+#[derive(Drop)]
+struct Ended {
+    status: Status,
+    out: MemSink,
+    errs: MemSink,
+}
+
+const COMMAND: &[&str] = &["cpsa", "analyse", "--limit", "0"];
+
+/// Runs these words over a source that fails at these calls, and a sink with so much room that fails at those.
+fn run_over(
+    alloc: Global,
+    line: &[&str],
+    source: &mut MemSource,
+    room: usize,
+    failing: &[u64],
+) -> Result<Ended, AllocError> {
+    let words = words(alloc, line)?;
+    let mut out = MemSink::new(alloc, room, failing.to_vec(alloc)?)?;
+    let mut errs = MemSink::new(alloc, 100, Vec::new(alloc))?;
+    let status = run(alloc, &words, source, &mut out, &mut errs);
+    Ok(Ended { status, out, errs })
+}
+
+const INITIATOR: &str =
+    "(defskeleton ns (vars (n1 text)) (defstrand init 1 (n1 n1)) (uniq-orig n1))";
+
+const REPORT: &str =
+    "(defskeleton ns\n  (vars (n1 text))\n  (defstrand init 1 (n1 n1))\n  (uniq-orig n1))\n\
+    (label 0\n  (by problem)\n  (vars (n1 text) (a name) (b name))\n  (defstrand init 1 (a a) (b b) (n1 n1))\n  \
+    (uniq-orig (n1 (0 0)))\n  (map (0) (n1 n1) (a a) (b b))\n  (shape))\n\
+    (status complete labels 1 expanded 0 shapes 1)\n";
+
+// Words, the calls at which the source fails, the room of the sink and the calls at which it fails, the status, what is put
+// (nothing, the protocol's form, or all), and the line.
+type Row = (
+    &'static [&'static str],
+    &'static [u64],
+    usize,
+    &'static [u64],
+    Status,
+    &'static [&'static str],
+    &'static str,
+);
+
+const RUNS: &[Row] = &[
+    (
+        COMMAND,
+        &[],
+        1_000,
+        &[],
+        Status::Done,
+        &[NEEDHAM_SCHROEDER, REPORT],
+        "",
+    ),
+    (
+        COMMAND,
+        &[0],
+        1_000,
+        &[],
+        Status::ReadFault,
+        &[],
+        "read fault\n",
+    ),
+    (
+        COMMAND,
+        &[1],
+        1_000,
+        &[],
+        Status::ReadFault,
+        &[],
+        "read fault\n",
+    ),
+    (
+        COMMAND,
+        &[],
+        1_000,
+        &[0],
+        Status::WriteFault,
+        &[],
+        "write fault\n",
+    ),
+    (
+        COMMAND,
+        &[],
+        1_000,
+        &[1],
+        Status::WriteFault,
+        &[NEEDHAM_SCHROEDER],
+        "write fault\n",
+    ),
+    (
+        COMMAND,
+        &[],
+        0,
+        &[],
+        Status::WriteFault,
+        &[],
+        "write fault\n",
+    ),
+    (
+        &["cpsa", "analyse", "--limit", "x"],
+        &[0],
+        1_000,
+        &[0],
+        Status::Usage,
+        &[],
+        "usage: cpsa COMMAND [--limit N] [--bound N]\n",
+    ),
+    (
+        &[],
+        &[0],
+        1_000,
+        &[0],
+        Status::Usage,
+        &[],
+        "usage: cpsa COMMAND [--limit N] [--bound N]\n",
+    ),
+];
+
+// What was put is the whole, or the pieces before the call that failed: the protocol's form is one.
+#[test]
+fn runs_over_failing_streams(rt: HostRuntime) -> Result<(), Fail> {
+    let alloc = rt.alloc();
+    for &(line, takes, room, puts, status, pieces, error) in RUNS {
+        let input = joined(alloc, &[NEEDHAM_SCHROEDER, INITIATOR])?;
+        let mut source = MemSource::new(input, takes.to_vec(alloc)?);
+        let ended = run_over(alloc, line, &mut source, room, puts)?;
+        let out = joined(alloc, pieces)?;
+        assert_eq!(rt; ended.status, status);
+        assert_eq!(rt; ended.out.bytes(), out.as_slice());
+        assert_eq!(rt; ended.errs.bytes(), error.as_bytes());
+    }
+    Ok(())
+}
+
+// What is left of too long an input was not taken.
+#[test]
+fn too_long_an_input(rt: HostRuntime) -> Result<(), Fail> {
+    let alloc = rt.alloc();
+    let mut source = MemSource::new(vec![in alloc; b' '; 1_100_000]?, Vec::new(alloc));
+    let ended = run_over(alloc, COMMAND, &mut source, 100, &[])?;
+    let mut rest = vec![in alloc; 0; 60_000]?;
+    assert_eq!(rt; ended.status, Status::TooLong);
+    assert_eq!(rt; source.take(&mut rest).ok(), Some(51_423));
+    Ok(())
+}
