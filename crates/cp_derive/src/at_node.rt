@@ -11,7 +11,7 @@ ghost use Rattle.cp_term.specs.Positions.{term_at};
 ghost use Rattle.cp_derive.specs.Before.{transmissions_of};
 ghost use Rattle.cp_derive.specs.Components.{IsFirstUnderivable};
 ghost use Rattle.cp_derive.specs.Given.{IsDerivable};
-ghost use Rattle.cp_derive.specs.Occurrences.{transmission_view};
+ghost use Rattle.cp_derive.specs.Transmissions.{transmission_view};
 
 use crate::assumed::assumed_values;
 use crate::before::{messages_at, places_before};

@@ -4,7 +4,8 @@ ghost use Rattle.cp_skel.specs.Ordered.{IsOrdered};
 ghost use Rattle.cp_model.specs.RunView.{node_view};
 ghost use Rattle.cp_skel.specs.View.{skeleton_view};
 ghost use Rattle.cp_derive.specs.Before.{transmissions_of, given_by};
-ghost use Rattle.cp_derive.specs.Occurrences.{occurrence_view, occurrences_from, transmission_view};
+ghost use Rattle.cp_skel.specs.Events.{occurrence_view, occurrences_from};
+ghost use Rattle.cp_derive.specs.Transmissions.{transmission_view};
 ghost use Rattle.cp_derive.specs.Unrealised.{ListsUnrealised};
 
 use crate::assumed::assumed_values;
@@ -25,7 +26,7 @@ fn unrealised_among(
 ) -> Result<Vec<Node>, AllocError>
     requires ordered { IsOrdered (skeleton_view k.now) }
     requires all { map transmission_view transmissions.now ≡ transmissions_of (skeleton_view k.now) }
-    requires listed { map occurrence_view occurrences.now ≡ occurrences_from 0 (skeleton_view k.now).strands }
+    requires listed { map occurrence_view occurrences.now ≡ events_of (skeleton_view k.now) }
     requires given { front.known ≡ given_by (skeleton_view k.now) front.places.items }
     ensures { IfOk result (λ nodes. ListsUnrealised (skeleton_view k.now) (map node_view nodes.items)) }
 {

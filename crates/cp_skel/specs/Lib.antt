@@ -19,3 +19,4 @@ pub mod Kinds
 pub mod Example
 pub mod Closed
 pub mod Composed
+pub mod Events
