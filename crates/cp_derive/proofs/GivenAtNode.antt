@@ -20,7 +20,7 @@ use Rattle.cp_model.specs.Derivable.{DerivableAt}
 use Rattle.cp_model.proofs.LawOrder.{before_by_pairs}
 use Rattle.cp_derive.specs.From.{IsSentBefore}
 use Rattle.cp_derive.specs.Given.{Given, IsDerivable, IsGivenAt}
-use Rattle.cp_skel.specs.Events.{occurrence_view, occurrences_from}
+use Rattle.cp_skel.specs.Events.{occurrence_view, events_of}
 use Rattle.cp_derive.specs.Transmissions.{Transmission}
 use Rattle.cp_derive.specs.Before.{LeadsToOther, ArePlacesBefore, messages_at, transmissions_of, given_by}
 use Rattle.cp_derive.specs.Unrealised.{IsUnrealisedAt, IsRealisedAt, ListsUnrealised}

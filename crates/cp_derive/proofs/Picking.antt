@@ -6,7 +6,7 @@ use Rattle.cp_model.specs.Term.{Term}
 use Rattle.cp_model.specs.Strand.{Event, recv}
 use Rattle.cp_model.specs.Bundle.{Node}
 use Rattle.cp_model.specs.Skeleton.{SkeletonStrand, skeleton_trace, Skeleton}
-use Rattle.cp_skel.specs.Events.{Occurrence, is_role_strand, occurrences_on, occurrences_from}
+use Rattle.cp_skel.specs.Events.{Occurrence, is_role_strand, occurrences_on, occurrences_from, events_of}
 use Rattle.cp_derive.specs.Unrealised.{IsUnrealisedAt, IsRealisedAt, IsListedBefore, AreRising, ListsUnrealised}
 use Rattle.cp_derive.proofs.Listed.{in_cases, in_either}
 use Rattle.cp_skel.proofs.EventLists.{stands_on, stands_among, event_listed}

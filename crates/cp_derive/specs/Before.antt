@@ -6,7 +6,7 @@ use Rattle.cp_model.specs.Bundle.{Node}
 use Rattle.cp_model.specs.Skeleton.{OrderPair, Skeleton}
 use Rattle.cp_model.specs.Order.{LeadsTo}
 use Rattle.cp_derive.specs.Given.{Given}
-use Rattle.cp_skel.specs.Events.{occurrences_from}
+use Rattle.cp_skel.specs.Events.{events_of}
 use Rattle.cp_derive.specs.Transmissions.{Transmission, transmissions_among}
 use Rattle.cp_derive.specs.Assumed.{assumed_values}
 

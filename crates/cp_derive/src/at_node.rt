@@ -17,7 +17,6 @@ use crate::assumed::assumed_values;
 use crate::before::{messages_at, places_before};
 use crate::component::Critical;
 use crate::knowledge::Known;
-use crate::occurrence::occurrences;
 use crate::transmission::{Transmission, transmissions};
 use crate::walk::critical_in;
 use cp_skel::{Node, Skeleton};
@@ -28,7 +27,7 @@ use std::alloc::{AllocError, Global};
 fn transmissions_of(alloc: Global, k: &Skeleton) -> Result<Vec<Transmission>, AllocError>
     ensures { IfOk result (λ ts. map transmission_view ts.items ≡ transmissions_of (skeleton_view k.now)) }
 {
-    let occurrences = occurrences(alloc, k)?;
+    let occurrences = k.events(alloc)?;
     transmissions(alloc, &occurrences)
 }
 
