@@ -10,7 +10,6 @@ mod carrying;
 mod collapses_tests;
 mod collapsing;
 mod cycles;
-mod events;
 mod examples;
 mod extending;
 mod forms_law;
