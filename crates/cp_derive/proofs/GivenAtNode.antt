@@ -9,7 +9,7 @@ use Rattle.cp_skel.specs.View.{event_view}
 use Rattle.cp_model.specs.declared.strand.Node.{Node as ProgramNode}
 use Rattle.cp_skel.specs.declared.protocol.Event.{Event as ProgramEvent}
 use Rattle.cp_skel.specs.declared.protocol.Event.TheVariants.{Send, Receive}
-use Rattle.cp_derive.specs.declared.occurrence.Occurrence as program
+use Rattle.cp_skel.specs.declared.events.Occurrence as program
 use Rattle.cp_derive.specs.Assumed.{assumed_values}
 use Rattle.cp_model.specs.Lists.{item_at, IsIn, here, there}
 use Rattle.cp_model.specs.Term.{Term}
@@ -20,11 +20,13 @@ use Rattle.cp_model.specs.Derivable.{DerivableAt}
 use Rattle.cp_model.proofs.LawOrder.{before_by_pairs}
 use Rattle.cp_derive.specs.From.{IsSentBefore}
 use Rattle.cp_derive.specs.Given.{Given, IsDerivable, IsGivenAt}
-use Rattle.cp_derive.specs.Occurrences.{occurrence_view, occurrences_from, Transmission}
+use Rattle.cp_skel.specs.Events.{occurrence_view, events_of}
+use Rattle.cp_derive.specs.Transmissions.{Transmission}
 use Rattle.cp_derive.specs.Before.{LeadsToOther, ArePlacesBefore, messages_at, transmissions_of, given_by}
 use Rattle.cp_derive.specs.Unrealised.{IsUnrealisedAt, IsRealisedAt, ListsUnrealised}
 use Rattle.cp_derive.proofs.FromLaw.{given_at}
-use Rattle.cp_derive.proofs.EventLists.{listed_event, transmission_listed, listed_on_role, listed_transmission}
+use Rattle.cp_skel.proofs.EventLists.{listed_event}
+use Rattle.cp_derive.proofs.Sending.{transmission_listed, listed_on_role, listed_transmission}
 use Rattle.cp_derive.proofs.Placing.{IsMessageAt, message_at, at_message, item_viewed}
 use Rattle.cp_derive.proofs.Picking.{Picks, no_more, picks, passes, lists_unrealised}
 use Rattle.cp_derive.proofs.Secrets.{secret_values}
@@ -115,12 +117,12 @@ module _ (k : Skeleton) (os : List program.Occurrence) (i : ℕ) (o : program.Oc
       (subst (λ xs. Picks k xs (node_view o.node ∷ ns)) (sym next_occurrence)
       (picks {o = occurrence_view o} u (subst (λ j. Picks k (map occurrence_view (drop j os)) ns) plus_one more))))
 
-  pub event_at : map occurrence_view os ≡ occurrences_from 0 k.strands → term_event_at k.strands (node_view o.node) ≡ Some (event_view o.event)
+  pub event_at : map occurrence_view os ≡ events_of k → term_event_at k.strands (node_view o.node) ≡ Some (event_view o.event)
   event_at all =
       listed_event k (occurrence_view o)
       (subst (IsIn (occurrence_view o)) all (item_of (map occurrence_view os) i (occurrence_view o) (item_viewed occurrence_view os i o h is)))
 
-pub all_passed : (k : Skeleton) (os : List program.Occurrence) (i : ℕ) (nodes : List ProgramNode) → length os ≤ i → map occurrence_view os ≡ occurrences_from 0 k.strands →
+pub all_passed : (k : Skeleton) (os : List program.Occurrence) (i : ℕ) (nodes : List ProgramNode) → length os ≤ i → map occurrence_view os ≡ events_of k →
     ((ns : List Node) → Picks k (map occurrence_view (drop i os)) ns → Picks k (map occurrence_view os) (map node_view nodes ++ ns)) → ListsUnrealised k (map node_view nodes)
 all_passed k os i nodes past all so_far =
     lists_unrealised k (map node_view nodes)

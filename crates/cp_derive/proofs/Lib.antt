@@ -5,8 +5,7 @@ pub mod BuildingSteps
 pub mod Taking
 pub mod Unlocking
 pub mod Walks
-pub mod Occurring
-pub mod EventLists
+pub mod Sending
 pub mod Secrets
 pub mod Picking
 pub mod Extending

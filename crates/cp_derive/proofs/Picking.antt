@@ -6,10 +6,10 @@ use Rattle.cp_model.specs.Term.{Term}
 use Rattle.cp_model.specs.Strand.{Event, recv}
 use Rattle.cp_model.specs.Bundle.{Node}
 use Rattle.cp_model.specs.Skeleton.{SkeletonStrand, skeleton_trace, Skeleton}
-use Rattle.cp_derive.specs.Occurrences.{Occurrence, is_role_strand, occurrences_on, occurrences_from}
+use Rattle.cp_skel.specs.Events.{Occurrence, is_role_strand, occurrences_on, occurrences_from, events_of}
 use Rattle.cp_derive.specs.Unrealised.{IsUnrealisedAt, IsRealisedAt, IsListedBefore, AreRising, ListsUnrealised}
 use Rattle.cp_derive.proofs.Listed.{in_cases, in_either}
-use Rattle.cp_derive.proofs.EventLists.{stands_on, stands_among, event_listed}
+use Rattle.cp_skel.proofs.EventLists.{stands_on, stands_among, event_listed}
 
 -- The nodes are those of the events that are unrealised receptions, in their order.
 pub data Picks (k : Skeleton) : List Occurrence → List Node → Type 0 where
@@ -121,16 +121,16 @@ all_rise s (x ∷ xs) =
 
 -- ---- together
 
-pub lists_unrealised : (k : Skeleton) (ns : List Node) → Picks k (occurrences_from 0 k.strands) ns → ListsUnrealised k ns
+pub lists_unrealised : (k : Skeleton) (ns : List Node) → Picks k (events_of k) ns → ListsUnrealised k ns
 lists_unrealised k ns h = record {
   each = λ n. (
-    λ i. picked k (occurrences_from 0 k.strands) ns h n i,
+    λ i. picked k (events_of k) ns h n i,
     λ u.
         let at = event_listed k n (recv u.message) u.reception in
-        all_picked k (occurrences_from 0 k.strands) ns h (record { node = n; event = recv u.message; by_role = is_role_strand at.0 }) at.1.listed u,
+        all_picked k (events_of k) ns h (record { node = n; event = recv u.message; by_role = is_role_strand at.0 }) at.1.listed u,
   );
   others = λ n t r.
       let at = event_listed k n (recv t) r in
-      elim (others_passed k (occurrences_from 0 k.strands) ns h (record { node = n; event = recv t; by_role = is_role_strand at.0 }) at.1.listed) [ inl a ↦ inl a | inr b ↦ inr (b t r) ];
-  rising = picked_rise k (occurrences_from 0 k.strands) ns h (all_rise 0 k.strands);
+      elim (others_passed k (events_of k) ns h (record { node = n; event = recv t; by_role = is_role_strand at.0 }) at.1.listed) [ inl a ↦ inl a | inr b ↦ inr (b t r) ];
+  rising = picked_rise k (events_of k) ns h (all_rise 0 k.strands);
 }

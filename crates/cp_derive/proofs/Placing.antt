@@ -8,10 +8,10 @@ use Rattle.cp_model.specs.Term.{Term}
 use Rattle.cp_model.specs.Bundle.{Node}
 use Rattle.cp_model.specs.Skeleton.{OrderPair}
 use Rattle.cp_derive.specs.Given.{Given}
-use Rattle.cp_derive.specs.Occurrences.{Transmission}
+use Rattle.cp_derive.specs.Transmissions.{Transmission}
 use Rattle.cp_derive.specs.Before.{LeadsToOther, ArePlacesBefore, message_onto, messages_at}
 use Rattle.cp_derive.proofs.Listed.{IsPushed, pushed, in_cases}
-use Rattle.cp_derive.proofs.Occurring.{moved}
+use Rattle.cp_skel.proofs.EventLists.{moved}
 
 -- These are the places below a bound.
 pub record ArePlacesBelow (pairs : List OrderPair) (n : Node) (ts : List Transmission) (bound : ℕ) (places : List ℕ) : Type 0 where

@@ -6,7 +6,8 @@ use Rattle.cp_model.specs.Bundle.{Node}
 use Rattle.cp_model.specs.Skeleton.{OrderPair, Skeleton}
 use Rattle.cp_model.specs.Order.{LeadsTo}
 use Rattle.cp_derive.specs.Given.{Given}
-use Rattle.cp_derive.specs.Occurrences.{Transmission, transmissions_among, occurrences_from}
+use Rattle.cp_skel.specs.Events.{events_of}
+use Rattle.cp_derive.specs.Transmissions.{Transmission, transmissions_among}
 use Rattle.cp_derive.specs.Assumed.{assumed_values}
 
 -- Node m leads to another one, n.
@@ -29,7 +30,7 @@ messages_at (p ∷ ps) ts = message_onto (item_at ts p) (messages_at ps ts)
 
 -- What role strands of a skeleton send.
 abbrev pub transmissions_of : Skeleton → List Transmission
-transmissions_of k = transmissions_among (occurrences_from 0 k.strands)
+transmissions_of k = transmissions_among (events_of k)
 
 -- What is given where the transmissions at these places came before.
 abbrev pub given_by : Skeleton → List ℕ → Given

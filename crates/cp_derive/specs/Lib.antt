@@ -6,6 +6,6 @@ pub mod Forms
 pub mod Opening
 pub mod Walking
 pub mod Unrealised
-pub mod Occurrences
+pub mod Transmissions
 pub mod Assumed
 pub mod Before

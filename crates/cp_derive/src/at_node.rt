@@ -11,13 +11,12 @@ ghost use Rattle.cp_term.specs.Positions.{term_at};
 ghost use Rattle.cp_derive.specs.Before.{transmissions_of};
 ghost use Rattle.cp_derive.specs.Components.{IsFirstUnderivable};
 ghost use Rattle.cp_derive.specs.Given.{IsDerivable};
-ghost use Rattle.cp_derive.specs.Occurrences.{transmission_view};
+ghost use Rattle.cp_derive.specs.Transmissions.{transmission_view};
 
 use crate::assumed::assumed_values;
 use crate::before::{messages_at, places_before};
 use crate::component::Critical;
 use crate::knowledge::Known;
-use crate::occurrence::occurrences;
 use crate::transmission::{Transmission, transmissions};
 use crate::walk::critical_in;
 use cp_skel::{Node, Skeleton};
@@ -28,7 +27,7 @@ use std::alloc::{AllocError, Global};
 fn transmissions_of(alloc: Global, k: &Skeleton) -> Result<Vec<Transmission>, AllocError>
     ensures { IfOk result (λ ts. map transmission_view ts.items ≡ transmissions_of (skeleton_view k.now)) }
 {
-    let occurrences = occurrences(alloc, k)?;
+    let occurrences = k.events(alloc)?;
     transmissions(alloc, &occurrences)
 }
 

@@ -3,7 +3,7 @@ ghost use Rattle.std.specs.Prelude.{◌≡◌, map, option_map, IfOk};
 ghost use Rattle.cp_model.specs.Lists.{item_at};
 ghost use Rattle.cp_model.specs.RunView.{node_view};
 ghost use Rattle.cp_skel.specs.View.{pair_view};
-ghost use Rattle.cp_derive.specs.Occurrences.{transmission_view};
+ghost use Rattle.cp_derive.specs.Transmissions.{transmission_view};
 ghost use Rattle.cp_derive.specs.Before.{ArePlacesBefore, messages_at};
 
 use crate::transmission::Transmission;

@@ -8,7 +8,7 @@ ghost use Rattle.cp_model.specs.RunView.{node_view};
 ghost use Rattle.cp_skel.specs.View.{skeleton_view};
 ghost use Rattle.cp_derive.specs.Before.{messages_at, transmissions_of, given_by};
 ghost use Rattle.cp_derive.specs.Given.{IsDerivable};
-ghost use Rattle.cp_derive.specs.Occurrences.{transmission_view};
+ghost use Rattle.cp_derive.specs.Transmissions.{transmission_view};
 
 use crate::before::{messages_at, places_before};
 use crate::knowledge::Known;

@@ -10,7 +10,6 @@ mod form;
 mod front;
 mod knowledge;
 mod laws;
-mod occurrence;
 mod opening;
 mod receptions;
 mod transmission;

@@ -4,15 +4,15 @@ ghost use Rattle.cp_skel.specs.Ordered.{IsOrdered};
 ghost use Rattle.cp_model.specs.RunView.{node_view};
 ghost use Rattle.cp_skel.specs.View.{skeleton_view};
 ghost use Rattle.cp_derive.specs.Before.{transmissions_of, given_by};
-ghost use Rattle.cp_derive.specs.Occurrences.{occurrence_view, occurrences_from, transmission_view};
+ghost use Rattle.cp_skel.specs.Events.{occurrence_view, events_of};
+ghost use Rattle.cp_derive.specs.Transmissions.{transmission_view};
 ghost use Rattle.cp_derive.specs.Unrealised.{ListsUnrealised};
 
 use crate::assumed::assumed_values;
 use crate::front::{Front, front_at};
 use crate::knowledge::{Known, buildable};
-use crate::occurrence::{Occurrence, occurrences};
 use crate::transmission::{Transmission, transmissions};
-use cp_skel::{Event, Node, Skeleton};
+use cp_skel::{Event, Node, Occurrence, Skeleton};
 use std::alloc::{AllocError, Global};
 
 /// The nodes of those among these events, all that there are, that are receptions whose message cannot be derived there.
@@ -25,7 +25,7 @@ fn unrealised_among(
 ) -> Result<Vec<Node>, AllocError>
     requires ordered { IsOrdered (skeleton_view k.now) }
     requires all { map transmission_view transmissions.now ≡ transmissions_of (skeleton_view k.now) }
-    requires listed { map occurrence_view occurrences.now ≡ occurrences_from 0 (skeleton_view k.now).strands }
+    requires listed { map occurrence_view occurrences.now ≡ events_of (skeleton_view k.now) }
     requires given { front.known ≡ given_by (skeleton_view k.now) front.places.items }
     ensures { IfOk result (λ nodes. ListsUnrealised (skeleton_view k.now) (map node_view nodes.items)) }
 {
@@ -50,7 +50,7 @@ pub fn unrealised(alloc: Global, k: &Skeleton) -> Result<Vec<Node>, AllocError>
     requires { IsOrdered (skeleton_view k.now) }
     ensures listed { IfOk result (λ nodes. ListsUnrealised (skeleton_view k.now) (map node_view nodes.items)) }
 {
-    let occurrences = occurrences(alloc, k)?;
+    let occurrences = k.events(alloc)?;
     let transmissions = transmissions(alloc, &occurrences)?;
     let secrets = assumed_values(alloc, &k.assumptions)?;
     let front = Front {

@@ -1,9 +1,9 @@
 // What role strands send.
 ghost use Rattle.std.specs.Prelude.{◌≡◌, map, IfOk};
-ghost use Rattle.cp_derive.specs.Occurrences.{occurrence_view, transmission_view, transmissions_among};
+ghost use Rattle.cp_skel.specs.Events.{occurrence_view};
+ghost use Rattle.cp_derive.specs.Transmissions.{transmission_view, transmissions_among};
 
-use crate::occurrence::Occurrence;
-use cp_skel::{Event, Node};
+use cp_skel::{Event, Node, Occurrence};
 use cp_term::Term;
 use std::alloc::{AllocError, Global};
 

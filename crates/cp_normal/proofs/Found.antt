@@ -8,58 +8,59 @@ use Rattle.cp_model.specs.Skeleton.{SkeletonStrand, instance, listener, skeleton
 use Rattle.cp_model.specs.Derivable.{IsOnInstance, OriginatesAtTerm}
 use Rattle.cp_skel.specs.View.{unique_view}
 use Rattle.cp_skel.specs.declared.skeleton.UniqueAt.{UniqueAt as Entry}
-use Rattle.cp_normal.specs.Events.{Has, Gathers, Occurrence, occurrence_view, occurrences_from, is_instance, CarriesOne, IsElsewhere, IsSentAtOrigin, IsCarriedBefore, IsPairBetween}
+use Rattle.cp_skel.specs.Events.{Occurrence, occurrence_view, events_of}
+use Rattle.cp_normal.specs.Events.{Has, Gathers, is_instance, CarriesOne, IsElsewhere, IsSentAtOrigin, IsCarriedBefore, IsPairBetween}
 use Rattle.cp_normal.specs.Normalising.{CarriesNonOriginating, HasTwoOrigins, LosesOrigin, IsAddedPair}
-use Rattle.cp_normal.specs.declared.events.Occurrence as program
+use Rattle.cp_skel.specs.declared.events.Occurrence as program
+use Rattle.cp_skel.proofs.EventLists.{listed_event, occurrence_at, listed_at}
 use Rattle.cp_normal.proofs.Having.{of_views, to_views}
-use Rattle.cp_normal.proofs.Listing.{event_of_listed, listed_of_event}
 
-module _ (k : Skeleton) (all read : List program.Occurrence) (listed : map occurrence_view all ≡ occurrences_from 0 k.strands) (is_read : read ≡ all) where
-  the_events : map occurrence_view read ≡ occurrences_from 0 k.strands
+module _ (k : Skeleton) (all read : List program.Occurrence) (listed : map occurrence_view all ≡ events_of k) (is_read : read ≡ all) where
+  the_events : map occurrence_view read ≡ events_of k
   the_events = ap (map occurrence_view) is_read ∙ listed
 
   -- An event with a property is among those that are listed.
-  pub listed_has : (has : Occurrence → Type 0) → Has (λ o. has (occurrence_view o)) read → Has has (occurrences_from 0 k.strands)
+  pub listed_has : (has : Occurrence → Type 0) → Has (λ o. has (occurrence_view o)) read → Has has (events_of k)
   listed_has has h = subst (Has has) the_events (of_views occurrence_view has read h)
 
-  pub has_listed : (has : Occurrence → Type 0) → Has has (occurrences_from 0 k.strands) → Has (λ o. has (occurrence_view o)) read
+  pub has_listed : (has : Occurrence → Type 0) → Has has (events_of k) → Has (λ o. has (occurrence_view o)) read
   has_listed has h = to_views occurrence_view has read (subst (Has has) (sym the_events) h)
 
   module _ (values : List AtomTerm) (are_non : values ≡ k.assumptions.non_originating) where
     pub carries_if_found : Has (λ o. CarriesOne values (occurrence_view o)) read → CarriesNonOriginating k
     carries_if_found h =
-        let r : Has (CarriesOne values) (occurrences_from 0 k.strands) = listed_has (CarriesOne values) h in
-        record { value = r.2.0; listed = subst (IsIn r.2.0) are_non r.2.1; node = r.0.node; carried = record { event = r.0.event; there = event_of_listed k.strands r.0 r.1; carried = r.2.2 } }
+        let r : Has (CarriesOne values) (events_of k) = listed_has (CarriesOne values) h in
+        record { value = r.2.0; listed = subst (IsIn r.2.0) are_non r.2.1; node = r.0.node; carried = record { event = r.0.event; there = listed_event k r.0 r.1; carried = r.2.2 } }
 
     pub found_if_carries : CarriesNonOriginating k → Has (λ o. CarriesOne values (occurrence_view o)) read
     found_if_carries c =
         has_listed (CarriesOne values)
-        (record { node = c.node; event = c.carried.event }, listed_of_event k.strands c.node c.carried.event c.carried.there, (c.value, subst (IsIn c.value) (sym are_non) c.listed, c.carried.carried))
+        (occurrence_at k c.node c.carried.event, listed_at k c.node c.carried.event c.carried.there, (c.value, subst (IsIn c.value) (sym are_non) c.listed, c.carried.carried))
 
   -- ---- origins
 
   pub originates_if_found : (u : UniqueAt) → IsOnInstance k u.origin → Has (λ o. IsSentAtOrigin u (occurrence_view o)) read → (Has (λ o. IsCarriedBefore u (occurrence_view o)) read → ⊥) → OriginatesAtTerm k u.value u.origin
   originates_if_found u on sent not =
-      let r : Has (IsSentAtOrigin u) (occurrences_from 0 k.strands) = listed_has (IsSentAtOrigin u) sent in
-      let at : term_event_at k.strands r.0.node ≡ Some r.0.event = event_of_listed k.strands r.0 r.1 in (
+      let r : Has (IsSentAtOrigin u) (events_of k) = listed_has (IsSentAtOrigin u) sent in
+      let at : term_event_at k.strands r.0.node ≡ Some r.0.event = listed_event k r.0 r.1 in (
         on,
         record {
           sent = r.2.0;
           transmission = subst (λ (n : Node). term_event_at k.strands n ≡ Some (send r.2.0)) r.2.3 (at ∙ ap Some r.2.1);
           carried = r.2.2;
           first = λ j e l there c.
-              not (has_listed (IsCarriedBefore u) (record { node = node_at u.origin.strand j; event = e }, listed_of_event k.strands (node_at u.origin.strand j) e there, (refl, l, c)));
+              not (has_listed (IsCarriedBefore u) (occurrence_at k (node_at u.origin.strand j) e, listed_at k (node_at u.origin.strand j) e there, (refl, l, c)));
         },
       )
 
   pub sent_if_originates : (u : UniqueAt) → OriginatesAtTerm k u.value u.origin → Has (λ o. IsSentAtOrigin u (occurrence_view o)) read
   sent_if_originates u or =
-      has_listed (IsSentAtOrigin u) (record { node = u.origin; event = send or.1.sent }, listed_of_event k.strands u.origin (send or.1.sent) or.1.transmission, (or.1.sent, refl, or.1.carried, refl))
+      has_listed (IsSentAtOrigin u) (occurrence_at k u.origin (send or.1.sent), listed_at k u.origin (send or.1.sent) or.1.transmission, (or.1.sent, refl, or.1.carried, refl))
 
   pub not_before_if_originates : (u : UniqueAt) → OriginatesAtTerm k u.value u.origin → Has (λ o. IsCarriedBefore u (occurrence_view o)) read → ⊥
   not_before_if_originates u or before =
-      let r : Has (IsCarriedBefore u) (occurrences_from 0 k.strands) = listed_has (IsCarriedBefore u) before in
-      let at : term_event_at k.strands r.0.node ≡ Some r.0.event = event_of_listed k.strands r.0 r.1 in
+      let r : Has (IsCarriedBefore u) (events_of k) = listed_has (IsCarriedBefore u) before in
+      let at : term_event_at k.strands r.0.node ≡ Some r.0.event = listed_event k r.0 r.1 in
       or.1.first r.0.node.index r.0.event r.2.1 (subst (λ (s : ℕ). item_at (skeleton_trace_or_none (item_at k.strands s)) r.0.node.index ≡ Some r.0.event) r.2.0 at) r.2.2
 
 -- ---- a strand that is an instance
@@ -104,17 +105,17 @@ module _ (k : Skeleton) (all read : List Entry) (are_uniques : map unique_view a
 
 -- ---- pairs
 
-module _ (k : Skeleton) (all read : List program.Occurrence) (listed : map occurrence_view all ≡ occurrences_from 0 k.strands) (is_read : read ≡ all) (entries read_entries : List Entry)
+module _ (k : Skeleton) (all read : List program.Occurrence) (listed : map occurrence_view all ≡ events_of k) (is_read : read ≡ all) (entries read_entries : List Entry)
     (are_uniques : map unique_view entries ≡ k.assumptions.uniquely_originating) (entries_read : read_entries ≡ entries) where
   abbrev AreGiven : OrderPair → Type 0
   AreGiven p = Has (λ o. Has (λ u. IsPairBetween (occurrence_view o) (unique_view u) p) read_entries) read
 
   pub added_if_given : (p : OrderPair) → AreGiven p → IsAddedPair k p
   added_if_given p h =
-      let r : Has (λ o. Has (λ u. IsPairBetween o (unique_view u) p) read_entries) (occurrences_from 0 k.strands) = listed_has k all read listed is_read (λ o. Has (λ u. IsPairBetween o (unique_view u) p) read_entries) h in
+      let r : Has (λ o. Has (λ u. IsPairBetween o (unique_view u) p) read_entries) (events_of k) = listed_has k all read listed is_read (λ o. Has (λ u. IsPairBetween o (unique_view u) p) read_entries) h in
       let s : Has (λ u. IsPairBetween r.0 u p) k.assumptions.uniquely_originating = unique_has k entries read_entries are_uniques entries_read (λ u. IsPairBetween r.0 u p) r.2 in
       let e : p ≡ record { earlier = s.0.origin; later = r.0.node } = s.2.4 in
-      let at : term_event_at k.strands r.0.node ≡ Some r.0.event = event_of_listed k.strands r.0 r.1 in (
+      let at : term_event_at k.strands r.0.node ≡ Some r.0.event = listed_event k r.0 r.1 in (
         record {
           entry = s.0;
           listed = s.1;
@@ -131,9 +132,9 @@ module _ (k : Skeleton) (all read : List program.Occurrence) (listed : map occur
       let o = a.0 in
       let e : p ≡ record { earlier = o.entry.origin; later = p.later } = λ i. record { earlier = o.from_origin i; later = p.later } in
       has_listed k all read listed is_read (λ o. Has (λ u. IsPairBetween o (unique_view u) p) read_entries) (
-        record { node = p.later; event = recv o.received },
-        listed_of_event k.strands p.later (recv o.received) o.reception,
-        has_unique k entries read_entries are_uniques entries_read (λ u. IsPairBetween (record { node = p.later; event = recv o.received }) u p)
+        occurrence_at k p.later (recv o.received),
+        listed_at k p.later (recv o.received) o.reception,
+        has_unique k entries read_entries are_uniques entries_read (λ u. IsPairBetween (occurrence_at k p.later (recv o.received)) u p)
             (o.entry, o.listed, (o.received, refl, o.carried, λ same. a.1 (ap (λ (n : Node). n.strand) o.from_origin ∙ same), e)),
       )
 

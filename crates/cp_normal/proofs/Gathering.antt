@@ -4,7 +4,7 @@ use Rattle.cp_model.specs.Lists.{IsIn, here}
 use Rattle.cp_model.specs.Skeleton.{OrderPair}
 use Rattle.cp_normal.specs.Events.{Has, Gathers}
 use Rattle.cp_normal.proofs.Having.{next_or_rest, next_back, none, in_cases}
-use Rattle.cp_normal.proofs.Listing.{in_either, in_first, in_second}
+use Rattle.cp_skel.proofs.Composing.{in_either, in_front, in_back}
 
 -- The pairs so far, with those that the items from i on give, are the first ones and all that are given.
 abbrev pub IsGathering : {A : Type 0} → (A → OrderPair → Type 0) → List A → ℕ → List OrderPair → List OrderPair → Type 0
@@ -72,5 +72,5 @@ module _ {A : Type 0} (gives : A → OrderPair → Type 0) (xs : List A) where
       of (inr h) = inr (one (in_cases h))
 
       back : IsIn p old ⊎ gives x p → IsIn p (old ++ q ∷ [])
-      back (inl h) = in_first old (q ∷ []) h
-      back (inr g) = in_second old (q ∷ []) (subst (λ z. IsIn z (q ∷ [])) (only p g) here)
+      back (inl h) = in_front old (q ∷ []) h
+      back (inr g) = in_back old (q ∷ []) (subst (λ z. IsIn z (q ∷ [])) (only p g) here)

@@ -1,15 +1,19 @@
 -- The atoms that receptions carry, each once.
-use Rattle.std.proofs.Common.{◌≡◌, ◌⊎◌, inl, inr, ℕ, zero, suc, ◌+◌, ◌<◌, ◌≤◌, List, [], ◌∷◌, ◌++◌, take, Some, None, refl, sym, ap, ◌∙◌, subst, arith, append_assoc, add-one}
+use Rattle.std.proofs.Common.{◌≡◌, ◌⊎◌, inl, inr, ℕ, zero, suc, ◌+◌, ◌<◌, ◌≤◌, ◌==◌, ◌&&◌, nat_lt, if◌then◌else◌, Bool, true, false, List, [], ◌∷◌, ◌++◌, map, length, get_or, take, drop, Some, refl, sym, ap, ◌∙◌, subst, arith, append_assoc, add-one}
+use Rattle.std.proofs.Math.Seq.{drop-cons}
+use Rattle.std.proofs.lemmas.List.{append-nil, drop_all}
 use Rattle.cp_model.specs.Lists.{item_at, IsIn, here, there}
 use Rattle.cp_model.specs.Term.{AtomTerm, Term, tag_term, atom_term, pair_term, enc_term, IsCarriedByTerm, itself_term, in_left_term, in_right_term, in_plaintext_term}
 use Rattle.cp_model.specs.Strand.{Event, send, recv}
-use Rattle.cp_model.specs.Bundle.{Node}
-use Rattle.cp_model.specs.Skeleton.{skeleton_trace_or_none, Skeleton}
+use Rattle.cp_model.specs.Bundle.{Node, node_at}
+use Rattle.cp_model.specs.Skeleton.{SkeletonStrand, skeleton_trace, skeleton_trace_or_none, Skeleton}
 use Rattle.cp_model.specs.Given.{atoms_onto}
 use Rattle.cp_skel.proofs.EachOnce.{atoms as gathering, onto-append, onto-takes, onto-only}
-use Rattle.cp_normal.specs.Hearing.{carried_atoms, received_atoms, heard_in, heard_before}
+use Rattle.cp_skel.specs.Events.{Occurrence, occurrence_view, is_role_strand, occurrences_on, occurrences_from, events_of}
+use Rattle.cp_skel.specs.declared.events.Occurrence as program
+use Rattle.cp_normal.specs.Hearing.{carried_atoms, received_atoms, heard_in, heard_before, heard_of, heard_among}
 use Rattle.cp_normal.specs.Narrowing.{IsHeardAt}
-use Rattle.cp_normal.proofs.Listing.{in_either, in_first, in_second}
+use Rattle.cp_skel.proofs.Composing.{in_either, in_front, in_back}
 
 -- ---- the loops that gather them
 
@@ -17,45 +21,97 @@ pub pair_step : (old new whole : List AtomTerm) (rest l r : Term) → rest ≡ p
 pair_step old new whole rest l r e n inv =
     ap (λ xs. atoms_onto xs (carried_atoms r)) n ∙ sym (onto-append gathering old (carried_atoms l) (carried_atoms r)) ∙ sym (ap (λ t. atoms_onto old (carried_atoms t)) e) ∙ inv
 
-heard_append : (xs ys : List (Event Term)) → heard_in (xs ++ ys) ≡ heard_in xs ++ heard_in ys
-heard_append [] ys = refl
-heard_append (x ∷ xs) ys = ap (λ zs. received_atoms x ++ zs) (heard_append xs ys) ∙ sym (append_assoc (received_atoms x) (heard_in xs) (heard_in ys))
+-- the next event, and what is left behind it
+pub heard_next : (x : Node) (os : List program.Occurrence) (i : ℕ) (o : program.Occurrence) (old new whole : List AtomTerm) → i < length os → o ≡ get_or os i o →
+    new ≡ atoms_onto old (heard_of x (occurrence_view o)) → atoms_onto old (heard_among x (map occurrence_view (drop i os))) ≡ whole → atoms_onto new (heard_among x (map occurrence_view (drop (i + 1) os))) ≡ whole
+heard_next x os i o old new whole l is made inv =
+    let rest : List AtomTerm = heard_among x (map occurrence_view (drop (suc i) os)) in
+    let step : heard_among x (map occurrence_view (drop i os)) ≡ heard_of x (occurrence_view o) ++ rest =
+    ap (λ xs. heard_among x (map occurrence_view xs)) (drop-cons os i o l) ∙ ap (λ (y : program.Occurrence). heard_of x (occurrence_view y) ++ rest) (sym is) in
+    rw add-one
+    (ap (λ xs. atoms_onto xs rest) made ∙ sym (onto-append gathering old (heard_of x (occurrence_view o)) rest) ∙ ap (atoms_onto old) (sym step) ∙ inv)
 
-taken_more : {A : Type 0} (xs : List A) (i : ℕ) (x : A) → item_at xs i ≡ Some x → take (suc i) xs ≡ take i xs ++ x ∷ []
-taken_more [] i x e = absurd (cc)
-taken_more (y ∷ ys) zero x e = let q : y ≡ x = cc in ap (λ z. z ∷ []) q
-taken_more (y ∷ ys) (suc i) x e = ap (λ zs. y ∷ zs) (taken_more ys i x e)
+pub heard_end : (x : Node) (os : List program.Occurrence) (i : ℕ) (atoms whole : List AtomTerm) → length os ≤ i → atoms_onto atoms (heard_among x (map occurrence_view (drop i os))) ≡ whole → atoms ≡ whole
+heard_end x os i atoms whole l inv = sym (ap (λ xs. atoms_onto atoms (heard_among x (map occurrence_view xs))) (drop_all i os l)) ∙ inv
 
-taken_all : {A : Type 0} (xs : List A) (i n : ℕ) → item_at xs i ≡ None → i ≤ n → take n xs ≡ take i xs
-taken_all [] zero zero e h = refl
-taken_all [] zero (suc n) e h = refl
-taken_all [] (suc i) zero e h = refl
-taken_all [] (suc i) (suc n) e h = refl
-taken_all (y ∷ ys) zero n e h = absurd (cc)
-taken_all (y ∷ ys) (suc i) zero e h = absurd (omega arith)
-taken_all (y ∷ ys) (suc i) (suc n) e h = ap (λ zs. y ∷ zs) (taken_all ys i n e (omega arith))
+-- ---- among the events of a skeleton
 
-module _ (trace : List (Event Term)) (old now : List AtomTerm) (i : ℕ) (inv : now ≡ atoms_onto old (heard_in (take i trace))) where
-  pub heard_more : (new : List AtomTerm) (e : Event Term) → item_at trace i ≡ Some e → new ≡ atoms_onto now (received_atoms e) → new ≡ atoms_onto old (heard_in (take (i + 1) trace))
-  heard_more new e at made =
-      let more : heard_in (take (suc i) trace) ≡ heard_in (take i trace) ++ (received_atoms e ++ []) = ap heard_in (taken_more trace i e at) ∙ heard_append (take i trace) (e ∷ []) in
-      rw add-one
-      (made ∙ ap (λ xs. atoms_onto xs (received_atoms e)) inv ∙ ap (atoms_onto (atoms_onto old (heard_in (take i trace)))) (behind_none (received_atoms e))
-      ∙ sym (onto-append gathering old (heard_in (take i trace)) (received_atoms e ++ [])) ∙ ap (atoms_onto old) (sym more))
-    where
-      behind_none : {A : Type 0} (xs : List A) → xs ≡ xs ++ []
-      behind_none [] = refl
-      behind_none (x ∷ xs) = ap (λ ys. x ∷ ys) (behind_none xs)
+heard_both : (x : Node) (xs ys : List Occurrence) → heard_among x (xs ++ ys) ≡ heard_among x xs ++ heard_among x ys
+heard_both x [] ys = refl
+heard_both x (o ∷ xs) ys = ap (λ zs. heard_of x o ++ zs) (heard_both x xs ys) ∙ sym (append_assoc (heard_of x o) (heard_among x xs) (heard_among x ys))
 
-  pub heard_all : (n : ℕ) → item_at trace i ≡ None → i ≤ n → now ≡ atoms_onto old (heard_in (take n trace))
-  heard_all n at h = inv ∙ sym (ap (λ es. atoms_onto old (heard_in es)) (taken_all trace i n at h))
+-- an event that is not before the node on its strand
+not_heard : (x : Node) (o : Occurrence) → ((o.node.strand == x.strand) && nat_lt o.node.index x.index) ≡ false → heard_of x o ≡ []
+not_heard x o e = ap (λ b. if b then received_atoms o.event else []) e
+
+is_heard : (x : Node) (o : Occurrence) → ((o.node.strand == x.strand) && nat_lt o.node.index x.index) ≡ true → heard_of x o ≡ received_atoms o.event
+is_heard x o e = ap (λ b. if b then received_atoms o.event else []) e
+
+past_node : (a b c d : ℕ) → d ≤ c → ((a == b) && nat_lt c d) ≡ false
+past_node a b c d h = grind arith
+
+other_strand : (a b c d : ℕ) → (a ≡ b → ⊥) → ((a == b) && nat_lt c d) ≡ false
+other_strand a b c d h = grind arith
+
+before_node : (a b c d : ℕ) → a ≡ b → c < d → ((a == b) && nat_lt c d) ≡ true
+before_node a b c d e h = grind arith
+
+none_past : (x : Node) (s i : ℕ) (r : Bool) (es : List (Event Term)) → x.index ≤ i → heard_among x (occurrences_on s i r es) ≡ []
+none_past x s i r [] h = refl
+none_past x s i r (e ∷ es) h =
+    let o : Occurrence = record { node = node_at s i; event = e; by_role = r } in
+    let first : heard_of x o ≡ [] = not_heard x o (past_node s x.strand i x.index h) in
+    ap (λ xs. xs ++ heard_among x (occurrences_on s (suc i) r es)) first ∙ none_past x s (suc i) r es (omega arith)
+
+none_elsewhere : (x : Node) (s i : ℕ) (r : Bool) (es : List (Event Term)) → (s ≡ x.strand → ⊥) → heard_among x (occurrences_on s i r es) ≡ []
+none_elsewhere x s i r [] h = refl
+none_elsewhere x s i r (e ∷ es) h =
+    let o : Occurrence = record { node = node_at s i; event = e; by_role = r } in
+    let first : heard_of x o ≡ [] = not_heard x o (other_strand s x.strand i x.index h) in
+    ap (λ xs. xs ++ heard_among x (occurrences_on s (suc i) r es)) first ∙ none_elsewhere x s (suc i) r es h
+
+heard_on : (x : Node) (s i j : ℕ) (r : Bool) (es : List (Event Term)) → s ≡ x.strand → x.index ≡ i + j → heard_among x (occurrences_on s i r es) ≡ heard_in (take j es)
+heard_on x s i zero r [] e at = refl
+heard_on x s i (suc j) r [] e at = refl
+heard_on x s i zero r (v ∷ es) e at = none_past x s i r (v ∷ es) (omega (arith, at))
+heard_on x s i (suc j) r (v ∷ es) e at =
+    let o : Occurrence = record { node = node_at s i; event = v; by_role = r } in
+    let first : heard_of x o ≡ received_atoms v = is_heard x o (before_node s x.strand i x.index e (omega (arith, at))) in
+    ap (λ xs. xs ++ heard_among x (occurrences_on s (suc i) r es)) first ∙ ap (λ xs. received_atoms v ++ xs) (heard_on x s (suc i) j r es e (omega (arith, at)))
+
+none_later : (x : Node) (s : ℕ) (xs : List SkeletonStrand) → x.strand < s → heard_among x (occurrences_from s xs) ≡ []
+none_later x s [] h = refl
+none_later x s (y ∷ xs) h =
+    heard_both x (occurrences_on s 0 (is_role_strand y) (skeleton_trace y)) (occurrences_from (suc s) xs)
+    ∙ ap (λ zs. zs ++ heard_among x (occurrences_from (suc s) xs)) (none_elsewhere x s 0 (is_role_strand y) (skeleton_trace y) (λ e. omega (arith, h, e)))
+    ∙ none_later x (suc s) xs (omega (arith, h))
+
+none_taken : {A : Type 0} (n : ℕ) → ◌≡◌ {A = List A} (take n []) []
+none_taken zero = refl
+none_taken (suc n) = refl
+
+heard_from : (x : Node) (s t : ℕ) (xs : List SkeletonStrand) → x.strand ≡ s + t → heard_among x (occurrences_from s xs) ≡ heard_in (take x.index (skeleton_trace_or_none (item_at xs t)))
+heard_from x s t [] e = sym (ap heard_in (none_taken x.index))
+heard_from x s zero (y ∷ xs) e =
+    heard_both x (occurrences_on s 0 (is_role_strand y) (skeleton_trace y)) (occurrences_from (suc s) xs)
+    ∙ ap (λ zs. heard_among x (occurrences_on s 0 (is_role_strand y) (skeleton_trace y)) ++ zs) (none_later x (suc s) xs (omega (arith, e)))
+    ∙ append-nil (heard_among x (occurrences_on s 0 (is_role_strand y) (skeleton_trace y)))
+    ∙ heard_on x s 0 x.index (is_role_strand y) (skeleton_trace y) (omega (arith, e)) (omega arith)
+heard_from x s (suc t) (y ∷ xs) e =
+    heard_both x (occurrences_on s 0 (is_role_strand y) (skeleton_trace y)) (occurrences_from (suc s) xs)
+    ∙ ap (λ zs. zs ++ heard_among x (occurrences_from (suc s) xs)) (none_elsewhere x s 0 (is_role_strand y) (skeleton_trace y) (λ f. omega (arith, e, f)))
+    ∙ heard_from x (suc s) t xs (omega (arith, e))
+
+-- What is heard among the events of a skeleton is what is heard before the node.
+pub heard_listed : (k : Skeleton) (x : Node) (os : List Occurrence) (atoms : List AtomTerm) → os ≡ events_of k → atoms ≡ atoms_onto [] (heard_among x os) → atoms ≡ heard_before k x
+heard_listed k x os atoms all e = e ∙ ap (λ (ys : List Occurrence). atoms_onto [] (heard_among x ys)) all ∙ ap (atoms_onto []) (heard_from x 0 x.strand k.strands (omega arith))
 
 -- ---- what is heard
 
 carried_listed : (v : AtomTerm) (w t : Term) → w ≡ atom_term v → IsCarriedByTerm w t → IsIn v (carried_atoms t)
 carried_listed v w t e itself_term = subst (λ u. IsIn v (carried_atoms u)) (sym e) here
-carried_listed v w t e (in_left_term {a = x} {b = y} c) = in_first (carried_atoms x) (carried_atoms y) (carried_listed v w x e c)
-carried_listed v w t e (in_right_term {a = x} {b = y} c) = in_second (carried_atoms x) (carried_atoms y) (carried_listed v w y e c)
+carried_listed v w t e (in_left_term {a = x} {b = y} c) = in_front (carried_atoms x) (carried_atoms y) (carried_listed v w x e c)
+carried_listed v w t e (in_right_term {a = x} {b = y} c) = in_back (carried_atoms x) (carried_atoms y) (carried_listed v w y e c)
 carried_listed v w t e (in_plaintext_term {a = x} c) = carried_listed v w x e c
 
 of_one : {A : Type 0} {x y : A} → IsIn x (y ∷ []) → y ≡ x
@@ -92,8 +148,8 @@ below_heard v zero es i t h at c = absurd (omega arith)
 below_heard v (suc n) [] i t h at c = absurd (cc)
 below_heard v (suc n) (e ∷ es) zero t h at c =
     let q : e ≡ recv t = cc in
-    in_first (received_atoms e) (heard_in (take n es)) (subst (λ z. IsIn v (received_atoms z)) (sym q) c)
-below_heard v (suc n) (e ∷ es) (suc i) t h at c = in_second (received_atoms e) (heard_in (take n es)) (below_heard v n es i t (omega arith) at c)
+    in_front (received_atoms e) (heard_in (take n es)) (subst (λ z. IsIn v (received_atoms z)) (sym q) c)
+below_heard v (suc n) (e ∷ es) (suc i) t h at c = in_back (received_atoms e) (heard_in (take n es)) (below_heard v n es i t (omega arith) at c)
 
 none_before : {v : AtomTerm} {ys : List AtomTerm} → IsIn v [] ⊎ IsIn v ys → IsIn v ys
 none_before (inl h) = elim h [ ]

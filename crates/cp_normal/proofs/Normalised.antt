@@ -12,7 +12,7 @@ use Rattle.cp_normal.specs.Events.{Has}
 use Rattle.cp_normal.specs.Cycles.{LeadsOn, IsClosedAt}
 use Rattle.cp_normal.specs.Normalising.{CarriesNonOriginating, HasTwoOrigins, LosesOrigin, ClosesCycle, IsAddedPair, AreNormalPairs, IsContradictory}
 use Rattle.cp_normal.proofs.Having.{of_views, to_views}
-use Rattle.cp_normal.proofs.Listing.{in_either, in_first, in_second}
+use Rattle.cp_skel.proofs.Composing.{in_either, in_front, in_back}
 use Rattle.cp_normal.proofs.Found.{unique_has, has_unique}
 use Rattle.cp_normal.proofs.Cycling.{closed_if_cycle, cycle_if_closed, cycle_of_these}
 
@@ -23,8 +23,8 @@ own_or_added k own added e exact p (inl h) = inl (subst (IsIn p) e h)
 own_or_added k own added e exact p (inr h) = inr ((exact p).0 h)
 
 in_both : (k : Skeleton) (own added : List OrderPair) → own ≡ k.pairs → ((p : OrderPair) → IsIn p added ↔ IsAddedPair k p) → (p : OrderPair) → IsIn p k.pairs ⊎ IsAddedPair k p → IsIn p (own ++ added)
-in_both k own added e exact p (inl h) = in_first own added (subst (IsIn p) (sym e) h)
-in_both k own added e exact p (inr h) = in_second own added ((exact p).1 h)
+in_both k own added e exact p (inl h) = in_front own added (subst (IsIn p) (sym e) h)
+in_both k own added e exact p (inr h) = in_back own added ((exact p).1 h)
 
 pub normal_of_both : (k : Skeleton) (own added all : List Pair) → map pair_view own ≡ k.pairs → ((p : OrderPair) → IsIn p (map pair_view added) ↔ IsAddedPair k p) → all ≡ own ++ added → AreNormalPairs k (map pair_view all)
 normal_of_both k own added all e exact whole p =

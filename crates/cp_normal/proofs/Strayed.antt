@@ -1,5 +1,5 @@
 -- The first of the unique values that stray.
-use Rattle.std.proofs.Common.{◌≡◌, ◌⊎◌, inl, inr, ℕ, zero, suc, ◌+◌, ◌<◌, ◌≤◌, List, [], ◌∷◌, ◌++◌, length, get_or, map, Some, refl, sym, ap, ◌∙◌, subst, arith}
+use Rattle.std.proofs.Common.{Bool, ◌≡◌, ◌⊎◌, inl, inr, ℕ, zero, suc, ◌+◌, ◌<◌, ◌≤◌, List, [], ◌∷◌, ◌++◌, length, get_or, map, Some, refl, sym, ap, ◌∙◌, subst, arith}
 use Rattle.cp_model.specs.Lists.{item_at, IsIn, here, there}
 use Rattle.cp_model.specs.Term.{AtomTerm, Term, atom_term, IsCarriedByTerm}
 use Rattle.cp_model.specs.Strand.{Event, send, payload}
@@ -7,12 +7,12 @@ use Rattle.cp_model.specs.Bundle.{Node, node_at}
 use Rattle.cp_model.specs.Given.{listed}
 use Rattle.cp_model.specs.Skeleton.{SkeletonStrand, skeleton_trace, term_event_at, UniqueAt, Skeleton}
 use Rattle.cp_skel.proofs.EachOnce.{listed-unique}
-use Rattle.cp_normal.specs.Events.{Occurrence, occurrences_on, occurrences_from}
+use Rattle.cp_skel.proofs.EventLists.{listed_event, occurrence_at, listed_at}
+use Rattle.cp_skel.specs.Events.{Occurrence, is_role_strand, occurrences_on, occurrences_from, events_of}
 use Rattle.cp_normal.specs.Narrowing.{IsStray}
 use Rattle.cp_normal.specs.Branching.{IsSettled}
 use Rattle.cp_normal.specs.Straying.{Strays, StraysOne, NoneBefore, IsFirstAt, IsEarlier, IsFirstStray}
 use Rattle.cp_normal.proofs.Having.{item_is_in}
-use Rattle.cp_normal.proofs.Listing.{event_of_listed, listed_of_event}
 
 -- ---- loops that find the first
 
@@ -66,9 +66,9 @@ module _ {A B : Type 0} (has : B → Type 0) (f : A → B) (xs : List A) (i : �
 
 -- ---- one event
 
-pub not_carried : (k : Skeleton) (o : Occurrence) (u : UniqueAt) → IsIn o (occurrences_from 0 k.strands) → (IsCarriedByTerm (atom_term u.value) (payload o.event) → ⊥) → Strays k o.node u → ⊥
+pub not_carried : (k : Skeleton) (o : Occurrence) (u : UniqueAt) → IsIn o (events_of k) → (IsCarriedByTerm (atom_term u.value) (payload o.event) → ⊥) → Strays k o.node u → ⊥
 not_carried k o u inside not s =
-    let at : term_event_at k.strands o.node ≡ Some o.event = event_of_listed k.strands o inside in
+    let at : term_event_at k.strands o.node ≡ Some o.event = listed_event k o inside in
     let sent : term_event_at k.strands o.node ≡ Some (send s.1.1.sent) = s.1.1.transmission in
     let same : send s.1.1.sent ≡ o.event = cc in
     not (subst (λ (e : Event Term). IsCarriedByTerm (atom_term u.value) (payload e)) same s.1.1.carried)
@@ -91,18 +91,18 @@ at_append {A} (x ∷ xs) ys (suc i) z e = elim (at_append xs ys i z e) as (λ _.
   | inr p ↦ inr (p.0, omega (arith, p.1), p.2)
 ]
 
-on_place : (s b : ℕ) (es : List (Event Term)) (i : ℕ) (o : Occurrence) → item_at (occurrences_on s b es) i ≡ Some o → o.node ≡ node_at s (b + i)
-on_place s b [] i o e = absurd (cc)
-on_place s b (x ∷ es) zero o e =
-    let q : record { node = node_at s b; event = x } ≡ o = cc in
+on_place : (s b : ℕ) (r : Bool) (es : List (Event Term)) (i : ℕ) (o : Occurrence) → item_at (occurrences_on s b r es) i ≡ Some o → o.node ≡ node_at s (b + i)
+on_place s b r [] i o e = absurd (cc)
+on_place s b r (x ∷ es) zero o e =
+    let q : record { node = node_at s b; event = x; by_role = r } ≡ o = cc in
     let z : b ≡ b + 0 = omega arith in
     sym (ap (λ (p : Occurrence). p.node) q) ∙ ap (node_at s) z
-on_place s b (x ∷ es) (suc i) o e = let z : suc b + i ≡ b + suc i = omega arith in on_place s (suc b) es i o e ∙ ap (node_at s) z
+on_place s b r (x ∷ es) (suc i) o e = let z : suc b + i ≡ b + suc i = omega arith in on_place s (suc b) r es i o e ∙ ap (node_at s) z
 
 from_strand : (s : ℕ) (xs : List SkeletonStrand) (i : ℕ) (o : Occurrence) → item_at (occurrences_from s xs) i ≡ Some o → s ≤ o.node.strand
 from_strand s [] i o e = absurd (cc)
-from_strand s (x ∷ xs) i o e = elim (at_append (occurrences_on s 0 (skeleton_trace x)) (occurrences_from (suc s) xs) i o e) as (λ _. s ≤ o.node.strand) [
-  | inl p ↦ let q : o.node.strand ≡ s = ap (λ (n : Node). n.strand) (on_place s 0 (skeleton_trace x) i o p.0) in omega (arith, q)
+from_strand s (x ∷ xs) i o e = elim (at_append (occurrences_on s 0 (is_role_strand x) (skeleton_trace x)) (occurrences_from (suc s) xs) i o e) as (λ _. s ≤ o.node.strand) [
+  | inl p ↦ let q : o.node.strand ≡ s = ap (λ (n : Node). n.strand) (on_place s 0 (is_role_strand x) (skeleton_trace x) i o p.0) in omega (arith, q)
   | inr p ↦ let q : suc s ≤ o.node.strand = from_strand (suc s) xs p.0 o p.2 in omega (arith, q)
 ]
 
@@ -122,14 +122,14 @@ module _ (s : ℕ) (es : List (Event Term)) (i j : ℕ) (o p : Occurrence) where
   not_earlier a b (inr l) = omega (arith, a, b, l.0)
 
 abbrev InFrom : ℕ → SkeletonStrand → List SkeletonStrand → ℕ → Occurrence → Type 0
-InFrom s x xs i o = ((item_at (occurrences_on s 0 (skeleton_trace x)) i ≡ Some o) × (i < length (occurrences_on s 0 (skeleton_trace x)))) ⊎ ((j : ℕ) × (i ≡ length (occurrences_on s 0 (skeleton_trace x)) + j) × (item_at (occurrences_from (suc s) xs) j ≡ Some o))
+InFrom s x xs i o = ((item_at (occurrences_on s 0 (is_role_strand x) (skeleton_trace x)) i ≡ Some o) × (i < length (occurrences_on s 0 (is_role_strand x) (skeleton_trace x)))) ⊎ ((j : ℕ) × (i ≡ length (occurrences_on s 0 (is_role_strand x) (skeleton_trace x)) + j) × (item_at (occurrences_from (suc s) xs) j ≡ Some o))
 
 module _ (s : ℕ) (x : SkeletonStrand) (xs : List SkeletonStrand) (i j : ℕ) (o p : Occurrence) (earlier : IsEarlier p.node o.node)
     (more : (i j : ℕ) → item_at (occurrences_from (suc s) xs) i ≡ Some o → item_at (occurrences_from (suc s) xs) j ≡ Some p → j < i) where
   order_of : InFrom s x xs i o → InFrom s x xs j p → j < i
-  order_of (inl a) (inl b) = earlier_index s (skeleton_trace x) i j o p (on_place s 0 (skeleton_trace x) i o a.0) (on_place s 0 (skeleton_trace x) j p b.0) earlier
+  order_of (inl a) (inl b) = earlier_index s (skeleton_trace x) i j o p (on_place s 0 (is_role_strand x) (skeleton_trace x) i o a.0) (on_place s 0 (is_role_strand x) (skeleton_trace x) j p b.0) earlier
   order_of (inl a) (inr b) =
-      let q : o.node.strand ≡ s = ap (λ (n : Node). n.strand) (on_place s 0 (skeleton_trace x) i o a.0) in
+      let q : o.node.strand ≡ s = ap (λ (n : Node). n.strand) (on_place s 0 (is_role_strand x) (skeleton_trace x) i o a.0) in
       absurd (not_earlier s (skeleton_trace x) i j o p q (from_strand (suc s) xs b.0 p b.2) earlier)
   order_of (inr a) (inl b) = omega (arith, a.1, b.1)
   order_of (inr a) (inr b) = let l : b.0 < a.0 = more a.0 b.0 a.2 b.2 in omega (arith, l, a.1, b.1)
@@ -138,21 +138,21 @@ module _ (s : ℕ) (x : SkeletonStrand) (xs : List SkeletonStrand) (i j : ℕ) (
 in_order : (s : ℕ) (xs : List SkeletonStrand) (i j : ℕ) (o p : Occurrence) → IsEarlier p.node o.node → item_at (occurrences_from s xs) i ≡ Some o → item_at (occurrences_from s xs) j ≡ Some p → j < i
 in_order s [] i j o p earlier a b = absurd (cc)
 in_order s (x ∷ xs) i j o p earlier a b =
-    let first = occurrences_on s 0 (skeleton_trace x) in
+    let first = occurrences_on s 0 (is_role_strand x) (skeleton_trace x) in
     let rest = occurrences_from (suc s) xs in
     order_of s x xs i j o p earlier (λ n m. in_order (suc s) xs n m o p earlier) (at_append first rest i o a) (at_append first rest j p b)
 
 -- ---- all events
 
-module _ {A : Type 0} (f : A → Occurrence) (k : Skeleton) (xs : List A) (events : map f xs ≡ occurrences_from 0 k.strands) where
-  stray_listed : (u : UniqueAt) (y : Node) (stray : IsStray k u y) → IsIn (record { node = y; event = send stray.originates.1.sent }) (map f xs)
-  stray_listed u y stray = subst (IsIn (record { node = y; event = send stray.originates.1.sent })) (sym events) (listed_of_event k.strands y (send stray.originates.1.sent) stray.originates.1.transmission)
+module _ {A : Type 0} (f : A → Occurrence) (k : Skeleton) (xs : List A) (events : map f xs ≡ events_of k) where
+  stray_listed : (u : UniqueAt) (y : Node) (stray : IsStray k u y) → IsIn (occurrence_at k y (send stray.originates.1.sent)) (map f xs)
+  stray_listed u y stray = subst (IsIn (occurrence_at k y (send stray.originates.1.sent))) (sym events) (listed_at k y (send stray.originates.1.sent) stray.originates.1.transmission)
 
   pub none_strays : (i : ℕ) → length xs ≤ i → NoneBefore (StraysOne k) (map f xs) i → IsSettled k
   none_strays i l inv u y stray =
-      none_at_all (StraysOne k) f xs i l inv (record { node = y; event = send stray.originates.1.sent }) (stray_listed u y stray) (u, stray.listed, (stray.elsewhere, stray.originates))
+      none_at_all (StraysOne k) f xs i l inv (occurrence_at k y (send stray.originates.1.sent)) (stray_listed u y stray) (u, stray.listed, (stray.elsewhere, stray.originates))
 
-  pub event_listed : (i : ℕ) (x : A) → i < length xs → x ≡ get_or xs i x → IsIn (f x) (occurrences_from 0 k.strands)
+  pub event_listed : (i : ℕ) (x : A) → i < length xs → x ≡ get_or xs i x → IsIn (f x) (events_of k)
   event_listed i x l e = subst (IsIn (f x)) events (into (item_is_in xs i x l e))
     where
       into : {x : A} {xs : List A} → IsIn x xs → IsIn (f x) (map f xs)
@@ -161,10 +161,10 @@ module _ {A : Type 0} (f : A → Occurrence) (k : Skeleton) (xs : List A) (event
 
   pub earliest_found : (i : ℕ) (x d : A) → i < length xs → x ≡ get_or xs i d → NoneBefore (StraysOne k) (map f xs) i → (u : UniqueAt) (y : Node) → IsStray k u y → IsEarlier y (f x).node → ⊥
   earliest_found i x d l e inv u y stray earlier =
-      let o : Occurrence = record { node = y; event = send stray.originates.1.sent } in
+      let o : Occurrence = occurrence_at k y (send stray.originates.1.sent) in
       let r = place_of (map f xs) (stray_listed u y stray) in
-      let at_o : item_at (occurrences_from 0 k.strands) r.0 ≡ Some o = subst (λ (os : List Occurrence). item_at os r.0 ≡ Some o) events r.1 in
-      let at_x : item_at (occurrences_from 0 k.strands) i ≡ Some (f x) = subst (λ (os : List Occurrence). item_at os i ≡ Some (f x)) events (viewed_at f xs i x d l e) in
+      let at_o : item_at (events_of k) r.0 ≡ Some o = subst (λ (os : List Occurrence). item_at os r.0 ≡ Some o) events r.1 in
+      let at_x : item_at (events_of k) i ≡ Some (f x) = subst (λ (os : List Occurrence). item_at os i ≡ Some (f x)) events (viewed_at f xs i x d l e) in
       inv r.0 o (in_order 0 k.strands i r.0 (f x) o earlier at_x at_o) r.1 (u, stray.listed, (stray.elsewhere, stray.originates))
 
   pub first_stray_found : (i : ℕ) (x d : A) (v : AtomTerm) (us : List UniqueAt) → us ≡ (listed k).uniquely_originating → i < length xs → x ≡ get_or xs i d → NoneBefore (StraysOne k) (map f xs) i →

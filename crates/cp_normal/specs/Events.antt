@@ -1,13 +1,10 @@
--- The events of a skeleton in a list, each with its node, and what is looked for among them.
-use Rattle.std.specs.Prelude.{◌≡◌, ◌≢◌, ◌↔◌, ◌⊎◌, ◌<◌, ℕ, suc, List, [], ◌∷◌, ◌++◌, Option, Some, None, Bool, true, false}
+-- What is looked for among the events of a skeleton.
+use Rattle.std.specs.Prelude.{◌≡◌, ◌≢◌, ◌↔◌, ◌⊎◌, ◌<◌, List, Option, Some, None, Bool, true, false}
 use Rattle.cp_model.specs.Lists.{IsIn}
 use Rattle.cp_model.specs.Term.{AtomTerm, Term, atom_term, IsCarriedByTerm}
-use Rattle.cp_model.specs.Strand.{Event, send, recv, payload}
-use Rattle.cp_model.specs.Bundle.{Node, node_at}
-use Rattle.cp_model.specs.Skeleton.{SkeletonStrand, instance, listener, skeleton_trace, UniqueAt, OrderPair}
-use Rattle.cp_model.specs.RunView.{node_view}
-use Rattle.cp_skel.specs.View.{event_view}
-use Rattle.cp_normal.specs.declared.events.Occurrence as program
+use Rattle.cp_model.specs.Strand.{send, recv, payload}
+use Rattle.cp_model.specs.Skeleton.{SkeletonStrand, instance, listener, UniqueAt, OrderPair}
+use Rattle.cp_skel.specs.Events.{Occurrence}
 
 -- An item of the list has the property.
 abbrev pub Has : {A : Type 0} → (A → Type 0) → List A → Type 0
@@ -16,24 +13,6 @@ Has {A = A} has xs = (x : A) × IsIn x xs × has x
 -- The new pairs are the old ones, and those that an item of the list gives.
 abbrev pub Gathers : {A : Type 0} → (A → OrderPair → Type 0) → List A → List OrderPair → List OrderPair → Type 0
 Gathers gives xs old new = (p : OrderPair) → IsIn p new ↔ (IsIn p old ⊎ Has (λ x. gives x p) xs)
-
--- An event, and the node where it stands.
-pub record Occurrence : Type 0 where
-  pub node : Node
-  pub event : Event Term
-
-abbrev pub occurrence_view : program.Occurrence → Occurrence
-occurrence_view o = record { node = node_view o.node; event = event_view o.event }
-
--- The events of strand number s, the first of them at place i.
-abbrev pub occurrences_on : ℕ → ℕ → List (Event Term) → List Occurrence
-occurrences_on s i [] = []
-occurrences_on s i (e ∷ es) = record { node = node_at s i; event = e } ∷ occurrences_on s (suc i) es
-
--- The events of strands, the first of which has number s, by strand and then by place.
-abbrev pub occurrences_from : ℕ → List SkeletonStrand → List Occurrence
-occurrences_from s [] = []
-occurrences_from s (x ∷ xs) = occurrences_on s 0 (skeleton_trace x) ++ occurrences_from (suc s) xs
 
 -- There is a strand, and it is an instance of a role.
 abbrev pub is_instance : Option SkeletonStrand → Bool

@@ -7,7 +7,7 @@ use Rattle.cp_model.specs.Skeleton.{UniqueAt, Skeleton}
 use Rattle.cp_model.specs.Derivable.{OriginatesAtTerm}
 use Rattle.cp_model.specs.Given.{listed}
 use Rattle.cp_normal.specs.Narrowing.{IsStray}
-use Rattle.cp_normal.specs.Events.{Occurrence}
+use Rattle.cp_skel.specs.Events.{Occurrence}
 
 -- The value originates at the node, which is not its recorded origin.
 abbrev pub Strays : Skeleton → Node → UniqueAt → Type 0

@@ -3,6 +3,7 @@ ghost use Rattle.std.specs.Prelude.{◌≡◌, ◌↔◌, ◌++◌, map, IsTrue,
 ghost use Rattle.cp_model.specs.Lists.{IsIn};
 ghost use Rattle.cp_model.specs.RunView.{node_view};
 ghost use Rattle.cp_skel.specs.DeclaredPrefixes.{HasDeclaredPrefixes};
+ghost use Rattle.cp_skel.specs.Events.{occurrence_view, events_of};
 ghost use Rattle.cp_skel.specs.View.{skeleton_view};
 ghost use Rattle.cp_normal.specs.Candidates.{skeleton_of, IsOpen, IsSound, Puts, IsRound};
 ghost use Rattle.cp_normal.specs.Events.{Has};
@@ -15,7 +16,7 @@ use crate::hearing::heard_atoms;
 use crate::narrowing::branches;
 use crate::normal::is_refuted;
 use crate::straying::{Stray, first_stray};
-use cp_skel::Skeleton;
+use cp_skel::{Occurrence, Skeleton};
 use std::alloc::{AllocError, Global};
 
 /// A skeleton on the way to normal forms: one in which unique values may stray, or one in which none does.
@@ -49,19 +50,21 @@ fn put_open(skeletons: Vec<Skeleton>, next: &mut Vec<Candidate>) -> Result<(), A
     Ok(())
 }
 
-/// Puts the branches of a skeleton in which a unique value strays behind others.
+/// Puts the branches of a skeleton in which a unique value strays, where these are its events, behind others.
 fn put_branches(
     alloc: Global,
     skeleton: &Skeleton,
+    occurrences: &[Occurrence],
     stray: &Stray,
     next: &mut Vec<Candidate>,
 ) -> Result<(), AllocError>
+    requires listed { map occurrence_view occurrences.now ≡ events_of (skeleton_view skeleton.now) }
     requires declared { HasDeclaredPrefixes (skeleton_view skeleton.now) }
     requires consistent { IsRefuted (skeleton_view skeleton.now) → ⊥ }
     requires stray { IsFirstStray (skeleton_view skeleton.now) stray.now.value (node_view stray.now.node) }
     ensures { OnOk result (Puts (variants.Open skeleton.now) next.old.items next.new.items) }
 {
-    let atoms = heard_atoms(alloc, skeleton, stray.node)?;
+    let atoms = heard_atoms(alloc, occurrences, stray.node)?;
     let branches = branches(alloc, skeleton, &stray.value, &atoms)?;
     put_open(branches, next)
 }
@@ -72,11 +75,12 @@ fn narrow(alloc: Global, skeleton: Skeleton, next: &mut Vec<Candidate>) -> Resul
     requires { HasDeclaredPrefixes (skeleton_view skeleton) }
     ensures { OnOk result (Puts (variants.Open skeleton) next.old.items next.new.items) }
 {
-    if is_refuted(alloc, &skeleton)? {
+    let occurrences = skeleton.events(alloc)?;
+    if is_refuted(&skeleton, &occurrences) {
         return Ok(());
     }
-    match first_stray(alloc, &skeleton)? {
-        Some(stray) => put_branches(alloc, &skeleton, &stray, next),
+    match first_stray(alloc, &skeleton, &occurrences)? {
+        Some(stray) => put_branches(alloc, &skeleton, &occurrences, &stray, next),
         None => {
             next.push(Candidate::Settled(skeleton))?;
             Ok(())

@@ -1,13 +1,13 @@
 // Non-originating values that nodes carry.
-ghost use Rattle.std.specs.Prelude.{◌↔◌, IsTrue, IfOk};
+ghost use Rattle.std.specs.Prelude.{◌≡◌, ◌↔◌, map, IsTrue, IfOk};
 ghost use Rattle.cp_model.specs.Term.{atom_term, IsCarriedByTerm};
 ghost use Rattle.cp_model.specs.Strand.{payload};
 ghost use Rattle.cp_skel.specs.View.{event_view, skeleton_view};
-ghost use Rattle.cp_normal.specs.Events.{Has, occurrence_view, CarriesOne};
+ghost use Rattle.cp_skel.specs.Events.{occurrence_view, events_of};
+ghost use Rattle.cp_normal.specs.Events.{Has, CarriesOne};
 ghost use Rattle.cp_normal.specs.Normalising.{CarriesNonOriginating};
 
-use crate::events::{Occurrence, occurrences};
-use cp_skel::{Atom, Skeleton};
+use cp_skel::{Atom, Occurrence, Skeleton};
 use cp_term::carries;
 use std::alloc::{AllocError, Global};
 
@@ -42,10 +42,18 @@ fn some_carries_one(occurrences: &[Occurrence], values: &[Atom]) -> bool
     false
 }
 
+/// Whether some node carries a non-originating value, where these are the events of the skeleton.
+pub(crate) fn some_carries_non_originating(k: &Skeleton, occurrences: &[Occurrence]) -> bool
+    requires listed { map occurrence_view occurrences.now ≡ events_of (skeleton_view k.now) }
+    ensures { IsTrue result ↔ CarriesNonOriginating (skeleton_view k.now) }
+{
+    some_carries_one(occurrences, &k.assumptions.non_originating)
+}
+
 /// Whether some node, of a role strand or a listener, carries a non-originating value. The error is that memory ran out.
 pub fn carries_non_originating(alloc: Global, k: &Skeleton) -> Result<bool, AllocError>
     ensures { IfOk result (λ found. IsTrue found ↔ CarriesNonOriginating (skeleton_view k.now)) }
 {
-    let occurrences = occurrences(alloc, k)?;
-    Ok(some_carries_one(&occurrences, &k.assumptions.non_originating))
+    let occurrences = k.events(alloc)?;
+    Ok(some_carries_non_originating(k, &occurrences))
 }

@@ -1,16 +1,13 @@
 // The atoms that receptions carry.
-ghost use Rattle.std.specs.Prelude.{◌≡◌, ◌↔◌, take, map, option_map, IfOk, OnOk};
-ghost use Rattle.cp_model.specs.Lists.{IsIn, item_at};
-ghost use Rattle.cp_model.specs.Term.{AtomTerm};
-ghost use Rattle.cp_model.specs.Skeleton.{skeleton_trace};
+ghost use Rattle.std.specs.Prelude.{◌≡◌, [], map, IfOk, OnOk};
 ghost use Rattle.cp_model.specs.Given.{atoms_onto};
 ghost use Rattle.cp_unify.specs.Spines.{HasTail};
 ghost use Rattle.cp_model.specs.RunView.{node_view};
-ghost use Rattle.cp_skel.specs.View.{event_view, strand_view, skeleton_view};
-ghost use Rattle.cp_normal.specs.Hearing.{carried_atoms, received_atoms, heard_in, heard_before};
-ghost use Rattle.cp_normal.specs.Narrowing.{IsHeardAt};
+ghost use Rattle.cp_skel.specs.Events.{occurrence_view};
+ghost use Rattle.cp_skel.specs.View.{event_view};
+ghost use Rattle.cp_normal.specs.Hearing.{carried_atoms, received_atoms, heard_of, heard_among};
 
-use cp_skel::{Atom, Event, Node, Skeleton, Strand, add_atom};
+use cp_skel::{Atom, Event, Node, Occurrence, add_atom};
 use cp_term::{Shape, Term};
 use std::alloc::{AllocError, Global};
 
@@ -53,40 +50,33 @@ fn add_received(event: &Event, atoms: &mut Vec<Atom>) -> Result<(), AllocError>
     }
 }
 
-/// Puts the atoms that receptions of the strand before this place carry behind these, each that is not there yet.
+/// Puts the atoms that the event carries, if it is a reception before the node on its strand, behind these, each that is
+/// not there yet.
 fn add_heard(
-    alloc: Global,
-    strand: &Strand,
-    end: usize,
+    occurrence: &Occurrence,
+    node: Node,
     atoms: &mut Vec<Atom>,
 ) -> Result<(), AllocError>
-    ensures { OnOk result (atoms.new.items ≡ atoms_onto atoms.old.items (heard_in (take end (skeleton_trace (strand_view strand.now))))) }
+    ensures { OnOk result (atoms.new.items ≡ atoms_onto atoms.old.items (heard_of (node_view node) (occurrence_view occurrence.now))) }
 {
-    for index in 0..end {
-        match strand.event(alloc, index)? {
-            Some(event) => add_received(&event, atoms)?,
-            None => return Ok(()),
-        }
+    if occurrence.node.strand == node.strand && occurrence.node.index < node.index {
+        return add_received(&occurrence.event, atoms);
     }
     Ok(())
 }
 
-/// The strand with this number.
-fn strand_at(strands: &[Strand], number: usize) -> Option<&Strand>
-    ensures { option_map (λ s. strand_view s.now) result ≡ item_at (map strand_view strands.now) number }
-{
-    strands.get(number)
-}
-
-/// The atoms that receptions before the node on its strand carry, each once, in the order of the receptions and then of
-/// their positions.
-pub(crate) fn heard_atoms(alloc: Global, k: &Skeleton, node: Node) -> Result<Vec<Atom>, AllocError>
-    ensures in_order { IfOk result (λ atoms. atoms.items ≡ heard_before (skeleton_view k.now) (node_view node)) }
-    ensures heard { IfOk result (λ atoms. (a : AtomTerm) → IsIn a atoms.items ↔ IsHeardAt (skeleton_view k.now) a (node_view node)) }
+/// The atoms that receptions among these events that are before the node on its strand carry, each once, in the order of
+/// the receptions and then of their positions.
+pub(crate) fn heard_atoms(
+    alloc: Global,
+    occurrences: &[Occurrence],
+    node: Node,
+) -> Result<Vec<Atom>, AllocError>
+    ensures { IfOk result (λ atoms. atoms.items ≡ atoms_onto [] (heard_among (node_view node) (map occurrence_view occurrences.now))) }
 {
     let mut atoms = Vec::new(alloc);
-    if let Some(strand) = strand_at(&k.strands, node.strand) {
-        add_heard(alloc, strand, node.index, &mut atoms)?;
+    for occurrence in occurrences {
+        add_heard(occurrence, node, &mut atoms)?;
     }
     Ok(atoms)
 }

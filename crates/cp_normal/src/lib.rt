@@ -8,7 +8,6 @@ mod candidates;
 mod carrying;
 mod collapsing;
 mod cycles;
-mod events;
 mod examples;
 mod extending;
 mod forms_law;

@@ -1,36 +1,43 @@
 // The pairs of a normal form, where there is one.
-ghost use Rattle.std.specs.Prelude.{◌↔◌, ◌⊎◌, map, option_map, IsTrue, IfOk};
+ghost use Rattle.std.specs.Prelude.{◌≡◌, ◌↔◌, ◌⊎◌, map, option_map, IsTrue, IfOk};
 ghost use Rattle.cp_model.specs.Lists.{IsIn};
 ghost use Rattle.cp_model.specs.Bundle.{Node};
 ghost use Rattle.cp_model.specs.Skeleton.{OrderPair as Plain, UniqueAt, Before, IsOrderPair, IsOrigin};
+ghost use Rattle.cp_skel.specs.Events.{occurrence_view, events_of};
 ghost use Rattle.cp_skel.specs.View.{pair_view, skeleton_view};
 ghost use Rattle.cp_normal.specs.Normalising.{AreNormalPairs, ClosesCycle, IsNormalised, CarriesNonOriginating, HasTwoOrigins, LosesOrigin};
 
-use crate::carrying::carries_non_originating;
+use crate::carrying::some_carries_non_originating;
 use crate::cycles::some_is_closed;
-use crate::origins::{has_two_origins, loses_origin};
-use crate::pairs::added_pairs;
-use cp_skel::{OrderPair, Skeleton};
+use crate::origins::{has_two_origins, some_loses_origin};
+use crate::pairs::pairs_among;
+use cp_skel::{Occurrence, OrderPair, Skeleton};
 use std::alloc::{AllocError, Global};
 
-/// Whether the assumptions contradict what the nodes carry.
-pub(crate) fn is_refuted(alloc: Global, k: &Skeleton) -> Result<bool, AllocError>
-    ensures { IfOk result (λ found. IsTrue found ↔ (CarriesNonOriginating (skeleton_view k.now) ⊎ (HasTwoOrigins (skeleton_view k.now) ⊎ LosesOrigin (skeleton_view k.now)))) }
+/// Whether the assumptions contradict what the nodes carry, where these are the events of the skeleton.
+pub(crate) fn is_refuted(k: &Skeleton, occurrences: &[Occurrence]) -> bool
+    requires listed { map occurrence_view occurrences.now ≡ events_of (skeleton_view k.now) }
+    ensures { IsTrue result ↔ (CarriesNonOriginating (skeleton_view k.now) ⊎ (HasTwoOrigins (skeleton_view k.now) ⊎ LosesOrigin (skeleton_view k.now))) }
 {
-    if carries_non_originating(alloc, k)? {
-        return Ok(true);
+    if some_carries_non_originating(k, occurrences) {
+        return true;
     }
     if has_two_origins(k) {
-        return Ok(true);
+        return true;
     }
-    loses_origin(alloc, k)
+    some_loses_origin(k, occurrences)
 }
 
-/// The skeleton's own pairs, and those that unique values add.
-fn own_and_added(alloc: Global, k: &Skeleton) -> Result<Vec<OrderPair>, AllocError>
+/// The skeleton's own pairs, and those that unique values add, where these are the events of the skeleton.
+fn own_and_added(
+    alloc: Global,
+    k: &Skeleton,
+    occurrences: &[Occurrence],
+) -> Result<Vec<OrderPair>, AllocError>
+    requires listed { map occurrence_view occurrences.now ≡ events_of (skeleton_view k.now) }
     ensures { IfOk result (λ pairs. AreNormalPairs (skeleton_view k.now) (map pair_view pairs.items)) }
 {
-    let added = added_pairs(alloc, k)?;
+    let added = pairs_among(alloc, k, occurrences)?;
     let mut pairs = Vec::from_slice(alloc, k.order.pairs())?;
     pairs.extend_from_slice(&added)?;
     Ok(pairs)
@@ -50,10 +57,11 @@ pub fn normal_pairs(alloc: Global, k: &Skeleton) -> Result<Option<Vec<OrderPair>
     requires origins { (u : UniqueAt) → IsIn u (skeleton_view k.now).assumptions.uniquely_originating → IsOrigin (skeleton_view k.now) u }
     ensures { IfOk result (λ found. IsNormalised (skeleton_view k.now) (option_map (λ pairs. map pair_view pairs.items) found)) }
 {
-    if is_refuted(alloc, k)? {
+    let occurrences = k.events(alloc)?;
+    if is_refuted(k, &occurrences) {
         return Ok(None);
     }
-    let pairs = own_and_added(alloc, k)?;
+    let pairs = own_and_added(alloc, k, &occurrences)?;
     if some_is_closed(alloc, &pairs, &k.assumptions.uniquely_originating)? {
         return Ok(None);
     }

@@ -4,12 +4,12 @@ ghost use Rattle.cp_model.specs.Derivable.{IsOnInstance, OriginatesAtTerm};
 ghost use Rattle.cp_model.specs.Lists.{item_at};
 ghost use Rattle.cp_model.specs.RunView.{node_view};
 ghost use Rattle.cp_skel.specs.View.{strand_view, unique_view, skeleton_view};
-ghost use Rattle.cp_normal.specs.Events.{Has, occurrence_view, occurrences_from, is_instance, IsElsewhere, IsSentAtOrigin, IsCarriedBefore};
+ghost use Rattle.cp_skel.specs.Events.{occurrence_view, events_of};
+ghost use Rattle.cp_normal.specs.Events.{Has, is_instance, IsElsewhere, IsSentAtOrigin, IsCarriedBefore};
 ghost use Rattle.cp_normal.specs.Normalising.{HasTwoOrigins, LosesOrigin};
 
 use crate::carrying::carries_value;
-use crate::events::{Occurrence, occurrences};
-use cp_skel::{Event, Node, Skeleton, Strand, UniqueAt};
+use cp_skel::{Event, Node, Occurrence, Skeleton, Strand, UniqueAt};
 use std::alloc::{AllocError, Global};
 
 /// Whether the nodes are the same.
@@ -119,7 +119,7 @@ fn is_on_instance(k: &Skeleton, node: Node) -> bool
 
 /// Whether a unique value originates at its recorded origin, where these are the events of the skeleton.
 pub(crate) fn originates(k: &Skeleton, occurrences: &[Occurrence], unique: &UniqueAt) -> bool
-    requires listed { map occurrence_view occurrences.now ≡ occurrences_from 0 (skeleton_view k.now).strands }
+    requires listed { map occurrence_view occurrences.now ≡ events_of (skeleton_view k.now) }
     ensures { IsTrue result ↔ OriginatesAtTerm (skeleton_view k.now) (unique_view unique.now).value (unique_view unique.now).origin }
 {
     if !is_on_instance(k, unique.origin) {
@@ -133,8 +133,8 @@ pub(crate) fn originates(k: &Skeleton, occurrences: &[Occurrence], unique: &Uniq
 
 /// Whether one of these unique values does not originate at its recorded origin, where these are the events of the
 /// skeleton.
-fn some_loses_origin(k: &Skeleton, occurrences: &[Occurrence], uniques: &[UniqueAt]) -> bool
-    requires listed { map occurrence_view occurrences.now ≡ occurrences_from 0 (skeleton_view k.now).strands }
+fn one_loses_origin(k: &Skeleton, occurrences: &[Occurrence], uniques: &[UniqueAt]) -> bool
+    requires listed { map occurrence_view occurrences.now ≡ events_of (skeleton_view k.now) }
     ensures { IsTrue result ↔ Has (λ u. OriginatesAtTerm (skeleton_view k.now) (unique_view u).value (unique_view u).origin → ⊥) uniques.now }
 {
     for unique in uniques {
@@ -145,10 +145,18 @@ fn some_loses_origin(k: &Skeleton, occurrences: &[Occurrence], uniques: &[Unique
     false
 }
 
+/// Whether a unique value does not originate at its recorded origin, where these are the events of the skeleton.
+pub(crate) fn some_loses_origin(k: &Skeleton, occurrences: &[Occurrence]) -> bool
+    requires listed { map occurrence_view occurrences.now ≡ events_of (skeleton_view k.now) }
+    ensures { IsTrue result ↔ LosesOrigin (skeleton_view k.now) }
+{
+    one_loses_origin(k, occurrences, &k.assumptions.uniquely_originating)
+}
+
 /// Whether a unique value does not originate at its recorded origin. The error is that memory ran out.
 pub fn loses_origin(alloc: Global, k: &Skeleton) -> Result<bool, AllocError>
     ensures { IfOk result (λ found. IsTrue found ↔ LosesOrigin (skeleton_view k.now)) }
 {
-    let occurrences = occurrences(alloc, k)?;
-    Ok(some_loses_origin(k, &occurrences, &k.assumptions.uniquely_originating))
+    let occurrences = k.events(alloc)?;
+    Ok(some_loses_origin(k, &occurrences))
 }

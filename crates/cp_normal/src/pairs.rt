@@ -1,14 +1,14 @@
 // The pairs from recorded origins of unique values to receptions that carry them.
-ghost use Rattle.std.specs.Prelude.{◌↔◌, map, IfOk, OnOk, IfSome, IfNone};
+ghost use Rattle.std.specs.Prelude.{◌≡◌, ◌↔◌, map, IfOk, OnOk, IfSome, IfNone};
 ghost use Rattle.cp_model.specs.Lists.{IsIn};
 ghost use Rattle.cp_model.specs.Skeleton.{OrderPair as Plain};
 ghost use Rattle.cp_skel.specs.View.{pair_view, unique_view, skeleton_view};
-ghost use Rattle.cp_normal.specs.Events.{Has, Gathers, occurrence_view, IsPairBetween};
+ghost use Rattle.cp_skel.specs.Events.{occurrence_view, events_of};
+ghost use Rattle.cp_normal.specs.Events.{Has, Gathers, IsPairBetween};
 ghost use Rattle.cp_normal.specs.Normalising.{IsAddedPair};
 
 use crate::carrying::carries_value;
-use crate::events::{Occurrence, occurrences};
-use cp_skel::{Event, OrderPair, Skeleton, UniqueAt};
+use cp_skel::{Event, Occurrence, OrderPair, Skeleton, UniqueAt};
 use std::alloc::{AllocError, Global};
 
 /// The pair from the recorded origin of a unique value to an event, where that is a reception on another strand that
@@ -60,17 +60,29 @@ fn add_pairs(
     Ok(())
 }
 
+/// The pairs that unique values add, where these are the events of the skeleton.
+pub(crate) fn pairs_among(
+    alloc: Global,
+    k: &Skeleton,
+    occurrences: &[Occurrence],
+) -> Result<Vec<OrderPair>, AllocError>
+    requires listed { map occurrence_view occurrences.now ≡ events_of (skeleton_view k.now) }
+    ensures { IfOk result (λ pairs. (p : Plain) → IsIn p (map pair_view pairs.items) ↔ IsAddedPair (skeleton_view k.now) p) }
+{
+    let mut pairs = Vec::new(alloc);
+    add_pairs(
+        occurrences,
+        &k.assumptions.uniquely_originating,
+        &mut pairs,
+    )?;
+    Ok(pairs)
+}
+
 /// The pairs from recorded origins of unique values to the receptions of other strands, listeners too, that carry the
 /// value. The error is that memory ran out.
 pub fn added_pairs(alloc: Global, k: &Skeleton) -> Result<Vec<OrderPair>, AllocError>
     ensures { IfOk result (λ pairs. (p : Plain) → IsIn p (map pair_view pairs.items) ↔ IsAddedPair (skeleton_view k.now) p) }
 {
-    let occurrences = occurrences(alloc, k)?;
-    let mut pairs = Vec::new(alloc);
-    add_pairs(
-        &occurrences,
-        &k.assumptions.uniquely_originating,
-        &mut pairs,
-    )?;
-    Ok(pairs)
+    let occurrences = k.events(alloc)?;
+    pairs_among(alloc, k, &occurrences)
 }

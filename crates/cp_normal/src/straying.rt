@@ -6,13 +6,12 @@ ghost use Rattle.cp_model.specs.Skeleton.{UniqueAt as Plain};
 ghost use Rattle.cp_model.specs.RunView.{node_view};
 ghost use Rattle.cp_skel.specs.View.{unique_view, skeleton_view};
 ghost use Rattle.cp_normal.specs.Branching.{IsSettled};
-ghost use Rattle.cp_normal.specs.Events.{occurrence_view, occurrences_from};
+ghost use Rattle.cp_skel.specs.Events.{occurrence_view, events_of};
 ghost use Rattle.cp_normal.specs.Straying.{Strays, IsFirstAt, IsFirstStray};
 
 use crate::carrying::carries_value;
-use crate::events::{Occurrence, occurrences};
 use crate::origins::{is_same_node, originates};
-use cp_skel::{Atom, Node, Skeleton, UniqueAt, listed};
+use cp_skel::{Atom, Node, Occurrence, Skeleton, UniqueAt, listed};
 use std::alloc::{AllocError, Global};
 
 /// A unique value, and a node of a role strand where it originates and that is not its recorded origin.
@@ -29,8 +28,8 @@ fn strays(
     occurrence: &Occurrence,
     unique: &UniqueAt,
 ) -> Result<bool, AllocError>
-    requires listed { map occurrence_view occurrences.now ≡ occurrences_from 0 (skeleton_view k.now).strands }
-    requires is_there { IsIn (occurrence_view occurrence.now) (occurrences_from 0 (skeleton_view k.now).strands) }
+    requires listed { map occurrence_view occurrences.now ≡ events_of (skeleton_view k.now) }
+    requires is_there { IsIn (occurrence_view occurrence.now) (events_of (skeleton_view k.now)) }
     ensures { IfOk result (λ found. IsTrue found ↔ Strays (skeleton_view k.now) (node_view occurrence.now.node) (unique_view unique.now)) }
 {
     if is_same_node(occurrence.node, unique.origin) {
@@ -53,8 +52,8 @@ fn first_at(
     occurrence: &Occurrence,
     uniques: &[UniqueAt],
 ) -> Result<Option<Atom>, AllocError>
-    requires listed { map occurrence_view occurrences.now ≡ occurrences_from 0 (skeleton_view k.now).strands }
-    requires is_there { IsIn (occurrence_view occurrence.now) (occurrences_from 0 (skeleton_view k.now).strands) }
+    requires listed { map occurrence_view occurrences.now ≡ events_of (skeleton_view k.now) }
+    requires is_there { IsIn (occurrence_view occurrence.now) (events_of (skeleton_view k.now)) }
     ensures { IfOk result (λ found. MatchOption found
         ((u : Plain) → IsIn u (map unique_view uniques.now) → Strays (skeleton_view k.now) (node_view occurrence.now.node) u → ⊥)
         (λ v. IsFirstAt (skeleton_view k.now) (node_view occurrence.now.node) (map unique_view uniques.now) v)) }
@@ -74,7 +73,7 @@ fn first_among(
     occurrences: &[Occurrence],
     uniques: &[UniqueAt],
 ) -> Result<Option<Stray>, AllocError>
-    requires listed { map occurrence_view occurrences.now ≡ occurrences_from 0 (skeleton_view k.now).strands }
+    requires listed { map occurrence_view occurrences.now ≡ events_of (skeleton_view k.now) }
     requires in_order { map unique_view uniques.now ≡ (listed (skeleton_view k.now)).uniquely_originating }
     ensures { IfOk result (λ found. MatchOption found
         (IsSettled (skeleton_view k.now))
@@ -92,14 +91,18 @@ fn first_among(
     Ok(None)
 }
 
-/// The first unique value that strays: by the strand and then the index of the node where it does, and then in the
-/// order in which a report lists unique values.
-pub(crate) fn first_stray(alloc: Global, k: &Skeleton) -> Result<Option<Stray>, AllocError>
+/// The first unique value that strays, where these are the events of the skeleton: by the strand and then the index of the
+/// node where it does, and then in the order in which a report lists unique values.
+pub(crate) fn first_stray(
+    alloc: Global,
+    k: &Skeleton,
+    occurrences: &[Occurrence],
+) -> Result<Option<Stray>, AllocError>
+    requires listed { map occurrence_view occurrences.now ≡ events_of (skeleton_view k.now) }
     ensures { IfOk result (λ found. MatchOption found
         (IsSettled (skeleton_view k.now))
         (λ s. IsFirstStray (skeleton_view k.now) s.value (node_view s.node))) }
 {
-    let occurrences = occurrences(alloc, k)?;
     let assumptions = listed(alloc, k)?;
-    first_among(k, &occurrences, &assumptions.uniquely_originating)
+    first_among(k, occurrences, &assumptions.uniquely_originating)
 }

@@ -9,7 +9,7 @@ use Rattle.cp_model.specs.Strand.{Role}
 use Rattle.cp_model.specs.Skeleton.{SkeletonStrand, instance, listener, Skeleton}
 use Rattle.cp_model.specs.Problem.{numbers_from}
 use Rattle.cp_model.proofs.LawLists.{item_there}
-use Rattle.cp_derive.specs.Occurrences.{is_role_strand}
+use Rattle.cp_skel.specs.Events.{is_role_strand}
 use Rattle.cp_skel.specs.View.{strand_view}
 use Rattle.cp_skel.specs.declared.skeleton.Strand.{Strand}
 use Rattle.cp_normal.specs.Partitions.{IsPartition, finest}

@@ -33,3 +33,4 @@ pub mod DeclaredRoles
 pub mod UnderVariables
 pub mod DeclaredChanges
 pub mod Carrying
+pub mod EventLists

@@ -18,3 +18,4 @@ pub mod Bridging
 pub mod Kinds
 pub mod Closed
 pub mod Composed
+pub mod Events

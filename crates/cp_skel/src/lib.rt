@@ -12,6 +12,7 @@ mod collecting;
 mod comparing;
 mod copying;
 mod deleting;
+mod events;
 mod forgetting;
 mod giving;
 mod joining;
@@ -39,6 +40,7 @@ pub use changes_laws::{
     changes_keep_homomorphisms, changes_keep_what_is_stated, extensions_fit, order_keeps_skeletons,
 };
 pub use collecting::{add_atom, add_atoms, add_unique};
+pub use events::Occurrence;
 pub use giving::{applied_atom, has_atom, has_unique, missing, origin};
 pub use laws::{
     deleting_keeps_skeletons, extending_keeps_skeletons, given_behind_own_is_listed,

@@ -6,7 +6,7 @@ use Rattle.cp_model.specs.RunView.{node_view}
 use Rattle.cp_skel.specs.View.{skeleton_view}
 use Rattle.cp_derive.specs.Before.{ArePlacesBefore, transmissions_of, given_by}
 use Rattle.cp_derive.specs.Given.{Given, IsDerivable}
-use Rattle.cp_derive.specs.Occurrences.{Transmission, transmission_view}
+use Rattle.cp_derive.specs.Transmissions.{Transmission, transmission_view}
 use Rattle.std.proofs.Common.{List}
 use Rattle.cp_derive.proofs.GivenAtNode.{derivable_at_node, given_from}
 use Rattle.cp_derive.proofs.Placing.{ok_then}

@@ -1,5 +1,5 @@
 use Rattle.std.proofs.Common.{◌≡◌, ◌++◌, map, drop}
-use Rattle.cp_derive.specs.Occurrences.{transmission_view}
+use Rattle.cp_derive.specs.Transmissions.{transmission_view}
 use Rattle.cp_derive.specs.Before.{messages_at}
 use Rattle.cp_derive.proofs.before.messages_at.Given as goal
 

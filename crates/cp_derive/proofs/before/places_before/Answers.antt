@@ -5,7 +5,7 @@ use Rattle.cp_skel.specs.Leading.{Target}
 use Rattle.cp_model.specs.RunView.{node_view}
 use Rattle.cp_skel.specs.View.{pair_view}
 use Rattle.cp_skel.proofs.SameNode.{tested_apart, tested_same}
-use Rattle.cp_derive.specs.Occurrences.{transmission_view}
+use Rattle.cp_derive.specs.Transmissions.{transmission_view}
 use Rattle.cp_derive.proofs.Listed.{not_both}
 use Rattle.cp_derive.proofs.Placing.{ArePlacesBelow, placed, not_placed, all_placed, item_viewed, viewed_length}
 use Rattle.cp_derive.proofs.before.places_before.Goals as goal

@@ -1,7 +1,7 @@
 use Rattle.std.proofs.Common.{map}
 use Rattle.cp_model.specs.RunView.{node_view}
 use Rattle.cp_skel.specs.View.{pair_view}
-use Rattle.cp_derive.specs.Occurrences.{transmission_view}
+use Rattle.cp_derive.specs.Transmissions.{transmission_view}
 use Rattle.cp_derive.proofs.Placing.{ArePlacesBelow}
 use Rattle.cp_derive.proofs.before.places_before.Given as goal
 

@@ -3,7 +3,7 @@ use Rattle.cp_model.specs.RunView.{node_view}
 use Rattle.cp_skel.specs.View.{skeleton_view}
 use Rattle.cp_derive.specs.Before.{ArePlacesBefore}
 use Rattle.cp_derive.specs.Given.{Given}
-use Rattle.cp_derive.specs.Occurrences.{transmission_view}
+use Rattle.cp_derive.specs.Transmissions.{transmission_view}
 use Rattle.cp_derive.proofs.GivenAtNode.{derivable_at_node, given_from}
 use Rattle.cp_derive.proofs.front.front_at.Goals as goal
 

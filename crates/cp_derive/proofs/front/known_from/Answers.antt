@@ -3,7 +3,7 @@ use Rattle.std.proofs.lemmas.Bool.Decides.{Decides-eqb}
 use Rattle.std.proofs.lemmas.Slice.Eq.{strip_prefix_is}
 use Rattle.cp_derive.specs.Before.{messages_at}
 use Rattle.cp_derive.specs.Given.{Given}
-use Rattle.cp_derive.specs.Occurrences.{transmission_view}
+use Rattle.cp_derive.specs.Transmissions.{transmission_view}
 use Rattle.cp_derive.proofs.Placing.{known_on, ok_then}
 use Rattle.cp_derive.proofs.front.known_from.Goals as goal
 

@@ -1,5 +1,6 @@
 use Rattle.std.proofs.Common.{◌≡◌, ◌++◌, map, drop}
-use Rattle.cp_derive.specs.Occurrences.{occurrence_view, transmission_view, transmissions_among}
+use Rattle.cp_skel.specs.Events.{occurrence_view}
+use Rattle.cp_derive.specs.Transmissions.{transmission_view, transmissions_among}
 use Rattle.cp_derive.proofs.transmission.transmissions.Given as goal
 
 -- with what is sent among the events that are left, all is there

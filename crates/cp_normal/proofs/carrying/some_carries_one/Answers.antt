@@ -1,5 +1,6 @@
 use Rattle.std.proofs.Common.{refl}
-use Rattle.cp_normal.specs.Events.{occurrence_view, CarriesOne}
+use Rattle.cp_skel.specs.Events.{occurrence_view}
+use Rattle.cp_normal.specs.Events.{CarriesOne}
 use Rattle.cp_normal.proofs.Having.{not_both, found, next, none}
 use Rattle.cp_normal.proofs.carrying.some_carries_one.Goals as goal
 

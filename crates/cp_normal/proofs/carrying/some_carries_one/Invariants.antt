@@ -1,5 +1,6 @@
 use Rattle.std.proofs.Common.{drop}
-use Rattle.cp_normal.specs.Events.{Has, occurrence_view, CarriesOne}
+use Rattle.cp_skel.specs.Events.{occurrence_view}
+use Rattle.cp_normal.specs.Events.{Has, CarriesOne}
 use Rattle.cp_normal.proofs.carrying.some_carries_one.Given as goal
 
 abbrev pub invariant-loop-occurrence : goal.invariant-loop-occurrence

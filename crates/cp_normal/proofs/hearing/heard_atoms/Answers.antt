@@ -1,11 +1,10 @@
-use Rattle.std.proofs.Common.{rules, ◌≡◌}
 use Rattle.cp_model.specs.RunView.{node_view}
-use Rattle.cp_skel.specs.View.{skeleton_view}
-use Rattle.cp_normal.specs.Hearing.{heard_before}
-use Rattle.cp_normal.proofs.Heard.{heard_if_listed, listed_if_heard}
+use Rattle.cp_normal.proofs.Heard.{heard_next, heard_end}
 use Rattle.cp_normal.proofs.hearing.heard_atoms.Goals as goal
 
-pub returns-clause-heard : goal.returns-clause-heard
-returns-clause-heard c =
-    let e : c.match-strand_at.atoms.items ≡ heard_before (skeleton_view c.args.k.now) (node_view c.args.node) = search rules in
-    λ a. (heard_if_listed (skeleton_view c.args.k.now) (node_view c.args.node) _ a e, listed_if_heard (skeleton_view c.args.k.now) (node_view c.args.node) _ a e)
+pub loop-occurrence-preserved : goal.loop-occurrence-preserved
+loop-occurrence-preserved c =
+    heard_next (node_view c.args.node) c.args.occurrences.now c.loop-occurrence.occurrence-index c.occurrence-item.result _ _ _ c.loop-occurrence-test.true c.occurrence-item.is c.in_ok-add_heard.ensures c.loop-occurrence.invariant
+
+pub returns : goal.returns
+returns c = heard_end (node_view c.args.node) c.args.occurrences.now c.loop-occurrence.occurrence-index _ _ c.loop-occurrence-test.false c.loop-occurrence.invariant

@@ -1,6 +1,7 @@
 use Rattle.std.proofs.Common.{refl}
 use Rattle.cp_skel.specs.View.{unique_view}
-use Rattle.cp_normal.specs.Events.{occurrence_view, IsCarriedBefore}
+use Rattle.cp_skel.specs.Events.{occurrence_view}
+use Rattle.cp_normal.specs.Events.{IsCarriedBefore}
 use Rattle.cp_normal.proofs.Having.{not_both, found, next, none}
 use Rattle.cp_normal.proofs.origins.some_is_carried_before.Goals as goal
 

@@ -1,6 +1,7 @@
 use Rattle.std.proofs.Common.{drop}
 use Rattle.cp_skel.specs.View.{unique_view}
-use Rattle.cp_normal.specs.Events.{Has, occurrence_view, IsSentAtOrigin}
+use Rattle.cp_skel.specs.Events.{occurrence_view}
+use Rattle.cp_normal.specs.Events.{Has, IsSentAtOrigin}
 use Rattle.cp_normal.proofs.origins.some_is_sent_at_origin.Given as goal
 
 abbrev pub invariant-loop-occurrence : goal.invariant-loop-occurrence

@@ -1,6 +1,7 @@
 use Rattle.std.proofs.Common.{map}
 use Rattle.cp_skel.specs.View.{pair_view, unique_view}
-use Rattle.cp_normal.specs.Events.{Has, occurrence_view, IsPairBetween}
+use Rattle.cp_skel.specs.Events.{occurrence_view}
+use Rattle.cp_normal.specs.Events.{Has, IsPairBetween}
 use Rattle.cp_normal.proofs.Gathering.{IsGathering}
 use Rattle.cp_normal.proofs.pairs.add_pairs.Given as goal
 

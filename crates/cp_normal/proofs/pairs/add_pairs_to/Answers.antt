@@ -3,7 +3,8 @@ use Rattle.std.specs.Prelude.{IfSome, IfNone}
 use Rattle.std.proofs.lemmas.List.{map-append}
 use Rattle.cp_model.specs.Skeleton.{OrderPair}
 use Rattle.cp_skel.specs.View.{pair_view, unique_view}
-use Rattle.cp_normal.specs.Events.{occurrence_view, IsPairBetween}
+use Rattle.cp_skel.specs.Events.{occurrence_view}
+use Rattle.cp_normal.specs.Events.{IsPairBetween}
 use Rattle.cp_normal.proofs.Gathering.{step, end, puts_one, puts_none}
 use Rattle.cp_normal.proofs.pairs.add_pairs_to.Goals as goal
 use Rattle.cp_normal.proofs.pairs.add_pairs_to.Goals.{in-Some+in_ok-push, in_default}

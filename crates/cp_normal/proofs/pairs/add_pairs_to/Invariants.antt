@@ -1,6 +1,7 @@
 use Rattle.std.proofs.Common.{map}
 use Rattle.cp_skel.specs.View.{pair_view, unique_view}
-use Rattle.cp_normal.specs.Events.{occurrence_view, IsPairBetween}
+use Rattle.cp_skel.specs.Events.{occurrence_view}
+use Rattle.cp_normal.specs.Events.{IsPairBetween}
 use Rattle.cp_normal.proofs.Gathering.{IsGathering}
 use Rattle.cp_normal.proofs.pairs.add_pairs_to.Given as goal
 

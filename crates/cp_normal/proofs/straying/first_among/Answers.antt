@@ -1,5 +1,5 @@
 use Rattle.cp_skel.specs.View.{skeleton_view}
-use Rattle.cp_normal.specs.Events.{occurrence_view}
+use Rattle.cp_skel.specs.Events.{occurrence_view}
 use Rattle.cp_normal.specs.Straying.{StraysOne}
 use Rattle.cp_normal.proofs.Strayed.{none_next, none_strays, event_listed, first_stray_found, none_of_entries}
 use Rattle.cp_normal.proofs.straying.first_among.Goals as goal

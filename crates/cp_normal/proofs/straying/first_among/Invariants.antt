@@ -1,6 +1,6 @@
 use Rattle.std.proofs.Common.{map}
 use Rattle.cp_skel.specs.View.{skeleton_view}
-use Rattle.cp_normal.specs.Events.{occurrence_view}
+use Rattle.cp_skel.specs.Events.{occurrence_view}
 use Rattle.cp_normal.specs.Straying.{StraysOne, NoneBefore}
 use Rattle.cp_normal.proofs.straying.first_among.Given as goal
 

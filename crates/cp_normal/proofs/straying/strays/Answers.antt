@@ -1,6 +1,6 @@
 use Rattle.std.proofs.Common.{refl}
 use Rattle.cp_skel.specs.View.{unique_view, skeleton_view}
-use Rattle.cp_normal.specs.Events.{occurrence_view}
+use Rattle.cp_skel.specs.Events.{occurrence_view}
 use Rattle.cp_normal.proofs.Having.{not_both}
 use Rattle.cp_normal.proofs.Strayed.{not_carried}
 use Rattle.cp_normal.proofs.straying.strays.Goals as goal

@@ -1,15 +1,53 @@
--- What is in the list of a skeleton's events.
-use Rattle.std.proofs.Common.{ℕ, zero, suc, ◌+◌, Bool, true, false, List, [], ◌∷◌, ◌++◌, Option, Some, None, ◌≡◌, ◌⊎◌, inl, inr, refl, sym, subst, ap, ◌∙◌, arith}
+-- What is in the list of a skeleton's events, and the loops that make it.
+use Rattle.std.proofs.Common.{ℕ, zero, suc, ◌+◌, ◌<◌, Bool, true, false, List, [], ◌∷◌, ◌++◌, length, drop, append_assoc, add-one, Option, Some, None, ◌≡◌, ◌⊎◌, inl, inr, refl, sym, subst, ap, ◌∙◌, arith}
+use Rattle.std.specs.Prelude.{option_map}
 use Rattle.cp_model.specs.Lists.{item_at, IsIn, here, there}
 use Rattle.cp_model.specs.Term.{Term}
-use Rattle.cp_model.specs.Strand.{Event, send, recv}
+use Rattle.cp_model.specs.Strand.{Event}
 use Rattle.cp_model.specs.Bundle.{Node, node_at}
 use Rattle.cp_model.specs.Skeleton.{SkeletonStrand, instance, listener, skeleton_trace, skeleton_trace_or_none, term_event_at, Skeleton}
 use Rattle.cp_model.specs.Derivable.{IsOnInstance}
-use Rattle.cp_derive.specs.Occurrences.{Occurrence, is_role_strand, occurrences_on, occurrences_from, Transmission, if_sent, transmissions_among}
-use Rattle.cp_derive.proofs.Listed.{in_first, in_either, in_cases}
+use Rattle.cp_skel.specs.View.{event_view}
+use Rattle.cp_skel.specs.declared.protocol.Event.{Event as ProgramEvent}
+use Rattle.cp_skel.specs.Events.{Occurrence, is_role_strand, occurrences_on, occurrences_from, events_of}
+use Rattle.cp_skel.proofs.Composing.{in_either, in_front, in_back}
+
+-- ---- the loops that list them
+
+-- The event at a place is the first of those from there on.
+next_item : {A : Type 0} (es : List A) (i : ℕ) (e : A) → item_at es i ≡ Some e → drop i es ≡ e ∷ drop (suc i) es
+next_item [] i e h = absurd (cc)
+next_item (x ∷ es) zero e h = let same : x ≡ e = cc in ap (λ y. y ∷ es) same
+next_item (x ∷ es) (suc i) e h = next_item es i e h
+
+some_within : {A : Type 0} (es : List A) (i : ℕ) → i < length es → item_at es i ≡ None → ⊥
+some_within [] i h e = absurd (omega arith)
+some_within (x ∷ es) zero h e = absurd (cc)
+some_within (x ∷ es) (suc i) h e = some_within es i (omega arith) e
+
+-- An item behind the old ones, taken from those that are left.
+pub moved : {A : Type 0} (old new left rest whole : List A) (x : A) → new ≡ old ++ (x ∷ []) → left ≡ x ∷ rest → old ++ left ≡ whole → new ++ rest ≡ whole
+moved old new left rest whole x n l e = ap (λ ys. ys ++ rest) n ∙ append_assoc old (x ∷ []) rest ∙ sym (ap (λ ys. old ++ ys) l) ∙ e
+
+pub event_added : (s i : ℕ) (r : Bool) (es : List (Event Term)) (found : Option ProgramEvent) (e : ProgramEvent) (old new whole : List Occurrence) →
+    option_map event_view found ≡ item_at es i → found ≡ Some e → new ≡ old ++ (record { node = node_at s i; event = event_view e; by_role = r } ∷ []) →
+    old ++ occurrences_on s i r (drop i es) ≡ whole → new ++ occurrences_on s (i + 1) r (drop (i + 1) es) ≡ whole
+event_added s i r es found e old new whole at is n all =
+    let here : item_at es i ≡ Some (event_view e) = sym at ∙ ap (option_map event_view) is in
+    rw add-one
+    (moved old new (occurrences_on s i r (drop i es)) (occurrences_on s (suc i) r (drop (suc i) es)) whole
+    (record { node = node_at s i; event = event_view e; by_role = r }) n (ap (occurrences_on s i r) (next_item es i (event_view e) here)) all)
+
+pub event_there : (i n : ℕ) (es : List (Event Term)) (found : Option ProgramEvent) → option_map event_view found ≡ item_at es i → i < n → n ≡ length es →
+    ((e : ProgramEvent) → found ≡ Some e → ⊥) → ⊥
+event_there i n es None at h l none = some_within es i (omega arith) (sym at)
+event_there i n es (Some e) at h l none = none e refl
 
 -- ---- on one strand
+
+in_cases : {A : Type 0} {x y : A} {ys : List A} → IsIn x (y ∷ ys) → (y ≡ x) ⊎ IsIn x ys
+in_cases here = inl refl
+in_cases (there h) = inr h
 
 -- The event stands at some place of the strand's events.
 pub record StandsOn (s i : ℕ) (r : Bool) (es : List (Event Term)) (o : Occurrence) : Type 0 where
@@ -73,10 +111,6 @@ stands_among s (x ∷ xs) o h =
       | inr i ↦ later_among s x xs o (stands_among (suc s) xs o i)
     ]
 
-in_second : {A : Type 0} {x : A} (xs ys : List A) → IsIn x ys → IsIn x (xs ++ ys)
-in_second [] ys h = h
-in_second (y ∷ xs) ys h = there (in_second xs ys h)
-
 pub among_stands : (s j : ℕ) (xs : List SkeletonStrand) (x : SkeletonStrand) (i : ℕ) (e : Event Term) → item_at xs j ≡ Some x → item_at (skeleton_trace x) i ≡ Some e →
     IsIn (record { node = node_at (s + j) i; event = e; by_role = is_role_strand x }) (occurrences_from s xs)
 among_stands s j [] x i e h at = absurd (cc)
@@ -86,13 +120,13 @@ among_stands s zero (y ∷ xs) x i e h at =
     let place : 0 + i ≡ i = omega arith in
     subst (λ n. IsIn (record { node = node_at n i; event = e; by_role = is_role_strand x }) (occurrences_from s (y ∷ xs))) (sym number)
     (subst (λ z. IsIn (record { node = node_at s i; event = e; by_role = is_role_strand x }) (occurrences_from s (z ∷ xs))) (sym same)
-    (in_first (occurrences_on s 0 (is_role_strand x) (skeleton_trace x)) (occurrences_from (suc s) xs)
+    (in_front (occurrences_on s 0 (is_role_strand x) (skeleton_trace x)) (occurrences_from (suc s) xs)
     (subst (λ n. IsIn (record { node = node_at s n; event = e; by_role = is_role_strand x }) (occurrences_on s 0 (is_role_strand x) (skeleton_trace x))) place
     (on_stands s 0 i (is_role_strand x) (skeleton_trace x) e at))))
 among_stands s (suc j) (y ∷ xs) x i e h at =
     let number : s + suc j ≡ suc s + j = omega arith in
     subst (λ n. IsIn (record { node = node_at n i; event = e; by_role = is_role_strand x }) (occurrences_from s (y ∷ xs))) (sym number)
-    (in_second (occurrences_on s 0 (is_role_strand y) (skeleton_trace y)) (occurrences_from (suc s) xs) (among_stands (suc s) j xs x i e h at))
+    (in_back (occurrences_on s 0 (is_role_strand y) (skeleton_trace y)) (occurrences_from (suc s) xs) (among_stands (suc s) j xs x i e h at))
 
 -- ---- in a skeleton
 
@@ -100,7 +134,7 @@ strand_at : (xs : List SkeletonStrand) (o : Occurrence) (h : StandsAmong 0 xs o)
 strand_at xs o h = let at : o.node.strand ≡ h.place = let n = h.number in omega arith in ap (item_at xs) at ∙ h.there_is
 
 -- What is listed is the event at its node.
-pub listed_event : (k : Skeleton) (o : Occurrence) → IsIn o (occurrences_from 0 k.strands) → term_event_at k.strands o.node ≡ Some o.event
+pub listed_event : (k : Skeleton) (o : Occurrence) → IsIn o (events_of k) → term_event_at k.strands o.node ≡ Some o.event
 listed_event k o i =
     let h = stands_among 0 k.strands o i in
     ap (λ s. item_at (skeleton_trace_or_none s) o.node.index) (strand_at k.strands o h) ∙ h.event
@@ -109,7 +143,7 @@ role_strand : (k : Skeleton) (n : Node) (x : SkeletonStrand) → item_at k.stran
 role_strand k n (instance role height terms) at r = record { role = role; height = height; terms = terms; on_instance = at }
 role_strand k n (listener t) at r = absurd (cc)
 
-pub listed_role : (k : Skeleton) (o : Occurrence) → IsIn o (occurrences_from 0 k.strands) → o.by_role ≡ true → IsOnInstance k o.node
+pub listed_role : (k : Skeleton) (o : Occurrence) → IsIn o (events_of k) → o.by_role ≡ true → IsOnInstance k o.node
 listed_role k o i r =
     let h = stands_among 0 k.strands o i in
     role_strand k o.node h.strand (strand_at k.strands o h) (sym h.role ∙ r)
@@ -117,7 +151,7 @@ listed_role k o i r =
 -- Each event is listed.
 pub record IsListedAs (k : Skeleton) (n : Node) (e : Event Term) (strand : SkeletonStrand) : Type 0 where
   pub at : item_at k.strands n.strand ≡ Some strand
-  pub listed : IsIn (record { node = n; event = e; by_role = is_role_strand strand }) (occurrences_from 0 k.strands)
+  pub listed : IsIn (record { node = n; event = e; by_role = is_role_strand strand }) (events_of k)
 
 list_on : (k : Skeleton) (n : Node) (e : Event Term) (x : SkeletonStrand) → item_at k.strands n.strand ≡ Some x → item_at (skeleton_trace x) n.index ≡ Some e → IsListedAs k n e x
 list_on k n e x at event =
@@ -125,7 +159,7 @@ list_on k n e x at event =
     record {
       at = at;
       listed =
-          subst (λ s. IsIn (record { node = node_at s n.index; event = e; by_role = is_role_strand x }) (occurrences_from 0 k.strands)) number
+          subst (λ s. IsIn (record { node = node_at s n.index; event = e; by_role = is_role_strand x }) (events_of k)) number
           (among_stands 0 n.strand k.strands x n.index e at event);
     }
 
@@ -137,51 +171,16 @@ list_at k n e (Some x) at event = (x, list_on k n e x at event)
 pub event_listed : (k : Skeleton) (n : Node) (e : Event Term) → term_event_at k.strands n ≡ Some e → (x : SkeletonStrand) × IsListedAs k n e x
 event_listed k n e at = list_at k n e (item_at k.strands n.strand) refl at
 
--- ---- what role strands send
+-- Whether a role strand is there, if any is.
+abbrev pub is_role_at : Option SkeletonStrand → Bool
+is_role_at None = false
+is_role_at (Some x) = is_role_strand x
 
-sent_first : (n : Node) (e : Event Term) (r : Bool) (ts : List Transmission) (t : Transmission) → IsIn t (if_sent n e r ts) →
-    (◌≡◌ {A = Occurrence} (record { node = n; event = e; by_role = r }) (record { node = t.node; event = send t.message; by_role = true })) ⊎ IsIn t ts
-sent_first n (send m) true ts t h =
-    elim (in_cases h) [ inl same ↦ inl (ap (λ (x : Transmission). let o : Occurrence = record { node = x.node; event = send x.message; by_role = true } in o) same) | inr i ↦ inr i ]
-sent_first n (send m) false ts t h = inr h
-sent_first n (recv m) r ts t h = inr h
+-- The event at a node, as it is listed.
+abbrev pub occurrence_at : Skeleton → Node → Event Term → Occurrence
+occurrence_at k n e = record { node = n; event = e; by_role = is_role_at (item_at k.strands n.strand) }
 
-pub sent_listed : (os : List Occurrence) (t : Transmission) → IsIn t (transmissions_among os) → IsIn (record { node = t.node; event = send t.message; by_role = true }) os
-sent_listed [] t h = elim h [ ]
-sent_listed (o ∷ os) t h =
-    elim (sent_first o.node o.event o.by_role (transmissions_among os) t h) [
-      | inl same ↦ subst (λ x. IsIn x (o ∷ os)) same here
-      | inr i ↦ there (sent_listed os t i)
-    ]
-
-sent_passed : (n : Node) (e : Event Term) (r : Bool) (ts : List Transmission) (t : Transmission) → IsIn t ts → IsIn t (if_sent n e r ts)
-sent_passed n (send m) true ts t h = there h
-sent_passed n (send m) false ts t h = h
-sent_passed n (recv m) r ts t h = h
-
-pub listed_sent : (os : List Occurrence) (t : Transmission) → IsIn (record { node = t.node; event = send t.message; by_role = true }) os → IsIn t (transmissions_among os)
-listed_sent [] t h = elim h [ ]
-listed_sent (o ∷ os) t h =
-    elim (in_cases h) [
-      | inl same ↦ subst (λ (x : Occurrence). IsIn t (if_sent x.node x.event x.by_role (transmissions_among os))) (sym same) here
-      | inr i ↦ sent_passed o.node o.event o.by_role (transmissions_among os) t (listed_sent os t i)
-    ]
-
-role_of : (k : Skeleton) (n : Node) (x : SkeletonStrand) → IsOnInstance k n → item_at k.strands n.strand ≡ Some x → is_role_strand x ≡ true
-role_of k n x on at =
-    let same : x ≡ instance on.role on.height on.terms = let there_is = on.on_instance in cc in
-    ap is_role_strand same
-
--- What a role strand sends at a node is listed, and nothing else is.
-pub transmission_listed : (k : Skeleton) (n : Node) (t : Term) → IsOnInstance k n → term_event_at k.strands n ≡ Some (send t) →
-    IsIn (record { node = n; message = t }) (transmissions_among (occurrences_from 0 k.strands))
-transmission_listed k n t on at =
-    let h = event_listed k n (send t) at in
-    listed_sent (occurrences_from 0 k.strands) (record { node = n; message = t })
-    (subst (λ r. IsIn (record { node = n; event = send t; by_role = r }) (occurrences_from 0 k.strands)) (role_of k n h.0 on h.1.at) h.1.listed)
-
-pub listed_on_role : (k : Skeleton) (t : Transmission) → IsIn t (transmissions_among (occurrences_from 0 k.strands)) → IsOnInstance k t.node
-listed_on_role k t h = listed_role k (record { node = t.node; event = send t.message; by_role = true }) (sent_listed (occurrences_from 0 k.strands) t h) refl
-
-pub listed_transmission : (k : Skeleton) (t : Transmission) → IsIn t (transmissions_among (occurrences_from 0 k.strands)) → term_event_at k.strands t.node ≡ Some (send t.message)
-listed_transmission k t h = listed_event k (record { node = t.node; event = send t.message; by_role = true }) (sent_listed (occurrences_from 0 k.strands) t h)
+pub listed_at : (k : Skeleton) (n : Node) (e : Event Term) → term_event_at k.strands n ≡ Some e → IsIn (occurrence_at k n e) (events_of k)
+listed_at k n e at =
+    let h = event_listed k n e at in
+    subst (λ r. IsIn (record { node = n; event = e; by_role = r }) (events_of k)) (sym (ap is_role_at h.1.at)) h.1.listed

@@ -1,8 +1,8 @@
 use Rattle.std.proofs.Common.{◌≡◌, ◌++◌, map, drop}
 use Rattle.cp_model.specs.Skeleton.{skeleton_trace}
 use Rattle.cp_skel.specs.View.{strand_view}
-use Rattle.cp_derive.specs.Occurrences.{occurrence_view, is_role_strand, occurrences_on}
-use Rattle.cp_derive.proofs.occurrence.add_events.Given as goal
+use Rattle.cp_skel.specs.Events.{occurrence_view, is_role_strand, occurrences_on}
+use Rattle.cp_skel.proofs.events.add_events.Given as goal
 
 -- with the events that are left, all is there
 abbrev pub invariant-loop-index : goal.invariant-loop-index

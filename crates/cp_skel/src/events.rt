@@ -1,18 +1,19 @@
 // The events of a skeleton in a list, each with its node.
-ghost use Rattle.std.specs.Prelude.{◌≡◌, ◌++◌, ◌<◌, length, map, IfOk, OnOk};
+ghost use Rattle.std.specs.Prelude.{◌≡◌, ◌++◌, length, map, IfOk, OnOk};
 ghost use Rattle.cp_model.specs.Skeleton.{skeleton_trace};
+ghost use Rattle.cp_skel.specs.Events.{occurrence_view, is_role_strand, occurrences_on, events_of};
 ghost use Rattle.cp_skel.specs.View.{strand_view, skeleton_view};
-ghost use Rattle.cp_derive.specs.Occurrences.{occurrence_view, is_role_strand, occurrences_on, occurrences_from};
 
-use cp_skel::{Event, Node, Skeleton, Strand};
+use crate::protocol::Event;
+use crate::skeleton::{Node, Skeleton, Strand};
 use std::alloc::{AllocError, Global};
 
-/// An event, the node where it stands, and whether a role strand is there.
+/// An event of a skeleton, the node where it stands, and whether a role strand is there and no listener.
 #[derive(Drop)]
-pub(crate) struct Occurrence {
-    pub(crate) node: Node,
-    pub(crate) event: Event,
-    pub(crate) by_role: bool,
+pub struct Occurrence {
+    pub node: Node,
+    pub event: Event,
+    pub by_role: bool,
 }
 
 /// How many events the strand has.
@@ -58,13 +59,15 @@ fn add_events(
     Ok(())
 }
 
-/// The events of a skeleton, by strand and then by place.
-pub(crate) fn occurrences(alloc: Global, k: &Skeleton) -> Result<Vec<Occurrence>, AllocError>
-    ensures { IfOk result (λ os. map occurrence_view os.items ≡ occurrences_from 0 (skeleton_view k.now).strands) }
-{
-    let mut occurrences = Vec::new(alloc);
-    for (number, strand) in k.strands.iter().enumerate() {
-        add_events(alloc, number, strand, &mut occurrences)?;
+impl Skeleton {
+    /// The events of the skeleton, each with its node, by strand and then by index. The error is that memory ran out.
+    pub fn events(&self, alloc: Global) -> Result<Vec<Occurrence>, AllocError>
+        ensures listed { IfOk result (λ os. map occurrence_view os.items ≡ events_of (skeleton_view self.now)) }
+    {
+        let mut occurrences = Vec::new(alloc);
+        for (number, strand) in self.strands.iter().enumerate() {
+            add_events(alloc, number, strand, &mut occurrences)?;
+        }
+        Ok(occurrences)
     }
-    Ok(occurrences)
 }

@@ -3,10 +3,10 @@ use Rattle.std.proofs.lemmas.List.{map-append}
 use Rattle.cp_model.specs.Bundle.{node_at}
 use Rattle.cp_model.specs.Skeleton.{skeleton_trace}
 use Rattle.cp_skel.specs.View.{event_view, strand_view}
-use Rattle.cp_derive.specs.Occurrences.{occurrence_view, is_role_strand}
-use Rattle.cp_derive.proofs.Occurring.{event_added, event_there}
-use Rattle.cp_derive.proofs.occurrence.add_events.Goals as goal
-use Rattle.cp_derive.proofs.occurrence.add_events.Goals.{in-Some+in_ok-push, in_default}
+use Rattle.cp_skel.specs.Events.{occurrence_view, is_role_strand}
+use Rattle.cp_skel.proofs.EventLists.{event_added, event_there}
+use Rattle.cp_skel.proofs.events.add_events.Goals as goal
+use Rattle.cp_skel.proofs.events.add_events.Goals.{in-Some+in_ok-push, in_default}
 
 pub loop-index-preserved : goal.loop-index-preserved
 loop-index-preserved c =

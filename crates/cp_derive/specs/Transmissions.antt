@@ -1,0 +1,26 @@
+-- What role strands send, among the events of a skeleton.
+use Rattle.std.specs.Prelude.{Bool, true, false, List, [], ◌∷◌}
+use Rattle.cp_model.specs.Term.{Term}
+use Rattle.cp_model.specs.Strand.{Event, send, recv}
+use Rattle.cp_model.specs.Bundle.{Node}
+use Rattle.cp_model.specs.RunView.{node_view}
+use Rattle.cp_skel.specs.Events.{Occurrence}
+use Rattle.cp_derive.specs.declared.transmission.Transmission as sending
+
+-- A message that a role strand sends at a node.
+pub record Transmission : Type 0 where
+  pub node : Node
+  pub message : Term
+
+abbrev pub transmission_view : sending.Transmission → Transmission
+transmission_view t = record { node = node_view t.node; message = t.message }
+
+-- What role strands send, among these events.
+abbrev pub if_sent : Node → Event Term → Bool → List Transmission → List Transmission
+if_sent n (send t) true ts = record { node = n; message = t } ∷ ts
+if_sent n (send t) false ts = ts
+if_sent n (recv t) r ts = ts
+
+abbrev pub transmissions_among : List Occurrence → List Transmission
+transmissions_among [] = []
+transmissions_among (o ∷ os) = if_sent o.node o.event o.by_role (transmissions_among os)

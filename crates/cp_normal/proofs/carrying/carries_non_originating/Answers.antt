@@ -1,9 +1,0 @@
-use Rattle.cp_skel.specs.View.{skeleton_view}
-use Rattle.cp_normal.proofs.Found.{carries_if_found, found_if_carries}
-use Rattle.cp_normal.proofs.carrying.carries_non_originating.Goals as goal
-
-pub returns : goal.returns
-returns c = (
-  λ r. carries_if_found (skeleton_view c.args.k.now) _ _ c.in_ok-occurrences.ensures c.deref.ensures.value _ c.deref-2.ensures.value (c.some_carries_one.ensures.0 r),
-  λ h. c.some_carries_one.ensures.1 (found_if_carries (skeleton_view c.args.k.now) _ _ c.in_ok-occurrences.ensures c.deref.ensures.value _ c.deref-2.ensures.value h),
-)

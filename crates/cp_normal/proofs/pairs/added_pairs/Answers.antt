@@ -1,7 +1,0 @@
-use Rattle.std.proofs.Common.{refl, ap, map}
-use Rattle.cp_skel.specs.View.{skeleton_view, pair_view}
-use Rattle.cp_normal.proofs.Found.{added_exactly}
-use Rattle.cp_normal.proofs.pairs.added_pairs.Goals as goal
-
-pub returns : goal.returns
-returns c = added_exactly (skeleton_view c.args.k.now) _ _ c.in_ok-occurrences.ensures c.deref.ensures.value _ _ refl c.deref-2.ensures.value _ _ (ap (map pair_view) c.new-pairs.ensures.items) c.in_ok-add_pairs.ensures
