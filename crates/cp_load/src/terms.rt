@@ -29,11 +29,7 @@ pub(crate) fn no_term(alloc: Global) -> Result<Term, AllocError>
 pub(crate) fn variable_term(alloc: Global, variable: Variable) -> Result<Term, AllocError>
     ensures { IfOk result (λ t. t ≡ atom_term (atom_of_variable (variable_view variable))) }
 {
-    var(
-        alloc,
-        VarId::numbered(variable.number),
-        variable.sort,
-    )
+    var(alloc, VarId::numbered(variable.number), variable.sort)
 }
 
 /// Whether a term is of sort name.

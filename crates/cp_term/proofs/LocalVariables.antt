@@ -44,7 +44,7 @@ text_under_key = enc_term (atom_term (text_variable 0)) (symmetric_term (skey_va
 one_of_two : (x : Variable) → IsIn x (the_text ∷ the_key ∷ []) → (x ≡ the_text) ⊎ (x ≡ the_key)
 one_of_two x i = elim (in_cases i) [
   | inl e ↦ inl e
-  | inr j ↦ elim (in_cases j) [ | inl e ↦ inr e | inr none ↦ elim none [ ] ]
+  | inr j ↦ elim (in_cases j) [ inl e ↦ inr e | inr none ↦ elim none [ ] ]
 ]
 
 two_sorts : (x y : Variable) → (x ≡ the_text) ⊎ (x ≡ the_key) → (y ≡ the_text) ⊎ (y ≡ the_key) → x.number ≡ y.number → x.sort ≡ y.sort
