@@ -52,11 +52,7 @@ fn add_received(event: &Event, atoms: &mut Vec<Atom>) -> Result<(), AllocError>
 
 /// Puts the atoms that the event carries, if it is a reception before the node on its strand, behind these, each that is
 /// not there yet.
-fn add_heard(
-    occurrence: &Occurrence,
-    node: Node,
-    atoms: &mut Vec<Atom>,
-) -> Result<(), AllocError>
+fn add_heard(occurrence: &Occurrence, node: Node, atoms: &mut Vec<Atom>) -> Result<(), AllocError>
     ensures { OnOk result (atoms.new.items ≡ atoms_onto atoms.old.items (heard_of (node_view node) (occurrence_view occurrence.now))) }
 {
     if occurrence.node.strand == node.strand && occurrence.node.index < node.index {

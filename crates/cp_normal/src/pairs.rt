@@ -70,11 +70,7 @@ pub(crate) fn pairs_among(
     ensures { IfOk result (λ pairs. (p : Plain) → IsIn p (map pair_view pairs.items) ↔ IsAddedPair (skeleton_view k.now) p) }
 {
     let mut pairs = Vec::new(alloc);
-    add_pairs(
-        occurrences,
-        &k.assumptions.uniquely_originating,
-        &mut pairs,
-    )?;
+    add_pairs(occurrences, &k.assumptions.uniquely_originating, &mut pairs)?;
     Ok(pairs)
 }
 

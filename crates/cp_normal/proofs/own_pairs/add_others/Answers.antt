@@ -1,4 +1,4 @@
-use Rattle.std.proofs.Common.{◌≡◌, Bool, not, true, false, get_or, sym, ap, ◌∙◌}
+use Rattle.std.proofs.Common.{not, sym, ap, ◌∙◌}
 use Rattle.std.specs.HashSet.{contains}
 use Rattle.cp_skel.specs.View.{pair_view}
 use Rattle.cp_normal.specs.OwnPairs.{Key, is_same_key, is_other}
