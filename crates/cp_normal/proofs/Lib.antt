@@ -4,6 +4,7 @@ pub mod Found
 pub mod Gathering
 pub mod Cycling
 pub mod Normalised
+pub mod OwnPairs
 pub mod Values
 pub mod Declared
 pub mod DeclaredTerms

@@ -1,6 +1,5 @@
 -- The tests of normalising, put together.
-use Rattle.std.proofs.Common.{◌≡◌, ◌↔◌, ◌⊎◌, inl, inr, List, ◌++◌, map, sym, ap, subst, ◌∙◌}
-use Rattle.std.proofs.lemmas.List.{map-append}
+use Rattle.std.proofs.Common.{◌≡◌, ◌⊎◌, inl, inr, List, map, sym, subst}
 use Rattle.cp_model.specs.Lists.{IsIn}
 use Rattle.cp_model.specs.Bundle.{Node}
 use Rattle.cp_model.specs.Skeleton.{UniqueAt, OrderPair, Skeleton, Before, IsOrderPair, IsOrigin}
@@ -10,28 +9,10 @@ use Rattle.cp_skel.specs.declared.skeleton.OrderPair.{OrderPair as Pair}
 use Rattle.cp_skel.specs.declared.skeleton.UniqueAt.{UniqueAt as Entry}
 use Rattle.cp_normal.specs.Events.{Has}
 use Rattle.cp_normal.specs.Cycles.{LeadsOn, IsClosedAt}
-use Rattle.cp_normal.specs.Normalising.{CarriesNonOriginating, HasTwoOrigins, LosesOrigin, ClosesCycle, IsAddedPair, AreNormalPairs, IsContradictory}
+use Rattle.cp_normal.specs.Normalising.{CarriesNonOriginating, HasTwoOrigins, LosesOrigin, ClosesCycle, AreNormalPairs, IsContradictory}
 use Rattle.cp_normal.proofs.Having.{of_views, to_views}
-use Rattle.cp_skel.proofs.Composing.{in_either, in_front, in_back}
 use Rattle.cp_normal.proofs.Found.{unique_has, has_unique}
 use Rattle.cp_normal.proofs.Cycling.{closed_if_cycle, cycle_if_closed, cycle_of_these}
-
--- ---- own and added pairs
-
-own_or_added : (k : Skeleton) (own added : List OrderPair) → own ≡ k.pairs → ((p : OrderPair) → IsIn p added ↔ IsAddedPair k p) → (p : OrderPair) → IsIn p own ⊎ IsIn p added → IsIn p k.pairs ⊎ IsAddedPair k p
-own_or_added k own added e exact p (inl h) = inl (subst (IsIn p) e h)
-own_or_added k own added e exact p (inr h) = inr ((exact p).0 h)
-
-in_both : (k : Skeleton) (own added : List OrderPair) → own ≡ k.pairs → ((p : OrderPair) → IsIn p added ↔ IsAddedPair k p) → (p : OrderPair) → IsIn p k.pairs ⊎ IsAddedPair k p → IsIn p (own ++ added)
-in_both k own added e exact p (inl h) = in_front own added (subst (IsIn p) (sym e) h)
-in_both k own added e exact p (inr h) = in_back own added ((exact p).1 h)
-
-pub normal_of_both : (k : Skeleton) (own added all : List Pair) → map pair_view own ≡ k.pairs → ((p : OrderPair) → IsIn p (map pair_view added) ↔ IsAddedPair k p) → all ≡ own ++ added → AreNormalPairs k (map pair_view all)
-normal_of_both k own added all e exact whole p =
-    let views : map pair_view all ≡ map pair_view own ++ map pair_view added = ap (map pair_view) whole ∙ map-append pair_view own added in (
-      λ h. own_or_added k (map pair_view own) (map pair_view added) e exact p (in_either (map pair_view own) (map pair_view added) (subst (IsIn p) views h)),
-      λ h. subst (IsIn p) (sym views) (in_both k (map pair_view own) (map pair_view added) e exact p h),
-    )
 
 -- ---- cycles
 

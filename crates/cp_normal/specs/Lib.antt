@@ -1,4 +1,5 @@
 pub mod Normalising
+pub mod OwnPairs
 pub mod Events
 pub mod Cycles
 pub mod Agreeing

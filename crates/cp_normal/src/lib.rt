@@ -20,6 +20,7 @@ mod narrowing;
 mod normal;
 mod normalising;
 mod origins;
+mod own_pairs;
 mod pairs;
 mod placing;
 mod straying;

@@ -10,6 +10,7 @@ ghost use Rattle.cp_normal.specs.Normalising.{AreNormalPairs, ClosesCycle, IsNor
 use crate::carrying::some_carries_non_originating;
 use crate::cycles::some_is_closed;
 use crate::origins::{has_two_origins, some_loses_origin};
+use crate::own_pairs::{add_others, keys_of};
 use crate::pairs::pairs_among;
 use cp_skel::{Occurrence, OrderPair, Skeleton};
 use std::alloc::{AllocError, Global};
@@ -28,7 +29,7 @@ pub(crate) fn is_refuted(k: &Skeleton, occurrences: &[Occurrence]) -> bool
     some_loses_origin(k, occurrences)
 }
 
-/// The skeleton's own pairs, and those that unique values add, where these are the events of the skeleton.
+/// The skeleton's own pairs, and the others that unique values add, where these are the events of the skeleton.
 fn own_and_added(
     alloc: Global,
     k: &Skeleton,
@@ -38,8 +39,9 @@ fn own_and_added(
     ensures { IfOk result (λ pairs. AreNormalPairs (skeleton_view k.now) (map pair_view pairs.items)) }
 {
     let added = pairs_among(alloc, k, occurrences)?;
+    let own = keys_of(alloc, k.order.pairs())?;
     let mut pairs = Vec::from_slice(alloc, k.order.pairs())?;
-    pairs.extend_from_slice(&added)?;
+    add_others(&added, &own, &mut pairs)?;
     Ok(pairs)
 }
 

@@ -1,0 +1,27 @@
+-- Pairs that are looked up by their nodes among the skeleton's own.
+use Rattle.std.specs.Prelude.{◌≡◌, ◌==◌, ◌&&◌, ℕ, List, Bool, not}
+use Rattle.std.specs.List.{list_any}
+use Rattle.std.specs.HashSet.{HashSet, contains}
+use Rattle.cp_model.specs.Skeleton.{OrderPair}
+
+-- The strand and index of a pair's earlier node, and those of its later one.
+abbrev pub Key : Type 0
+Key = (ℕ × ℕ) × (ℕ × ℕ)
+
+abbrev pub key_of : OrderPair → Key
+key_of p = ((p.earlier.strand, p.earlier.index), (p.later.strand, p.later.index))
+
+abbrev pub is_same_key : Key → Key → Bool
+is_same_key a b = ((a.0.0 == b.0.0) && (a.0.1 == b.0.1)) && ((a.1.0 == b.1.0) && (a.1.1 == b.1.1))
+
+-- A pair with this key is among these.
+abbrev pub has_key : List OrderPair → Key → Bool
+has_key ps q = list_any (λ p. is_same_key (key_of p) q) ps
+
+-- The set has the keys of these pairs, and no others.
+abbrev pub AreKeysOf : {S : Type 0} → HashSet Key S → List OrderPair → Type 0
+AreKeysOf keys ps = (q : Key) → contains is_same_key keys q ≡ has_key ps q
+
+-- The pair's key is not in the set.
+abbrev pub is_other : {S : Type 0} → HashSet Key S → OrderPair → Bool
+is_other keys p = not (contains is_same_key keys (key_of p))
