@@ -1,9 +1,9 @@
 -- Rows that tell what is a shape, and the first shape of a row.
-use Rattle.std.proofs.Common.{◌≡◌, ◌↔◌, ◌⊎◌, inl, inr, ℕ, zero, suc, ◌+◌, ◌<◌, ◌≤◌, ◌==◌, List, [], ◌∷◌, ◌++◌, Bool, true, false, nat_eq, if◌then◌else◌, length, map, drop, get_or, Option, Some, None, refl, sym, ap, subst, ◌∙◌, arith, eq-eqb, eqb-true}
+use Rattle.std.proofs.Common.{◌≡◌, ◌↔◌, ◌⊎◌, inl, inr, ℕ, ◌+◌, ◌<◌, ◌≤◌, List, [], ◌∷◌, Bool, true, false, nat_eq, if◌then◌else◌, length, drop, get_or, Option, Some, None, refl, sym, ap, subst, ◌∙◌, arith, eq-eqb, eqb-true}
 use Rattle.cp_model.specs.Lists.{item_at, IsIn, here, there}
 use Rattle.cp_model.specs.Skeleton.{Skeleton}
 use Rattle.cp_model.proofs.LawLists.{item_below, item_there}
-use Rattle.cp_shapes.specs.Shapes.{IsLeast, EmbedsAt, IsInstanceWithin, IsShapeAt, IsShapeOf, IsMarkOf, AreMarksOf}
+use Rattle.cp_shapes.specs.Shapes.{IsLeast, IsInstanceWithin, IsShapeAt, IsShapeOf, IsMarkOf}
 use Rattle.cp_skel.proofs.Items.{item-drop, item-found}
 use Rattle.std.proofs.lemmas.List.{drop_all}
 use Rattle.cp_shapes.specs.Rows.{IsRising, IsRowOf, AreRowsOf, is_empty_row, FindsShape}

@@ -1,5 +1,5 @@
 -- The order of candidates by which one is an instance of another.
-use Rattle.std.proofs.Common.{◌≡◌, ◌≢◌, ◌⊎◌, inl, inr, ℕ, ◌<◌, List, Some, refl, sym, subst, ◌∙◌, arith, length, lt_trans}
+use Rattle.std.proofs.Common.{◌≡◌, ◌≢◌, ◌⊎◌, inl, inr, ℕ, ◌<◌, List, Some, sym, subst, arith, length, lt_trans}
 use Rattle.cp_model.specs.Lists.{item_at}
 use Rattle.cp_model.specs.Skeleton.{Skeleton}
 use Rattle.cp_model.specs.Homomorphism.{Embeds}

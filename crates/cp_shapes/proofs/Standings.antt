@@ -1,6 +1,6 @@
 -- What stands through a candidate stands through a shape.
-use Rattle.std.proofs.Common.{◌≡◌, ℕ, ◌<◌, List, length, Option, Some, None, subst, sym, arith}
-use Rattle.cp_model.specs.Lists.{item_at, IsIn}
+use Rattle.std.proofs.Common.{ℕ, ◌<◌, List, length, Option, Some, None, subst, arith}
+use Rattle.cp_model.specs.Lists.{IsIn}
 use Rattle.cp_model.specs.Strand.{Protocol}
 use Rattle.cp_model.specs.Bundle.{Bundle}
 use Rattle.cp_model.specs.Skeleton.{Skeleton, IsSkeleton}

@@ -1,5 +1,5 @@
 -- What an embedding that was looked for tells of an instance.
-use Rattle.std.proofs.Common.{◌≡◌, ◌↔◌, ◌⊎◌, inl, inr, ℕ, zero, suc, ◌<◌, ◌≤◌, List, [], ◌∷◌, Bool, true, false, not, length, map, get_or, slice_index_or, Option, Some, None, refl, sym, ap, subst, ◌∙◌, arith}
+use Rattle.std.proofs.Common.{◌≡◌, ◌↔◌, ◌⊎◌, inl, inr, ℕ, zero, suc, ◌<◌, ◌≤◌, List, [], ◌∷◌, Bool, true, false, not, length, map, slice_index_or, Option, Some, None, refl, sym, ap, subst, ◌∙◌, arith}
 use Rattle.std.specs.Prelude.{IfSome, IfNone}
 use Rattle.std.specs.Option.{is_some}
 use Rattle.cp_model.specs.Lists.{item_at, IsIn}
@@ -10,9 +10,7 @@ use Rattle.cp_hom.specs.declared.mapping.Map.{Map}
 use Rattle.cp_hom.specs.Partition.{fingerprint_of}
 use Rattle.cp_hom.proofs.Listed.{item_in}
 use Rattle.cp_skel.specs.Ordered.{IsOrdered}
-use Rattle.cp_skel.specs.View.{skeleton_view}
-use Rattle.cp_skel.specs.declared.skeleton.Skeleton.{Skeleton as Program}
-use Rattle.cp_skel.proofs.Items.{item-there, map-length}
+use Rattle.cp_skel.proofs.Items.{map-length}
 use Rattle.cp_term.proofs.CarriedTerms.{not_both}
 use Rattle.cp_shapes.specs.Shapes.{EmbedsAt, IsInstanceWithin}
 use Rattle.cp_shapes.proofs.Instances.{same_item, embeds_first_within}

@@ -1,6 +1,6 @@
 use Rattle.std.proofs.Common.{map}
 use Rattle.cp_skel.specs.View.{skeleton_view}
-use Rattle.cp_shapes.proofs.Gathered.{next_mark, all_marks}
+use Rattle.cp_shapes.proofs.Gathered.{next_mark}
 use Rattle.cp_shapes.proofs.marking.shapes.Goals as goal
 
 pub loop-row-preserved : goal.loop-row-preserved

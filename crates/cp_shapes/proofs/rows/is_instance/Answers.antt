@@ -1,6 +1,6 @@
 use Rattle.cp_skel.specs.View.{skeleton_view}
 use Rattle.cp_skel.proofs.Items.{item-there}
-use Rattle.cp_shapes.proofs.Telling.{ordered_item, is_itself, does_not_embed, embeds_here, comes_first, comes_later}
+use Rattle.cp_shapes.proofs.Telling.{ordered_item, does_not_embed, embeds_here, comes_first, comes_later}
 use Rattle.cp_shapes.proofs.rows.is_instance.Goals as goal
 
 pub embed-requires-clause-ordered : goal.embed-requires-clause-ordered

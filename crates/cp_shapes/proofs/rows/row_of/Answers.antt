@@ -1,4 +1,3 @@
-use Rattle.std.proofs.Common.{map}
 use Rattle.cp_skel.specs.View.{skeleton_view}
 use Rattle.cp_shapes.proofs.Rising.{row_without, row_with, whole_row}
 use Rattle.cp_shapes.proofs.Telling.{kept_apart, instance_below}

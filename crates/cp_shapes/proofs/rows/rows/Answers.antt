@@ -1,4 +1,4 @@
-use Rattle.std.proofs.Common.{map, ◌∙◌, sym, ap}
+use Rattle.std.proofs.Common.{map}
 use Rattle.cp_skel.specs.View.{skeleton_view}
 use Rattle.cp_shapes.specs.Rows.{IsRowOf}
 use Rattle.cp_shapes.proofs.Gathered.{next_row, all_rows, at_all}
