@@ -1,3 +1,4 @@
+pub mod AnyProblem
 pub mod ExampleRole
 pub mod LoadedProblems
 pub mod Nodes
