@@ -1,20 +1,23 @@
 -- The faults of pairs, part by part.
-use Rattle.std.proofs.Common.{◌≡◌, ℕ, ◌+◌, ◌-◌, ◌<◌, ◌≤◌, List, [], ◌∷◌, ◌++◌, length, get_or, map, take, drop, Bool, true, false, refl, sym, ap, ◌∙◌, subst, arith}
-use Rattle.std.specs.Prelude.{◌↔◌, Option, Some, None, is_none, nat_le}
+use Rattle.std.proofs.Common.{◌≡◌, ℕ, ◌+◌, ◌-◌, ◌<◌, ◌≤◌, List, [], ◌∷◌, ◌++◌, length, get_or, map, take, drop, Bool, true, false, ◌&&◌, ◌||◌, refl, sym, ap, ◌∙◌, subst, arith}
+use Rattle.std.specs.Prelude.{◌↔◌, ◌==◌, Option, Some, None, is_none, nat_le}
 use Rattle.std.proofs.lemmas.Bool.{cond-false}
+use Rattle.std.proofs.lemmas.Bool.Decides.{nat_tests}
 use Rattle.std.proofs.lemmas.List.{take_all}
 use Rattle.cp_base.specs.declared.place.Place.{Place}
 use Rattle.cp_base.specs.declared.place.Code.TheVariants.{BadShape}
 use Rattle.cp_base.specs.declared.place.Refusal.{Refusal}
 use Rattle.cp_model.specs.Skeleton.{SkeletonStrand, OrderPair}
-use Rattle.cp_model.specs.Order.{LeadsTo}
+use Rattle.cp_model.specs.Lists.{IsIn, here, there}
+use Rattle.cp_model.specs.Bundle.{Node}
+use Rattle.cp_model.specs.Order.{IsAtOrAfter, LeadsTo, on_strand, over_pair}
 use Rattle.cp_sexpr.specs.Syntax.{Form}
 use Rattle.cp_sexpr.specs.View.{view}
 use Rattle.cp_sexpr.specs.declared.form.Form as program
 use Rattle.cp_language.specs.Faults.{fault}
 use Rattle.cp_language.specs.Roles.{unless_faulty, list_items}
 use Rattle.cp_language.specs.Terms.{exceeds}
-use Rattle.cp_language.specs.Problems.{on_one_strand, reaches, closes_cycle, node_of, node_faults, pair_of_nodes, order_faults, pair_items_faults, pair_faults, pair_of, pairs_in, pairs_faults}
+use Rattle.cp_language.specs.Problems.{on_one_strand, at_or_after, any_pair, reaches, closes_cycle, node_of, node_faults, pair_of_nodes, order_faults, pair_items_faults, pair_faults, pair_of, pairs_in, pairs_faults}
 use Rattle.cp_language.proofs.Reaching.{reaches_all}
 use Rattle.cp_skel.specs.Leading.{Target}
 use Rattle.cp_forms.specs.FirstFault.{first_onto, merged, onto_none}
@@ -22,6 +25,10 @@ use Rattle.cp_forms.proofs.Firsts.{first_onto-append, first_then_four, merged-un
 use Rattle.cp_forms.proofs.Items.{item-drop}
 
 -- ---- cycles
+
+or_neither : (b c : Bool) → (b || c) ≡ false → (b ≡ false) × (c ≡ false)
+or_neither true c h = absurd (cc)
+or_neither false c h = (refl, h)
 
 same_bool : (b c : Bool) → (b ≡ true → c ≡ true) → (c ≡ true → b ≡ true) → b ≡ c
 same_bool true c f g = sym (f refl)
@@ -34,6 +41,41 @@ cycle-searched before p l b other is h =
     let law = reaches_all before p.later p.earlier in
     same_bool b (reaches (length before) before p.later p.earlier) (λ e. law.1 (leads.0 e)) (λ e. leads.1 (law.0 e))
     ∙ sym (cond-false (on_one_strand p) (nat_le p.later.index p.earlier.index) (reaches (length before) before p.later p.earlier) other)
+
+none_in : (test : OrderPair → Bool) (ps : List OrderPair) (p : OrderPair) → any_pair test ps ≡ false → IsIn p ps → test p ≡ false
+none_in test [] p none m = elim m [ ]
+none_in test (q ∷ ps) p none here = (or_neither (test p) (any_pair test ps) none).0
+none_in test (q ∷ ps) p none (there m) = none_in test ps p (or_neither (test q) (any_pair test ps) none).1 m
+
+not_after : (s t i j : ℕ) → ((s == t) && nat_le i j) ≡ false → (s ≡ t) × (i ≤ j) → ⊥
+not_after s t i j h a = grind (arith, nat_tests)
+
+-- No pair leaves the strand behind x: what x leads to is on its strand.
+stays_behind : (pairs : List OrderPair) (x y : Node) → any_pair (λ p. at_or_after x p.earlier) pairs ≡ false → LeadsTo pairs x y → IsAtOrAfter x y
+stays_behind pairs x y none (on_strand a) = a
+stays_behind pairs x y none (over_pair {p} m a l) =
+    absurd (not_after x.strand p.earlier.strand x.index p.earlier.index (none_in (λ q. at_or_after x q.earlier) pairs p none m) a)
+
+-- No pair comes to the strand before y: what leads to y is on its strand.
+stays_before : (pairs : List OrderPair) (x y : Node) → any_pair (λ p. at_or_after p.later y) pairs ≡ false → LeadsTo pairs x y → IsAtOrAfter x y
+stays_before pairs x y none (on_strand a) = a
+stays_before pairs x y none (over_pair {p} m a l) =
+    absurd (not_after p.later.strand y.strand p.later.index y.index (none_in (λ q. at_or_after q.later y) pairs p none m) (stays_before pairs p.later y none l))
+
+one_strand : (s t i j : ℕ) → (s == t) ≡ false → (t ≡ s) × (j ≤ i) → ⊥
+one_strand s t i j other a = grind (arith, nat_tests)
+
+no_way : (before : List OrderPair) (p : OrderPair) → on_one_strand p ≡ false → (LeadsTo before p.later p.earlier → IsAtOrAfter p.later p.earlier) → false ≡ closes_cycle before p
+no_way before p other stays =
+    same_bool false (reaches (length before) before p.later p.earlier) (λ e. absurd (cc))
+    (λ e. absurd (one_strand p.earlier.strand p.later.strand p.earlier.index p.later.index other (stays ((reaches_all before p.later p.earlier).0 e))))
+    ∙ sym (cond-false (on_one_strand p) (nat_le p.later.index p.earlier.index) (reaches (length before) before p.later p.earlier) other)
+
+pub no-way-from : (before : List OrderPair) (p : OrderPair) → on_one_strand p ≡ false → any_pair (λ q. at_or_after p.later q.earlier) before ≡ false → false ≡ closes_cycle before p
+no-way-from before p other none = no_way before p other (stays_behind before p.later p.earlier none)
+
+pub no-way-to : (before : List OrderPair) (p : OrderPair) → on_one_strand p ≡ false → any_pair (λ q. at_or_after q.later p.earlier) before ≡ false → false ≡ closes_cycle before p
+no-way-to before p other none = no_way before p other (stays_before before p.later p.earlier none)
 
 -- ---- nodes, or else their order
 

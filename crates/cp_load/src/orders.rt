@@ -2,7 +2,7 @@
 ghost use Rattle.std.specs.Prelude.{◌≡◌, ◌++◌, map, option_map, IfOk, OnOk};
 ghost use Rattle.cp_sexpr.specs.View.{view};
 ghost use Rattle.cp_language.specs.Roles.{unless_faulty};
-ghost use Rattle.cp_language.specs.Problems.{node_of, node_faults, pair_of_nodes, closes_cycle, order_faults, pair_items_faults, pair_faults, pairs_in, pairs_faults};
+ghost use Rattle.cp_language.specs.Problems.{node_of, node_faults, pair_of_nodes, at_or_after, any_pair, closes_cycle, order_faults, pair_items_faults, pair_faults, pairs_in, pairs_faults};
 ghost use Rattle.cp_model.specs.RunView.{node_view};
 ghost use Rattle.cp_skel.specs.View.{strand_view, pair_view};
 ghost use Rattle.cp_forms.specs.FirstFault.{first_onto};
@@ -16,12 +16,50 @@ use cp_sexpr::Form;
 use cp_skel::{Leading, Node, OrderPair, Strand};
 use std::alloc::{AllocError, Global};
 
-/// Whether a pair goes back or stays on one strand, or closes a cycle with strand order and the pairs before it.
+/// Whether the other node is this one or comes after it on its strand.
+fn is_at_or_after(node: Node, other: Node) -> bool
+    ensures { result ≡ at_or_after (node_view node) (node_view other) }
+{
+    node.strand == other.strand && node.index <= other.index
+}
+
+/// Whether one of the pairs begins at a node or after it on its strand.
+fn some_begins_behind(pairs: &[OrderPair], node: Node) -> bool
+    ensures { result ≡ any_pair (λ p. at_or_after (node_view node) p.earlier) (map pair_view pairs.now) }
+{
+    for pair in pairs {
+        if is_at_or_after(node, pair.earlier) {
+            return true;
+        }
+    }
+    false
+}
+
+/// Whether one of the pairs ends at a node or before it on its strand.
+fn some_ends_before(pairs: &[OrderPair], node: Node) -> bool
+    ensures { result ≡ any_pair (λ p. at_or_after p.later (node_view node)) (map pair_view pairs.now) }
+{
+    for pair in pairs {
+        if is_at_or_after(pair.later, node) {
+            return true;
+        }
+    }
+    false
+}
+
+/// Whether a pair goes back or stays on one strand, or closes a cycle with strand order and the pairs before it. No way
+/// is sought where no pair leaves the strand at which it would begin, or none comes to the one at which it would end.
 fn closes_cycle(alloc: Global, before: &[OrderPair], pair: OrderPair) -> Result<bool, AllocError>
     ensures { IfOk result (λ closes. closes ≡ closes_cycle (map pair_view before.now) (pair_view pair)) }
 {
     if is_on_one_strand(pair) {
         return Ok(pair.later.index <= pair.earlier.index);
+    }
+    if !some_begins_behind(before, pair.later) {
+        return Ok(false);
+    }
+    if !some_ends_before(before, pair.earlier) {
+        return Ok(false);
     }
     let leading = Leading::new(alloc, before, pair.earlier)?;
     Ok(leading.has(pair.later))

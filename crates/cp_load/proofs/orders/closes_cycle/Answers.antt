@@ -1,7 +1,15 @@
 use Rattle.std.proofs.Common.{map, sym, ◌∙◌}
 use Rattle.cp_skel.specs.View.{pair_view}
-use Rattle.cp_load.proofs.Cycles.{cycle-searched}
+use Rattle.cp_load.proofs.Cycles.{cycle-searched, no-way-from, no-way-to}
 use Rattle.cp_load.proofs.orders.closes_cycle.Goals as goal
+
+pub returns-then-not-some_begins_behind : goal.returns-then-not-some_begins_behind
+returns-then-not-some_begins_behind c =
+    no-way-from (map pair_view c.args.before.now) (pair_view c.args.pair) (sym c.is_on_one_strand.ensures ∙ c.if-is_on_one_strand.false) (sym c.some_begins_behind.ensures ∙ c.if-not-some_begins_behind.true)
+
+pub returns-then-not-some_ends_before : goal.returns-then-not-some_ends_before
+returns-then-not-some_ends_before c =
+    no-way-to (map pair_view c.args.before.now) (pair_view c.args.pair) (sym c.is_on_one_strand.ensures ∙ c.if-is_on_one_strand.false) (sym c.some_ends_before.ensures ∙ c.if-not-some_ends_before.true)
 
 pub returns : goal.returns
 returns c =
