@@ -7,7 +7,8 @@ use Rattle.cp_model.specs.Strand.{Event, send, recv, payload, event_map, Protoco
 use Rattle.cp_model.specs.Bundle.{Node, node_at, trace_or_none, event_at, OriginatesAt, Bundle}
 use Rattle.cp_model.specs.Skeleton.{instance, skeleton_trace_or_none, term_event_at, UniqueAt, Skeleton, IsSkeleton}
 use Rattle.cp_model.specs.Standing.{Standing, StandsIn, StandsApart}
-use Rattle.cp_model.specs.Derivable.{IsOnInstance, OriginatesAtTerm}
+use Rattle.cp_model.specs.Derivable.{IsOnInstance}
+use Rattle.cp_model.specs.Realising.{OriginatesAtTerm}
 use Rattle.cp_model.proofs.LawMessages.{dec_carried}
 use Rattle.cp_model.proofs.LawLists.{item_before}
 use Rattle.cp_completeness.specs.Normal.{IsHeardBefore}

@@ -7,7 +7,7 @@ use Rattle.cp_model.specs.Bundle.{Node, node_at, Bundle, IsBundle}
 use Rattle.cp_model.specs.Skeleton.{UniqueAt, OrderPair, Skeleton, Before, IsSkeleton}
 use Rattle.cp_model.specs.Standing.{Standing, StandsIn, StandsApart}
 use Rattle.cp_model.specs.Homomorphism.{FactorsThrough, Covers}
-use Rattle.cp_model.specs.Derivable.{OriginatesAtTerm}
+use Rattle.cp_model.specs.Realising.{OriginatesAtTerm}
 use Rattle.cp_completeness.specs.Normal.{IsCarriedAt, with_pairs, AddOnlyOriginPairs, skeleton_under, StandsAmong, LosesNoStanding, AreBranches}
 use Rattle.cp_completeness.proofs.Origins.{carried_non_originating, two_origins, lost_origin, unique_value_originates}
 use Rattle.cp_completeness.proofs.Pairs.{stands_with_pairs, no_cycle_with_pairs}

@@ -8,7 +8,8 @@ use Rattle.cp_model.specs.Strand.{Event, send, recv, payload, event_map, Protoco
 use Rattle.cp_model.specs.Bundle.{Node, node_at, event_at, OriginatesAt, Bundle, Precedes, IsBundle}
 use Rattle.cp_model.specs.Skeleton.{instance, UniqueAt, OrderPair, Skeleton, IsOrigin, IsSkeleton}
 use Rattle.cp_model.specs.Standing.{Standing, image_of, StandsIn, StandsApart}
-use Rattle.cp_model.specs.Derivable.{IsOnInstance, OriginatesAtTerm}
+use Rattle.cp_model.specs.Derivable.{IsOnInstance}
+use Rattle.cp_model.specs.Realising.{OriginatesAtTerm}
 use Rattle.cp_model.proofs.LawOrigins.{origin_of, AtOrBefore, HasOrigin}
 use Rattle.cp_completeness.specs.Normal.{IsCarriedAt, IsOriginPair}
 use Rattle.cp_completeness.proofs.Images.{payload_map, carried_value, image_event, image_at, event_on, IsImageOf, image_event_at}

@@ -7,7 +7,7 @@ use Rattle.cp_model.specs.Strand.{Event, send, recv, payload, Role, IsHeight, re
 use Rattle.cp_model.specs.Bundle.{Node, node_at, event_at, OriginatesAt, KeepsUnique, KeepsRole, BundleStep, along_strand, along_link, IsBundle}
 use Rattle.cp_model.specs.Skeleton.{instance, listener, term_event_at, UniqueAt, OrderStep, along_strand_of, along_pair, Before, IsOrigin, GivesAssumptions, IsSkeleton}
 use Rattle.cp_model.specs.Standing.{image_of, StandsOnRegular, StandsIn, StandsApart}
-use Rattle.cp_model.specs.Derivable.{OriginatesAtTerm}
+use Rattle.cp_model.specs.Realising.{OriginatesAtTerm}
 use Rattle.cp_model.specs.Problem.{variables_of_skeleton}
 use Rattle.cp_model.proofs.LawTerms.{atom_after, atom_unchanged}
 use Rattle.cp_completeness.specs.Normal.{IsOriginPair, skeleton_under, variables_of_terms, AreBranches}

@@ -7,7 +7,7 @@ ghost use Rattle.cp_model.specs.Bundle.{Node, node_at, Bundle, Precedes, IsBundl
 ghost use Rattle.cp_model.specs.Skeleton.{UniqueAt, OrderPair, Skeleton, Before, IsSkeleton};
 ghost use Rattle.cp_model.specs.Standing.{Standing, image_of, StandsIn, StandsApart};
 ghost use Rattle.cp_model.specs.Homomorphism.{FactorsThrough};
-ghost use Rattle.cp_model.specs.Derivable.{OriginatesAtTerm};
+ghost use Rattle.cp_model.specs.Realising.{OriginatesAtTerm};
 ghost use Rattle.cp_completeness.specs.Normal.{IsCarriedAt, IsOriginPair, with_pairs, AddOnlyOriginPairs, IsHeardBefore, skeleton_under, IsSolution};
 
 /// A skeleton of which some node, of a role strand or a listener, carries a non-originating value stands in no bundle.

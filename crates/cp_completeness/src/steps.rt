@@ -8,7 +8,7 @@ ghost use Rattle.cp_model.specs.Skeleton.{UniqueAt, OrderPair, Skeleton, Before,
 ghost use Rattle.cp_model.specs.Standing.{Standing, StandsIn, StandsApart};
 ghost use Rattle.cp_model.specs.Homomorphism.{CarriesHomomorphism, FactorsThrough, Covers};
 ghost use Rattle.cp_model.specs.Problem.{IsPointOfView};
-ghost use Rattle.cp_model.specs.Derivable.{OriginatesAtTerm};
+ghost use Rattle.cp_model.specs.Realising.{OriginatesAtTerm};
 ghost use Rattle.cp_model.specs.Stated.{KeepsStated};
 ghost use Rattle.cp_completeness.specs.Normal.{IsCarriedAt, with_pairs, AddOnlyOriginPairs, skeleton_under, LosesNoStanding, AreBranches, SaysNoMore};
 

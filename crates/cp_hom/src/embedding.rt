@@ -1,9 +1,9 @@
 // Embeddings of skeletons in others.
 ghost use Rattle.std.specs.Prelude.{◌↔◌, IsTrue, IfOk, IfSome, IfNone};
-ghost use Rattle.cp_model.specs.Homomorphism.{SkeletonMap, IsEmbedding, IsIsomorphic};
+ghost use Rattle.cp_model.specs.Homomorphism.{SkeletonMap, IsEmbedding};
 ghost use Rattle.cp_skel.specs.Ordered.{IsOrdered};
 ghost use Rattle.cp_skel.specs.View.{skeleton_view};
-ghost use Rattle.cp_hom.specs.Maps.{map_view};
+ghost use Rattle.cp_hom.specs.Maps.{IsIsomorphic, map_view};
 
 use crate::counting::have_room;
 use crate::items::items;

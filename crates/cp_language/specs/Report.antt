@@ -1,5 +1,5 @@
 -- The report: the forms of the input in order, each problem followed by the labels of its tree and its status.
-use Rattle.std.specs.Prelude.{◌≡◌, ℕ, suc, ◌==◌, ◌&&◌, ◌||◌, List, [], ◌∷◌, ◌++◌, length, map, Bool, false, not, codes, if◌then◌else◌, Option, Some, None}
+use Rattle.std.specs.Prelude.{◌≡◌, ℕ, suc, ◌+◌, ◌==◌, ◌&&◌, ◌||◌, List, [], ◌∷◌, ◌++◌, length, map, Bool, false, not, codes, if◌then◌else◌, Option, Some, None}
 use Rattle.cp_model.specs.Lists.{item_at, IsIn}
 use Rattle.cp_model.specs.Term.{Variable, atom_of_variable, Term, variables_of, Substitution, apply_to_atom}
 use Rattle.cp_model.specs.Strand.{Event, Declaration, variables_of_prefix}
@@ -7,7 +7,7 @@ use Rattle.cp_model.specs.Bundle.{Node, node_at}
 use Rattle.cp_model.specs.Skeleton.{SkeletonStrand, instance, listener, skeleton_trace, UniqueAt, OrderPair, Skeleton}
 use Rattle.cp_model.specs.Problem.{IsDeclared, variables_of_skeleton}
 use Rattle.cp_model.specs.Given.{listed}
-use Rattle.cp_model.specs.Tree.{Operation, by_problem, by_collapse, by_contraction, by_displacement, by_added_strand, by_added_listener, by_generalising, Mark, shape, dead, seen, instance_of, limit_steps, limit_strands, Outcome, complete, at_step_limit, at_strand_limit, Pattern, Test, Label, Tree, expanded_count, shape_count}
+use Rattle.cp_model.specs.Tree.{Operation, by_problem, by_collapse, by_contraction, by_displacement, by_added_strand, by_added_listener, by_generalising, Mark, shape, dead, seen, instance_of, limit_steps, limit_strands, Outcome, complete, at_step_limit, at_strand_limit, Pattern, Test, Label, Tree, expanded_count}
 use Rattle.cp_sexpr.specs.Syntax.{Form}
 use Rattle.cp_sexpr.specs.Spelling.{top_spelling}
 use Rattle.cp_model.specs.Same.{same_node, has_variable}
@@ -195,6 +195,15 @@ abbrev pub outcome_words : Outcome → List Form
 outcome_words complete = word (codes "complete") ∷ []
 outcome_words at_step_limit = word (codes "limit") ∷ word (codes "steps") ∷ []
 outcome_words at_strand_limit = word (codes "limit") ∷ word (codes "strands") ∷ []
+
+abbrev pub is_shape : Option Mark → ℕ
+is_shape (Some shape) = 1
+is_shape _ = 0
+
+-- How many labels are shapes.
+abbrev pub shape_count : List Label → ℕ
+shape_count [] = 0
+shape_count (l ∷ ls) = is_shape l.mark + shape_count ls
 
 -- The outcome, and how many labels there are, how many were expanded, and how many are shapes.
 abbrev pub status_form : Tree → Form

@@ -1,11 +1,11 @@
--- What the penetrator can derive before a node of a skeleton (TACAS 2007, section 4), and skeletons all of whose
--- receptions are derivable.
+-- What the penetrator can derive before a node of a skeleton (TACAS 2007, section 4), and skeletons with a reception that
+-- is not derivable.
 use Rattle.std.specs.Prelude.{◌≡◌, ◌⊎◌, ℕ, List, Some}
 use Rattle.cp_model.specs.Lists.{item_at, IsIn}
 use Rattle.cp_model.specs.Term.{AtomTerm, key_term, KeyTerm, inverse_term, Term, tag_term, atom_term, pair_term, enc_term, Substitution}
-use Rattle.cp_model.specs.Strand.{send, recv, OriginatesInTerms, Role}
+use Rattle.cp_model.specs.Strand.{send, recv, Role}
 use Rattle.cp_model.specs.Bundle.{Node}
-use Rattle.cp_model.specs.Skeleton.{instance, skeleton_trace_or_none, term_event_at, UniqueAt, Skeleton, Before}
+use Rattle.cp_model.specs.Skeleton.{instance, term_event_at, UniqueAt, Skeleton, Before}
 
 -- The value of a unique value's entry is v.
 pub record IsUniqueValue (k : Skeleton) (v : AtomTerm) : Type 0 where
@@ -36,21 +36,6 @@ pub data DerivableAt (k : Skeleton) (n : Node) : Term → Type 0 where
   right_of : {a b : Term} → DerivableAt k n (pair_term a b) → DerivableAt k n b
   encrypted : {a : Term} {key : KeyTerm} → DerivableAt k n a → DerivableAt k n (atom_term (key_term key)) → DerivableAt k n (enc_term a key)
   decrypted : {a : Term} {key : KeyTerm} → DerivableAt k n (enc_term a key) → DerivableAt k n (atom_term (key_term (inverse_term key))) → DerivableAt k n a
-
--- A term originates at a node of a role strand.
-abbrev pub OriginatesAtTerm : Skeleton → AtomTerm → Node → Type 0
-OriginatesAtTerm k v n = IsOnInstance k n × OriginatesInTerms (skeleton_trace_or_none (item_at k.strands n.strand)) (atom_term v) n.index
-
--- The assumptions are true of the role strands: a non-originating value originates nowhere, and a unique value
--- originates at its recorded origin and nowhere else.
-pub record KeepsAssumptions (k : Skeleton) : Type 0 where
-  pub non : (v : AtomTerm) (n : Node) → IsIn v k.assumptions.non_originating → OriginatesAtTerm k v n → ⊥
-  pub unique : (u : UniqueAt) → IsIn u k.assumptions.uniquely_originating → OriginatesAtTerm k u.value u.origin
-  pub only : (u : UniqueAt) (n : Node) → IsIn u k.assumptions.uniquely_originating → OriginatesAtTerm k u.value n → n ≡ u.origin
-
--- Every reception, listeners' included, has a message that is derivable there.
-abbrev pub AllDerivable : Skeleton → Type 0
-AllDerivable k = (n : Node) (t : Term) → term_event_at k.strands n ≡ Some (recv t) → DerivableAt k n t
 
 -- A skeleton is unrealised when some reception's message is not derivable there.
 pub record IsUnrealised (k : Skeleton) : Type 0 where

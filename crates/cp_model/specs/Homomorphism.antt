@@ -49,10 +49,6 @@ pub record IsEmbedding (a b : Skeleton) (f : SkeletonMap) : Type 0 where
 abbrev pub Embeds : Skeleton → Skeleton → Type 0
 Embeds a b = (f : SkeletonMap) × IsEmbedding a b f
 
--- Each embeds in the other.
-abbrev pub IsIsomorphic : Skeleton → Skeleton → Type 0
-IsIsomorphic a b = Embeds a b × Embeds b a
-
 -- The substitution that gives variable number i the i-th term of a list, if that is of its sort.
 abbrev pub text_in : ℕ → Option Term → ℕ
 text_in n (Some (atom_term (text_variable m))) = m

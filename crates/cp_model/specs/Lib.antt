@@ -14,6 +14,7 @@ pub mod Single
 pub mod Composition
 pub mod Example
 pub mod Derivable
+pub mod Realising
 pub mod Tree
 pub mod Pattern
 pub mod MessageCode

@@ -71,19 +71,10 @@ abbrev pub is_expanded : Option Test → ℕ
 is_expanded None = 0
 is_expanded (Some t) = 1
 
-abbrev pub is_shape : Option Mark → ℕ
-is_shape (Some shape) = 1
-is_shape _ = 0
-
 -- How many labels were expanded: those with a test.
 abbrev pub expanded_count : List Label → ℕ
 expanded_count [] = 0
 expanded_count (l ∷ ls) = is_expanded l.test + expanded_count ls
-
--- How many labels are shapes.
-abbrev pub shape_count : List Label → ℕ
-shape_count [] = 0
-shape_count (l ∷ ls) = is_shape l.mark + shape_count ls
 
 -- The skeletons of the labels that are shapes.
 abbrev pub if_shape : Option Mark → Skeleton → List Skeleton → List Skeleton

@@ -4,7 +4,7 @@ use Rattle.cp_model.specs.Lists.{IsIn, one_step}
 use Rattle.cp_model.specs.Term.{AtomTerm}
 use Rattle.cp_model.specs.Bundle.{Node}
 use Rattle.cp_model.specs.Skeleton.{UniqueAt, OrderPair, Skeleton, along_pair, IsSkeleton}
-use Rattle.cp_model.specs.Derivable.{OriginatesAtTerm}
+use Rattle.cp_model.specs.Realising.{OriginatesAtTerm}
 use Rattle.cp_model.specs.Strand.{Protocol}
 use Rattle.cp_completeness.specs.Normal.{IsCarriedAt, with_pairs, LosesNoStanding}
 use Rattle.cp_completeness.proofs.Losing.{pairs_lose_none}

@@ -5,7 +5,8 @@ use Rattle.cp_model.specs.Term.{AtomTerm}
 use Rattle.cp_model.specs.Strand.{send, recv}
 use Rattle.cp_model.specs.Bundle.{Node, node_at}
 use Rattle.cp_model.specs.Skeleton.{SkeletonStrand, instance, listener, skeleton_trace_or_none, term_event_at, UniqueAt, OrderPair, Skeleton}
-use Rattle.cp_model.specs.Derivable.{IsOnInstance, OriginatesAtTerm}
+use Rattle.cp_model.specs.Derivable.{IsOnInstance}
+use Rattle.cp_model.specs.Realising.{OriginatesAtTerm}
 use Rattle.cp_skel.specs.View.{unique_view}
 use Rattle.cp_skel.specs.declared.skeleton.UniqueAt.{UniqueAt as Entry}
 use Rattle.cp_skel.specs.Events.{Occurrence, occurrence_view, events_of}

@@ -4,7 +4,7 @@ use Rattle.cp_model.specs.Lists.{IsIn}
 use Rattle.cp_model.specs.Strand.{send, Protocol}
 use Rattle.cp_model.specs.Bundle.{Node}
 use Rattle.cp_model.specs.Skeleton.{UniqueAt, OrderPair, Skeleton, Before, IsSkeleton}
-use Rattle.cp_model.specs.Derivable.{OriginatesAtTerm, KeepsAssumptions}
+use Rattle.cp_model.specs.Realising.{OriginatesAtTerm, KeepsAssumptions}
 use Rattle.cp_completeness.specs.Normal.{with_pairs}
 use Rattle.cp_completeness.proofs.Skeletons.{with_pairs_is_skeleton}
 use Rattle.cp_normal.specs.Normalising.{IsAddedPair, AreNormalPairs, IsContradictory}

@@ -5,7 +5,8 @@ use Rattle.cp_model.specs.Term.{AtomTerm, Term, atom_term, Substitution}
 use Rattle.cp_model.specs.Strand.{Event, OriginatesInTerms}
 use Rattle.cp_model.specs.Bundle.{Node, node_at}
 use Rattle.cp_model.specs.Skeleton.{UniqueAt, Assumptions, OrderPair, Skeleton, term_event_at, OrderStep, along_strand_of, along_pair, Before}
-use Rattle.cp_model.specs.Derivable.{IsOnInstance, OriginatesAtTerm}
+use Rattle.cp_model.specs.Derivable.{IsOnInstance}
+use Rattle.cp_model.specs.Realising.{OriginatesAtTerm}
 use Rattle.cp_completeness.specs.Normal.{IsCarriedAt, IsOriginPair, with_pairs, skeleton_under, assumptions_under, from_problem_under}
 use Rattle.cp_normal.specs.Agreeing.{SaysTheSame}
 use Rattle.cp_normal.specs.Narrowing.{IsStray, IsHeardAt}

@@ -5,7 +5,7 @@ use Rattle.cp_model.specs.Term.{text_variable, Term, atom_term, itself_term, Ass
 use Rattle.cp_model.specs.Strand.{send, recv}
 use Rattle.cp_model.specs.Bundle.{Node, node_at}
 use Rattle.cp_model.specs.Skeleton.{term_event_at, UniqueAt, OrderPair, Skeleton, OrderStep, along_strand_of, along_pair, Before}
-use Rattle.cp_model.specs.Derivable.{OriginatesAtTerm}
+use Rattle.cp_model.specs.Realising.{OriginatesAtTerm}
 use Rattle.cp_completeness.specs.Normal.{skeleton_under, with_pairs}
 use Rattle.cp_completeness.specs.Example.{speaker, unique_text, two_say_it, repeated, from_speaker}
 use Rattle.cp_completeness.proofs.Spoken.{originates, elsewhere}

@@ -5,7 +5,7 @@ use Rattle.cp_model.specs.Term.{AtomTerm, Term, atom_term, IsCarriedByTerm, Assi
 use Rattle.cp_model.specs.Strand.{recv}
 use Rattle.cp_model.specs.Bundle.{Node, node_at}
 use Rattle.cp_model.specs.Skeleton.{UniqueAt, OrderPair, Skeleton, term_event_at, Before}
-use Rattle.cp_model.specs.Derivable.{OriginatesAtTerm}
+use Rattle.cp_model.specs.Realising.{OriginatesAtTerm}
 use Rattle.cp_completeness.specs.Normal.{skeleton_under, with_pairs}
 use Rattle.cp_normal.specs.Normalising.{IsAddedPair, AreNormalPairs, IsContradictory}
 use Rattle.cp_normal.specs.Agreeing.{SaysTheSame}

@@ -5,7 +5,7 @@ use Rattle.cp_model.specs.Lists.{IsIn}
 use Rattle.cp_model.specs.Term.{AtomTerm}
 use Rattle.cp_model.specs.Bundle.{Node}
 use Rattle.cp_model.specs.Skeleton.{UniqueAt, OrderPair, Skeleton, Before}
-use Rattle.cp_model.specs.Derivable.{OriginatesAtTerm}
+use Rattle.cp_model.specs.Realising.{OriginatesAtTerm}
 use Rattle.cp_completeness.specs.Normal.{IsCarriedAt, IsOriginPair, with_pairs}
 
 -- Some node, of a role strand or a listener, carries a non-originating value.

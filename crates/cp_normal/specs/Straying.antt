@@ -4,7 +4,7 @@ use Rattle.cp_model.specs.Lists.{item_at, IsIn}
 use Rattle.cp_model.specs.Term.{AtomTerm}
 use Rattle.cp_model.specs.Bundle.{Node}
 use Rattle.cp_model.specs.Skeleton.{UniqueAt, Skeleton}
-use Rattle.cp_model.specs.Derivable.{OriginatesAtTerm}
+use Rattle.cp_model.specs.Realising.{OriginatesAtTerm}
 use Rattle.cp_model.specs.Given.{listed}
 use Rattle.cp_normal.specs.Narrowing.{IsStray}
 use Rattle.cp_skel.specs.Events.{Occurrence}

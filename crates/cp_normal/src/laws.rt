@@ -8,7 +8,7 @@ ghost use Rattle.cp_model.specs.Standing.{Standing, StandsIn};
 ghost use Rattle.cp_model.specs.Homomorphism.{CarriesHomomorphism};
 ghost use Rattle.cp_model.specs.Problem.{IsPointOfView};
 ghost use Rattle.cp_model.specs.Stated.{KeepsStated};
-ghost use Rattle.cp_model.specs.Derivable.{KeepsAssumptions};
+ghost use Rattle.cp_model.specs.Realising.{KeepsAssumptions};
 ghost use Rattle.cp_completeness.specs.Normal.{skeleton_under, AddOnlyOriginPairs, LosesNoStanding};
 ghost use Rattle.cp_normal.specs.Agreeing.{SaysTheSame};
 ghost use Rattle.cp_normal.specs.Normalising.{AreNormalPairs, IsContradictory};

@@ -1,6 +1,7 @@
 // Recorded origins of unique values: values with two, and values that do not originate there.
 ghost use Rattle.std.specs.Prelude.{◌≡◌, ◌↔◌, map, IsTrue, IfOk};
-ghost use Rattle.cp_model.specs.Derivable.{IsOnInstance, OriginatesAtTerm};
+ghost use Rattle.cp_model.specs.Derivable.{IsOnInstance};
+ghost use Rattle.cp_model.specs.Realising.{OriginatesAtTerm};
 ghost use Rattle.cp_model.specs.Lists.{item_at};
 ghost use Rattle.cp_model.specs.RunView.{node_view};
 ghost use Rattle.cp_skel.specs.View.{strand_view, unique_view, skeleton_view};

@@ -1,9 +1,9 @@
 // The report.
 ghost use Rattle.std.specs.Prelude.{◌≡◌, ◌++◌, [], ◌∷◌, length, map, option_map, IfOk, OnOk, OnErr};
 ghost use Rattle.cp_language.specs.Printed.{word, numeral};
-ghost use Rattle.cp_language.specs.Report.{labels_from, status_form, tree_forms, report_forms, report_text, text_of_forms};
+ghost use Rattle.cp_language.specs.Report.{labels_from, status_form, tree_forms, report_forms, report_text, shape_count, text_of_forms};
 ghost use Rattle.cp_load.specs.Inputs.{problem_view, entries_of};
-ghost use Rattle.cp_model.specs.Tree.{expanded_count, shape_count};
+ghost use Rattle.cp_model.specs.Tree.{expanded_count};
 ghost use Rattle.cp_sexpr.specs.Spelling.{AppendsFront};
 ghost use Rattle.cp_sexpr.specs.View.{view};
 ghost use Rattle.cp_skel.specs.Trees.{label_view, tree_view};

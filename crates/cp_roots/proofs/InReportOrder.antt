@@ -5,7 +5,7 @@ use Rattle.cp_model.specs.Term.{Variable, AtomTerm, Substitution}
 use Rattle.cp_model.specs.Strand.{Role, Declaration, Protocol}
 use Rattle.cp_model.specs.Bundle.{Node, Bundle}
 use Rattle.cp_model.specs.Skeleton.{UniqueAt, OrderPair, Skeleton, OrderStep, along_strand_of, along_pair, Before, IsOrderPair, IsOrigin, GivesAssumptions, IsSkeleton}
-use Rattle.cp_model.specs.Derivable.{OriginatesAtTerm, KeepsAssumptions}
+use Rattle.cp_model.specs.Realising.{OriginatesAtTerm, KeepsAssumptions}
 use Rattle.cp_model.specs.Standing.{Standing, StandsIn, StandsApart}
 use Rattle.cp_model.specs.Homomorphism.{SkeletonMap, GoesToInstance, IsHomomorphism, map_from_problem, CarriesHomomorphism, FactorsThrough}
 use Rattle.cp_model.specs.Problem.{IsDeclared, variables_of_strands, variables_of_atoms, variables_of_uniques, variables_of_assumptions}

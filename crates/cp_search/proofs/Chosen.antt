@@ -6,7 +6,8 @@ use Rattle.cp_model.specs.RunView.{node_view}
 use Rattle.cp_model.specs.declared.strand.Node.{Node as Program}
 use Rattle.cp_model.specs.Strand.{Declaration}
 use Rattle.cp_model.specs.Skeleton.{Skeleton}
-use Rattle.cp_model.specs.Derivable.{AllDerivable, DerivableAt}
+use Rattle.cp_model.specs.Derivable.{DerivableAt}
+use Rattle.cp_model.specs.Realising.{AllDerivable}
 use Rattle.cp_model.specs.Tree.{Mark, dead, seen, Label, Limits}
 use Rattle.cp_derive.specs.Unrealised.{ListsUnrealised, IsUnrealisedAt}
 use Rattle.cp_term.proofs.CarriedTerms.{not_both}

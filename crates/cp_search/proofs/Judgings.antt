@@ -4,7 +4,8 @@ use Rattle.std.proofs.lemmas.List.{reverse-append, reverse-reverse, map-append, 
 use Rattle.std.proofs.Math.Seq.{take-append_seam}
 use Rattle.cp_model.specs.Lists.{item_at, IsIn, here, there}
 use Rattle.cp_model.specs.Skeleton.{Skeleton}
-use Rattle.cp_model.specs.Homomorphism.{Embeds, IsIsomorphic}
+use Rattle.cp_model.specs.Homomorphism.{Embeds}
+use Rattle.cp_hom.specs.Maps.{IsIsomorphic}
 use Rattle.cp_model.proofs.LawLists.{in_append_left, in_append_right, item_below, item_of_take, take_of_item, map_of_item}
 use Rattle.cp_skel.specs.Ordered.{IsOrdered}
 use Rattle.cp_skel.proofs.Items.{item-found, item-there, map-length}

@@ -7,7 +7,8 @@ use Rattle.cp_model.specs.Bundle.{Node}
 use Rattle.cp_model.specs.RunView.{node_view}
 use Rattle.cp_model.specs.declared.strand.Node.{Node as Program}
 use Rattle.cp_model.specs.Skeleton.{Skeleton}
-use Rattle.cp_model.specs.Derivable.{AllDerivable, IsUnrealised}
+use Rattle.cp_model.specs.Derivable.{IsUnrealised}
+use Rattle.cp_model.specs.Realising.{AllDerivable}
 use Rattle.cp_model.specs.Tree.{Mark, shape, dead, instance_of, seen, limit_steps, limit_strands, Limits}
 use Rattle.cp_model.proofs.LawLists.{item_below, item_there, map_of_item}
 use Rattle.cp_derive.specs.Unrealised.{ListsUnrealised, IsUnrealisedAt}

@@ -4,7 +4,7 @@ use Rattle.std.proofs.Common.{◌≡◌, ◌≢◌, ℕ, List, Some, refl, sym, 
 use Rattle.cp_model.specs.Lists.{item_at}
 use Rattle.cp_model.specs.Strand.{Declaration, Protocol}
 use Rattle.cp_model.specs.Skeleton.{Skeleton, IsSkeleton}
-use Rattle.cp_model.specs.Derivable.{KeepsAssumptions}
+use Rattle.cp_model.specs.Realising.{KeepsAssumptions}
 use Rattle.cp_model.specs.Standing.{IsRealised}
 use Rattle.cp_model.specs.Stated.{KeepsStated}
 use Rattle.cp_model.specs.Homomorphism.{CarriesHomomorphism, Embeds}

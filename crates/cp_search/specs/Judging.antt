@@ -4,7 +4,7 @@ use Rattle.cp_model.specs.Lists.{item_at}
 use Rattle.cp_model.specs.Bundle.{Node}
 use Rattle.cp_model.specs.RunView.{node_view}
 use Rattle.cp_model.specs.Skeleton.{Skeleton}
-use Rattle.cp_model.specs.Homomorphism.{IsIsomorphic}
+use Rattle.cp_hom.specs.Maps.{IsIsomorphic}
 use Rattle.cp_skel.specs.View.{skeleton_view}
 use Rattle.cp_hom.specs.Partition.{fingerprint_of}
 use Rattle.cp_shapes.specs.Shapes.{IsLeast}

@@ -5,7 +5,8 @@ use Rattle.cp_model.specs.Term.{AtomTerm, text_variable, Term, atom_term, IsCarr
 use Rattle.cp_model.specs.Strand.{send, recv, Role, IsHeight}
 use Rattle.cp_model.specs.Bundle.{Node, node_at}
 use Rattle.cp_model.specs.Skeleton.{SkeletonStrand, instance, skeleton_trace, skeleton_trace_or_none, term_event_at, UniqueAt, OrderStep, along_strand_of, along_pair, Before, IsOrderPair, IsOrigin, GivesAssumptions, IsSkeleton}
-use Rattle.cp_model.specs.Derivable.{DerivableAt, sent_before, OriginatesAtTerm, KeepsAssumptions, AllDerivable}
+use Rattle.cp_model.specs.Derivable.{DerivableAt, sent_before}
+use Rattle.cp_model.specs.Realising.{OriginatesAtTerm, KeepsAssumptions, AllDerivable}
 use Rattle.cp_model.specs.Example.{example_inverse, example_role, example_protocol, example_assumptions}
 use Rattle.cp_model.proofs.SingleTraces.{only_place}
 use Rattle.cp_soundness.specs.Heard.{heard_term, heard_pair, heard_skeleton}

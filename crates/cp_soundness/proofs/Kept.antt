@@ -6,7 +6,8 @@ use Rattle.cp_model.specs.Term.{AtomTerm, atom_term, Substitution, apply_to_atom
 use Rattle.cp_model.specs.Strand.{send, recv, OriginatesIn, OriginatesInTerms, Role, Protocol, prefix_of, Penetrator, create_tag, create_atom, pairing, splitting, encryption, decryption, hearing, penetrator_trace, Strand, regular, trace_of}
 use Rattle.cp_model.specs.Bundle.{Node, node_at, trace_or_none, OriginatesAt, KeepsNon, KeepsPenetratorNon, KeepsUnique, KeepsRole, AreOfProtocol}
 use Rattle.cp_model.specs.Skeleton.{SkeletonStrand, instance, listener, skeleton_trace, skeleton_trace_or_none, UniqueAt, Skeleton, IsSkeleton}
-use Rattle.cp_model.specs.Derivable.{IsSecret, OriginatesAtTerm, KeepsAssumptions}
+use Rattle.cp_model.specs.Derivable.{IsSecret}
+use Rattle.cp_model.specs.Realising.{OriginatesAtTerm, KeepsAssumptions}
 use Rattle.cp_model.proofs.SingleValues.{same_atom, value_after_atom}
 use Rattle.cp_model.proofs.SingleTraces.{trace_after, origin_of_value, origin_of_term}
 use Rattle.cp_model.proofs.SingleBundle.{own_number, own_numbers_distinct}

@@ -6,7 +6,7 @@ use Rattle.cp_model.specs.Term.{Term, Substitution, value_of}
 use Rattle.cp_model.specs.Strand.{Event, send, recv, event_map, Role, Protocol, trace_of}
 use Rattle.cp_model.specs.Bundle.{Node, node_at}
 use Rattle.cp_model.specs.Skeleton.{SkeletonStrand, instance, listener, skeleton_trace, term_event_at, IsNodeOf, OrderPair, Skeleton, OrderStep, along_strand_of, Before, IsOrderPair, IsSkeleton}
-use Rattle.cp_model.specs.Derivable.{AllDerivable}
+use Rattle.cp_model.specs.Realising.{AllDerivable}
 use Rattle.cp_model.specs.Standing.{image_of}
 use Rattle.cp_model.proofs.LawLists.{item_before, steps_append}
 use Rattle.cp_model.proofs.LawStandings.{strand_of_event}

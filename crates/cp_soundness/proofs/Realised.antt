@@ -6,7 +6,7 @@ use Rattle.cp_model.specs.Term.{Term, Substitution, value_of, value_of_atom, aft
 use Rattle.cp_model.specs.Strand.{Event, send, recv, Role, Protocol, event_map}
 use Rattle.cp_model.specs.Bundle.{Node, node_at, trace_or_none, KeepsUnique, Precedes}
 use Rattle.cp_model.specs.Skeleton.{SkeletonStrand, instance, listener, skeleton_trace, skeleton_trace_or_none, term_event_at, IsNodeOf, UniqueAt, Skeleton, OrderStep, along_strand_of, along_pair, Before, IsSkeleton}
-use Rattle.cp_model.specs.Derivable.{AllDerivable, KeepsAssumptions}
+use Rattle.cp_model.specs.Realising.{AllDerivable, KeepsAssumptions}
 use Rattle.cp_model.specs.Standing.{image_of, StandsOnRegular, StandsIn, IsRealised}
 use Rattle.cp_model.proofs.LawLists.{item_before, steps_append}
 use Rattle.cp_model.proofs.LawStandings.{strand_of_event}

@@ -1,5 +1,5 @@
 use Rattle.std.proofs.Common.{refl}
-use Rattle.cp_model.specs.Derivable.{OriginatesAtTerm}
+use Rattle.cp_model.specs.Realising.{OriginatesAtTerm}
 use Rattle.cp_skel.specs.View.{unique_view, skeleton_view}
 use Rattle.cp_normal.proofs.Having.{not_both, found, next, none}
 use Rattle.cp_normal.proofs.origins.one_loses_origin.Goals as goal

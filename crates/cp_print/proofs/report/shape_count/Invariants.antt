@@ -1,5 +1,5 @@
 use Rattle.std.proofs.Common.{◌≡◌, ◌≤◌, ◌+◌, map, drop}
-use Rattle.cp_model.specs.Tree.{shape_count}
+use Rattle.cp_language.specs.Report.{shape_count}
 use Rattle.cp_skel.specs.Trees.{label_view}
 use Rattle.cp_print.proofs.report.shape_count.Given as goal
 
