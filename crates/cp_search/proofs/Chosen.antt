@@ -1,19 +1,18 @@
 -- Labels that are candidates are those of the roots that the program takes.
-use Rattle.std.proofs.Common.{◌≡◌, ◌≢◌, ◌⊎◌, inl, inr, ℕ, zero, suc, List, [], ◌∷◌, Bool, true, false, length, map, take, Option, Some, None, refl, sym, ap, subst, ◌∙◌, arith}
+use Rattle.std.proofs.Common.{◌≡◌, ◌⊎◌, inl, inr, ℕ, suc, List, [], ◌∷◌, Bool, true, false, length, map, take, Option, Some, None, refl, sym, ap, subst, ◌∙◌, arith}
 use Rattle.cp_model.specs.Lists.{item_at, IsIn, here}
 use Rattle.cp_model.specs.Bundle.{Node}
 use Rattle.cp_model.specs.RunView.{node_view}
 use Rattle.cp_model.specs.declared.strand.Node.{Node as Program}
 use Rattle.cp_model.specs.Strand.{Declaration}
 use Rattle.cp_model.specs.Skeleton.{Skeleton}
-use Rattle.cp_model.specs.Derivable.{DerivableAt}
 use Rattle.cp_model.specs.Realising.{AllDerivable}
 use Rattle.cp_model.specs.Tree.{Mark, dead, seen, Label, Limits}
 use Rattle.cp_derive.specs.Unrealised.{ListsUnrealised, IsUnrealisedAt}
 use Rattle.cp_term.proofs.CarriedTerms.{not_both}
-use Rattle.cp_search.specs.Candidates.{Candidate, IsCandidate, CandidatesFrom}
-use Rattle.cp_search.specs.Marks.{IsEarlierCopy, IsNew, HasMark, dead_label, seen_before, as_shape, as_instance, above_bound, within_bound}
-use Rattle.cp_search.specs.Unexpanded.{label_of, AreUnrealisedOf}
+use Rattle.cp_search.specs.Candidates.{IsCandidate, CandidatesFrom}
+use Rattle.cp_search.specs.Marks.{IsEarlierIsomorphic, IsNew, HasMark, dead_label, seen_before, as_shape, as_instance, above_bound, within_bound}
+use Rattle.cp_search.specs.Unexpanded.{label_of}
 use Rattle.cp_search.specs.Judging.{FindsLeast, judged_view, judged_skeleton, judged_nodes, IsJudged}
 use Rattle.cp_search.specs.Marking.{is_candidate, candidates_from}
 use Rattle.cp_search.specs.declared.judging.Judged.{Judged}
@@ -63,9 +62,9 @@ module _ (limits : Limits) (js : List Judged) (i : ℕ) (j : Judged) (at : item_
   ks = map judged_skeleton js
 
   abbrev Has : Mark → Type 0
-  Has = HasMark limits ks (candidates_from 0 js) i (judged_skeleton j) j.root.dead
+  Has = HasMark limits (IsEarlierIsomorphic ks i) (candidates_from 0 js) i (judged_skeleton j) j.root.dead
 
-  found : FindsLeast (IsEarlierCopy ks i) j.copy
+  found : FindsLeast (IsEarlierIsomorphic ks i) j.copy
   found = found_copy limits js i j at judged
 
   not_dead : (mark : Mark) → Has mark → j.root.dead ≡ false → mark ≡ dead → ⊥
@@ -76,7 +75,7 @@ module _ (limits : Limits) (js : List Judged) (i : ℕ) (j : Judged) (at : item_
   not_dead mark (above_bound d n u l) lives e = absurd (cc)
   not_dead mark (within_bound d n u l) lives e = absurd (cc)
 
-  not_seen : (mark : Mark) (m : ℕ) → Has mark → IsNew ks i → mark ≡ seen m → ⊥
+  not_seen : (mark : Mark) (m : ℕ) → Has mark → IsNew (IsEarlierIsomorphic ks i) → mark ≡ seen m → ⊥
   not_seen mark m (dead_label d) new e = absurd (cc)
   not_seen mark m (seen_before {n = n} d l) new e = new n l.holds
   not_seen mark m (as_shape d n a s) new e = absurd (cc)
@@ -92,7 +91,7 @@ module _ (limits : Limits) (js : List Judged) (i : ℕ) (j : Judged) (at : item_
   lives_by mark (above_bound d n u l) other = d
   lives_by mark (within_bound d n u l) other = d
 
-  new_by : (mark : Mark) → Has mark → (mark ≡ dead → ⊥) → ((m : ℕ) → mark ≡ seen m → ⊥) → IsNew ks i
+  new_by : (mark : Mark) → Has mark → (mark ≡ dead → ⊥) → ((m : ℕ) → mark ≡ seen m → ⊥) → IsNew (IsEarlierIsomorphic ks i)
   new_by mark (dead_label d) other unseen = absurd (other refl)
   new_by mark (seen_before {n = n} d l) other unseen = absurd (unseen n refl)
   new_by mark (as_shape d n a s) other unseen = n
@@ -100,7 +99,7 @@ module _ (limits : Limits) (js : List Judged) (i : ℕ) (j : Judged) (at : item_
   new_by mark (above_bound d n u l) other unseen = n
   new_by mark (within_bound d n u l) other unseen = n
 
-  no_copy : (o : Option ℕ) → FindsLeast (IsEarlierCopy ks i) o → IsNew ks i → o ≡ None
+  no_copy : (o : Option ℕ) → FindsLeast (IsEarlierIsomorphic ks i) o → IsNew (IsEarlierIsomorphic ks i) → o ≡ None
   no_copy None f new = refl
   no_copy (Some n) f new = absurd (new n f.holds)
 
@@ -117,7 +116,7 @@ module _ (limits : Limits) (js : List Judged) (i : ℕ) (j : Judged) (at : item_
     candidate_of_taken : IsWaiting j → IsCandidate l
     candidate_of_taken w = record {
       lives = λ e. not_dead mark has w.lives (one_mark dead e);
-      not_seen = λ m e. not_seen mark m has (subst (FindsLeast (IsEarlierCopy ks i)) w.new found) (one_mark (seen m) e);
+      not_seen = λ m e. not_seen mark m has (subst (FindsLeast (IsEarlierIsomorphic ks i)) w.new found) (one_mark (seen m) e);
       realised = subst AllDerivable (sym skeleton_is) (none_listed (judged_skeleton j) j.unrealised.items w.none (judged.unrealised.listed w.lives));
       own = ap (λ (x : Label). x.children) same;
     }

@@ -1,12 +1,12 @@
 -- Roots that are judged one after the other.
-use Rattle.std.proofs.Common.{◌≡◌, ◌↔◌, ◌⊎◌, inl, inr, ℕ, zero, suc, ◌+◌, ◌<◌, ◌≤◌, length, get_or, Option, Some, None, Bool, true, false, arith, List, [], ◌∷◌, ◌++◌, map, take, reverse, refl, sym, ap, ◌∙◌, subst}
+use Rattle.std.proofs.Common.{◌≡◌, ◌⊎◌, inl, inr, ℕ, ◌+◌, ◌<◌, ◌≤◌, length, get_or, Option, Some, None, Bool, true, false, arith, List, [], ◌∷◌, ◌++◌, map, take, reverse, refl, sym, ap, ◌∙◌, subst}
 use Rattle.std.proofs.lemmas.List.{reverse-append, reverse-reverse, map-append, append-nil, append_assoc, take-append-le}
 use Rattle.std.proofs.Math.Seq.{take-append_seam}
 use Rattle.cp_model.specs.Lists.{item_at, IsIn, here, there}
 use Rattle.cp_model.specs.Skeleton.{Skeleton}
 use Rattle.cp_model.specs.Homomorphism.{Embeds}
 use Rattle.cp_hom.specs.Maps.{IsIsomorphic}
-use Rattle.cp_model.proofs.LawLists.{in_append_left, in_append_right, item_below, item_of_take, take_of_item, map_of_item}
+use Rattle.cp_model.proofs.LawLists.{in_append_left, in_append_right, item_below, item_of_take, take_of_item}
 use Rattle.cp_skel.specs.Ordered.{IsOrdered}
 use Rattle.cp_skel.proofs.Items.{item-found, item-there, map-length}
 use Rattle.cp_skel.specs.View.{skeleton_view}
@@ -14,13 +14,12 @@ use Rattle.cp_term.proofs.CarriedTerms.{not_both}
 use Rattle.cp_hom.specs.Partition.{fingerprint_of}
 use Rattle.cp_hom.proofs.Listed.{in_item}
 use Rattle.cp_normal.proofs.Descending.{end_cases}
-use Rattle.cp_shapes.specs.Shapes.{IsLeast, EmbedsAt}
 use Rattle.cp_shapes.proofs.Instances.{same_item}
 use Rattle.cp_roots.specs.Roots.{Root as Plain}
 use Rattle.cp_roots.specs.RootView.{root_view}
 use Rattle.cp_roots.specs.declared.root.Root.{Root}
-use Rattle.cp_search.specs.Marks.{IsEarlierCopy}
-use Rattle.cp_search.specs.Judging.{FindsLeast, IsCopyAt, judged_view, judged_skeleton, IsJudged, AreJudged}
+use Rattle.cp_search.specs.Marks.{IsEarlierIsomorphic}
+use Rattle.cp_search.specs.Judging.{FindsLeast, IsCopyAt, judged_skeleton, IsJudged, AreJudged}
 use Rattle.cp_search.specs.declared.judging.Judged.{Judged}
 
 -- ---- the first copy
@@ -64,7 +63,7 @@ copy_below js k i n l h =
 -- ---- copies among all roots
 
 module _ (ks : List Skeleton) (i : ℕ) (k : Skeleton) (at : item_at ks i ≡ Some k) where
-  as_earlier : (n : ℕ) → IsCopyAt (take i ks) k n → IsEarlierCopy ks i n
+  as_earlier : (n : ℕ) → IsCopyAt (take i ks) k n → IsEarlierIsomorphic ks i n
   as_earlier n h =
       let t = item_of_take i ks n h.0 h.1 in (
         t.0,
@@ -72,7 +71,7 @@ module _ (ks : List Skeleton) (i : ℕ) (k : Skeleton) (at : item_at ks i ≡ So
         record { first = k; second = h.0; at_first = at; at_second = t.1; embeds = h.2.1 },
       )
 
-  as_copy : (n : ℕ) → IsEarlierCopy ks i n → IsCopyAt (take i ks) k n
+  as_copy : (n : ℕ) → IsEarlierIsomorphic ks i n → IsCopyAt (take i ks) k n
   as_copy n h =
       let second = same_item ks i h.1.second k h.1.at_second at in
       let first = same_item ks n h.2.second h.1.first h.2.at_second h.1.at_first in
@@ -86,7 +85,7 @@ module _ (ks : List Skeleton) (i : ℕ) (k : Skeleton) (at : item_at ks i ≡ So
       )
 
   -- The first copy before a root is its first earlier copy.
-  pub finds_earlier : (found : Option ℕ) → FindsLeast (IsCopyAt (take i ks) k) found → FindsLeast (IsEarlierCopy ks i) found
+  pub finds_earlier : (found : Option ℕ) → FindsLeast (IsCopyAt (take i ks) k) found → FindsLeast (IsEarlierIsomorphic ks i) found
   finds_earlier None none = λ n h. none n (as_copy n h)
   finds_earlier (Some n) first = record { holds = as_earlier n first.holds; least = λ m l h. first.least m l (as_copy m h) }
 

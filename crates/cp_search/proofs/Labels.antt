@@ -1,5 +1,5 @@
 -- Labels that are made one after the other, and the marks that they have.
-use Rattle.std.proofs.Common.{◌≡◌, ◌⊎◌, inl, inr, ℕ, zero, suc, ◌+◌, ◌<◌, ◌≤◌, List, [], ◌∷◌, ◌++◌, length, map, drop, take, get_or, reverse, Bool, true, false, Option, None, Some, refl, sym, ap, subst, ◌∙◌, arith}
+use Rattle.std.proofs.Common.{◌≡◌, ◌⊎◌, inl, inr, ℕ, suc, ◌+◌, ◌<◌, ◌≤◌, List, [], ◌∷◌, ◌++◌, length, map, drop, get_or, reverse, Bool, Option, None, Some, refl, sym, ap, subst, ◌∙◌, arith}
 use Rattle.std.specs.Prelude.{option_map}
 use Rattle.std.proofs.lemmas.List.{reverse-append, reverse-reverse, append-nil, append_assoc, length-map, drop_all}
 use Rattle.cp_model.specs.Lists.{item_at, IsIn, here, there}
@@ -18,7 +18,7 @@ use Rattle.cp_hom.proofs.Listed.{item_again}
 use Rattle.cp_normal.proofs.Descending.{end_cases, length_with, at_place}
 use Rattle.cp_roots.specs.Roots.{Root}
 use Rattle.cp_roots.specs.RootView.{root_view}
-use Rattle.cp_search.specs.Marks.{HasMark}
+use Rattle.cp_search.specs.Marks.{IsEarlierIsomorphic, HasMark}
 use Rattle.cp_search.specs.Unexpanded.{label_of, IsLabelOf, AreLabelsOf, IsMarked}
 use Rattle.cp_search.specs.Judging.{judged_view, judged_skeleton, judged_nodes, AreJudged}
 use Rattle.cp_search.specs.Marking.{candidates_from, AreMarked}
@@ -119,7 +119,7 @@ module _ (limits : Limits) (judged : List Judged) (marks : List Mark) (labels : 
   -- The label of a root, with its mark.
   record HasAt (i : ℕ) (j : Judged) (label : Label) : Type 0 where
     mark : tree.Mark
-    has : HasMark limits (map judged_skeleton judged) (candidates_from 0 judged) i (judged_skeleton j) j.root.dead mark
+    has : HasMark limits (IsEarlierIsomorphic (map judged_skeleton judged) i) (candidates_from 0 judged) i (judged_skeleton j) j.root.dead mark
     same : label ≡ label_of variables (judged_view j) (judged_nodes j) mark
 
   has_at : (i : ℕ) (j : Judged) (label : Label) → item_at judged i ≡ Some j → item_at plain i ≡ Some label → HasAt i j label
@@ -145,16 +145,16 @@ module _ (limits : Limits) (judged : List Judged) (marks : List Mark) (labels : 
   choice_at i j l at on = let h = has_at i j l at on in choice limits judged i j at (all_judged i j at) variables l h.mark h.has h.same
 
   marked_label : (i : ℕ) (root : Root) (label : Label) (mark : tree.Mark) → item_at (map judged_view judged) i ≡ Some root → item_at plain i ≡ Some label → label.mark ≡ Some mark →
-      HasMark limits (map (λ (l : Label). l.skeleton) plain) (candidates_from 0 judged) i label.skeleton root.dead mark
+      HasMark limits (IsEarlierIsomorphic (map (λ (l : Label). l.skeleton) plain) i) (candidates_from 0 judged) i label.skeleton root.dead mark
   marked_label i root label mark at on e =
       let j = item_of_map judged_view judged i root at in
       let h = has_at i j.0 label j.1 on in
       let s : Some h.mark ≡ Some mark = sym (ap (λ (x : Label). x.mark) h.same) ∙ e in
       let same : h.mark ≡ mark = cc in
-      subst (λ (ks : List Skeleton). HasMark limits ks (candidates_from 0 judged) i label.skeleton root.dead mark) (sym same_skeletons)
-      (subst (λ (b : Bool). HasMark limits (map judged_skeleton judged) (candidates_from 0 judged) i label.skeleton b mark) (ap (λ (r : Root). r.dead) j.2)
-      (subst (λ (k : Skeleton). HasMark limits (map judged_skeleton judged) (candidates_from 0 judged) i k j.0.root.dead mark) (sym (skeleton_is i label j.0 on j.1))
-      (subst (HasMark limits (map judged_skeleton judged) (candidates_from 0 judged) i (judged_skeleton j.0) j.0.root.dead) same h.has)))
+      subst (λ (ks : List Skeleton). HasMark limits (IsEarlierIsomorphic ks i) (candidates_from 0 judged) i label.skeleton root.dead mark) (sym same_skeletons)
+      (subst (λ (b : Bool). HasMark limits (IsEarlierIsomorphic (map judged_skeleton judged) i) (candidates_from 0 judged) i label.skeleton b mark) (ap (λ (r : Root). r.dead) j.2)
+      (subst (λ (k : Skeleton). HasMark limits (IsEarlierIsomorphic (map judged_skeleton judged) i) (candidates_from 0 judged) i k j.0.root.dead mark) (sym (skeleton_is i label j.0 on j.1))
+      (subst (HasMark limits (IsEarlierIsomorphic (map judged_skeleton judged) i) (candidates_from 0 judged) i (judged_skeleton j.0) j.0.root.dead) same h.has)))
 
   one_label : (i : ℕ) (root : Root) (label : Label) → item_at (map judged_view judged) i ≡ Some root → item_at plain i ≡ Some label → IsLabelOf variables root label
   one_label i root label at on =

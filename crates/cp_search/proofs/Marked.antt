@@ -1,5 +1,5 @@
 -- Marks of roots that are not expanded.
-use Rattle.std.proofs.Common.{◌≡◌, ◌↔◌, ◌⊎◌, inl, inr, ℕ, zero, suc, ◌+◌, ◌<◌, ◌≤◌, ◌==◌, nat_lt, nat_eq, List, [], ◌∷◌, ◌++◌, Bool, true, false, if◌then◌else◌, length, map, drop, take, get_or, slice_index_or, Option, Some, None, refl, sym, ap, subst, ◌∙◌, arith, eqb-true, eq-eqb}
+use Rattle.std.proofs.Common.{◌≡◌, ℕ, zero, suc, ◌+◌, ◌<◌, nat_lt, nat_eq, List, [], ◌∷◌, ◌++◌, Bool, true, false, if◌then◌else◌, length, map, drop, take, get_or, slice_index_or, Option, Some, None, refl, sym, ap, subst, ◌∙◌, arith, eqb-true, eq-eqb}
 use Rattle.std.proofs.lemmas.Bool.{ltb-true, ltb-false}
 use Rattle.std.specs.Prelude.{IfSome}
 use Rattle.cp_model.specs.Lists.{item_at, IsIn, here, there}
@@ -8,22 +8,20 @@ use Rattle.cp_model.specs.RunView.{node_view}
 use Rattle.cp_model.specs.declared.strand.Node.{Node as Program}
 use Rattle.cp_model.specs.Skeleton.{Skeleton}
 use Rattle.cp_model.specs.Derivable.{IsUnrealised}
-use Rattle.cp_model.specs.Realising.{AllDerivable}
-use Rattle.cp_model.specs.Tree.{Mark, shape, dead, instance_of, seen, limit_steps, limit_strands, Limits}
+use Rattle.cp_model.specs.Tree.{Mark, dead, limit_steps, limit_strands, Limits}
 use Rattle.cp_model.proofs.LawLists.{item_below, item_there, map_of_item}
 use Rattle.cp_derive.specs.Unrealised.{ListsUnrealised, IsUnrealisedAt}
 use Rattle.cp_skel.specs.Ordered.{IsOrdered}
 use Rattle.cp_skel.specs.Trees.{mark_view}
 use Rattle.cp_skel.specs.declared.tree.Mark.{Mark as ProgramMark}
-use Rattle.cp_skel.proofs.Items.{item-drop, item-there, map-length}
+use Rattle.cp_skel.proofs.Items.{item-drop, map-length}
 use Rattle.cp_term.proofs.CarriedTerms.{not_both}
-use Rattle.cp_shapes.specs.Shapes.{IsLeast, IsShapeAt, IsMarkOf, AreMarksOf}
+use Rattle.cp_shapes.specs.Shapes.{IsMarkOf, AreMarksOf}
 use Rattle.cp_shapes.proofs.Gathered.{AreTo, none_to, next_row}
 use Rattle.cp_search.specs.Candidates.{Candidate, skeletons_of, IsLabelAt}
-use Rattle.cp_search.specs.Marks.{IsEarlierCopy, IsNew, HasMark, dead_label, seen_before, as_shape, as_instance, above_bound, within_bound}
-use Rattle.cp_search.specs.Unexpanded.{AreUnrealisedOf}
-use Rattle.cp_search.specs.Judging.{FindsLeast, judged_view, judged_skeleton, judged_nodes, IsJudged, AreJudged}
-use Rattle.cp_search.specs.Marking.{is_no_copy, is_candidate, candidates_from, candidate_mark, mark_by_copy, other_mark}
+use Rattle.cp_search.specs.Marks.{IsEarlierIsomorphic, IsNew, HasMark, dead_label, seen_before, as_shape, as_instance, above_bound, within_bound}
+use Rattle.cp_search.specs.Judging.{FindsLeast, judged_skeleton, IsJudged, AreJudged}
+use Rattle.cp_search.specs.Marking.{is_candidate, candidates_from, candidate_mark, mark_by_copy, other_mark}
 use Rattle.cp_search.specs.declared.judging.Judged.{Judged}
 use Rattle.cp_search.proofs.Judgings.{finds_earlier}
 
@@ -118,35 +116,35 @@ module _ (limits : Limits) (js : List Judged) where
 
   -- The mark is that of root number i.
   abbrev pub IsMarkAt : ℕ → Mark → Type 0
-  IsMarkAt i mark = (j : Judged) → item_at js i ≡ Some j → HasMark limits ks cs i (judged_skeleton j) j.root.dead mark
+  IsMarkAt i mark = (j : Judged) → item_at js i ≡ Some j → HasMark limits (IsEarlierIsomorphic ks i) cs i (judged_skeleton j) j.root.dead mark
 
   module _ (i : ℕ) (j : Judged) (at : item_at js i ≡ Some j) (judged : IsJudged (take i ks) j) where
     at_skeleton : item_at ks i ≡ Some (judged_skeleton j)
     at_skeleton = map_of_item judged_skeleton js i j at
 
-    pub found_copy : FindsLeast (IsEarlierCopy ks i) j.copy
+    pub found_copy : FindsLeast (IsEarlierIsomorphic ks i) j.copy
     found_copy = finds_earlier ks i (judged_skeleton j) at_skeleton j.copy judged.copy
 
-    is_new : j.copy ≡ None → IsNew ks i
-    is_new e = subst (FindsLeast (IsEarlierCopy ks i)) e found_copy
+    is_new : j.copy ≡ None → IsNew (IsEarlierIsomorphic ks i)
+    is_new e = subst (FindsLeast (IsEarlierIsomorphic ks i)) e found_copy
 
-    by_bound : j.root.dead ≡ false → IsNew ks i → IsUnrealised (judged_skeleton j) → (b : Bool) → nat_lt limits.strands (length (judged_skeleton j).strands) ≡ b →
-        HasMark limits ks cs i (judged_skeleton j) j.root.dead (if b then limit_strands else limit_steps)
+    by_bound : j.root.dead ≡ false → IsNew (IsEarlierIsomorphic ks i) → IsUnrealised (judged_skeleton j) → (b : Bool) → nat_lt limits.strands (length (judged_skeleton j).strands) ≡ b →
+        HasMark limits (IsEarlierIsomorphic ks i) cs i (judged_skeleton j) j.root.dead (if b then limit_strands else limit_steps)
     by_bound lives new u true e = above_bound lives new u (ltb-true limits.strands (length (judged_skeleton j).strands) e)
     by_bound lives new u false e = within_bound lives new u (ltb-false limits.strands (length (judged_skeleton j).strands) e)
 
-    by_copy : (o : Option ℕ) → j.copy ≡ o → j.root.dead ≡ false → is_candidate j ≡ false → HasMark limits ks cs i (judged_skeleton j) j.root.dead (mark_by_copy limits (judged_skeleton j) o)
-    by_copy (Some n) e lives other = seen_before lives (subst (FindsLeast (IsEarlierCopy ks i)) e found_copy)
+    by_copy : (o : Option ℕ) → j.copy ≡ o → j.root.dead ≡ false → is_candidate j ≡ false → HasMark limits (IsEarlierIsomorphic ks i) cs i (judged_skeleton j) j.root.dead (mark_by_copy limits (judged_skeleton j) o)
+    by_copy (Some n) e lives other = seen_before lives (subst (FindsLeast (IsEarlierIsomorphic ks i)) e found_copy)
     by_copy None e lives other =
         by_bound lives (is_new e)
         (some_unrealised (judged_skeleton j) j.unrealised.items (λ none. not_both other (is_waiting j (record { lives = lives; new = e; none = none }))) (judged.unrealised.listed lives))
         (nat_lt limits.strands (length (judged_skeleton j).strands)) refl
 
-    by_life : (d : Bool) → j.root.dead ≡ d → is_candidate j ≡ false → HasMark limits ks cs i (judged_skeleton j) j.root.dead (if d then dead else mark_by_copy limits (judged_skeleton j) j.copy)
+    by_life : (d : Bool) → j.root.dead ≡ d → is_candidate j ≡ false → HasMark limits (IsEarlierIsomorphic ks i) cs i (judged_skeleton j) j.root.dead (if d then dead else mark_by_copy limits (judged_skeleton j) j.copy)
     by_life true e other = dead_label e
     by_life false e other = by_copy j.copy refl e other
 
-    other_marked : is_candidate j ≡ false → HasMark limits ks cs i (judged_skeleton j) j.root.dead (other_mark limits j)
+    other_marked : is_candidate j ≡ false → HasMark limits (IsEarlierIsomorphic ks i) cs i (judged_skeleton j) j.root.dead (other_mark limits j)
     other_marked other = by_life j.root.dead refl other
 
     module _ (w : IsWaiting j) (place : ℕ) (placed : item_at cs place ≡ Some (record { number = i; skeleton = judged_skeleton j })) (numbers : List ℕ) (numbers_are : numbers ≡ map (λ c. c.number) cs) where
@@ -162,7 +160,7 @@ module _ (limits : Limits) (js : List Judged) where
             number = sym (index_at numbers q c.0.number (ap (λ (ns : List ℕ). item_at ns q) numbers_are ∙ map_of_item (λ (c : Candidate). c.number) cs q c.0 c.1));
           }
 
-      candidate_marked : (o : Option ℕ) → IsMarkOf (skeletons_of cs) place o → HasMark limits ks cs i (judged_skeleton j) j.root.dead (candidate_mark numbers o)
+      candidate_marked : (o : Option ℕ) → IsMarkOf (skeletons_of cs) place o → HasMark limits (IsEarlierIsomorphic ks i) cs i (judged_skeleton j) j.root.dead (candidate_mark numbers o)
       candidate_marked None s = as_shape w.lives (is_new w.new) own_place s
       candidate_marked (Some q) h = as_instance w.lives (is_new w.new) own_place h (shape_place q h.holds.0.within)
 
@@ -184,8 +182,8 @@ module _ (limits : Limits) (js : List Judged) where
     number_on : suc i ≡ i + 1
     number_on = omega arith
 
-    only : (mark : Mark) → HasMark limits ks cs i (judged_skeleton j) j.root.dead mark → IsMarkAt i mark
-    only mark h x at = let e : Some j ≡ Some x = sym at_place ∙ at in let same : j ≡ x = cc in subst (λ (y : Judged). HasMark limits ks cs i (judged_skeleton y) y.root.dead mark) same h
+    only : (mark : Mark) → HasMark limits (IsEarlierIsomorphic ks i) cs i (judged_skeleton j) j.root.dead mark → IsMarkAt i mark
+    only mark h x at = let e : Some j ≡ Some x = sym at_place ∙ at in let same : j ≡ x = cc in subst (λ (y : Judged). HasMark limits (IsEarlierIsomorphic ks i) cs i (judged_skeleton y) y.root.dead mark) same h
 
     judged_here : AreJudged js → IsJudged (take i ks) j
     judged_here all = all i j at_place
@@ -195,7 +193,7 @@ module _ (limits : Limits) (js : List Judged) where
       next =
           (let same : candidates_from i (j ∷ drop (i + 1) js) ≡ candidates_from (suc i) (drop (i + 1) js) = rw other refl in
           ap (λ (n : ℕ). candidates_from n (drop (i + 1) js)) (sym number_on) ∙ (sym same ∙ (sym (ap (candidates_from i) split) ∙ so_far.next)));
-      marked = next_row IsMarkAt mark_view old i mark so_far.marked (only (mark_view mark) (subst (HasMark limits ks cs i (judged_skeleton j) j.root.dead) (sym is_mark) (other_marked i j at_place (judged_here all) other))) new e;
+      marked = next_row IsMarkAt mark_view old i mark so_far.marked (only (mark_view mark) (subst (HasMark limits (IsEarlierIsomorphic ks i) cs i (judged_skeleton j) j.root.dead) (sym is_mark) (other_marked i j at_place (judged_here all) other))) new e;
     }
 
     module _ (is_one : is_candidate j ≡ true) where
@@ -236,6 +234,6 @@ module _ (limits : Limits) (js : List Judged) where
         next_candidate all mark is_mark new e = record {
           next = ap (λ (n : ℕ). candidates_from n (drop (i + 1) js)) (sym number_on) ∙ sym (next_drop place cs _ _ behind);
           marked = next_row IsMarkAt mark_view old i mark so_far.marked
-              (only (mark_view mark) (subst (HasMark limits ks cs i (judged_skeleton j) j.root.dead) (sym is_mark)
+              (only (mark_view mark) (subst (HasMark limits (IsEarlierIsomorphic ks i) cs i (judged_skeleton j) j.root.dead) (sym is_mark)
               (candidate_marked i j at_place (judged_here all) (waiting j is_one) place placed numbers numbers_are o (mark_at marks given g are o (item_at_index marks place o o_within o_is))))) new e;
         }

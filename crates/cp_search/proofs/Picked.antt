@@ -1,5 +1,5 @@
 -- Candidates among items, and where they stand.
-use Rattle.std.proofs.Common.{◌≡◌, ◌⊎◌, inl, inr, ℕ, zero, suc, ◌+◌, ◌≤◌, List, [], ◌∷◌, Some, map, refl, sym, ap, ◌∙◌, subst, arith}
+use Rattle.std.proofs.Common.{◌≡◌, inl, inr, ℕ, zero, suc, ◌+◌, ◌≤◌, List, [], ◌∷◌, Some, map, refl, sym, ap, ◌∙◌, arith}
 use Rattle.cp_model.specs.Lists.{item_at}
 use Rattle.cp_model.specs.Skeleton.{Skeleton}
 use Rattle.cp_model.proofs.LawLists.{map_of_item}

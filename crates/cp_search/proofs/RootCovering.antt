@@ -1,5 +1,5 @@
 -- The shapes of an unexpanded tree and its labels at a limit leave nothing out.
-use Rattle.std.proofs.Common.{◌≡◌, ℕ, zero, suc, List, [], ◌∷◌, map, Option, Some, None, refl, sym, ap, ◌∙◌, subst, lt_trans, Bool, true, false}
+use Rattle.std.proofs.Common.{◌≡◌, ℕ, zero, suc, List, [], ◌∷◌, map, Option, Some, None, refl, sym, ap, ◌∙◌, subst, lt_trans, Bool, true}
 use Rattle.cp_model.specs.Lists.{item_at, IsIn, here, there}
 use Rattle.cp_model.specs.Strand.{Declaration, Protocol}
 use Rattle.cp_model.specs.Bundle.{Bundle, IsBundle}
@@ -16,7 +16,7 @@ use Rattle.cp_shapes.proofs.Standings.{stands_within}
 use Rattle.cp_roots.specs.Roots.{Root}
 use Rattle.cp_roots.specs.Sound.{AreSound, StandsThroughRoot}
 use Rattle.cp_search.specs.Candidates.{IsCandidate, skeletons_of, IsLabelAt}
-use Rattle.cp_search.specs.Marks.{IsEarlierCopy, IsNew, HasMark, dead_label, seen_before, as_shape, as_instance, above_bound, within_bound}
+use Rattle.cp_search.specs.Marks.{IsEarlierIsomorphic, IsNew, HasMark, dead_label, seen_before, as_shape, as_instance, above_bound, within_bound}
 use Rattle.cp_search.specs.Unexpanded.{AreLabelsOf, IsMarked}
 use Rattle.cp_search.proofs.Picked.{one_place, skeleton_at_place, skeleton_at_number}
 use Rattle.cp_search.proofs.RootMarks.{HasRoot, root_of, label_at, same_skeleton, same_mark, marked, candidate_label}
@@ -75,7 +75,7 @@ left_are_shapes (l ∷ ls) a c =
 -- ---- the first copy
 
 -- The first of the labels that are isomorphic to one is new.
-first_is_new : (ks : List Skeleton) (i j : ℕ) → IsLeast (IsEarlierCopy ks i) j → IsNew ks j
+first_is_new : (ks : List Skeleton) (i j : ℕ) → IsLeast (IsEarlierIsomorphic ks i) j → IsNew (IsEarlierIsomorphic ks j)
 first_is_new ks i j l m copy = l.least m copy.0 (lt_trans copy.0 l.holds.0, embeds_on ks m j i copy.1 l.holds.1, embeds_on ks i j m l.holds.2 copy.2)
 
 -- ---- standings
@@ -123,7 +123,7 @@ module _ (protocol : Protocol) (variables : List Declaration) (k : Skeleton) (li
   }
 
   -- A label that is a shape is marked so, or at a limit.
-  shape_left : (n q : ℕ) (l : Label) (is_dead : Bool) (mark : Mark) → IsLabelAt are.candidates q n → IsShapeAt (skeletons_of are.candidates) q → item_at labels n ≡ Some l → l.mark ≡ Some mark → HasMark limits ks are.candidates n l.skeleton is_dead mark → IsLeft mark
+  shape_left : (n q : ℕ) (l : Label) (is_dead : Bool) (mark : Mark) → IsLabelAt are.candidates q n → IsShapeAt (skeletons_of are.candidates) q → item_at labels n ≡ Some l → l.mark ≡ Some mark → HasMark limits (IsEarlierIsomorphic ks n) are.candidates n l.skeleton is_dead mark → IsLeft mark
   shape_left n q l is_dead mark a s at e (dead_label d) = absurd ((candidate_label variables limits roots labels are q n l a at).lives e)
   shape_left n q l is_dead mark a s at e (seen_before {n = m} d c) = absurd ((candidate_label variables limits roots labels are q n l a at).not_seen m e)
   shape_left n q l is_dead mark a s at e (as_shape d new c t) = at_shape
@@ -154,8 +154,8 @@ module _ (protocol : Protocol) (variables : List Declaration) (k : Skeleton) (li
       (shape_left n q l.label l.given.root.dead l.given.given.mark a s l.at e (marked variables limits roots labels are n l.label l.given.given.mark l.given l.at e))
 
   -- By the mark of a label that stands, but for what happens to one that is seen.
-  covers_by : (i : ℕ) (st : StandsThrough k ks b h i) (l : HasLabelOf i st) (mark : Mark) → ((j : ℕ) → IsLeast (IsEarlierCopy ks i) j → Covers (skeletons_left labels) k b h) → l.label.mark ≡ Some mark →
-      HasMark limits ks are.candidates i l.label.skeleton l.given.root.dead mark → Covers (skeletons_left labels) k b h
+  covers_by : (i : ℕ) (st : StandsThrough k ks b h i) (l : HasLabelOf i st) (mark : Mark) → ((j : ℕ) → IsLeast (IsEarlierIsomorphic ks i) j → Covers (skeletons_left labels) k b h) → l.label.mark ≡ Some mark →
+      HasMark limits (IsEarlierIsomorphic ks i) are.candidates i l.label.skeleton l.given.root.dead mark → Covers (skeletons_left labels) k b h
   covers_by i st l mark again e (dead_label d) = absurd (lives_where_it_stands i st l d)
   covers_by i st l mark again e (seen_before {n = j} d c) = again j c
   covers_by i st l mark again e (as_shape d new a s) = covers_left i st l shape e at_shape
@@ -164,13 +164,13 @@ module _ (protocol : Protocol) (variables : List Declaration) (k : Skeleton) (li
   covers_by i st l mark again e (above_bound d new u t) = covers_left i st l limit_strands e at_strands
   covers_by i st l mark again e (within_bound d new u t) = covers_left i st l limit_steps e at_steps
 
-  covers_at : (i : ℕ) → StandsThrough k ks b h i → ((j : ℕ) → IsLeast (IsEarlierCopy ks i) j → Covers (skeletons_left labels) k b h) → Covers (skeletons_left labels) k b h
+  covers_at : (i : ℕ) → StandsThrough k ks b h i → ((j : ℕ) → IsLeast (IsEarlierIsomorphic ks i) j → Covers (skeletons_left labels) k b h) → Covers (skeletons_left labels) k b h
   covers_at i st again =
       let l = the_label i st in
       let e = same_mark variables l.given.root l.label l.given.given in
       covers_by i st l l.given.given.mark again e (marked variables limits roots labels are i l.label l.given.given.mark l.given l.at e)
 
-  covers_at_new : (i : ℕ) → IsNew ks i → StandsThrough k ks b h i → Covers (skeletons_left labels) k b h
+  covers_at_new : (i : ℕ) → IsNew (IsEarlierIsomorphic ks i) → StandsThrough k ks b h i → Covers (skeletons_left labels) k b h
   covers_at_new i new st = covers_at i st (λ j l. absurd (new j l.holds))
 
   through_label : (i : ℕ) (root : Root) → item_at roots i ≡ Some root → item_at ks i ≡ Some root.skeleton

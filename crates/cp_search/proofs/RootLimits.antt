@@ -1,8 +1,7 @@
 -- A limit is the outcome of an unexpanded tree only where it was reached.
-use Rattle.std.proofs.Common.{◌≡◌, ℕ, suc, ◌<◌, ◌≤◌, List, [], ◌∷◌, length, Some, None, refl, sym, ap, ◌∙◌, subst, arith}
+use Rattle.std.proofs.Common.{◌≡◌, ℕ, suc, List, [], ◌∷◌, Some, None, refl, sym, ap, ◌∙◌, arith}
 use Rattle.cp_model.specs.Lists.{item_at, IsIn}
 use Rattle.cp_model.specs.Strand.{Declaration}
-use Rattle.cp_model.specs.Skeleton.{Skeleton}
 use Rattle.cp_model.specs.Derivable.{IsUnrealised}
 use Rattle.cp_model.specs.Tree.{limit_steps, limit_strands, Label, Tree, Limits, is_expanded, expanded_count, IsOpen, ReachedSteps, ReachedStrands}
 use Rattle.cp_hom.proofs.Listed.{in_item}

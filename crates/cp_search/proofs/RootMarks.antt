@@ -9,7 +9,7 @@ use Rattle.cp_model.proofs.LawLists.{item_below, item_there}
 use Rattle.cp_shapes.specs.Shapes.{IsShapeAt}
 use Rattle.cp_roots.specs.Roots.{Root}
 use Rattle.cp_search.specs.Candidates.{Candidate, IsCandidate, skeletons_of, IsLabelAt}
-use Rattle.cp_search.specs.Marks.{HasMark, dead_label, seen_before, as_shape, as_instance, above_bound, within_bound}
+use Rattle.cp_search.specs.Marks.{IsEarlierIsomorphic, HasMark, dead_label, seen_before, as_shape, as_instance, above_bound, within_bound}
 use Rattle.cp_search.specs.Unexpanded.{IsLabelOf, AreLabelsOf}
 use Rattle.cp_search.proofs.Picked.{item_of}
 
@@ -51,7 +51,7 @@ module _ (limits : Limits) (ks : List Skeleton) (cs : List Candidate) (i : ℕ) 
     pub at : IsLabelAt cs place i
     pub is_shape : IsShapeAt (skeletons_of cs) place
 
-  pub shape_says : (mark : Mark) → HasMark limits ks cs i k is_dead mark → mark ≡ shape → IsMarkedShape
+  pub shape_says : (mark : Mark) → HasMark limits (IsEarlierIsomorphic ks i) cs i k is_dead mark → mark ≡ shape → IsMarkedShape
   shape_says mark (dead_label d) e = absurd (cc)
   shape_says mark (seen_before d l) e = absurd (cc)
   shape_says mark (as_shape {p = p} d n a s) e = record { lives = d; place = p; at = a; is_shape = s }
@@ -59,7 +59,7 @@ module _ (limits : Limits) (ks : List Skeleton) (cs : List Candidate) (i : ℕ) 
   shape_says mark (above_bound d n u l) e = absurd (cc)
   shape_says mark (within_bound d n u l) e = absurd (cc)
 
-  pub steps_says : (mark : Mark) → HasMark limits ks cs i k is_dead mark → mark ≡ limit_steps → IsUnrealised k × (length k.strands ≤ limits.strands)
+  pub steps_says : (mark : Mark) → HasMark limits (IsEarlierIsomorphic ks i) cs i k is_dead mark → mark ≡ limit_steps → IsUnrealised k × (length k.strands ≤ limits.strands)
   steps_says mark (dead_label d) e = absurd (cc)
   steps_says mark (seen_before d l) e = absurd (cc)
   steps_says mark (as_shape d n a s) e = absurd (cc)
@@ -67,7 +67,7 @@ module _ (limits : Limits) (ks : List Skeleton) (cs : List Candidate) (i : ℕ) 
   steps_says mark (above_bound d n u l) e = absurd (cc)
   steps_says mark (within_bound d n u l) e = (u, l)
 
-  pub strands_says : (mark : Mark) → HasMark limits ks cs i k is_dead mark → mark ≡ limit_strands → IsUnrealised k × (limits.strands < length k.strands)
+  pub strands_says : (mark : Mark) → HasMark limits (IsEarlierIsomorphic ks i) cs i k is_dead mark → mark ≡ limit_strands → IsUnrealised k × (limits.strands < length k.strands)
   strands_says mark (dead_label d) e = absurd (cc)
   strands_says mark (seen_before d l) e = absurd (cc)
   strands_says mark (as_shape d n a s) e = absurd (cc)
@@ -78,7 +78,7 @@ module _ (limits : Limits) (ks : List Skeleton) (cs : List Candidate) (i : ℕ) 
 -- ---- labels that are marked
 
 module _ (variables : List Declaration) (limits : Limits) (roots : List Root) (labels : List Label) (are : AreLabelsOf variables limits roots labels) where
-  pub marked : (i : ℕ) (l : Label) (mark : Mark) (r : HasRoot variables roots i l) → item_at labels i ≡ Some l → l.mark ≡ Some mark → HasMark limits (map (λ m. m.skeleton) labels) are.candidates i l.skeleton r.root.dead mark
+  pub marked : (i : ℕ) (l : Label) (mark : Mark) (r : HasRoot variables roots i l) → item_at labels i ≡ Some l → l.mark ≡ Some mark → HasMark limits (IsEarlierIsomorphic (map (λ m. m.skeleton) labels) i) are.candidates i l.skeleton r.root.dead mark
   marked i l mark r at e = are.marked i r.root l mark r.at at e
 
   -- A label that is a candidate is one.

@@ -5,9 +5,10 @@ use Rattle.cp_model.specs.Skeleton.{Skeleton}
 use Rattle.cp_model.specs.Realising.{AllDerivable}
 use Rattle.cp_model.specs.Tree.{dead, seen, Label}
 
--- A realised label is its own generalisation where no label was made from it.
-abbrev pub IsOwnGeneralisation : Label → Type 0
-IsOwnGeneralisation l = l.children ≡ []
+-- No label was made from it. A realised label has its generalisation as a child where that is another skeleton, so that one
+-- with no child is its own generalisation.
+abbrev pub HasNoChild : Label → Type 0
+HasNoChild l = l.children ≡ []
 
 -- The label is a candidate for a shape: it lives, is seen in no other, all its receptions are derivable, and it is its own
 -- generalisation.
@@ -15,7 +16,7 @@ pub record IsCandidate (l : Label) : Type 0 where
   pub lives : l.mark ≢ Some dead
   pub not_seen : (n : ℕ) → l.mark ≢ Some (seen n)
   pub realised : AllDerivable l.skeleton
-  pub own : IsOwnGeneralisation l
+  pub own : HasNoChild l
 
 -- A candidate: the number of its label, and its skeleton.
 pub record Candidate : Type 0 where

@@ -1,11 +1,11 @@
 -- How the program marks roots.
-use Rattle.std.specs.Prelude.{◌≡◌, ◌==◌, ◌&&◌, not, nat_lt, ℕ, suc, List, [], ◌∷◌, length, map, Bool, true, false, if◌then◌else◌, slice_index_or, Option, Some, None}
+use Rattle.std.specs.Prelude.{◌≡◌, ◌==◌, nat_lt, ℕ, suc, List, [], ◌∷◌, length, map, Bool, true, false, if◌then◌else◌, slice_index_or, Option, Some, None}
 use Rattle.cp_model.specs.Lists.{item_at}
 use Rattle.cp_model.specs.Skeleton.{Skeleton}
 use Rattle.cp_model.specs.Tree.{Mark, shape, dead, seen, instance_of, limit_steps, limit_strands, Limits}
 use Rattle.cp_search.specs.Candidates.{Candidate}
-use Rattle.cp_search.specs.Marks.{HasMark}
-use Rattle.cp_search.specs.Judging.{judged_view, judged_skeleton}
+use Rattle.cp_search.specs.Marks.{IsEarlierIsomorphic, HasMark}
+use Rattle.cp_search.specs.Judging.{judged_skeleton}
 use Rattle.cp_search.specs.declared.judging.Judged.{Judged}
 
 abbrev pub is_no_copy : Option ℕ → Bool
@@ -38,4 +38,4 @@ other_mark limits j = if j.root.dead then dead else mark_by_copy limits (judged_
 -- The marks are those of the roots, place by place.
 abbrev pub AreMarked : Limits → List Judged → List Mark → Type 0
 AreMarked limits js marks = (i : ℕ) (j : Judged) (mark : Mark) → item_at js i ≡ Some j → item_at marks i ≡ Some mark →
-    HasMark limits (map judged_skeleton js) (candidates_from 0 js) i (judged_skeleton j) j.root.dead mark
+    HasMark limits (IsEarlierIsomorphic (map judged_skeleton js) i) (candidates_from 0 js) i (judged_skeleton j) j.root.dead mark

@@ -1,14 +1,14 @@
 -- The tree of a problem when no label may be expanded: its labels are the roots.
-use Rattle.std.specs.Prelude.{◌≡◌, ℕ, List, [], ◌∷◌, length, map, true, false, Option, Some, None}
+use Rattle.std.specs.Prelude.{◌≡◌, ℕ, List, [], length, map, true, false, Some, None}
 use Rattle.cp_model.specs.Lists.{item_at, IsIn}
 use Rattle.cp_model.specs.Strand.{Declaration}
 use Rattle.cp_model.specs.Bundle.{Node}
 use Rattle.cp_model.specs.Skeleton.{Skeleton}
-use Rattle.cp_model.specs.Tree.{Mark, shape, limit_steps, limit_strands, Outcome, complete, at_step_limit, at_strand_limit, Label, Tree, Limits}
+use Rattle.cp_model.specs.Tree.{Mark, limit_steps, limit_strands, Outcome, complete, at_step_limit, at_strand_limit, Label, Tree, Limits}
 use Rattle.cp_roots.specs.Roots.{Root, AreRoots}
 use Rattle.cp_derive.specs.Unrealised.{ListsUnrealised}
 use Rattle.cp_search.specs.Candidates.{Candidate, AreCandidates}
-use Rattle.cp_search.specs.Marks.{HasMark}
+use Rattle.cp_search.specs.Marks.{IsEarlierIsomorphic, HasMark}
 
 -- The label of these variables that a root gives, with its unrealised receptions and its mark.
 abbrev pub label_of : List Declaration → Root → List Node → Mark → Label
@@ -36,14 +36,15 @@ pub record IsLabelOf (variables : List Declaration) (root : Root) (label : Label
   pub unrealised : AreUnrealisedOf root nodes
   pub same : label ≡ label_of variables root nodes mark
 
--- The labels are those of the roots, place by place, and are marked by each other.
+-- The labels are those of the roots, place by place, and are marked by each other: a root may point to any earlier label that
+-- is isomorphic to it.
 pub record AreLabelsOf (variables : List Declaration) (limits : Limits) (roots : List Root) (labels : List Label) : Type 0 where
   pub count : length labels ≡ length roots
   pub each : (i : ℕ) (root : Root) (label : Label) → item_at roots i ≡ Some root → item_at labels i ≡ Some label → IsLabelOf variables root label
   pub candidates : List Candidate
   pub are_candidates : AreCandidates labels candidates
   pub marked : (i : ℕ) (root : Root) (label : Label) (mark : Mark) → item_at roots i ≡ Some root → item_at labels i ≡ Some label → label.mark ≡ Some mark →
-      HasMark limits (map (λ l. l.skeleton) labels) candidates i label.skeleton root.dead mark
+      HasMark limits (IsEarlierIsomorphic (map (λ l. l.skeleton) labels) i) candidates i label.skeleton root.dead mark
 
 -- Some label has this mark.
 abbrev pub IsMarked : List Label → Mark → Type 0

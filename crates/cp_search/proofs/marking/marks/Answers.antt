@@ -1,8 +1,7 @@
 use Rattle.std.proofs.Common.{map, sym, ap, subst, ◌<◌, ◌∙◌}
 use Rattle.cp_skel.specs.View.{skeleton_view}
 use Rattle.cp_skel.specs.Trees.{limits_view}
-use Rattle.cp_search.specs.Marking.{candidates_from}
-use Rattle.cp_search.proofs.Marked.{candidates_ordered, none_marked, next_other, next_candidate, place_within, number_within}
+use Rattle.cp_search.proofs.Marked.{candidates_ordered, next_other, next_candidate, place_within, number_within}
 use Rattle.cp_search.proofs.marking.marks.Goals as goal
 
 pub shapes-requires : goal.shapes-requires

@@ -3,7 +3,7 @@ use Rattle.cp_model.specs.Tree.{IsTrueOf}
 use Rattle.cp_skel.specs.View.{protocol_view, skeleton_view}
 use Rattle.cp_skel.specs.Trees.{variables_view, limits_view, tree_view}
 use Rattle.cp_roots.specs.RootView.{root_view}
-use Rattle.cp_search.specs.Unexpanded.{AreLabelsOf, HasOutcome, IsUnexpanded}
+use Rattle.cp_search.specs.Unexpanded.{HasOutcome, IsUnexpanded}
 use Rattle.cp_search.proofs.RootTrees.{true_of}
 use Rattle.cp_search.proofs.Unexpanding.{are_ordered, same_declarations, from_both}
 use Rattle.cp_search.proofs.trees.unexpanded.Goals as goal
