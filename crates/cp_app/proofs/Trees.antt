@@ -32,7 +32,6 @@ use Rattle.cp_roots.specs.Roots.{Root}
 use Rattle.cp_search.specs.Unexpanded.{label_of, IsUnexpanded}
 use Rattle.cp_model.specs.Problem.{HasDeclaredVariables}
 use Rattle.cp_roots.proofs.VariablesOfRoots.{roots_declared}
-use Rattle.cp_skel.proofs.DeclaredRoles.{declared_prefixes}
 use Rattle.cp_wellformed.proofs.Problems as wellformed
 use Rattle.cp_app.specs.Headline.{HaveTrees}
 use Rattle.cp_app.specs.Analysis.{IsAnalysable, IsAnalysisOf}
@@ -207,11 +206,9 @@ entry_of (e ∷ es) p m = ⊎_elim (λ is. (e, here, is)) (λ q. let r = entry_o
 analysable_input : (fs : Forms) (es : List Entry) → faults_of fs ≡ [] → es ≡ input_of fs → (p : Problem) → IsIn p (filter_map (λ e. e.problem) es) → IsAnalysable p
 analysable_input fs es none same p listed =
     let found = entry_of (input_of fs) p (rw same at listed) in
-    let skeleton = wellformed.are_skeletons fs found.0 p none found.1 found.2 in
     record {
-      is_skeleton = skeleton;
+      is_skeleton = wellformed.are_skeletons fs found.0 p none found.1 found.2;
       own = wellformed.map_to_themselves fs found.0 p none found.1 found.2;
-      declared = declared_prefixes p.protocol p.skeleton (λ r inp. (wellformed.roles_are_well_formed fs found.0 p r none found.1 found.2 inp).trace) skeleton;
     }
 
 pub analysable_problems : (input : Input) (fs : List form.Form) → IsInput (views fs) (Ok (entries_of input)) → input.forms.now ≡ fs → length input.problems.items ≡ length fs → (p : Problem) → IsIn p (stated input.problems.items) → IsAnalysable p

@@ -5,14 +5,12 @@ use Rattle.cp_model.specs.Problem.{IsPointOfView}
 use Rattle.cp_model.specs.Tree.{Limits, Label, Tree, IsTrueOf}
 use Rattle.cp_language.specs.Problems.{Problem}
 use Rattle.cp_language.specs.Report.{HasItsVariables}
-use Rattle.cp_skel.specs.DeclaredPrefixes.{HasDeclaredPrefixes}
 use Rattle.cp_search.specs.Unexpanded.{IsUnexpanded}
 
--- A problem is a point-of-view skeleton, and the roles of its instances declare the variables of their prefixes.
+-- A problem is a point-of-view skeleton over its protocol.
 pub record IsAnalysable (p : Problem) : Type 0 where
   pub is_skeleton : IsSkeleton p.protocol p.skeleton
   pub own : IsPointOfView p.variables p.skeleton
-  pub declared : HasDeclaredPrefixes p.skeleton
 
 -- The tree is true of the problem, its labels have their variables, and it is that of the search.
 pub record IsAnalysisOf (limits : Limits) (p : Problem) (t : Tree) : Type 0 where

@@ -4,6 +4,7 @@ use Rattle.std.specs.Prelude.{◌↔◌, option_map}
 use Rattle.std.proofs.Math.Seq.{drop-cons}
 use Rattle.std.proofs.lemmas.List.{append-nil, drop_all, map-append}
 use Rattle.cp_skel.specs.Ordered.{IsOrdered}
+use Rattle.cp_skel.specs.Sound.{IsSound}
 use Rattle.cp_model.specs.RunView.{node_view}
 use Rattle.cp_skel.specs.View.{event_view}
 use Rattle.cp_model.specs.declared.strand.Node.{Node as ProgramNode}
@@ -30,6 +31,10 @@ use Rattle.cp_derive.proofs.Sending.{transmission_listed, listed_on_role, listed
 use Rattle.cp_derive.proofs.Placing.{IsMessageAt, message_at, at_message, item_viewed}
 use Rattle.cp_derive.proofs.Picking.{Picks, no_more, picks, passes, lists_unrealised}
 use Rattle.cp_derive.proofs.Secrets.{secret_values}
+
+-- The order of a sound skeleton is one.
+pub ordered_of : (k : Skeleton) → IsSound k → IsOrdered k
+ordered_of k sound = record { order_pairs = sound.skeleton.order_pairs; no_cycle = sound.skeleton.no_cycle }
 
 -- An item of a list is at some place, and what is at a place is an item.
 place_of : {A : Type 0} (xs : List A) (x : A) → IsIn x xs → (p : ℕ) × (item_at xs p ≡ Some x)

@@ -1,7 +1,6 @@
 // The values of assumptions.
 ghost use Rattle.std.specs.Prelude.{◌≡◌, ◌++◌, map, IfOk, OnOk};
 ghost use Rattle.cp_model.specs.Term.{atom_term};
-ghost use Rattle.cp_skel.specs.View.{assumptions_view, unique_view};
 ghost use Rattle.cp_derive.specs.Assumed.{assumed_values};
 
 use cp_skel::{Assumptions, Atom, UniqueAt};
@@ -21,10 +20,10 @@ fn add_atoms(atoms: &[Atom], terms: &mut Vec<Term>) -> Result<(), AllocError>
 
 /// Puts unique values behind terms.
 fn add_uniques(uniques: &[UniqueAt], terms: &mut Vec<Term>) -> Result<(), AllocError>
-    ensures { OnOk result (terms.new.items ≡ terms.old.items ++ map (λ u. atom_term u.value) (map unique_view uniques.now)) }
+    ensures { OnOk result (terms.new.items ≡ terms.old.items ++ map (λ u. atom_term u.value) uniques.now) }
 {
     for unique in uniques {
-        let term = unique.value.as_term().copy()?;
+        let term = unique.value().as_term().copy()?;
         terms.push(term)?;
     }
     Ok(())
@@ -35,11 +34,11 @@ pub(crate) fn assumed_values(
     alloc: Global,
     assumptions: &Assumptions,
 ) -> Result<Vec<Term>, AllocError>
-    ensures { IfOk result (λ ts. ts.items ≡ assumed_values (assumptions_view assumptions.now)) }
+    ensures { IfOk result (λ ts. ts.items ≡ assumed_values assumptions.now) }
 {
     let mut values = Vec::new(alloc);
-    add_atoms(&assumptions.non_originating, &mut values)?;
-    add_atoms(&assumptions.penetrator_non_originating, &mut values)?;
-    add_uniques(&assumptions.uniquely_originating, &mut values)?;
+    add_atoms(assumptions.non_originating(), &mut values)?;
+    add_atoms(assumptions.penetrator_non_originating(), &mut values)?;
+    add_uniques(assumptions.uniquely_originating(), &mut values)?;
     Ok(values)
 }

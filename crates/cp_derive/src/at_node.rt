@@ -4,7 +4,6 @@ ghost use Rattle.cp_model.specs.Derivable.{DerivableAt};
 ghost use Rattle.cp_model.specs.Skeleton.{IsNodeOf, term_event_at};
 ghost use Rattle.cp_model.specs.Strand.{Event as PlainEvent, payload};
 ghost use Rattle.cp_model.specs.Term.{Term as Plain};
-ghost use Rattle.cp_skel.specs.Ordered.{IsOrdered};
 ghost use Rattle.cp_model.specs.RunView.{node_view};
 ghost use Rattle.cp_skel.specs.View.{skeleton_view};
 ghost use Rattle.cp_term.specs.Positions.{term_at};
@@ -32,17 +31,16 @@ fn transmissions_of(alloc: Global, k: &Skeleton) -> Result<Vec<Transmission>, Al
 }
 
 /// What can be derived at a node: from all that role strands send strictly before it, all tags, and all atoms that no
-/// assumption names. Each pair of the skeleton has to go from a transmission to a reception of another strand, its order
-/// has to be without a cycle, and the node has to be there. The error is that memory ran out.
+/// assumption names. The node has to be there. The error is that memory ran out.
 pub fn known(alloc: Global, k: &Skeleton, node: Node) -> Result<Known, AllocError>
-    requires ordered { IsOrdered (skeleton_view k.now) }
     requires there { IsNodeOf (skeleton_view k.now).strands (node_view node) }
     ensures given { IfOk result (λ known. (t : Plain) → IsDerivable known t ↔ DerivableAt (skeleton_view k.now) (node_view node) t) }
 {
+    k.is_sound();
     let transmissions = transmissions_of(alloc, k)?;
-    let places = places_before(alloc, k.order.pairs(), &transmissions, node)?;
+    let places = places_before(alloc, k.order().pairs(), &transmissions, node)?;
     let sent = messages_at(alloc, &places, &transmissions)?;
-    let secrets = assumed_values(alloc, &k.assumptions)?;
+    let secrets = assumed_values(alloc, k.assumptions())?;
     Known::new(alloc, sent, secrets)
 }
 
@@ -50,7 +48,7 @@ pub fn known(alloc: Global, k: &Skeleton, node: Node) -> Result<Known, AllocErro
 fn message_at(alloc: Global, k: &Skeleton, node: Node) -> Result<Option<Term>, AllocError>
     ensures { IfOk result (λ m. m ≡ option_map payload (term_event_at (skeleton_view k.now).strands (node_view node))) }
 {
-    match k.strands.get(node.strand) {
+    match k.strands().get(node.strand) {
         Some(strand) => match strand.event(alloc, node.index)? {
             Some(event) => {
                 let message = event.payload().copy()?;
@@ -63,10 +61,9 @@ fn message_at(alloc: Global, k: &Skeleton, node: Node) -> Result<Option<Term>, A
 }
 
 /// The first component, from left to right, of the message at a node that cannot be derived there: the critical one,
-/// with its path. There is none exactly where the message can be derived. The skeleton and the node have to be as for
-/// `known`. The error is that memory ran out.
+/// with its path. There is none exactly where the message can be derived. The node has to be there. The
+/// error is that memory ran out.
 pub fn critical(alloc: Global, k: &Skeleton, node: Node) -> Result<Option<Critical>, AllocError>
-    requires ordered { IsOrdered (skeleton_view k.now) }
     requires there { IsNodeOf (skeleton_view k.now).strands (node_view node) }
     ensures none { IfOk result (λ found. (e : PlainEvent Plain) → term_event_at (skeleton_view k.now).strands (node_view node) ≡ Some e → IsNone found ↔ DerivableAt (skeleton_view k.now) (node_view node) (payload e)) }
     ensures first { IfOk result (λ found. IfSome found (λ c. (e : PlainEvent Plain) → term_event_at (skeleton_view k.now).strands (node_view node) ≡ Some e → IsFirstUnderivable (DerivableAt (skeleton_view k.now) (node_view node)) (payload e) c.path c.term)) }

@@ -62,7 +62,7 @@ pub(crate) fn front_at(
     ensures given { IfOk result (λ f. f.known ≡ given_by (skeleton_view k.now) f.places.items) }
     ensures at_node { IfOk result (λ f. (t : Plain) → DerivableAt (skeleton_view k.now) (node_view node) t ↔ IsDerivable f.known t) }
 {
-    let places = places_before(alloc, k.order.pairs(), transmissions, node)?;
+    let places = places_before(alloc, k.order().pairs(), transmissions, node)?;
     let Front {
         places: last,
         known,

@@ -43,16 +43,15 @@ fn unrealised_among(
     Ok(nodes)
 }
 
-/// The receptions, those of listeners too, whose message cannot be derived there, by strand and then by index. Each pair
-/// of the skeleton has to go from a transmission to a reception of another strand, and its order has to be without a
-/// cycle. The error is that memory ran out.
+/// The receptions, those of listeners too, whose message cannot be derived there, by strand and then by index. The error
+/// is that memory ran out.
 pub fn unrealised(alloc: Global, k: &Skeleton) -> Result<Vec<Node>, AllocError>
-    requires { IsOrdered (skeleton_view k.now) }
     ensures listed { IfOk result (λ nodes. ListsUnrealised (skeleton_view k.now) (map node_view nodes.items)) }
 {
+    k.is_sound();
     let occurrences = k.events(alloc)?;
     let transmissions = transmissions(alloc, &occurrences)?;
-    let secrets = assumed_values(alloc, &k.assumptions)?;
+    let secrets = assumed_values(alloc, k.assumptions())?;
     let front = Front {
         places: Vec::new(alloc),
         known: Known::new(alloc, Vec::new(alloc), secrets)?,

@@ -17,8 +17,6 @@ use Rattle.cp_hom.specs.Taking.{MakesEvents, MakesPart, GoesToStrand, BecomesAto
 use Rattle.cp_hom.proofs.Extended.{IsSoFar, finds_like, finds_both, never_before, so_far_next, so_far_never, so_far_all}
 use Rattle.cp_hom.specs.declared.partials.Partial.{Partial}
 use Rattle.cp_skel.proofs.Items.{item-drop}
-use Rattle.cp_skel.specs.View.{unique_view}
-use Rattle.cp_skel.specs.declared.skeleton.UniqueAt.{UniqueAt as ProgramUnique}
 
 -- ---- strands
 
@@ -59,44 +57,44 @@ atom_placed xs ys i image x y t u given answer at au is_t is_u k =
 
 -- ---- unique values
 
-module _ (xs ys : List ProgramUnique) (i image : ℕ) (given : PartialMap) where
-  pub no_unique : None ≡ item_at xs i → IsNever (BecomesUnique (map unique_view xs) (map unique_view ys) i image) given
-  no_unique at = λ f follows g. let m = item_of_map unique_view xs i g.from g.is_from in let e : None ≡ Some m.0 = at ∙ m.1 in cc
+module _ (xs ys : List UniqueAt) (i image : ℕ) (given : PartialMap) where
+  pub no_unique : None ≡ item_at xs i → IsNever (BecomesUnique xs ys i image) given
+  no_unique at = λ f follows g. let e : None ≡ Some g.from = at ∙ g.is_from in cc
 
-  pub no_other_unique : None ≡ item_at ys image → IsNever (BecomesUnique (map unique_view xs) (map unique_view ys) i image) given
-  no_other_unique at = λ f follows g. let m = item_of_map unique_view ys image g.to g.is_to in let e : None ≡ Some m.0 = at ∙ m.1 in cc
+  pub no_other_unique : None ≡ item_at ys image → IsNever (BecomesUnique xs ys i image) given
+  no_other_unique at = λ f follows g. let e : None ≡ Some g.to = at ∙ g.is_to in cc
 
-  module _ (x y : ProgramUnique) (at : Some x ≡ item_at xs i) (au : Some y ≡ item_at ys image) where
-    from_is : (f : SkeletonMap) (g : BecomesUnique (map unique_view xs) (map unique_view ys) i image f) → g.from ≡ unique_view x
-    from_is f g = let d : Some g.from ≡ Some (unique_view x) = sym g.is_from ∙ map_of_item unique_view xs i x (sym at) in cc
+  module _ (x y : UniqueAt) (at : Some x ≡ item_at xs i) (au : Some y ≡ item_at ys image) where
+    from_is : (f : SkeletonMap) (g : BecomesUnique xs ys i image f) → g.from ≡ x
+    from_is f g = let d : Some g.from ≡ Some x = sym g.is_from ∙ sym at in cc
 
-    to_is : (f : SkeletonMap) (g : BecomesUnique (map unique_view xs) (map unique_view ys) i image f) → g.to ≡ unique_view y
-    to_is f g = let d : Some g.to ≡ Some (unique_view y) = sym g.is_to ∙ map_of_item unique_view ys image y (sym au) in cc
+    to_is : (f : SkeletonMap) (g : BecomesUnique xs ys i image f) → g.to ≡ y
+    to_is f g = let d : Some g.to ≡ Some y = sym g.is_to ∙ sym au in cc
 
-    pub other_index : x.origin.index ≢ y.origin.index → IsNever (BecomesUnique (map unique_view xs) (map unique_view ys) i image) given
+    pub other_index : x.origin.index ≢ y.origin.index → IsNever (BecomesUnique xs ys i image) given
     other_index ne = λ f follows g.
         ne (sym (ap (λ (u : UniqueAt). u.origin.index) (from_is f g)) ∙ g.index ∙ ap (λ (u : UniqueAt). u.origin.index) (to_is f g))
 
-    strand_first : (f : SkeletonMap) → BecomesUnique (map unique_view xs) (map unique_view ys) i image f → f.strands x.origin.strand ≡ y.origin.strand
+    strand_first : (f : SkeletonMap) → BecomesUnique xs ys i image f → f.strands x.origin.strand ≡ y.origin.strand
     strand_first f g =
         sym (ap (λ (u : UniqueAt). f.strands u.origin.strand) (from_is f g)) ∙ g.origin ∙ ap (λ (u : UniqueAt). u.origin.strand) (to_is f g)
 
-    pub other_strand : IsNever (λ f. f.strands x.origin.strand ≡ y.origin.strand) given → IsNever (BecomesUnique (map unique_view xs) (map unique_view ys) i image) given
-    other_strand never = never_before (λ f. f.strands x.origin.strand ≡ y.origin.strand) (BecomesUnique (map unique_view xs) (map unique_view ys) i image) given strand_first never
+    pub other_strand : IsNever (λ f. f.strands x.origin.strand ≡ y.origin.strand) given → IsNever (BecomesUnique xs ys i image) given
+    other_strand never = never_before (λ f. f.strands x.origin.strand ≡ y.origin.strand) (BecomesUnique xs ys i image) given strand_first never
 
     pub unique_placed : (t u : Term) (found : PartialMap) (answer : Option Partial) → x.origin.index ≡ y.origin.index → t ≡ atom_term x.value → u ≡ atom_term y.value →
         IsExtended (λ f. f.strands x.origin.strand ≡ y.origin.strand) given found → Finds (λ f. apply_to f.terms t ≡ u) found answer →
-        Finds (BecomesUnique (map unique_view xs) (map unique_view ys) i image) given answer
+        Finds (BecomesUnique xs ys i image) given answer
     unique_placed t u found answer same is_t is_u h k =
-        finds_both (λ f. f.strands x.origin.strand ≡ y.origin.strand) (λ f. apply_to f.terms t ≡ u) (BecomesUnique (map unique_view xs) (map unique_view ys) i image) given found answer
+        finds_both (λ f. f.strands x.origin.strand ≡ y.origin.strand) (λ f. apply_to f.terms t ≡ u) (BecomesUnique xs ys i image) given found answer
         (λ f d e.
         let g : atom_term (apply_to_atom f.terms x.value) ≡ atom_term y.value = sym (ap (apply_to f.terms) is_t) ∙ e ∙ is_u in
         let g' : apply_to_atom f.terms x.value ≡ y.value = cc in
         record {
-          from = unique_view x;
-          to = unique_view y;
-          is_from = map_of_item unique_view xs i x (sym at);
-          is_to = map_of_item unique_view ys image y (sym au);
+          from = x;
+          to = y;
+          is_from = sym at;
+          is_to = sym au;
           becomes = g';
           origin = d;
           index = same;

@@ -10,7 +10,7 @@ use crate::items::{Item, Kind};
 use crate::looking::strand_at;
 use crate::mapping::Map;
 use crate::partials::Placement;
-use cp_skel::{Leading, Node, OrderPair, Strand};
+use cp_skel::{Leading, Node, OrderPair, Strand, StrandShape};
 use std::alloc::{AllocError, Global};
 
 /// Whether a strand is an instance of a role.
@@ -18,8 +18,8 @@ fn is_role_strand(strands: &[Strand], strand: usize) -> bool
     ensures { IsTrue result ↔ IsRoleStrand (map strand_view strands.now) strand }
 {
     match strand_at(strands, strand) {
-        Some(Strand::Instance(_)) => true,
-        _ => false,
+        Some(strand) => matches!(strand.shape(), StrandShape::Instance(_)),
+        None => false,
     }
 }
 

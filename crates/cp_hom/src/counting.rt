@@ -1,23 +1,23 @@
 // How many strands there are of a role.
 ghost use Rattle.std.specs.Prelude.{◌↔◌, map, IsTrue};
-ghost use Rattle.cp_skel.specs.View.{role_view, strand_view};
+ghost use Rattle.cp_skel.specs.View.{strand_view};
 ghost use Rattle.cp_hom.specs.Counting.{IsCount, IsOfRole, HasRoom, HasRoomFor, HaveRoom};
 
-use cp_skel::{Role, Strand, is_same_role};
+use cp_skel::{Role, Strand, StrandShape, is_same_role};
 
 /// Whether a strand is an instance of this role.
 fn is_of_role(role: &Role, strand: &Strand) -> bool
-    ensures { IsTrue result ↔ IsOfRole (role_view role.now) (strand_view strand.now) }
+    ensures { IsTrue result ↔ IsOfRole role.now (strand_view strand.now) }
 {
-    match strand {
-        Strand::Instance(instance) => is_same_role(&instance.role, role),
-        Strand::Listener(_) => false,
+    match strand.shape() {
+        StrandShape::Instance(instance) => is_same_role(instance.role(), role),
+        StrandShape::Listener(_) => false,
     }
 }
 
 /// How many strands are instances of this role.
 fn count_of_role(role: &Role, strands: &[Strand]) -> usize
-    ensures { IsCount (IsOfRole (role_view role.now)) (map strand_view strands.now) result }
+    ensures { IsCount (IsOfRole role.now) (map strand_view strands.now) result }
 {
     let mut count = 0;
     for strand in strands {
@@ -31,7 +31,7 @@ fn count_of_role(role: &Role, strands: &[Strand]) -> usize
 
 /// Whether there are no more strands of this role among the first than among the others.
 fn has_room(role: &Role, strands: &[Strand], others: &[Strand]) -> bool
-    ensures { IsTrue result ↔ HasRoom (map strand_view strands.now) (map strand_view others.now) (role_view role.now) }
+    ensures { IsTrue result ↔ HasRoom (map strand_view strands.now) (map strand_view others.now) role.now }
 {
     count_of_role(role, strands) <= count_of_role(role, others)
 }
@@ -40,9 +40,9 @@ fn has_room(role: &Role, strands: &[Strand], others: &[Strand]) -> bool
 fn has_room_for(strand: &Strand, strands: &[Strand], others: &[Strand]) -> bool
     ensures { IsTrue result ↔ HasRoomFor (map strand_view strands.now) (map strand_view others.now) (strand_view strand.now) }
 {
-    match strand {
-        Strand::Instance(instance) => has_room(&instance.role, strands, others),
-        Strand::Listener(_) => true,
+    match strand.shape() {
+        StrandShape::Instance(instance) => has_room(instance.role(), strands, others),
+        StrandShape::Listener(_) => true,
     }
 }
 

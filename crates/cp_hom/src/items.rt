@@ -27,10 +27,10 @@ pub(crate) fn count(kind: Kind, k: &Skeleton) -> usize
     ensures { result ≡ count_of kind (skeleton_view k.now) }
 {
     match kind {
-        Kind::Strands => k.strands.len(),
-        Kind::NonOriginating => k.assumptions.non_originating.len(),
-        Kind::PenetratorNonOriginating => k.assumptions.penetrator_non_originating.len(),
-        Kind::Uniques => k.assumptions.uniquely_originating.len(),
+        Kind::Strands => k.strands().len(),
+        Kind::NonOriginating => k.assumptions().non_originating().len(),
+        Kind::PenetratorNonOriginating => k.assumptions().penetrator_non_originating().len(),
+        Kind::Uniques => k.assumptions().uniquely_originating().len(),
     }
 }
 
@@ -48,9 +48,9 @@ fn add_items(kind: Kind, k: &Skeleton, items: &mut Vec<Item>) -> Result<(), Allo
 fn add_uniques_on(strand: usize, k: &Skeleton, items: &mut Vec<Item>) -> Result<(), AllocError>
     ensures { OnOk result (AddsItems (skeleton_view k.now) items.old.items items.new.items) }
 {
-    let uniques = k.assumptions.uniquely_originating.as_slice();
+    let uniques = k.assumptions().uniquely_originating();
     for index in 0..uniques.len() {
-        if uniques[index].origin.strand != strand {
+        if uniques[index].origin().strand != strand {
             continue;
         }
         let kind = Kind::Uniques;

@@ -7,7 +7,7 @@ ghost use Rattle.cp_hom.specs.Following.{partial_view, Finds};
 ghost use Rattle.cp_hom.specs.Taking.{MakesEvents, MakesPart};
 
 use crate::partials::{Partial, match_terms};
-use cp_skel::{Event, Instance, Strand, applied, is_same_role, prefix_of};
+use cp_skel::{Event, Instance, Strand, StrandShape, applied, is_same_role, prefix_of};
 use cp_term::Term;
 use std::alloc::{AllocError, Global};
 
@@ -59,11 +59,11 @@ fn match_instances(
 ) -> Result<Option<Partial>, AllocError>
     ensures { IfOk result (Finds (λ f. MakesPart f.terms (instance_view from.now) (instance_view to.now)) (partial_view given)) }
 {
-    if from.height > to.height || !is_same_role(&from.role, &to.role) {
+    if from.height() > to.height() || !is_same_role(from.role(), to.role()) {
         return Ok(None);
     }
-    let events = prefix_of(&from.role, from.height);
-    match_events(alloc, events, &from.values, &to.values, given)
+    let events = prefix_of(from.role(), from.height());
+    match_events(alloc, events, from.values(), to.values(), given)
 }
 
 /// Makes a strand a part of another.
@@ -75,11 +75,11 @@ pub(crate) fn match_strands(
 ) -> Result<Option<Partial>, AllocError>
     ensures { IfOk result (Finds (λ f. MakesPart f.terms (strand_view from.now) (strand_view to.now)) (partial_view given)) }
 {
-    match (from, to) {
-        (Strand::Instance(first), Strand::Instance(second)) => {
+    match (from.shape(), to.shape()) {
+        (StrandShape::Instance(first), StrandShape::Instance(second)) => {
             match_instances(alloc, first, second, given)
         }
-        (Strand::Listener(first), Strand::Listener(second)) => {
+        (StrandShape::Listener(first), StrandShape::Listener(second)) => {
             match_terms(alloc, first, second, given)
         }
         _ => Ok(None),

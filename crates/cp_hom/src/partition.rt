@@ -5,7 +5,7 @@ ghost use Rattle.cp_model.specs.Skeleton as model;
 ghost use Rattle.cp_skel.specs.View.{strand_view, skeleton_view};
 ghost use Rattle.cp_hom.specs.Partition.{first_place, entry_by, entry_of, fingerprint_of};
 
-use cp_skel::{Skeleton, Strand};
+use cp_skel::{Skeleton, StrandShape};
 
 /// How many places stand before the first that is this one; where there is none, how many there are.
 fn first_place(places: &[usize], place: usize) -> usize
@@ -24,10 +24,9 @@ fn first_place(places: &[usize], place: usize) -> usize
 fn entry(k: &Skeleton, strand: usize, place: usize) -> Option<usize>
     ensures { result ≡ entry_of (skeleton_view k.now) strand place }
 {
-    match k.strands.get(place) {
-        Some(Strand::Instance(_)) => Some(first_place(&k.from_problem.strands, place)),
-        Some(Strand::Listener(_)) => Some(strand),
-        None => None,
+    match k.strands().get(place)?.shape() {
+        StrandShape::Instance(_) => Some(first_place(k.from_problem().strands(), place)),
+        StrandShape::Listener(_) => Some(strand),
     }
 }
 
@@ -37,7 +36,7 @@ pub fn fingerprint(k: &Skeleton) -> usize
     ensures { result ≡ fingerprint_of (skeleton_view k.now) }
 {
     let mut number: usize = 1;
-    for (strand, place) in k.from_problem.strands.iter().enumerate() {
+    for (strand, place) in k.from_problem().strands().iter().enumerate() {
         let Some(entry) = entry(k, strand, *place) else {
             return 0;
         };

@@ -1,6 +1,6 @@
 // Items of a skeleton that become items of another.
 ghost use Rattle.std.specs.Prelude.{map, IfOk};
-ghost use Rattle.cp_skel.specs.View.{strand_view, unique_view, skeleton_view};
+ghost use Rattle.cp_skel.specs.View.{strand_view, skeleton_view};
 ghost use Rattle.cp_hom.specs.Following.{partial_view, Finds};
 ghost use Rattle.cp_hom.specs.Taking.{GoesToStrand, BecomesAtom, BecomesUnique, Takes};
 
@@ -63,7 +63,7 @@ fn place_unique(
     image: usize,
     given: Partial,
 ) -> Result<Option<Partial>, AllocError>
-    ensures { IfOk result (Finds (BecomesUnique (map unique_view uniques.now) (map unique_view others.now) index image) (partial_view given)) }
+    ensures { IfOk result (Finds (BecomesUnique uniques.now others.now index image) (partial_view given)) }
 {
     let Some(from) = unique_at(uniques, index) else {
         return Ok(None);
@@ -71,11 +71,13 @@ fn place_unique(
     let Some(to) = unique_at(others, image) else {
         return Ok(None);
     };
-    if from.origin.index != to.origin.index {
+    let first = from.origin();
+    let second = to.origin();
+    if first.index != second.index {
         return Ok(None);
     }
-    match match_numbers(from.origin.strand, to.origin.strand, given)? {
-        Some(found) => match_terms(alloc, from.value.as_term(), to.value.as_term(), found),
+    match match_numbers(first.strand, second.strand, given)? {
+        Some(found) => match_terms(alloc, from.value().as_term(), to.value().as_term(), found),
         None => Ok(None),
     }
 }
@@ -93,26 +95,26 @@ pub(crate) fn place(
 {
     let index = item.index;
     match item.kind {
-        Kind::Strands => place_strand(alloc, &a.strands, &b.strands, index, image, given),
+        Kind::Strands => place_strand(alloc, a.strands(), b.strands(), index, image, given),
         Kind::NonOriginating => {
-            let atoms = &a.assumptions.non_originating;
+            let atoms = a.assumptions().non_originating();
             place_atom(
                 alloc,
                 atoms,
-                &b.assumptions.non_originating,
+                b.assumptions().non_originating(),
                 index,
                 image,
                 given,
             )
         }
         Kind::PenetratorNonOriginating => {
-            let atoms = &a.assumptions.penetrator_non_originating;
-            let others = &b.assumptions.penetrator_non_originating;
+            let atoms = a.assumptions().penetrator_non_originating();
+            let others = b.assumptions().penetrator_non_originating();
             place_atom(alloc, atoms, others, index, image, given)
         }
         Kind::Uniques => {
-            let uniques = &a.assumptions.uniquely_originating;
-            let others = &b.assumptions.uniquely_originating;
+            let uniques = a.assumptions().uniquely_originating();
+            let others = b.assumptions().uniquely_originating();
             place_unique(alloc, uniques, others, index, image, given)
         }
     }

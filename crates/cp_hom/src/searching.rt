@@ -39,10 +39,10 @@ fn finish(
     ensures none { IfOk result (λ found. IfNone found (NeverEmbeds (skeleton_view a.now) (skeleton_view b.now) (partial_view given))) }
 {
     let mapping = given.into_map(alloc)?;
-    if !keeps_apart(&a.strands, &mapping) {
+    if !keeps_apart(a.strands(), &mapping) {
         return Ok(None);
     }
-    if !keeps_pairs(alloc, a.order.pairs(), b.order.pairs(), &mapping)? {
+    if !keeps_pairs(alloc, a.order().pairs(), b.order().pairs(), &mapping)? {
         return Ok(None);
     }
     Ok(Some(mapping))
@@ -87,7 +87,7 @@ fn try_choice(
     ensures { IfOk result (FindsAmong (λ f. KeepsApart (skeleton_view a.now).strands f.strands)
         (Takes (skeleton_view a.now) (skeleton_view b.now) item choice) (partial_view given.now)) }
 {
-    if is_blocked(&a.strands, item, choice, &given.placements) {
+    if is_blocked(a.strands(), item, choice, &given.placements) {
         return Ok(None);
     }
     let copy = given.copy(alloc)?;

@@ -61,10 +61,10 @@ pub(crate) fn start(
 ) -> Result<Option<Partial>, AllocError>
     ensures { IfOk result (Finds (KeepsProblem (skeleton_view a.now) (skeleton_view b.now)) nothing) }
 {
-    let first = &a.from_problem;
-    let second = &b.from_problem;
-    match match_number_lists(&first.strands, &second.strands, Partial::new(alloc))? {
-        Some(found) => match_term_lists(alloc, &first.values, &second.values, found),
+    let first = a.from_problem();
+    let second = b.from_problem();
+    match match_number_lists(first.strands(), second.strands(), Partial::new(alloc))? {
+        Some(found) => match_term_lists(alloc, first.values(), second.values(), found),
         None => Ok(None),
     }
 }

@@ -30,7 +30,7 @@ or_neither : (b c : Bool) → (b || c) ≡ false → (b ≡ false) × (c ≡ fal
 or_neither true c h = absurd (cc)
 or_neither false c h = (refl, h)
 
-same_bool : (b c : Bool) → (b ≡ true → c ≡ true) → (c ≡ true → b ≡ true) → b ≡ c
+pub same_bool : (b c : Bool) → (b ≡ true → c ≡ true) → (c ≡ true → b ≡ true) → b ≡ c
 same_bool true c f g = sym (f refl)
 same_bool false true f g = g refl
 same_bool false false f g = refl
@@ -42,16 +42,16 @@ cycle-searched before p l b other is h =
     same_bool b (reaches (length before) before p.later p.earlier) (λ e. law.1 (leads.0 e)) (λ e. leads.1 (law.0 e))
     ∙ sym (cond-false (on_one_strand p) (nat_le p.later.index p.earlier.index) (reaches (length before) before p.later p.earlier) other)
 
-none_in : (test : OrderPair → Bool) (ps : List OrderPair) (p : OrderPair) → any_pair test ps ≡ false → IsIn p ps → test p ≡ false
+pub none_in : (test : OrderPair → Bool) (ps : List OrderPair) (p : OrderPair) → any_pair test ps ≡ false → IsIn p ps → test p ≡ false
 none_in test [] p none m = elim m [ ]
 none_in test (q ∷ ps) p none here = (or_neither (test p) (any_pair test ps) none).0
 none_in test (q ∷ ps) p none (there m) = none_in test ps p (or_neither (test q) (any_pair test ps) none).1 m
 
-not_after : (s t i j : ℕ) → ((s == t) && nat_le i j) ≡ false → (s ≡ t) × (i ≤ j) → ⊥
+pub not_after : (s t i j : ℕ) → ((s == t) && nat_le i j) ≡ false → (s ≡ t) × (i ≤ j) → ⊥
 not_after s t i j h a = grind (arith, nat_tests)
 
 -- No pair leaves the strand behind x: what x leads to is on its strand.
-stays_behind : (pairs : List OrderPair) (x y : Node) → any_pair (λ p. at_or_after x p.earlier) pairs ≡ false → LeadsTo pairs x y → IsAtOrAfter x y
+pub stays_behind : (pairs : List OrderPair) (x y : Node) → any_pair (λ p. at_or_after x p.earlier) pairs ≡ false → LeadsTo pairs x y → IsAtOrAfter x y
 stays_behind pairs x y none (on_strand a) = a
 stays_behind pairs x y none (over_pair {p} m a l) =
     absurd (not_after x.strand p.earlier.strand x.index p.earlier.index (none_in (λ q. at_or_after x q.earlier) pairs p none m) a)
@@ -127,7 +127,7 @@ module _ (strands : List SkeletonStrand) (before : List OrderPair) (at : Place) 
 
 -- ---- pair after pair
 
-append_assoc : {A : Type 0} (xs ys zs : List A) → (xs ++ ys) ++ zs ≡ xs ++ (ys ++ zs)
+pub append_assoc : {A : Type 0} (xs ys zs : List A) → (xs ++ ys) ++ zs ≡ xs ++ (ys ++ zs)
 append_assoc [] ys zs = refl
 append_assoc (x ∷ xs) ys zs = ap (λ bs. x ∷ bs) (append_assoc xs ys zs)
 

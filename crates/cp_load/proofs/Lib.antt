@@ -19,3 +19,6 @@ pub mod ProblemParts
 pub mod TopForms
 pub mod UniqueOrigins
 pub mod OwnParts
+pub mod SoundDrafts
+pub mod NoCycles
+pub mod NamesInUse

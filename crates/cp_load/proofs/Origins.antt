@@ -14,7 +14,6 @@ use Rattle.cp_model.specs.Same.{carries, origin_in, one_later}
 use Rattle.cp_language.specs.Terms.{term_faults}
 use Rattle.cp_language.specs.Roles.{message_faults, event_faults, events_faults, each_faults}
 use Rattle.cp_model.proofs.SameTests.{carried, is_carried, origin_found, finds_origin}
-use Rattle.cp_skel.specs.declared.protocol.Event.{Event}
 
 exact : (r t : Bool) (P : Type 0) → (r ≡ true → P) → (P → r ≡ true) → (t ≡ true → P) → (P → t ≡ true) → r ≡ t
 exact true true P f g h i = refl

@@ -7,8 +7,8 @@ use Rattle.cp_sexpr.specs.View.{view}
 use Rattle.cp_sexpr.specs.declared.form.Form as program
 use Rattle.cp_language.specs.Roles.{headed, forms_under, item_or_none, items_behind}
 use Rattle.cp_language.specs.Problems.{pair_of, pairs_in, is_precedes_item}
+use Rattle.cp_skel.specs.Data.{StrandData}
 use Rattle.cp_skel.specs.View.{strand_view}
-use Rattle.cp_skel.specs.declared.skeleton.Strand.{Strand}
 use Rattle.cp_forms.proofs.Items.{item-drop}
 
 append_assoc : {A : Type 0} (xs ys zs : List A) → (xs ++ ys) ++ zs ≡ xs ++ (ys ++ zs)
@@ -17,12 +17,12 @@ append_assoc (x ∷ xs) ys zs = ap (λ bs. x ∷ bs) (append_assoc xs ys zs)
 
 -- ---- numbers of strands
 
-numbers-from : (ks : List Strand) (k m : ℕ) → k < length ks → numbers_from m (map strand_view (drop k ks)) ≡ m ∷ numbers_from (suc m) (map strand_view (drop (suc k) ks))
+numbers-from : (ks : List StrandData) (k m : ℕ) → k < length ks → numbers_from m (map strand_view (drop k ks)) ≡ m ∷ numbers_from (suc m) (map strand_view (drop (suc k) ks))
 numbers-from [] k m lt = absurd (omega arith)
 numbers-from (x ∷ xs) zero m lt = refl
 numbers-from (x ∷ xs) (suc k) m lt = numbers-from xs k m (omega arith)
 
-pub number-taken : (ks : List Strand) (k : ℕ) (ns ms all : List ℕ) → k < length ks → ms ≡ ns ++ k ∷ [] → ns ++ numbers_from k (map strand_view (drop k ks)) ≡ all
+pub number-taken : (ks : List StrandData) (k : ℕ) (ns ms all : List ℕ) → k < length ks → ms ≡ ns ++ k ∷ [] → ns ++ numbers_from k (map strand_view (drop k ks)) ≡ all
     → ms ++ numbers_from (k + 1) (map strand_view (drop (k + 1) ks)) ≡ all
 number-taken ks k ns ms all lt g h =
     ap (λ j. ms ++ numbers_from j (map strand_view (drop j ks))) (add-one k) ∙ ap (λ xs. xs ++ numbers_from (suc k) (map strand_view (drop (suc k) ks))) g

@@ -1,5 +1,5 @@
 -- Protocols by their names.
-use Rattle.std.proofs.Common.{◌≡◌, ℕ, ◌-◌, ◌<◌, ◌≤◌, List, [], ◌∷◌, ◌++◌, length, get_or, map, take, drop, if◌then◌else◌, refl, ap, ◌∙◌, arith}
+use Rattle.std.proofs.Common.{◌≡◌, ℕ, ◌-◌, ◌<◌, ◌≤◌, List, [], ◌∷◌, ◌++◌, length, get_or, map, take, drop, if◌then◌else◌, refl, sym, ap, ◌∙◌, arith}
 use Rattle.std.specs.Prelude.{Option, Some}
 use Rattle.std.proofs.lemmas.List.{take_all}
 use Rattle.cp_base.specs.declared.place.Place.{Place}
@@ -14,7 +14,7 @@ use Rattle.cp_language.specs.Faults.{fault}
 use Rattle.cp_language.specs.Roles.{name_faults_at, algebra_faults, roles_faults, protocol_faults}
 use Rattle.cp_language.specs.Problems.{protocol_named}
 use Rattle.cp_forms.specs.FirstFault.{first_onto}
-use Rattle.cp_load.specs.Above.{turned}
+use Rattle.cp_load.specs.Above.{names_of_protocols, turned}
 use Rattle.cp_forms.proofs.Firsts.{first_then_three}
 
 -- the last of these protocols that has this name, or the one found before
@@ -47,3 +47,14 @@ module _ (b : List (List ℕ)) (at : Place) where
       first_then_three o p q r (name_faults_at b (λ z. fault z DuplicateProtocol) (view n)) (algebra_faults (view a)) (roles_faults [] (map view rest)) hp hq hr
       ∙ ap (λ k. first_onto o (all (view k) (view a) rest)) e ∙ ap (λ w. first_onto o (all (view x) (view w) rest)) f
       ∙ ap (λ gs. first_onto o (all (view x) (view y) gs)) (take_all (length (x ∷ y ∷ fs) - 2) fs (omega arith))
+
+-- The names of protocols, of which one more stands behind the others.
+names_behind : {A : Type 0} (f : A → Protocol) (xs : List A) (x : A) → names_of_protocols (map f (xs ++ x ∷ [])) ≡ names_of_protocols (map f xs) ++ (f x).name ∷ []
+names_behind f [] x = refl
+names_behind f (y ∷ ys) x = ap (λ (ns : List (List ℕ)). (f y).name ∷ ns) (names_behind f ys x)
+
+pub names_more : {A : Type 0} (f : A → Protocol) (xs all : List A) (x : A) (old new : List (List ℕ)) (name : List ℕ) → old ≡ names_of_protocols (map f xs) →
+    new ≡ old ++ name ∷ [] → name ≡ (f x).name → all ≡ xs ++ x ∷ [] → new ≡ names_of_protocols (map f all)
+names_more f xs all x old new name same put is e =
+    put ∙ ap (λ (ns : List (List ℕ)). ns ++ name ∷ []) same ∙ ap (λ (n : List ℕ). names_of_protocols (map f xs) ++ n ∷ []) is
+    ∙ sym (names_behind f xs x) ∙ sym (ap (λ ys. names_of_protocols (map f ys)) e)

@@ -17,7 +17,9 @@ use Rattle.cp_language.specs.Problems.{Problem}
 use Rattle.cp_language.specs.Input.{protocol_names, headed_top_faults, protocols_onto, protocols_behind, faults_from, stated_problem, Entry, entries_from, protocols_in, protocols_of, faults_of, IsInput}
 use Rattle.cp_load.specs.Above.{names_of_protocols, turned}
 use Rattle.cp_forms.specs.FirstFault.{first_onto}
+use Rattle.cp_load.specs.Drafts.{draft_view}
 use Rattle.cp_load.specs.Inputs.{problem_view, entries_view}
+use Rattle.cp_load.specs.declared.drafts.Draft.{Draft}
 use Rattle.cp_load.specs.declared.input.Problem as loaded
 use Rattle.cp_forms.proofs.Firsts.{first_onto-append, first_found, none_found}
 use Rattle.cp_forms.proofs.Items.{item-drop}
@@ -79,13 +81,18 @@ mapped-length : {A B : Type 0} (f : A → B) (xs : List A) → length (map f xs)
 mapped-length f [] = refl
 mapped-length f (x ∷ xs) = ap suc (mapped-length f xs)
 
-pub problem-pushed : (xs ys : List (Option loaded.Problem)) (p : Option loaded.Problem) → ys ≡ xs ++ p ∷ []
-    → map (option_map problem_view) ys ≡ map (option_map problem_view) xs ++ option_map problem_view p ∷ []
-problem-pushed xs ys p e = ap (map (option_map problem_view)) e ∙ pushed xs
+pub draft-pushed : (xs ys : List (Option Draft)) (d : Option Draft) → ys ≡ xs ++ d ∷ []
+    → map (option_map draft_view) ys ≡ map (option_map draft_view) xs ++ option_map draft_view d ∷ []
+draft-pushed xs ys d e = ap (map (option_map draft_view)) e ∙ pushed xs
   where
-    pushed : (zs : List (Option loaded.Problem)) → map (option_map problem_view) (zs ++ p ∷ []) ≡ map (option_map problem_view) zs ++ option_map problem_view p ∷ []
+    pushed : (zs : List (Option Draft)) → map (option_map draft_view) (zs ++ d ∷ []) ≡ map (option_map draft_view) zs ++ option_map draft_view d ∷ []
     pushed [] = refl
-    pushed (z ∷ zs) = ap (λ us. option_map problem_view z ∷ us) (pushed zs)
+    pushed (z ∷ zs) = ap (λ us. option_map draft_view z ∷ us) (pushed zs)
+
+-- the problems of the entries
+problems-entered : (above : List Protocol) (fs : List Form) → problems_from above fs ≡ map (λ e. e.problem) (entries_from above fs)
+problems-entered above [] = refl
+problems-entered above (f ∷ fs) = ap (λ ps. stated_problem above (headed f) ∷ ps) (problems-entered (protocols_behind (headed f) above) fs)
 
 module _ (fs : List program.Form) (k : ℕ) where
   module _ (f : program.Form) (lt : k < length fs) (is : f ≡ get_or fs k f) (ps qs : List Protocol) (behind : qs ≡ ps ++ protocols_behind (headed (view f)) []) where
@@ -125,24 +132,30 @@ module _ (fs : List program.Form) (k : ℕ) where
   pub protocols-done : length fs ≤ k → (ps all : List Protocol) → ps ++ protocols_in (map view (drop k fs)) ≡ all → ps ≡ all
   protocols-done h ps all i = sym (append-nil ps) ∙ sym (ap (λ gs. ps ++ protocols_in (map view gs)) (drop_all k fs h)) ∙ i
 
-  entries-with : (above : List Protocol) (gs : List Form) (ps : List (Option loaded.Problem)) → map (option_map problem_view) ps ≡ problems_from above gs → entries_view gs ps ≡ entries_from above gs
-  entries-with above [] ps e = refl
-  entries-with above (g ∷ gs) [] e = absurd (cc)
-  entries-with above (g ∷ gs) (p ∷ ps) e =
-      let first : option_map problem_view p ≡ stated_problem above (headed g) = cc in
-      let rest : map (option_map problem_view) ps ≡ problems_from (protocols_behind (headed g) above) gs = cc in
-      ap (λ x. (let entry : Entry = record { form = g; problem = x } in entry) ∷ entries_view gs ps) first
-      ∙ ap (λ es. (let entry : Entry = record { form = g; problem = stated_problem above (headed g) } in entry) ∷ es) (entries-with (protocols_behind (headed g) above) gs ps rest)
+  pub drafts-done : length fs ≤ k → (above : List Protocol) (ds : List (Option Draft))
+      → map (option_map draft_view) ds ++ problems_from above (map view (drop k fs)) ≡ problems_from [] (map view fs) → map (option_map draft_view) ds ≡ map (λ e. e.problem) (entries_from [] (map view fs))
+  drafts-done h above ds i = problems-done h above (map (option_map draft_view) ds) (problems_from [] (map view fs)) i ∙ problems-entered [] (map view fs)
 
-  pub entries-done : length fs ≤ k → (above : List Protocol) (ps : List (Option loaded.Problem))
-      → map (option_map problem_view) ps ++ problems_from above (map view (drop k fs)) ≡ problems_from [] (map view fs) → entries_view (map view fs) ps ≡ entries_from [] (map view fs)
-  entries-done h above ps i = entries-with [] (map view fs) ps (problems-done h above (map (option_map problem_view) ps) (problems_from [] (map view fs)) i)
-
-  pub counted : length fs ≤ k → (above : List Protocol) (ps : List (Option loaded.Problem))
-      → map (option_map problem_view) ps ++ problems_from above (map view (drop k fs)) ≡ problems_from [] (map view fs) → length ps ≡ length fs
-  counted h above ps i =
-      sym (mapped-length (option_map problem_view) ps) ∙ ap length (problems-done h above (map (option_map problem_view) ps) (problems_from [] (map view fs)) i)
+  pub counted : length fs ≤ k → (above : List Protocol) (ds : List (Option Draft))
+      → map (option_map draft_view) ds ++ problems_from above (map view (drop k fs)) ≡ problems_from [] (map view fs) → length ds ≡ length fs
+  counted h above ds i =
+      sym (mapped-length (option_map draft_view) ds) ∙ ap length (problems-done h above (map (option_map draft_view) ds) (problems_from [] (map view fs)) i)
       ∙ problems-length [] (map view fs) ∙ mapped-length view fs
+
+-- ---- the problems of drafts
+
+entries-with : (above : List Protocol) (gs : List Form) (ps : List (Option loaded.Problem)) → map (option_map problem_view) ps ≡ map (λ e. e.problem) (entries_from above gs) → entries_view gs ps ≡ entries_from above gs
+entries-with above [] ps e = refl
+entries-with above (g ∷ gs) [] e = absurd (cc)
+entries-with above (g ∷ gs) (p ∷ ps) e =
+    let first : option_map problem_view p ≡ stated_problem above (headed g) = cc in
+    let rest : map (option_map problem_view) ps ≡ map (λ e. e.problem) (entries_from (protocols_behind (headed g) above) gs) = cc in
+    ap (λ x. (let entry : Entry = record { form = g; problem = x } in entry) ∷ entries_view gs ps) first
+    ∙ ap (λ es. (let entry : Entry = record { form = g; problem = stated_problem above (headed g) } in entry) ∷ es) (entries-with (protocols_behind (headed g) above) gs ps rest)
+
+pub entries-finished : (ds : List (Option Draft)) (ps : List (Option loaded.Problem)) → map (option_map problem_view) ps ≡ map (option_map draft_view) ds
+    → (gs : List Form) → map (option_map draft_view) ds ≡ map (λ e. e.problem) (entries_from [] gs) → entries_view gs ps ≡ entries_from [] gs
+entries-finished ds ps same gs e = entries-with [] gs ps (same ∙ e)
 
 -- ---- all forms
 
@@ -157,8 +170,11 @@ module _ (fs : List program.Form) where
     found : p ≡ first_onto None (faults_of (views fs))
     found = met ∙ ap (λ x. first_onto x (faults_from [] (map view fs))) new ∙ ap (first_onto None) (sym faults-all)
 
+    pub no-faults : p ≡ None → faults_of (views fs) ≡ []
+    no-faults e = none_found (faults_of (views fs)) (sym found ∙ e)
+
     pub input-loaded : p ≡ None → (es : List Entry) → es ≡ entries_from [] (map view fs) → IsInput (views fs) (Ok es)
-    input-loaded e es h = (none_found (faults_of (views fs)) (sym found ∙ e), h ∙ sym (ap (entries_from []) (items_of-forms_of (map view fs))))
+    input-loaded e es h = (no-faults e, h ∙ sym (ap (entries_from []) (items_of-forms_of (map view fs))))
 
     pub input-refused : (r : Refusal) → p ≡ Some r → IsInput (views fs) (Err r)
     input-refused r e = first_found (faults_of (views fs)) r (sym found ∙ e)

@@ -3,11 +3,10 @@ use Rattle.std.specs.Prelude.{ℕ, List, [], ◌∷◌, map}
 use Rattle.std.specs.declared.rc.Rc.{Rc}
 use Rattle.std.specs.declared.alloc.Global.{Global}
 use Rattle.cp_model.specs.Strand as strand
-use Rattle.cp_skel.specs.View.{protocol_view}
 use Rattle.cp_skel.specs.declared.protocol.Protocol.{Protocol}
 
 abbrev pub protocols_view : List (Rc Protocol Global) → List strand.Protocol
-protocols_view = map (λ p. protocol_view p.value)
+protocols_view = map (λ p. p.value)
 
 abbrev pub names_of_protocols : List strand.Protocol → List (List ℕ)
 names_of_protocols [] = []

@@ -4,14 +4,14 @@ use Rattle.cp_sexpr.specs.Syntax as syntax
 use Rattle.cp_sexpr.specs.View.{view}
 use Rattle.cp_language.specs.Problems as language
 use Rattle.cp_language.specs.Input.{Entry}
-use Rattle.cp_skel.specs.View.{protocol_view, skeleton_view}
+use Rattle.cp_skel.specs.View.{skeleton_view}
 use Rattle.cp_skel.specs.Trees.{variables_view}
 use Rattle.cp_load.specs.declared.input.Problem.{Problem}
 use Rattle.cp_load.specs.declared.input.Input.{Input}
 
 abbrev pub problem_view : Problem → language.Problem
 problem_view p = record {
-  protocol = protocol_view p.protocol.value;
+  protocol = p.protocol.value;
   variables = variables_view p.skeleton.variables;
   declared = p.declared;
   skeleton = skeleton_view p.skeleton;

@@ -10,5 +10,8 @@ pub mod Instantiating
 pub mod Making
 pub mod Directions
 pub mod Inputs
+pub mod Drafts
 pub mod Stages
 pub mod Originations
+pub mod Acyclic
+pub mod Sets

@@ -5,11 +5,10 @@ use Rattle.std.specs.declared.alloc.Global.{Global}
 use Rattle.cp_model.specs.Strand as strand
 use Rattle.cp_language.specs.Roles.{Headed, is_role_item, role_of}
 use Rattle.cp_language.specs.Words.{item_head}
-use Rattle.cp_skel.specs.View.{role_view}
 use Rattle.cp_skel.specs.declared.protocol.Role.{Role}
 
 abbrev pub shared_roles_view : List (Rc Role Global) → List strand.Role
-shared_roles_view = map (λ r. role_view r.value)
+shared_roles_view = map (λ r. r.value)
 
 abbrev pub names_of_roles : List strand.Role → List (List ℕ)
 names_of_roles [] = []

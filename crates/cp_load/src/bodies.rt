@@ -8,7 +8,9 @@ ghost use Rattle.cp_skel.specs.View.{declaration_view, pair_view, strand_view};
 ghost use Rattle.cp_forms.specs.FirstFault.{first_onto};
 ghost use Rattle.cp_load.specs.Named.{shared_roles_view};
 ghost use Rattle.cp_load.specs.Stages.{stage_view, no_stage};
+ghost use Rattle.cp_load.specs.Acyclic.{IsAcyclicIf, pairs_under};
 
+use crate::acyclic::state_no_cycle;
 use crate::assumptions::atoms_faults;
 use crate::making::is_assumption_or_order;
 use crate::orders::pairs_faults;
@@ -140,36 +142,41 @@ fn uniques_item_faults(
 }
 
 /// The faults of an order with these items behind its head, which a strand stands before; its pairs go behind those
-/// before.
+/// before. Where they are said to be acyclic, they have no cycle with those before.
 fn order_item_faults(
     alloc: Global,
     scope: Scope<'_>,
     before: &mut Vec<OrderPair>,
+    acyclic: bool,
     stage: Stage,
     place: Place,
     items: &[Form],
     first: &mut FirstFault,
 ) -> Result<(), AllocError>
+    requires { IsAcyclicIf acyclic (map pair_view before.old.items ++ pairs_in (map view items.now)) }
     ensures faults { OnOk result (first.new ≡ first_onto first.old (misplaced_unless stage.after_strand place
         (pairs_faults (map strand_view scope.entry.strands.now) (map pair_view before.old.items) (map view items.now)))) }
     ensures pairs { OnOk result (map pair_view before.new.items ≡ map pair_view before.old.items ++ pairs_in (map view items.now)) }
 {
     if stage.after_strand {
-        return pairs_faults(alloc, scope.strands, before, items, first);
+        return pairs_faults(alloc, scope.strands, before, acyclic, items, first);
     }
     first.note(place, Code::UnknownForm);
     add_pairs(items, before)
 }
 
-/// The faults of an item of a problem; the pairs that it states go behind those before.
+/// The faults of an item of a problem; the pairs that it states go behind those before. Where they are said to be
+/// acyclic, they have no cycle with those before.
 fn item_faults(
     alloc: Global,
     scope: Scope<'_>,
     before: &mut Vec<OrderPair>,
+    acyclic: bool,
     stage: Stage,
     form: &Form,
     first: &mut FirstFault,
 ) -> Result<(), AllocError>
+    requires { IsAcyclicIf acyclic (map pair_view before.old.items ++ pairs_under (view form.now)) }
     ensures faults { OnOk result (first.new ≡ first_onto first.old (item_faults (problem_item_faults (shared_roles_view scope.entry.roles.now)
         (map declaration_view scope.entry.variables.now) (map strand_view scope.entry.strands.now) (map pair_view before.old.items) (stage_view stage)) (view form.now))) }
     ensures pairs { OnOk result (map pair_view before.new.items
@@ -190,7 +197,9 @@ fn item_faults(
             return uniques_item_faults(alloc, scope, stage, place, list.items, first);
         }
         ItemHead::Precedes => {
-            return order_item_faults(alloc, scope, before, stage, place, list.items, first);
+            return order_item_faults(
+                alloc, scope, before, acyclic, stage, place, list.items, first,
+            );
         }
         ItemHead::Comment => {}
         ItemHead::OutOfProfile => first.note(place, Code::OutOfProfile),
@@ -209,13 +218,14 @@ pub(crate) fn body_faults(
     ensures { OnOk result (first.new ≡ first_onto first.old (body_faults (shared_roles_view scope.entry.roles.now) (map declaration_view scope.entry.variables.now)
         (map strand_view scope.entry.strands.now) [] no_stage (map view items.now))) }
 {
+    let acyclic = state_no_cycle(alloc, items)?;
     let mut before = Vec::new(alloc);
     let mut stage = Stage {
         after_strand: false,
         after_item: false,
     };
     for item in items {
-        item_faults(alloc, scope, &mut before, stage, item, first)?;
+        item_faults(alloc, scope, &mut before, acyclic, stage, item, first)?;
         stage = stage.after(item);
     }
     Ok(())

@@ -6,7 +6,7 @@ ghost use Rattle.cp_model.specs.Term.{tag_term};
 ghost use Rattle.cp_sexpr.specs.View.{view};
 ghost use Rattle.cp_language.specs.Problems.{number_of, instance_by, name_in_front, role_named, heard, is_assumption_or_order, before_items, strand_by, strands_from};
 ghost use Rattle.cp_language.specs.Roles.{headed, item_or_none, items_behind};
-ghost use Rattle.cp_skel.specs.View.{declaration_view, role_view, strand_view};
+ghost use Rattle.cp_skel.specs.View.{declaration_view, strand_view};
 ghost use Rattle.cp_load.specs.Named.{shared_roles_view};
 ghost use Rattle.cp_load.specs.Making.{instance_made, IsMade, IsMadeIf, AreMade};
 
@@ -28,31 +28,27 @@ fn instance_of_role(
     maplets: &[Form],
     all: &mut Vec<Declaration>,
 ) -> Result<Strand, AllocError>
-    ensures { IfOk result (λ s. IsMade (instance_made (role_view role.now.value) (map declaration_view declared.now) (length all.old.items) (number_of (view height.now)) (map view maplets.now))
+    ensures { IfOk result (λ s. IsMade (instance_made role.now.value (map declaration_view declared.now) (length all.old.items) (number_of (view height.now)) (map view maplets.now))
         (strand_view s) (map declaration_view all.old.items) (map declaration_view all.new.items)) }
 {
     let height = number_of(height);
     let values = instantiated(
         alloc,
         prefix_of(role, height),
-        &role.variables,
+        role.variables(),
         declared,
         maplets,
         all,
     )?;
     let role = role.clone()?;
-    Ok(Strand::Instance(Instance {
-        role,
-        height,
-        values,
-    }))
+    Strand::instance(alloc, Instance::new(role, height, values))
 }
 
 /// What stands where there is no strand.
 fn no_strand(alloc: Global) -> Result<Strand, AllocError>
     ensures { IfOk result (λ s. strand_view s ≡ listener (tag_term [])) }
 {
-    Ok(Strand::Listener(no_term(alloc)?))
+    Strand::listener(alloc, no_term(alloc)?)
 }
 
 /// The listener with these items behind its head.
@@ -60,7 +56,7 @@ fn listener(alloc: Global, variables: &[Declaration], items: &[Form]) -> Result<
     ensures { IfOk result (λ s. strand_view s ≡ listener (heard (map declaration_view variables.now) (map view items.now))) }
 {
     match items {
-        [message, ..] => Ok(Strand::Listener(term_of(alloc, variables, message)?)),
+        [message, ..] => Strand::listener(alloc, term_of(alloc, variables, message)?),
         [] => no_strand(alloc),
     }
 }

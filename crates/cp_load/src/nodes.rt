@@ -13,7 +13,7 @@ use crate::faults::lacks;
 use cp_base::{Code, Place};
 use cp_forms::{FirstFault, item_at, list_items, place_of};
 use cp_sexpr::Form;
-use cp_skel::{Event, Node, Strand, prefix_of};
+use cp_skel::{Event, Node, Strand, StrandShape, prefix_of};
 
 /// The direction of an event.
 #[derive(Clone, Copy, Debug, PartialEq, Eq)]
@@ -37,12 +37,12 @@ fn event_direction(events: &[Event], index: usize) -> Option<Direction>
 fn strand_direction(strand: &Strand, index: usize) -> Option<Direction>
     ensures { result ≡ direction_of (item_at (skeleton_trace (strand_view strand.now)) index) }
 {
-    match strand {
-        Strand::Instance(instance) => event_direction(
-            prefix_of(&instance.role, instance.height),
+    match strand.shape() {
+        StrandShape::Instance(instance) => event_direction(
+            prefix_of(instance.role(), instance.height()),
             index,
         ),
-        Strand::Listener(_) => match index {
+        StrandShape::Listener(_) => match index {
             0 => Some(Direction::Reception),
             1 => Some(Direction::Transmission),
             _ => None,

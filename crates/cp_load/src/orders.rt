@@ -1,11 +1,12 @@
 // The faults of the pairs of problems.
-ghost use Rattle.std.specs.Prelude.{◌≡◌, ◌++◌, map, option_map, IfOk, OnOk};
+ghost use Rattle.std.specs.Prelude.{◌≡◌, ◌++◌, map, Some, option_map, IfOk, OnOk};
 ghost use Rattle.cp_sexpr.specs.View.{view};
 ghost use Rattle.cp_language.specs.Roles.{unless_faulty};
-ghost use Rattle.cp_language.specs.Problems.{node_of, node_faults, pair_of_nodes, at_or_after, any_pair, closes_cycle, order_faults, pair_items_faults, pair_faults, pairs_in, pairs_faults};
+ghost use Rattle.cp_language.specs.Problems.{node_of, node_faults, pair_of_nodes, at_or_after, any_pair, closes_cycle, order_faults, pair_items_faults, pair_faults, pairs_in, pairs_faults, between_strands, pair_of};
 ghost use Rattle.cp_model.specs.RunView.{node_view};
 ghost use Rattle.cp_skel.specs.View.{strand_view, pair_view};
 ghost use Rattle.cp_forms.specs.FirstFault.{first_onto};
+ghost use Rattle.cp_load.specs.Acyclic.{IsAcyclicIf, pair_in};
 
 use crate::faults::exceeds;
 use crate::nodes::{node_faults, node_of};
@@ -48,12 +49,22 @@ fn some_ends_before(pairs: &[OrderPair], node: Node) -> bool
 }
 
 /// Whether a pair goes back or stays on one strand, or closes a cycle with strand order and the pairs before it. No way
-/// is sought where no pair leaves the strand at which it would begin, or none comes to the one at which it would end.
-fn closes_cycle(alloc: Global, before: &[OrderPair], pair: OrderPair) -> Result<bool, AllocError>
+/// is sought where it is known that these have no cycle with it, where no pair leaves the strand at which the way would
+/// begin, or where none comes to the one at which it would end.
+fn closes_cycle(
+    alloc: Global,
+    before: &[OrderPair],
+    acyclic: bool,
+    pair: OrderPair,
+) -> Result<bool, AllocError>
+    requires { IsAcyclicIf acyclic (map pair_view before.now ++ between_strands (Some (pair_view pair))) }
     ensures { IfOk result (λ closes. closes ≡ closes_cycle (map pair_view before.now) (pair_view pair)) }
 {
     if is_on_one_strand(pair) {
         return Ok(pair.later.index <= pair.earlier.index);
+    }
+    if acyclic {
+        return Ok(false);
     }
     if !some_begins_behind(before, pair.later) {
         return Ok(false);
@@ -75,22 +86,25 @@ fn pair_of_nodes(earlier: Option<Node>, later: Option<Node>) -> Option<OrderPair
     }
 }
 
-/// The faults of the pair that two forms state, at this place: a cycle, or else its directions.
+/// The faults of the pair that two forms state, at this place: a cycle, or else its directions. Where the pairs are said
+/// to be acyclic, here and below, those before and the pair have no cycle.
 fn order_faults(
     alloc: Global,
     strands: &[Strand],
     before: &[OrderPair],
+    acyclic: bool,
     place: Place,
     earlier: &Form,
     later: &Form,
     first: &mut FirstFault,
 ) -> Result<(), AllocError>
+    requires { IsAcyclicIf acyclic (map pair_view before.now ++ between_strands (pair_of_nodes (node_of (view earlier.now)) (node_of (view later.now)))) }
     ensures { OnOk result (first.new ≡ first_onto first.old (order_faults (map strand_view strands.now) (map pair_view before.now) place (view earlier.now) (view later.now) (pair_of_nodes (node_of (view earlier.now)) (node_of (view later.now))))) }
 {
     let Some(pair) = pair_of_nodes(node_of(earlier), node_of(later)) else {
         return Ok(());
     };
-    if closes_cycle(alloc, before, pair)? {
+    if closes_cycle(alloc, before, acyclic, pair)? {
         first.note(place, Code::CyclicOrder);
     } else {
         direction_faults(strands, earlier, later, pair, first);
@@ -103,11 +117,13 @@ fn nodes_or_order_faults(
     alloc: Global,
     strands: &[Strand],
     before: &[OrderPair],
+    acyclic: bool,
     place: Place,
     earlier: &Form,
     later: &Form,
     first: &mut FirstFault,
 ) -> Result<(), AllocError>
+    requires { IsAcyclicIf acyclic (map pair_view before.now ++ between_strands (pair_of_nodes (node_of (view earlier.now)) (node_of (view later.now)))) }
     ensures { OnOk result (first.new ≡ first_onto first.old (unless_faulty (node_faults (map strand_view strands.now) (view earlier.now) ++ node_faults (map strand_view strands.now) (view later.now))
         (order_faults (map strand_view strands.now) (map pair_view before.now) place (view earlier.now) (view later.now) (pair_of_nodes (node_of (view earlier.now)) (node_of (view later.now)))))) }
 {
@@ -115,7 +131,16 @@ fn nodes_or_order_faults(
     node_faults(strands, earlier, &mut inside);
     node_faults(strands, later, &mut inside);
     if inside.is_none() {
-        order_faults(alloc, strands, before, place, earlier, later, &mut inside)?;
+        order_faults(
+            alloc,
+            strands,
+            before,
+            acyclic,
+            place,
+            earlier,
+            later,
+            &mut inside,
+        )?;
     }
     first.merge(inside);
     Ok(())
@@ -126,17 +151,21 @@ fn pair_items_faults(
     alloc: Global,
     strands: &[Strand],
     before: &[OrderPair],
+    acyclic: bool,
     place: Place,
     items: &[Form],
     first: &mut FirstFault,
 ) -> Result<(), AllocError>
+    requires { IsAcyclicIf acyclic (map pair_view before.now ++ pair_in (map view items.now)) }
     ensures { OnOk result (first.new ≡ first_onto first.old (pair_items_faults (map strand_view strands.now) (map pair_view before.now) place (map view items.now))) }
 {
     let [earlier, later, rest @ ..] = items else {
         first.note(place, Code::BadShape);
         return Ok(());
     };
-    nodes_or_order_faults(alloc, strands, before, place, earlier, later, first)?;
+    nodes_or_order_faults(
+        alloc, strands, before, acyclic, place, earlier, later, first,
+    )?;
     exceeds(2, list_items(earlier), first);
     exceeds(2, list_items(later), first);
     exceeds(0, rest, first);
@@ -148,16 +177,26 @@ fn pair_faults(
     alloc: Global,
     strands: &[Strand],
     before: &[OrderPair],
+    acyclic: bool,
     form: &Form,
     first: &mut FirstFault,
 ) -> Result<(), AllocError>
+    requires { IsAcyclicIf acyclic (map pair_view before.now ++ pair_of (view form.now)) }
     ensures { OnOk result (first.new ≡ first_onto first.old (pair_faults (map strand_view strands.now) (map pair_view before.now) (view form.now))) }
 {
     let Form::List(place, items) = form else {
         first.note(place_of(form), Code::BadShape);
         return Ok(());
     };
-    pair_items_faults(alloc, strands, before, *place, items.as_slice(), first)
+    pair_items_faults(
+        alloc,
+        strands,
+        before,
+        acyclic,
+        *place,
+        items.as_slice(),
+        first,
+    )
 }
 
 /// The faults of the pairs that these forms state, behind which these stand; the pairs go behind them.
@@ -165,14 +204,16 @@ pub(crate) fn pairs_faults(
     alloc: Global,
     strands: &[Strand],
     before: &mut Vec<OrderPair>,
+    acyclic: bool,
     items: &[Form],
     first: &mut FirstFault,
 ) -> Result<(), AllocError>
+    requires { IsAcyclicIf acyclic (map pair_view before.old.items ++ pairs_in (map view items.now)) }
     ensures faults { OnOk result (first.new ≡ first_onto first.old (pairs_faults (map strand_view strands.now) (map pair_view before.old.items) (map view items.now))) }
     ensures pairs { OnOk result (map pair_view before.new.items ≡ map pair_view before.old.items ++ pairs_in (map view items.now)) }
 {
     for form in items {
-        pair_faults(alloc, strands, before, form, first)?;
+        pair_faults(alloc, strands, before, acyclic, form, first)?;
         add_pair(pair_of(form), before)?;
     }
     Ok(())

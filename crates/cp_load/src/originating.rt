@@ -4,11 +4,13 @@ ghost use Rattle.cp_model.specs.Skeleton.{skeleton_trace};
 ghost use Rattle.cp_model.specs.Given.{uniques_onto};
 ghost use Rattle.cp_language.specs.Problems.{origins_from, own_uniques};
 ghost use Rattle.cp_model.specs.Same.{origin_in};
-ghost use Rattle.cp_skel.specs.View.{instance_view, strand_view, unique_view};
+ghost use Rattle.cp_skel.specs.View.{instance_view, strand_view};
 ghost use Rattle.cp_load.specs.Originations.{origin_on, originates, unique_at};
 
 use crate::same::carries;
-use cp_skel::{Atom, Event, Instance, Node, Strand, UniqueAt, add_unique, applied, prefix_of};
+use cp_skel::{
+    Atom, Event, Instance, Node, Strand, StrandShape, UniqueAt, add_unique, applied, prefix_of,
+};
 use cp_term::Term;
 use std::alloc::{AllocError, Global};
 
@@ -20,9 +22,9 @@ fn instance_origin(
 ) -> Result<Option<usize>, AllocError>
     ensures { IfOk result (λ o. o ≡ origin_in (skeleton_trace (instance_view instance.now)) value.now) }
 {
-    let prefix = prefix_of(&instance.role, instance.height);
+    let prefix = prefix_of(instance.role(), instance.height());
     for (index, event) in prefix.iter().enumerate() {
-        let message = applied(alloc, &instance.values, event.payload())?;
+        let message = applied(alloc, instance.values(), event.payload())?;
         if carries(&message, value) {
             return match event {
                 Event::Send(_) => Ok(Some(index)),
@@ -37,9 +39,9 @@ fn instance_origin(
 fn strand_origin(alloc: Global, strand: &Strand, value: &Term) -> Result<Option<usize>, AllocError>
     ensures { IfOk result (λ o. o ≡ origin_on (strand_view strand.now) value.now) }
 {
-    match strand {
-        Strand::Instance(instance) => instance_origin(alloc, instance, value),
-        Strand::Listener(_) => Ok(None),
+    match strand.shape() {
+        StrandShape::Instance(instance) => instance_origin(alloc, instance, value),
+        StrandShape::Listener(_) => Ok(None),
     }
 }
 
@@ -67,20 +69,14 @@ pub(crate) fn add_origin(
     place: Option<usize>,
     uniques: &mut Vec<UniqueAt>,
 ) -> Result<(), AllocError>
-    ensures { OnOk result (map unique_view uniques.new.items
-        ≡ uniques_onto (map unique_view uniques.old.items) (unique_at value.now strand place)) }
+    ensures { OnOk result (uniques.new.items
+        ≡ uniques_onto uniques.old.items (unique_at value.now strand place)) }
 {
     let Some(index) = place else {
         return Ok(());
     };
     let value = value.copy()?;
-    add_unique(
-        uniques,
-        UniqueAt {
-            value,
-            origin: Node { strand, index },
-        },
-    )
+    add_unique(uniques, UniqueAt::new(value, Node { strand, index }))
 }
 
 /// Puts the origins of a value on these strands behind others, each that is not there yet.
@@ -90,8 +86,8 @@ fn add_origins(
     value: &Atom,
     uniques: &mut Vec<UniqueAt>,
 ) -> Result<(), AllocError>
-    ensures { OnOk result (map unique_view uniques.new.items
-        ≡ uniques_onto (map unique_view uniques.old.items) (origins_from 0 (map strand_view strands.now) value.now)) }
+    ensures { OnOk result (uniques.new.items
+        ≡ uniques_onto uniques.old.items (origins_from 0 (map strand_view strands.now) value.now)) }
 {
     for (number, strand) in strands.iter().enumerate() {
         let origin = strand_origin(alloc, strand, value.as_term())?;
@@ -107,8 +103,8 @@ pub(crate) fn add_own_uniques(
     values: &[Atom],
     uniques: &mut Vec<UniqueAt>,
 ) -> Result<(), AllocError>
-    ensures { OnOk result (map unique_view uniques.new.items
-        ≡ uniques_onto (map unique_view uniques.old.items) (own_uniques (map strand_view strands.now) values.now)) }
+    ensures { OnOk result (uniques.new.items
+        ≡ uniques_onto uniques.old.items (own_uniques (map strand_view strands.now) values.now)) }
 {
     for value in values {
         add_origins(alloc, strands, value, uniques)?;

@@ -3,16 +3,16 @@ ghost use Rattle.std.specs.Prelude.{◌≡◌, [], map, option_map, IfOk, OnOk};
 ghost use Rattle.cp_sexpr.specs.View.{view};
 ghost use Rattle.cp_language.specs.Problems.{protocol_name_faults, has_strand, is_strand_item, protocol_named, protocol_or_none, problem_strands, problem_faults, problem_of};
 ghost use Rattle.cp_language.specs.Roles.{headed, item_or_none};
-ghost use Rattle.cp_skel.specs.View.{declaration_view, protocol_view, strand_view};
+ghost use Rattle.cp_skel.specs.View.{declaration_view, strand_view};
 ghost use Rattle.cp_load.specs.Above.{protocols_view, turned};
 ghost use Rattle.cp_forms.specs.FirstFault.{first_onto};
-ghost use Rattle.cp_load.specs.Inputs.{problem_view};
+ghost use Rattle.cp_load.specs.Drafts.{draft_view};
 ghost use Rattle.cp_load.specs.Making.{AreMade};
 ghost use Rattle.cp_load.specs.Named.{shared_roles_view};
 
 use crate::bodies::{Scope, body_faults};
 use crate::declarations::variables_of;
-use crate::input::Problem;
+use crate::drafts::Draft;
 use crate::instances::copies_of;
 use crate::making::{before_items, strands};
 use crate::protocols::{no_protocol, protocol_named};
@@ -68,7 +68,7 @@ fn protocol_or_none(
     above: &[Rc<Protocol>],
     name: &[u8],
 ) -> Result<Rc<Protocol>, AllocError>
-    ensures { IfOk result (λ p. protocol_view p.value ≡ protocol_or_none (protocol_named (turned (protocols_view above.now) []) name.now)) }
+    ensures { IfOk result (λ p. p.value ≡ protocol_or_none (protocol_named (turned (protocols_view above.now) []) name.now)) }
 {
     match protocol_named(above, name) {
         Some(protocol) => protocol.clone(),
@@ -90,13 +90,13 @@ fn parts_of(
     declared: &[Declaration],
     body: &[Form],
 ) -> Result<Parts, AllocError>
-    ensures { IfOk result (λ p. AreMade (problem_strands (protocol_view protocol.now).roles (map declaration_view declared.now) (map view body.now))
+    ensures { IfOk result (λ p. AreMade (problem_strands protocol.now.roles (map declaration_view declared.now) (map view body.now))
         (map strand_view p.strands.items) (map declaration_view declared.now) (map declaration_view p.variables.items)) }
 {
     let mut variables = copies_of(alloc, declared)?;
     let strands = strands(
         alloc,
-        &protocol.roles,
+        protocol.roles(),
         declared,
         before_items(body),
         &mut variables,
@@ -105,10 +105,10 @@ fn parts_of(
 }
 
 /// What stands where there is no problem.
-fn no_problem(alloc: Global) -> Result<Problem, AllocError>
-    ensures { IfOk result (λ p. problem_view p ≡ problem_of [] []) }
+fn no_problem(alloc: Global) -> Result<Draft, AllocError>
+    ensures { IfOk result (λ d. draft_view d ≡ problem_of [] []) }
 {
-    Ok(Problem {
+    Ok(Draft {
         protocol: Rc::new(alloc, no_protocol(alloc)?)?,
         declared: 0,
         skeleton: own_skeleton(alloc, &[], Vec::new(alloc), &[], &[])?,
@@ -123,9 +123,9 @@ pub(crate) fn problem_of(
     place: Place,
     items: &[Form],
     first: &mut FirstFault,
-) -> Result<Problem, AllocError>
+) -> Result<Draft, AllocError>
     ensures faults { OnOk result (first.new ≡ first_onto first.old (problem_faults (turned (protocols_view above.now) []) place (map view items.now))) }
-    ensures problem { IfOk result (λ p. problem_view p ≡ problem_of (turned (protocols_view above.now) []) (map view items.now)) }
+    ensures problem { IfOk result (λ d. draft_view d ≡ problem_of (turned (protocols_view above.now) []) (map view items.now)) }
 {
     let [name, variables, body @ ..] = items else {
         first.note(place, Code::BadShape);
@@ -137,13 +137,13 @@ pub(crate) fn problem_of(
     let protocol = protocol_or_none(alloc, above, symbol_or_empty(name))?;
     let Parts { strands, variables } = parts_of(alloc, &protocol, &declared, body)?;
     let scope = Scope {
-        roles: &protocol.roles,
+        roles: protocol.roles(),
         variables: &declared,
         strands: &strands,
     };
     body_faults(alloc, scope, body, first)?;
     let skeleton = own_skeleton(alloc, &declared, strands, body, &variables)?;
-    Ok(Problem {
+    Ok(Draft {
         protocol,
         declared: declared.len(),
         skeleton,

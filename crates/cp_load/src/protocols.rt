@@ -2,16 +2,15 @@
 ghost use Rattle.std.specs.Prelude.{◌≡◌, [], map, option_map, IfOk, OnOk};
 ghost use Rattle.cp_base.specs.declared.place.Code.TheVariants.{DuplicateProtocol};
 ghost use Rattle.cp_sexpr.specs.View.{view};
-ghost use Rattle.cp_language.specs.Words.{is_one_of};
 ghost use Rattle.cp_language.specs.Faults.{fault};
 ghost use Rattle.cp_language.specs.Roles.{name_faults_at, algebra_faults, protocol_faults, protocol_of};
 ghost use Rattle.cp_language.specs.Problems.{protocol_named};
-ghost use Rattle.cp_skel.specs.View.{protocol_view};
 ghost use Rattle.cp_forms.specs.FirstFault.{first_onto};
-ghost use Rattle.cp_load.specs.Above.{protocols_view, names_of_protocols, turned};
+ghost use Rattle.cp_load.specs.Above.{protocols_view, turned};
 
 use crate::declarations::name_of;
 use crate::roles::roles_of;
+use crate::taken::Taken;
 use cp_base::{Code, Place, Text};
 use cp_forms::{FirstFault, is_word, place_of};
 use cp_sexpr::Form;
@@ -19,43 +18,31 @@ use cp_skel::Protocol;
 use std::alloc::{AllocError, Global};
 use std::rc::Rc;
 
-/// Whether one of the protocols has this name.
-fn is_protocol_name(protocols: &[Rc<Protocol>], name: &[u8]) -> bool
-    ensures { result ≡ is_one_of name.now (names_of_protocols (protocols_view protocols.now)) }
-{
-    for protocol in protocols {
-        if is_word(name, protocol.name.as_str().as_bytes()) {
-            return true;
-        }
-    }
-    false
-}
-
 /// The last protocol of this name.
 pub(crate) fn protocol_named<'a>(
     protocols: &'a [Rc<Protocol>],
     name: &[u8],
 ) -> Option<&'a Rc<Protocol>>
-    ensures { option_map (λ p. protocol_view p.now.value) result ≡ protocol_named (turned (protocols_view protocols.now) []) name.now }
+    ensures { option_map (λ p. p.now.value) result ≡ protocol_named (turned (protocols_view protocols.now) []) name.now }
 {
     let mut found = None;
     for protocol in protocols {
-        if is_word(protocol.name.as_str().as_bytes(), name) {
+        if is_word(protocol.name().as_str().as_bytes(), name) {
             found = Some(protocol);
         }
     }
     found
 }
 
-/// The faults of the name of a protocol, where these stand above it.
-fn protocol_name_faults(above: &[Rc<Protocol>], form: &Form, first: &mut FirstFault)
-    ensures { first.new ≡ first_onto first.old (name_faults_at (names_of_protocols (protocols_view above.now)) (λ p. fault p DuplicateProtocol) (view form.now)) }
+/// The faults of the name of a protocol, where those above it have these names.
+fn protocol_name_faults(names: &Taken, form: &Form, first: &mut FirstFault)
+    ensures { first.new ≡ first_onto first.old (name_faults_at names.now (λ p. fault p DuplicateProtocol) (view form.now)) }
 {
     let Form::Symbol(place, name) = form else {
         first.note(place_of(form), Code::BadShape);
         return;
     };
-    if is_protocol_name(above, name.as_bytes()) {
+    if names.has(name.as_str()) {
         first.note(*place, Code::DuplicateProtocol);
     }
 }
@@ -76,35 +63,29 @@ fn algebra_faults(form: &Form, first: &mut FirstFault)
 
 /// What stands where there is no protocol.
 pub(crate) fn no_protocol(alloc: Global) -> Result<Protocol, AllocError>
-    ensures { IfOk result (λ p. protocol_view p ≡ protocol_of []) }
+    ensures { IfOk result (λ p. p ≡ protocol_of []) }
 {
-    Ok(Protocol {
-        name: Text::new(alloc, "")?,
-        roles: Vec::new(alloc),
-    })
+    Ok(Protocol::new(Text::new(alloc, "")?, Vec::new(alloc)))
 }
 
-/// The protocol with these items behind its head, where these stand above it. What stands for a protocol with faults
-/// has no meaning.
+/// The protocol with these items behind its head, where those above it have these names. What stands for a protocol
+/// with faults has no meaning.
 pub(crate) fn protocol_of(
     alloc: Global,
-    above: &[Rc<Protocol>],
+    names: &Taken,
     place: Place,
     items: &[Form],
     first: &mut FirstFault,
 ) -> Result<Protocol, AllocError>
-    ensures faults { OnOk result (first.new ≡ first_onto first.old (protocol_faults (names_of_protocols (protocols_view above.now)) place (map view items.now))) }
-    ensures protocol { IfOk result (λ p. protocol_view p ≡ protocol_of (map view items.now)) }
+    ensures faults { OnOk result (first.new ≡ first_onto first.old (protocol_faults names.now place (map view items.now))) }
+    ensures protocol { IfOk result (λ p. p ≡ protocol_of (map view items.now)) }
 {
     let [name, algebra, items @ ..] = items else {
         first.note(place, Code::BadShape);
         return no_protocol(alloc);
     };
-    protocol_name_faults(above, name, first);
+    protocol_name_faults(names, name, first);
     algebra_faults(algebra, first);
     let roles = roles_of(alloc, items, first)?;
-    Ok(Protocol {
-        name: name_of(alloc, name)?,
-        roles,
-    })
+    Ok(Protocol::new(name_of(alloc, name)?, roles))
 }

@@ -5,7 +5,7 @@ ghost use Rattle.cp_base.specs.declared.place.Code.TheVariants.{DuplicateRole, D
 ghost use Rattle.cp_language.specs.Words.{is_one_of};
 ghost use Rattle.cp_language.specs.Faults.{fault};
 ghost use Rattle.cp_language.specs.Roles.{each_faults, item_faults, role_item_faults, name_faults_at, role_faults, role_of, protocol_item_faults, roles_faults, roles_in, algebra_faults, protocol_faults, protocol_of, role_name_onto, headed};
-ghost use Rattle.cp_skel.specs.View.{declaration_view, event_view, role_view, protocol_view};
+ghost use Rattle.cp_skel.specs.View.{declaration_view, event_view};
 ghost use Rattle.cp_forms.specs.FirstFault.{first_onto};
 ghost use Rattle.cp_load.specs.Named.{role_names, shared_roles_view, with_role};
 
@@ -66,7 +66,7 @@ fn is_role_name(roles: &[Rc<Role>], name: &[u8]) -> bool
     ensures { result ≡ is_one_of name.now (role_names roles.now) }
 {
     for role in roles {
-        if is_word(name, role.name.as_str().as_bytes()) {
+        if is_word(name, role.name().as_str().as_bytes()) {
             return true;
         }
     }
@@ -88,16 +88,16 @@ fn role_name_faults(before: &[Rc<Role>], form: &Form, first: &mut FirstFault)
 
 /// What stands where there is no role.
 fn no_role(alloc: Global) -> Result<Role, AllocError>
-    ensures { IfOk result (λ r. role_view r ≡ role_of []) }
+    ensures { IfOk result (λ r. r ≡ role_of []) }
 {
-    Ok(Role {
-        name: Text::new(alloc, "")?,
-        variables: Vec::new(alloc),
-        trace: Vec::new(alloc),
-        non_originating: Vec::new(alloc),
-        penetrator_non_originating: Vec::new(alloc),
-        uniquely_originating: Vec::new(alloc),
-    })
+    Ok(Role::new(
+        Text::new(alloc, "")?,
+        Vec::new(alloc),
+        Vec::new(alloc),
+        Vec::new(alloc),
+        Vec::new(alloc),
+        Vec::new(alloc),
+    ))
 }
 
 /// The role with these items behind its head, where these roles stand before it. What stands for a role with faults
@@ -110,7 +110,7 @@ fn role_of(
     first: &mut FirstFault,
 ) -> Result<Role, AllocError>
     ensures faults { OnOk result (first.new ≡ first_onto first.old (role_faults (role_names before.now) place (map view items.now))) }
-    ensures role { IfOk result (λ r. role_view r ≡ role_of (map view items.now)) }
+    ensures role { IfOk result (λ r. r ≡ role_of (map view items.now)) }
 {
     let [name, variables, trace, items @ ..] = items else {
         first.note(place, Code::BadShape);
@@ -121,14 +121,18 @@ fn role_of(
     trace_faults(&variables, trace, first);
     let trace = events_of(alloc, &variables, trace)?;
     role_items_faults(alloc, &variables, &trace, items, first)?;
-    Ok(Role {
-        name: name_of(alloc, name)?,
-        non_originating: atoms_of(alloc, &variables, Kind::Non, items)?,
-        penetrator_non_originating: atoms_of(alloc, &variables, Kind::PenetratorNon, items)?,
-        uniquely_originating: atoms_of(alloc, &variables, Kind::Unique, items)?,
+    let name = name_of(alloc, name)?;
+    let non_originating = atoms_of(alloc, &variables, Kind::Non, items)?;
+    let penetrator_non_originating = atoms_of(alloc, &variables, Kind::PenetratorNon, items)?;
+    let uniquely_originating = atoms_of(alloc, &variables, Kind::Unique, items)?;
+    Ok(Role::new(
+        name,
         variables,
         trace,
-    })
+        non_originating,
+        penetrator_non_originating,
+        uniquely_originating,
+    ))
 }
 
 /// Takes an item of a protocol; a role that it defines goes behind the others.

@@ -3,7 +3,7 @@ ghost use Rattle.std.specs.Prelude.{◌≡◌, ◌&&◌, nat_lt, nat_le, length,
 ghost use Rattle.cp_sexpr.specs.View.{view};
 ghost use Rattle.cp_language.specs.Words.{is_one_of};
 ghost use Rattle.cp_language.specs.Problems.{role_named, role_name_faults, height_faults, role_variable_faults, mapped_faults, maplet_items_faults, maplet_faults, second_term_faults, maplets_faults, maplets_faults_of, instance_faults, listener_faults, number_of};
-ghost use Rattle.cp_skel.specs.View.{declaration_view, role_view};
+ghost use Rattle.cp_skel.specs.View.{declaration_view};
 ghost use Rattle.cp_forms.specs.FirstFault.{first_onto};
 ghost use Rattle.cp_load.specs.Named.{shared_roles_view};
 ghost use Rattle.cp_load.specs.Terms.{variable_view};
@@ -20,10 +20,10 @@ use std::rc::Rc;
 
 /// The first role of this name.
 pub(crate) fn role_named<'a>(roles: &'a [Rc<Role>], name: &[u8]) -> Option<&'a Rc<Role>>
-    ensures { option_map (λ r. role_view r.now.value) result ≡ role_named (shared_roles_view roles.now) name.now }
+    ensures { option_map (λ r. r.now.value) result ≡ role_named (shared_roles_view roles.now) name.now }
 {
     for role in roles {
-        if is_word(role.name.as_str().as_bytes(), name) {
+        if is_word(role.name().as_str().as_bytes(), name) {
             return Some(role);
         }
     }
@@ -48,14 +48,14 @@ fn role_name_faults(roles: &[Rc<Role>], form: &Form, first: &mut FirstFault)
 
 /// Whether the role has a prefix of this height.
 fn is_height(role: &Role, height: usize) -> bool
-    ensures { result ≡ (nat_lt 0 height && nat_le height (length (role_view role.now).trace)) }
+    ensures { result ≡ (nat_lt 0 height && nat_le height (length role.now.trace)) }
 {
-    0 < height && height <= role.trace.len()
+    0 < height && height <= role.trace().len()
 }
 
 /// The faults of the height of an instance of a role, if that is known.
 fn height_faults(role: Option<&Rc<Role>>, form: &Form, first: &mut FirstFault)
-    ensures { first.new ≡ first_onto first.old (height_faults (option_map (λ r. role_view r.now.value) role.entry) (view form.now)) }
+    ensures { first.new ≡ first_onto first.old (height_faults (option_map (λ r. r.now.value) role.entry) (view form.now)) }
 {
     let Form::Number(place, height) = form else {
         first.note(place_of(form), Code::BadShape);
@@ -76,7 +76,7 @@ fn role_variable_faults(
     variable: Option<Variable>,
     first: &mut FirstFault,
 )
-    ensures { first.new ≡ first_onto first.old (role_variable_faults (role_view role.now) height (map declaration_view variables.now) place
+    ensures { first.new ≡ first_onto first.old (role_variable_faults role.now height (map declaration_view variables.now) place
         (option_map (λ f. view f.now) term.entry) (option_map variable_view variable)) }
 {
     let Some(variable) = variable else {
@@ -117,7 +117,7 @@ fn mapped_faults(
     term: Option<&Form>,
     first: &mut FirstFault,
 )
-    ensures { first.new ≡ first_onto first.old (mapped_faults (role_view role.now) height (map declaration_view variables.now) (mapped_names (map view before.now))
+    ensures { first.new ≡ first_onto first.old (mapped_faults role.now height (map declaration_view variables.now) (mapped_names (map view before.now))
         (view form.now) (option_map (λ f. view f.now) term.entry)) }
 {
     let Form::Symbol(place, identifier) = form else {
@@ -127,7 +127,7 @@ fn mapped_faults(
     if is_mapped(before, identifier.as_bytes()) {
         first.note(*place, Code::DuplicateVar);
     }
-    let variable = variable_named(&role.variables, identifier.as_bytes());
+    let variable = variable_named(role.variables(), identifier.as_bytes());
     role_variable_faults(role, height, variables, *place, term, variable, first);
 }
 
@@ -150,7 +150,7 @@ fn maplet_items_faults(
     items: &[Form],
     first: &mut FirstFault,
 )
-    ensures { first.new ≡ first_onto first.old (maplet_items_faults (role_view role.now) height (map declaration_view variables.now) (mapped_names (map view before.now))
+    ensures { first.new ≡ first_onto first.old (maplet_items_faults role.now height (map declaration_view variables.now) (mapped_names (map view before.now))
         place (map view items.now)) }
 {
     let Some((form, rest)) = items.split_first() else {
@@ -173,7 +173,7 @@ fn maplet_faults(
     form: &Form,
     first: &mut FirstFault,
 )
-    ensures { first.new ≡ first_onto first.old (maplet_faults (role_view role.now) height (map declaration_view variables.now) (mapped_names (map view before.now)) (view form.now)) }
+    ensures { first.new ≡ first_onto first.old (maplet_faults role.now height (map declaration_view variables.now) (mapped_names (map view before.now)) (view form.now)) }
 {
     match form {
         Form::List(place, items) => maplet_items_faults(
@@ -191,7 +191,7 @@ fn maplets_faults(
     maplets: &[Form],
     first: &mut FirstFault,
 )
-    ensures { first.new ≡ first_onto first.old (maplets_faults (role_view role.now) height (map declaration_view variables.now) [] (map view maplets.now)) }
+    ensures { first.new ≡ first_onto first.old (maplets_faults role.now height (map declaration_view variables.now) [] (map view maplets.now)) }
 {
     for (number, maplet) in maplets.iter().enumerate() {
         maplet_faults(
@@ -223,7 +223,7 @@ fn maplets_faults_of(
     maplets: &[Form],
     first: &mut FirstFault,
 )
-    ensures { first.new ≡ first_onto first.old (maplets_faults_of (option_map (λ r. role_view r.now.value) role.entry) (view height.now) (map declaration_view variables.now) (map view maplets.now)) }
+    ensures { first.new ≡ first_onto first.old (maplets_faults_of (option_map (λ r. r.now.value) role.entry) (view height.now) (map declaration_view variables.now) (map view maplets.now)) }
 {
     if let Some(role) = role {
         maplets_faults(role, number_of(height), variables, maplets, first);

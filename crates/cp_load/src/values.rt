@@ -1,16 +1,18 @@
-// The unique values of problems, and the skeletons that problems state.
+// The unique values of problems, and the parts of the skeletons that problems state.
 ghost use Rattle.std.specs.Prelude.{◌≡◌, [], map, IfOk, OnOk};
 ghost use Rattle.cp_model.specs.Problem.{numbers_from, variable_terms};
 ghost use Rattle.cp_sexpr.specs.View.{view};
 ghost use Rattle.cp_model.specs.Given.{atoms_onto, uniques_onto};
 ghost use Rattle.cp_language.specs.Problems.{unique_faults, own_uniques, own_assumptions, is_precedes_item, pairs_in, own_skeleton};
 ghost use Rattle.cp_language.specs.Roles.{headed, item_or_none, atoms_in, forms_under, is_unique_item};
-ghost use Rattle.cp_skel.specs.View.{declaration_view, pair_view, strand_view, unique_view, assumptions_view, skeleton_view};
+ghost use Rattle.cp_skel.specs.View.{declaration_view, pair_view, strand_view, skeleton_view};
 ghost use Rattle.cp_skel.specs.Trees.{variables_view};
 ghost use Rattle.cp_forms.specs.FirstFault.{first_onto};
+ghost use Rattle.cp_load.specs.Drafts.{skeleton_drafted};
 ghost use Rattle.cp_load.specs.Kinds.{is_of_kind};
 
 use crate::assumptions::{Kind, atom_of, atoms_of};
+use crate::drafts::SkeletonDraft;
 use crate::faults::atom_faults;
 use crate::originating::{add_own_uniques, originates};
 use crate::pairs::add_pairs;
@@ -20,8 +22,8 @@ use cp_base::Code;
 use cp_forms::{FirstFault, ItemHead, headed, item_head, items_behind, place_of};
 use cp_sexpr::Form;
 use cp_skel::{
-    Assumptions, Atom, Declaration, FromProblem, Order, OrderPair, Skeleton, Strand, UniqueAt,
-    add_atoms, add_given,
+    Assumptions, Atom, Declaration, FromProblem, Order, OrderPair, Strand, UniqueAt, add_atoms,
+    add_given,
 };
 use cp_term::{Term, VarTable};
 use std::alloc::{AllocError, Global};
@@ -67,7 +69,7 @@ fn own_uniques(
     strands: &[Strand],
     body: &[Form],
 ) -> Result<Vec<UniqueAt>, AllocError>
-    ensures { IfOk result (λ v. map unique_view v.items ≡ uniques_onto [] (own_uniques (map strand_view strands.now)
+    ensures { IfOk result (λ v. v.items ≡ uniques_onto [] (own_uniques (map strand_view strands.now)
         (atoms_in (map declaration_view declared.now) (forms_under is_unique_item (map view body.now))))) }
 {
     let values = atoms_of(alloc, declared, Kind::Unique, body)?;
@@ -83,13 +85,13 @@ fn own_assumptions(
     strands: &[Strand],
     body: &[Form],
 ) -> Result<Assumptions, AllocError>
-    ensures { IfOk result (λ a. assumptions_view a ≡ own_assumptions (map declaration_view declared.now) (map strand_view strands.now) (map view body.now)) }
+    ensures { IfOk result (λ a. a ≡ own_assumptions (map declaration_view declared.now) (map strand_view strands.now) (map view body.now)) }
 {
-    Ok(Assumptions {
-        non_originating: own_atoms(alloc, declared, Kind::Non, body)?,
-        penetrator_non_originating: own_atoms(alloc, declared, Kind::PenetratorNon, body)?,
-        uniquely_originating: own_uniques(alloc, declared, strands, body)?,
-    })
+    Ok(Assumptions::new(
+        own_atoms(alloc, declared, Kind::Non, body)?,
+        own_atoms(alloc, declared, Kind::PenetratorNon, body)?,
+        own_uniques(alloc, declared, strands, body)?,
+    ))
 }
 
 /// Whether an item orders nodes.
@@ -150,32 +152,32 @@ fn table_of(alloc: Global, variables: &[Declaration]) -> Result<VarTable, AllocE
     Ok(table)
 }
 
-/// The skeleton of a problem with these strands, which declares these variables, and all of whose variables are these:
-/// it maps to itself.
+/// The parts of the skeleton of a problem with these strands, which declares these variables, and all of whose variables
+/// are these: it maps to itself.
 pub(crate) fn own_skeleton(
     alloc: Global,
     declared: &[Declaration],
     strands: Vec<Strand>,
     body: &[Form],
     all: &[Declaration],
-) -> Result<Skeleton, AllocError>
-    ensures skeleton { IfOk result (λ k. skeleton_view k ≡ own_skeleton (map declaration_view declared.now) (map strand_view strands.items) (map view body.now) (map declaration_view all.now)) }
+) -> Result<SkeletonDraft, AllocError>
+    ensures skeleton { IfOk result (λ k. skeleton_view (skeleton_drafted k) ≡ own_skeleton (map declaration_view declared.now) (map strand_view strands.items) (map view body.now) (map declaration_view all.now)) }
     ensures variables { IfOk result (λ k. variables_view k.variables ≡ map declaration_view all.now) }
 {
     let own = own_assumptions(alloc, declared, &strands, body)?;
     let mut assumptions = own.copy(alloc)?;
     add_given(alloc, &strands, &mut assumptions)?;
     let pairs = pairs_of(alloc, body)?;
-    Ok(Skeleton {
+    Ok(SkeletonDraft {
         variables: table_of(alloc, all)?,
         order: Order::of(Vec::from_slice(alloc, &pairs)?),
         assumptions,
-        from_problem: FromProblem {
-            strands: numbers_of(alloc, &strands)?,
-            values: variable_terms(alloc, all)?,
-            assumptions: own,
+        from_problem: FromProblem::new(
+            numbers_of(alloc, &strands)?,
+            variable_terms(alloc, all)?,
+            own,
             pairs,
-        },
+        ),
         strands,
     })
 }

@@ -5,21 +5,20 @@ use Rattle.cp_model.specs.Term.{Assignment}
 use Rattle.cp_model.specs.Homomorphism.{substitution_by}
 use Rattle.cp_model.specs.Strand.{Role}
 use Rattle.cp_unify.specs.Bindings.{Binding}
-use Rattle.cp_skel.specs.View.{role_view}
-use Rattle.cp_skel.specs.declared.skeleton.Instance.{Instance}
+use Rattle.cp_skel.specs.declared.strand.Instance.{Instance}
 use Rattle.cp_normal.specs.Extending.{IsExactFor}
 use Rattle.cp_normal.specs.Partials.{AlsoEqual, IsNever}
 use Rattle.cp_normal.specs.Partitions.{HaveEqualValues}
 use Rattle.cp_normal.proofs.Exact.{exact_same}
 
-pub equal_other : (given : List Binding) (a b : Instance) → role_view a.role.value ≡ role_view b.role.value → (g : Assignment) → AlsoEqual given b a g → AlsoEqual given a b g
+pub equal_other : (given : List Binding) (a b : Instance) → a.role ≡ b.role → (g : Assignment) → AlsoEqual given b a g → AlsoEqual given a b g
 equal_other given a b same g f =
-    (f.0, subst (λ (r : Role). HaveEqualValues r a.height (substitution_by a.values.items) b.height (substitution_by b.values.items) g) (sym same) (λ x i j. sym (f.1 x j i)))
+    (f.0, subst (λ (r : Role). HaveEqualValues r a.height (substitution_by a.values) b.height (substitution_by b.values) g) (sym same) (λ x i j. sym (f.1 x j i)))
 
-pub never_other : (given : List Binding) (a b : Instance) → role_view a.role.value ≡ role_view b.role.value → IsNever (AlsoEqual given b a) → IsNever (AlsoEqual given a b)
+pub never_other : (given : List Binding) (a b : Instance) → a.role ≡ b.role → IsNever (AlsoEqual given b a) → IsNever (AlsoEqual given a b)
 never_other given a b same never g f = never g (equal_other given b a (sym same) g f)
 
-pub exact_other : (given : List Binding) (a b : Instance) → role_view a.role.value ≡ role_view b.role.value → (r : List Binding) → IsExactFor (AlsoEqual given b a) r → IsExactFor (AlsoEqual given a b) r
+pub exact_other : (given : List Binding) (a b : Instance) → a.role ≡ b.role → (r : List Binding) → IsExactFor (AlsoEqual given b a) r → IsExactFor (AlsoEqual given a b) r
 exact_other given a b same r = exact_same (AlsoEqual given b a) (AlsoEqual given a b) r (equal_other given a b same) (equal_other given b a (sym same))
 
 -- ---- an answer that is none, or has a property

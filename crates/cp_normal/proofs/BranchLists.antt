@@ -9,7 +9,7 @@ use Rattle.cp_completeness.specs.Normal.{skeleton_under}
 use Rattle.cp_unify.specs.Bindings.{Binding, as_substitution}
 use Rattle.cp_unify.specs.Unifiers.{IsMostGeneral, HasNoUnifier}
 use Rattle.cp_skel.specs.View.{skeleton_view}
-use Rattle.cp_skel.specs.declared.skeleton.Skeleton.{Skeleton}
+use Rattle.cp_skel.specs.Data.{SkeletonData as Skeleton}
 use Rattle.cp_normal.specs.Agreeing.{SaysTheSame}
 use Rattle.cp_normal.specs.Narrowing.{IsMostGeneralFor}
 use Rattle.cp_normal.specs.Branching.{NeverEqual, HasBranch}

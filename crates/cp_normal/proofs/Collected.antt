@@ -8,7 +8,7 @@ use Rattle.cp_model.specs.Skeleton.{SkeletonStrand, Assumptions, OrderPair, Skel
 use Rattle.cp_model.proofs.LawLists.{variables_of_higher}
 use Rattle.cp_unify.specs.Bindings.{Binding, as_substitution}
 use Rattle.cp_skel.specs.View.{strand_view}
-use Rattle.cp_skel.specs.declared.skeleton.Strand.{Strand}
+use Rattle.cp_skel.specs.Data.{StrandData as Strand}
 use Rattle.cp_normal.specs.Agreeing.{AreSameStrands, no_strands, same_strands}
 use Rattle.cp_normal.specs.Collapsing.{ArePairsIn, LiesOnOne, assumptions_in, IsFromProblemIn, IsCollapsed, HasNoCycle, HasPairBackward, IsImpossible}
 use Rattle.cp_normal.specs.Cycles.{IsClosedAt}

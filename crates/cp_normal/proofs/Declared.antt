@@ -7,7 +7,7 @@ use Rattle.cp_completeness.specs.Normal.{skeleton_under}
 use Rattle.cp_completeness.proofs.Under.{instance_of_under}
 use Rattle.cp_skel.specs.DeclaredPrefixes.{HasDeclaredPrefixes}
 use Rattle.cp_skel.specs.View.{skeleton_view}
-use Rattle.cp_skel.specs.declared.skeleton.Skeleton.{Skeleton as Program}
+use Rattle.cp_skel.specs.Data.{SkeletonData as Program}
 use Rattle.cp_normal.specs.Agreeing.{SaysTheSame}
 use Rattle.cp_normal.specs.Narrowing.{IsNarrowed, NarrowsTo, none, one, IsNormalFormOf}
 use Rattle.cp_normal.specs.Collapsing.{IsCollapsed, AreCollapsesBy, no_collapses, collapse_by, AreCollapses}

@@ -3,7 +3,7 @@ use Rattle.std.proofs.Common.{◌≡◌, ◌⊎◌, inl, inr, ℕ, suc, ◌≤�
 use Rattle.cp_model.specs.Lists.{item_at, IsIn}
 use Rattle.cp_model.specs.Skeleton.{Skeleton}
 use Rattle.cp_model.proofs.LawLists.{item_below, in_append}
-use Rattle.cp_skel.specs.declared.skeleton.Skeleton.{Skeleton as Program}
+use Rattle.cp_skel.specs.Data.{SkeletonData as Program}
 use Rattle.cp_normal.specs.Collapsing.{IsCollapsed, HasNoCycle, IsImpossible, AreCollapses}
 use Rattle.cp_normal.specs.Extending.{ArePartitionsOfFirst, AreCollapsedTo}
 use Rattle.cp_normal.specs.Partitions.{IsPartition, finest}

@@ -8,7 +8,7 @@ use Rattle.cp_model.specs.Skeleton.{UniqueAt, Skeleton}
 use Rattle.cp_model.proofs.LawLists.{in_append, in_append_left, in_append_right}
 use Rattle.cp_skel.specs.DeclaredPrefixes.{HasDeclaredPrefixes}
 use Rattle.cp_skel.specs.View.{skeleton_view}
-use Rattle.cp_skel.specs.declared.skeleton.Skeleton.{Skeleton as Program}
+use Rattle.cp_skel.specs.Data.{SkeletonData as Program}
 use Rattle.cp_skel.proofs.EachOnce.{listed-unique}
 use Rattle.cp_normal.specs.declared.candidates.Candidate.{Candidate}
 use Rattle.cp_normal.specs.declared.candidates.Candidate.TheVariants.{Open, Settled}

@@ -7,8 +7,6 @@ use Rattle.cp_model.specs.Bundle.{Node, node_at}
 use Rattle.cp_model.specs.Skeleton.{SkeletonStrand, instance, listener, skeleton_trace_or_none, term_event_at, UniqueAt, OrderPair, Skeleton}
 use Rattle.cp_model.specs.Derivable.{IsOnInstance}
 use Rattle.cp_model.specs.Realising.{OriginatesAtTerm}
-use Rattle.cp_skel.specs.View.{unique_view}
-use Rattle.cp_skel.specs.declared.skeleton.UniqueAt.{UniqueAt as Entry}
 use Rattle.cp_skel.specs.Events.{Occurrence, occurrence_view, events_of}
 use Rattle.cp_normal.specs.Events.{Has, Gathers, is_instance, CarriesOne, IsElsewhere, IsSentAtOrigin, IsCarriedBefore, IsPairBetween}
 use Rattle.cp_normal.specs.Normalising.{CarriesNonOriginating, HasTwoOrigins, LosesOrigin, IsAddedPair}
@@ -76,44 +74,44 @@ if_on_instance k n on = ap is_instance on.on_instance
 
 -- ---- entries of unique values
 
-module _ (k : Skeleton) (all read : List Entry) (are_uniques : map unique_view all ≡ k.assumptions.uniquely_originating) (is_read : read ≡ all) where
-  the_uniques : map unique_view read ≡ k.assumptions.uniquely_originating
-  the_uniques = ap (map unique_view) is_read ∙ are_uniques
+module _ (k : Skeleton) (all read : List UniqueAt) (are_uniques : all ≡ k.assumptions.uniquely_originating) (is_read : read ≡ all) where
+  the_uniques : read ≡ k.assumptions.uniquely_originating
+  the_uniques = is_read ∙ are_uniques
 
-  pub unique_has : (has : UniqueAt → Type 0) → Has (λ u. has (unique_view u)) read → Has has k.assumptions.uniquely_originating
-  unique_has has h = subst (Has has) the_uniques (of_views unique_view has read h)
+  pub unique_has : (has : UniqueAt → Type 0) → Has has read → Has has k.assumptions.uniquely_originating
+  unique_has has h = subst (Has has) the_uniques h
 
-  pub has_unique : (has : UniqueAt → Type 0) → Has has k.assumptions.uniquely_originating → Has (λ u. has (unique_view u)) read
-  has_unique has h = to_views unique_view has read (subst (Has has) (sym the_uniques) h)
+  pub has_unique : (has : UniqueAt → Type 0) → Has has k.assumptions.uniquely_originating → Has has read
+  has_unique has h = subst (Has has) (sym the_uniques) h
 
-  pub two_origins_if_found : Has (λ u. Has (λ w. IsElsewhere (unique_view u) (unique_view w)) read) read → HasTwoOrigins k
+  pub two_origins_if_found : Has (λ u. Has (λ w. IsElsewhere u w) read) read → HasTwoOrigins k
   two_origins_if_found h =
-      let r : Has (λ u. Has (λ w. IsElsewhere u (unique_view w)) read) k.assumptions.uniquely_originating = unique_has (λ u. Has (λ w. IsElsewhere u (unique_view w)) read) h in
+      let r : Has (λ u. Has (λ w. IsElsewhere u w) read) k.assumptions.uniquely_originating = unique_has (λ u. Has (λ w. IsElsewhere u w) read) h in
       let s : Has (IsElsewhere r.0) k.assumptions.uniquely_originating = unique_has (IsElsewhere r.0) r.2 in
       record { first = r.0; second = s.0; first_listed = r.1; second_listed = s.1; same_value = s.2.0; elsewhere = s.2.1 }
 
-  pub found_if_two_origins : HasTwoOrigins k → Has (λ u. Has (λ w. IsElsewhere (unique_view u) (unique_view w)) read) read
+  pub found_if_two_origins : HasTwoOrigins k → Has (λ u. Has (λ w. IsElsewhere u w) read) read
   found_if_two_origins t =
-      has_unique (λ u. Has (λ w. IsElsewhere u (unique_view w)) read) (t.first, t.first_listed, has_unique (IsElsewhere t.first) (t.second, t.second_listed, (t.same_value, t.elsewhere)))
+      has_unique (λ u. Has (λ w. IsElsewhere u w) read) (t.first, t.first_listed, has_unique (IsElsewhere t.first) (t.second, t.second_listed, (t.same_value, t.elsewhere)))
 
-  pub loses_if_found : Has (λ u. OriginatesAtTerm k (unique_view u).value (unique_view u).origin → ⊥) read → LosesOrigin k
+  pub loses_if_found : Has (λ u. OriginatesAtTerm k u.value u.origin → ⊥) read → LosesOrigin k
   loses_if_found h =
       let r : Has (λ u. OriginatesAtTerm k u.value u.origin → ⊥) k.assumptions.uniquely_originating = unique_has (λ u. OriginatesAtTerm k u.value u.origin → ⊥) h in
       record { entry = r.0; listed = r.1; lost = r.2 }
 
-  pub found_if_loses : LosesOrigin k → Has (λ u. OriginatesAtTerm k (unique_view u).value (unique_view u).origin → ⊥) read
+  pub found_if_loses : LosesOrigin k → Has (λ u. OriginatesAtTerm k u.value u.origin → ⊥) read
   found_if_loses l = has_unique (λ u. OriginatesAtTerm k u.value u.origin → ⊥) (l.entry, l.listed, l.lost)
 
 -- ---- pairs
 
-module _ (k : Skeleton) (all read : List program.Occurrence) (listed : map occurrence_view all ≡ events_of k) (is_read : read ≡ all) (entries read_entries : List Entry)
-    (are_uniques : map unique_view entries ≡ k.assumptions.uniquely_originating) (entries_read : read_entries ≡ entries) where
+module _ (k : Skeleton) (all read : List program.Occurrence) (listed : map occurrence_view all ≡ events_of k) (is_read : read ≡ all) (entries read_entries : List UniqueAt)
+    (are_uniques : entries ≡ k.assumptions.uniquely_originating) (entries_read : read_entries ≡ entries) where
   abbrev AreGiven : OrderPair → Type 0
-  AreGiven p = Has (λ o. Has (λ u. IsPairBetween (occurrence_view o) (unique_view u) p) read_entries) read
+  AreGiven p = Has (λ o. Has (λ u. IsPairBetween (occurrence_view o) u p) read_entries) read
 
   pub added_if_given : (p : OrderPair) → AreGiven p → IsAddedPair k p
   added_if_given p h =
-      let r : Has (λ o. Has (λ u. IsPairBetween o (unique_view u) p) read_entries) (events_of k) = listed_has k all read listed is_read (λ o. Has (λ u. IsPairBetween o (unique_view u) p) read_entries) h in
+      let r : Has (λ o. Has (λ u. IsPairBetween o u p) read_entries) (events_of k) = listed_has k all read listed is_read (λ o. Has (λ u. IsPairBetween o u p) read_entries) h in
       let s : Has (λ u. IsPairBetween r.0 u p) k.assumptions.uniquely_originating = unique_has k entries read_entries are_uniques entries_read (λ u. IsPairBetween r.0 u p) r.2 in
       let e : p ≡ record { earlier = s.0.origin; later = r.0.node } = s.2.4 in
       let at : term_event_at k.strands r.0.node ≡ Some r.0.event = listed_event k r.0 r.1 in (
@@ -132,7 +130,7 @@ module _ (k : Skeleton) (all read : List program.Occurrence) (listed : map occur
   given_if_added p a =
       let o = a.0 in
       let e : p ≡ record { earlier = o.entry.origin; later = p.later } = λ i. record { earlier = o.from_origin i; later = p.later } in
-      has_listed k all read listed is_read (λ o. Has (λ u. IsPairBetween o (unique_view u) p) read_entries) (
+      has_listed k all read listed is_read (λ o. Has (λ u. IsPairBetween o u p) read_entries) (
         occurrence_at k p.later (recv o.received),
         listed_at k p.later (recv o.received) o.reception,
         has_unique k entries read_entries are_uniques entries_read (λ u. IsPairBetween (occurrence_at k p.later (recv o.received)) u p)
@@ -143,5 +141,5 @@ module _ (k : Skeleton) (all read : List program.Occurrence) (listed : map occur
   none_first p old e (inl h) = elim (subst (IsIn p) e h) [ ]
   none_first p old e (inr h) = h
 
-  pub added_exactly : (old new : List OrderPair) → old ≡ [] → Gathers (λ o p. Has (λ u. IsPairBetween (occurrence_view o) (unique_view u) p) read_entries) read old new → (p : OrderPair) → IsIn p new ↔ IsAddedPair k p
+  pub added_exactly : (old new : List OrderPair) → old ≡ [] → Gathers (λ o p. Has (λ u. IsPairBetween (occurrence_view o) u p) read_entries) read old new → (p : OrderPair) → IsIn p new ↔ IsAddedPair k p
   added_exactly old new e gathers p = (λ h. added_if_given p (none_first p old e ((gathers p).0 h)), λ a. (gathers p).1 (inr (given_if_added p a)))

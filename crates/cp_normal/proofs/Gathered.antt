@@ -6,7 +6,7 @@ use Rattle.cp_model.specs.Skeleton.{OrderPair, Skeleton}
 use Rattle.cp_model.proofs.LawLists.{in_append, in_append_left, in_append_right}
 use Rattle.cp_completeness.specs.Normal.{with_pairs}
 use Rattle.cp_skel.specs.View.{skeleton_view}
-use Rattle.cp_skel.specs.declared.skeleton.Skeleton.{Skeleton as Program}
+use Rattle.cp_skel.specs.Data.{SkeletonData as Program}
 use Rattle.cp_normal.specs.declared.candidates.Candidate.{Candidate}
 use Rattle.cp_normal.specs.Normalising.{AreNormalPairs, IsContradictory}
 use Rattle.cp_normal.specs.Branching.{IsSettled, AreFormsBeside}
@@ -89,9 +89,6 @@ all_forms candidates all left forms e done part = record {
       (part.exact (λ c i. settled c (back_of candidates c (subst (IsIn c) e i))) [] none_left));
   variables = λ r i. let v = part.variables r i in (v.0, back_of candidates v.0 (subst (IsIn v.0) e v.1), v.2);
 }
-
-pub form_in : (candidates all left rest : List Candidate) (forms : List Program) (c : Candidate) → all ≡ reverse candidates → AreFormsSoFar all left forms → left ≡ rest ++ c ∷ [] → IsIn c candidates
-form_in candidates all left rest forms c e part popped = back_of candidates c (subst (IsIn c) e (part.each_left c (subst (IsIn c) (sym popped) (in_append_right rest here))))
 
 pub form_made : (l r : Program) (old new : List Program) (pairs : List OrderPair) → AreNormalPairs (skeleton_view l) pairs × (IsContradictory (skeleton_view l) → ⊥) → skeleton_view r ≡ with_pairs (skeleton_view l) pairs → r.variables ≡ l.variables → new ≡ old ++ r ∷ [] → PutsForm l old new
 form_made l r old new pairs n same variables e = form {r = r} (record { pairs = pairs; normal = n.0; consistent = n.1; same = same; variables = variables }) e

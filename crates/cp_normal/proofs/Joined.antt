@@ -10,11 +10,10 @@ use Rattle.cp_model.proofs.LawLists.{item_below, map_of_item}
 use Rattle.cp_unify.specs.Bindings.{Binding, Meets}
 use Rattle.cp_skel.specs.Changing.{IsClosedPrefix}
 use Rattle.cp_skel.specs.DeclaredPrefixes.{HasDeclaredPrefixes}
-use Rattle.cp_skel.specs.View.{role_view, instance_view, strand_view, skeleton_view}
-use Rattle.cp_skel.specs.declared.skeleton.Instance.{Instance}
-use Rattle.cp_skel.specs.declared.skeleton.Strand.{Strand}
-use Rattle.cp_skel.specs.declared.skeleton.Strand.TheVariants as strands
-use Rattle.cp_skel.specs.declared.skeleton.Skeleton.{Skeleton as Program}
+use Rattle.cp_skel.specs.View.{instance_view, instance_as_data, strand_view, skeleton_view}
+use Rattle.cp_skel.specs.declared.strand.Instance.{Instance}
+use Rattle.cp_skel.specs.Data.{StrandData as Strand}
+use Rattle.cp_skel.specs.Data.{SkeletonData as Program}
 use Rattle.cp_normal.specs.Extending.{IsPartitionOfFirst, IsExactFor, EqualAt, EqualsBlock}
 use Rattle.cp_normal.specs.Partials.{AlsoEqual, IsNever, MayNotJoin}
 use Rattle.cp_normal.specs.Partitions.{AreOfOneRole, IdentifiesValues}
@@ -34,45 +33,45 @@ alike_then ss s t u a b =
     let same : a.role ≡ b.role = cc in
     record { role = a.role; height = a.height; terms = a.terms; first = a.first; height' = b.height'; terms' = b.terms'; second = subst (λ (r : Role). item_at ss u ≡ Some (instance r b.height' b.terms')) (sym same) b.second }
 
-module _ (ss : List Strand) (s t : ℕ) (a b : Instance) (at : item_at ss s ≡ Some (strands.Instance a)) (bt : item_at ss t ≡ Some (strands.Instance b)) where
+module _ (ss : List Strand) (s t : ℕ) (a b : Instance) (at : item_at ss s ≡ Some (instance_as_data a)) (bt : item_at ss t ≡ Some (instance_as_data b)) where
   viewed_first : item_at (map strand_view ss) s ≡ Some (instance_view a)
-  viewed_first = map_of_item strand_view ss s (strands.Instance a) at
+  viewed_first = map_of_item strand_view ss s (instance_as_data a) at
 
   viewed_second : item_at (map strand_view ss) t ≡ Some (instance_view b)
-  viewed_second = map_of_item strand_view ss t (strands.Instance b) bt
+  viewed_second = map_of_item strand_view ss t (instance_as_data b) bt
 
-  pub alike_if : role_view a.role.value ≡ role_view b.role.value → AreOfOneRole (map strand_view ss) s t
+  pub alike_if : a.role ≡ b.role → AreOfOneRole (map strand_view ss) s t
   alike_if same = record {
-    role = role_view a.role.value;
+    role = a.role;
     height = a.height;
-    terms = substitution_by a.values.items;
+    terms = substitution_by a.values;
     first = viewed_first;
     height' = b.height;
-    terms' = substitution_by b.values.items;
-    second = viewed_second ∙ ap (λ (r : Role). Some (instance r b.height (substitution_by b.values.items))) (sym same);
+    terms' = substitution_by b.values;
+    second = viewed_second ∙ ap (λ (r : Role). Some (instance r b.height (substitution_by b.values))) (sym same);
   }
 
-  pub if_alike : AreOfOneRole (map strand_view ss) s t → role_view a.role.value ≡ role_view b.role.value
+  pub if_alike : AreOfOneRole (map strand_view ss) s t → a.role ≡ b.role
   if_alike o =
-      let e : Some (instance (role_view a.role.value) a.height (substitution_by a.values.items)) ≡ Some (instance o.role o.height o.terms) = sym viewed_first ∙ o.first in
-      let f : Some (instance (role_view b.role.value) b.height (substitution_by b.values.items)) ≡ Some (instance o.role o.height' o.terms') = sym viewed_second ∙ o.second in
-      let p : role_view a.role.value ≡ o.role = cc in
-      let q : role_view b.role.value ≡ o.role = cc in
+      let e : Some (instance a.role a.height (substitution_by a.values)) ≡ Some (instance o.role o.height o.terms) = sym viewed_first ∙ o.first in
+      let f : Some (instance b.role b.height (substitution_by b.values)) ≡ Some (instance o.role o.height' o.terms') = sym viewed_second ∙ o.second in
+      let p : a.role ≡ o.role = cc in
+      let q : b.role ≡ o.role = cc in
       p ∙ sym q
 
   -- Equal values of the strands are those of the instances.
-  module _ (k : Skeleton) (same_strands : k.strands ≡ map strand_view ss) (same : role_view a.role.value ≡ role_view b.role.value) (given : List Binding) where
-    first_in : item_at k.strands s ≡ Some (instance (role_view a.role.value) a.height (substitution_by a.values.items))
+  module _ (k : Skeleton) (same_strands : k.strands ≡ map strand_view ss) (same : a.role ≡ b.role) (given : List Binding) where
+    first_in : item_at k.strands s ≡ Some (instance a.role a.height (substitution_by a.values))
     first_in = ap (λ (xs : List SkeletonStrand). item_at xs s) same_strands ∙ viewed_first
 
-    second_in : item_at k.strands t ≡ Some (instance (role_view a.role.value) b.height (substitution_by b.values.items))
-    second_in = ap (λ (xs : List SkeletonStrand). item_at xs t) same_strands ∙ viewed_second ∙ ap (λ (r : Role). Some (instance r b.height (substitution_by b.values.items))) (sym same)
+    second_in : item_at k.strands t ≡ Some (instance a.role b.height (substitution_by b.values))
+    second_in = ap (λ (xs : List SkeletonStrand). item_at xs t) same_strands ∙ viewed_second ∙ ap (λ (r : Role). Some (instance r b.height (substitution_by b.values))) (sym same)
 
     to_strands : (g : Assignment) → AlsoEqual given a b g → Meets g given × EqualAt k s t g
-    to_strands g f = (f.0, equal_at_instances k s t g (role_view a.role.value) a.height (substitution_by a.values.items) b.height (substitution_by b.values.items) first_in second_in f.1)
+    to_strands g f = (f.0, equal_at_instances k s t g a.role a.height (substitution_by a.values) b.height (substitution_by b.values) first_in second_in f.1)
 
     of_strands : (g : Assignment) → Meets g given × EqualAt k s t g → AlsoEqual given a b g
-    of_strands g f = (f.0, f.1 (role_view a.role.value) a.height (substitution_by a.values.items) b.height (substitution_by b.values.items) first_in second_in)
+    of_strands g f = (f.0, f.1 a.role a.height (substitution_by a.values) b.height (substitution_by b.values) first_in second_in)
 
     pub never_strands : IsNever (AlsoEqual given a b) → IsNever (λ g. Meets g given × EqualAt k s t g)
     never_strands never g f = never g (of_strands g f)
@@ -81,8 +80,8 @@ module _ (ss : List Strand) (s t : ℕ) (a b : Instance) (at : item_at ss s ≡ 
     exact_strands r = exact_same (AlsoEqual given a b) (λ g. Meets g given × EqualAt k s t g) r to_strands of_strands
 
 -- The role of an instance declares the variables of its prefix.
-pub declared_at : (k : Program) (s : ℕ) (a : Instance) → HasDeclaredPrefixes (skeleton_view k) → item_at k.strands.items s ≡ Some (strands.Instance a) → IsClosedPrefix (role_view a.role.value) a.height
-declared_at k s a all e = all s (role_view a.role.value) a.height (substitution_by a.values.items) (map_of_item strand_view k.strands.items s (strands.Instance a) e)
+pub declared_at : (k : Program) (s : ℕ) (a : Instance) → HasDeclaredPrefixes (skeleton_view k) → item_at k.strands s ≡ Some (instance_as_data a) → IsClosedPrefix a.role a.height
+declared_at k s a all e = all s a.role a.height (substitution_by a.values) (map_of_item strand_view k.strands s (instance_as_data a) e)
 
 -- ---- strand by strand of a block
 

@@ -23,7 +23,7 @@ in_own k pairs normal p (inr a) = (normal p).1 (inr (added_of k pairs p a))
 normal_again : (k : Skeleton) (pairs : List OrderPair) → AreNormalPairs k pairs → AreNormalPairs (with_pairs k pairs) pairs
 normal_again k pairs normal p = (λ i. inl i, in_own k pairs normal p)
 
-between : (protocol : Protocol) (k : Skeleton) → IsSkeleton protocol k → (p : OrderPair) → IsIn p k.pairs ⊎ IsAddedPair k p → p.earlier.strand ≢ p.later.strand
+pub between : (protocol : Protocol) (k : Skeleton) → IsSkeleton protocol k → (p : OrderPair) → IsIn p k.pairs ⊎ IsAddedPair k p → p.earlier.strand ≢ p.later.strand
 between protocol k sk p (inl own) = (sk.order_pairs p own).between_strands
 between protocol k sk p (inr added) = added.1
 

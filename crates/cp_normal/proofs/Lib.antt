@@ -73,3 +73,4 @@ pub mod VariablesOfCollapses
 pub mod Within
 pub mod FormsOf
 pub mod BySubstitution
+pub mod SoundSkeletons

@@ -3,10 +3,9 @@ use Rattle.std.proofs.Common.{◌≡◌, ◌⊎◌, inl, inr, List, map, sym, su
 use Rattle.cp_model.specs.Lists.{IsIn}
 use Rattle.cp_model.specs.Bundle.{Node}
 use Rattle.cp_model.specs.Skeleton.{UniqueAt, OrderPair, Skeleton, Before, IsOrderPair, IsOrigin}
-use Rattle.cp_skel.specs.View.{pair_view, unique_view}
+use Rattle.cp_skel.specs.View.{pair_view}
 use Rattle.cp_skel.specs.Leading.{Target}
 use Rattle.cp_skel.specs.declared.skeleton.OrderPair.{OrderPair as Pair}
-use Rattle.cp_skel.specs.declared.skeleton.UniqueAt.{UniqueAt as Entry}
 use Rattle.cp_normal.specs.Events.{Has}
 use Rattle.cp_normal.specs.Cycles.{LeadsOn, IsClosedAt}
 use Rattle.cp_normal.specs.Normalising.{CarriesNonOriginating, HasTwoOrigins, LosesOrigin, ClosesCycle, AreNormalPairs, IsContradictory}
@@ -24,15 +23,15 @@ if_closed pairs n l e h = subst (λ (l : Target). Has (λ p. LeadsOn l.pairs n l
 
 -- ---- the answer
 
-module _ (k : Skeleton) (pairs read : List Pair) (entries read_entries : List Entry) (normal : AreNormalPairs k (map pair_view pairs)) (is_read : read ≡ pairs)
-    (are_uniques : map unique_view entries ≡ k.assumptions.uniquely_originating) (entries_read : read_entries ≡ entries)
+module _ (k : Skeleton) (pairs read : List Pair) (entries read_entries : List UniqueAt) (normal : AreNormalPairs k (map pair_view pairs)) (is_read : read ≡ pairs)
+    (are_uniques : entries ≡ k.assumptions.uniquely_originating) (entries_read : read_entries ≡ entries)
     (own : (p : OrderPair) → IsIn p k.pairs → IsOrderPair k p) (no_cycle : (n : Node) → Before k n n → ⊥) (origins : (u : UniqueAt) → IsIn u k.assumptions.uniquely_originating → IsOrigin k u) where
-  pub cycle_if_found : Has (λ u. IsClosedAt (map pair_view read) (unique_view u).origin) read_entries → ClosesCycle k
+  pub cycle_if_found : Has (λ u. IsClosedAt (map pair_view read) u.origin) read_entries → ClosesCycle k
   cycle_if_found h =
       let r : Has (λ u. IsClosedAt (map pair_view read) u.origin) k.assumptions.uniquely_originating = unique_has k entries read_entries are_uniques entries_read (λ u. IsClosedAt (map pair_view read) u.origin) h in
       cycle_if_closed k (map pair_view pairs) normal own origins (subst (λ (ps : List Pair). Has (λ u. IsClosedAt (map pair_view ps) u.origin) k.assumptions.uniquely_originating) is_read r)
 
-  pub found_if_cycle : ClosesCycle k → Has (λ u. IsClosedAt (map pair_view read) (unique_view u).origin) read_entries
+  pub found_if_cycle : ClosesCycle k → Has (λ u. IsClosedAt (map pair_view read) u.origin) read_entries
   found_if_cycle c =
       let r : Has (λ u. IsClosedAt (map pair_view pairs) u.origin) k.assumptions.uniquely_originating = closed_if_cycle k (map pair_view pairs) normal no_cycle c.node (cycle_of_these k (map pair_view pairs) normal c) in
       let s : Has (λ u. IsClosedAt (map pair_view read) u.origin) k.assumptions.uniquely_originating = subst (λ (ps : List Pair). Has (λ u. IsClosedAt (map pair_view ps) u.origin) k.assumptions.uniquely_originating) (sym is_read) r in

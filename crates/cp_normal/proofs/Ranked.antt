@@ -1,19 +1,18 @@
 -- What rounds of narrowing reach, and that there is a last one.
 use Rattle.std.proofs.Common.{◌≡◌, ◌⊎◌, inl, inr, ◌<◌, ℕ, suc, List, [], ◌∷◌, map, refl, sym, ◌∙◌, subst, arith}
 use Rattle.cp_model.specs.Lists.{IsIn, here, there}
-use Rattle.cp_model.specs.Bundle.{Node}
-use Rattle.cp_model.specs.Skeleton.{Skeleton, OrderPair, UniqueAt, Before, IsOrderPair, IsOrigin, IsSkeleton}
+use Rattle.cp_model.specs.Skeleton.{Skeleton, IsSkeleton}
 use Rattle.cp_model.specs.Strand.{Protocol}
 use Rattle.cp_model.specs.Problem.{variables_of_skeleton}
 use Rattle.cp_completeness.specs.Normal.{LosesNoStanding}
 use Rattle.cp_skel.specs.DeclaredPrefixes.{HasDeclaredPrefixes}
 use Rattle.cp_skel.specs.View.{skeleton_view}
-use Rattle.cp_skel.specs.declared.skeleton.Skeleton.{Skeleton as Program}
+use Rattle.cp_skel.specs.Data.{SkeletonData as Program}
 use Rattle.cp_normal.specs.declared.candidates.Candidate.{Candidate}
 use Rattle.cp_normal.specs.declared.candidates.Candidate.TheVariants.{Open, Settled}
 use Rattle.cp_normal.specs.Branching.{IsSettled, AreNarrowedFrom, AreFormsBeside}
 use Rattle.cp_normal.specs.Narrowing.{IsNormalFormOf}
-use Rattle.cp_normal.specs.Candidates.{skeleton_of, candidate_view, IsOpen, IsSound, FallsTo, IsRound, IsInOrder, AreForms}
+use Rattle.cp_normal.specs.Candidates.{skeleton_of, candidate_view, IsOpen, IsSound, FallsTo, IsRound, AreForms}
 use Rattle.cp_normal.specs.Events.{Has}
 use Rattle.cp_normal.specs.Exact.{HaveForms}
 use Rattle.cp_normal.proofs.Distinct.{distinct}
@@ -21,7 +20,6 @@ use Rattle.cp_normal.proofs.Fewer.{fewer_counted}
 use Rattle.cp_normal.proofs.Greatest.{greatest, greatest_falls}
 use Rattle.cp_normal.proofs.Having.{IsViewed, in_map}
 use Rattle.cp_normal.proofs.Reaching.{narrowed_at_first, forms_at_first, forms_at_last}
-use Rattle.cp_normal.proofs.Rounds.{narrows_pairs, narrows_no_cycle, narrows_origins}
 
 -- ---- the measure
 
@@ -103,13 +101,3 @@ module _ (k : Program) (candidates : List Candidate) (reached : IsReached k cand
 
   pub reached_variables : (forms : List Program) → AreForms candidates forms → (r : Program) → IsIn r forms → r.variables ≡ k.variables
   reached_variables forms f r i = let v = f.variables r i in v.2 ∙ reached.variables v.0 v.1
-
-  into_map : {c : Candidate} {cs : List Candidate} → IsIn c cs → IsIn (candidate_view c) (map candidate_view cs)
-  into_map here = here
-  into_map (there p) = there (into_map p)
-
-  pub reached_in_order : ((p : OrderPair) → IsIn p (skeleton_view k).pairs → IsOrderPair (skeleton_view k) p) → ((n : Node) → Before (skeleton_view k) n n → ⊥) →
-      ((u : UniqueAt) → IsIn u (skeleton_view k).assumptions.uniquely_originating → IsOrigin (skeleton_view k) u) → (c : Candidate) → IsIn c candidates → IsInOrder (candidate_view c)
-  reached_in_order pairs no_cycle origins c i =
-      let steps = reached.narrowed.by_steps (candidate_view c) (into_map i) in
-      record { order_pairs = narrows_pairs steps pairs; no_cycle = narrows_no_cycle steps no_cycle; origins = narrows_origins steps origins }

@@ -1,16 +1,14 @@
 -- Steps of narrowing, one after the other, and rounds of them: what a skeleton has they keep, and they lose no standing.
-use Rattle.std.proofs.Common.{◌⊎◌, inl, inr, List, [], ◌∷◌, ◌++◌, subst}
+use Rattle.std.proofs.Common.{◌⊎◌, inl, inr, List, [], ◌∷◌, ◌++◌}
 use Rattle.cp_model.specs.Lists.{IsIn, here, there}
 use Rattle.cp_model.specs.Strand.{Protocol}
-use Rattle.cp_model.specs.Bundle.{Node}
-use Rattle.cp_model.specs.Skeleton.{UniqueAt, OrderPair, Skeleton, Before, IsOrderPair, IsOrigin, IsSkeleton}
+use Rattle.cp_model.specs.Skeleton.{Skeleton, IsSkeleton}
 use Rattle.cp_model.proofs.LawLists.{in_append, in_append_left, in_append_right}
-use Rattle.cp_completeness.specs.Normal.{unique_under, skeleton_under, LosesNoStanding}
-use Rattle.cp_completeness.proofs.Under.{in_map, before_of_under}
-use Rattle.cp_completeness.proofs.Skeletons.{pair_under, origin_under, skeleton_under_is_skeleton}
+use Rattle.cp_completeness.specs.Normal.{skeleton_under, LosesNoStanding}
+use Rattle.cp_completeness.proofs.Skeletons.{skeleton_under_is_skeleton}
 use Rattle.cp_completeness.proofs.Losing.{itself_alone, among_more, through_each}
 use Rattle.cp_normal.specs.Narrowing.{IsNarrowed, NarrowsTo, none, one}
-use Rattle.cp_normal.proofs.SameSkeletons.{same_order_pairs, same_no_cycle, same_origins, same_is_skeleton}
+use Rattle.cp_normal.proofs.SameSkeletons.{same_is_skeleton}
 
 -- ---- narrowing
 
@@ -21,40 +19,8 @@ narrows_then (one s p) q = one s (narrows_then p q)
 pub narrows_further : {k l m : Skeleton} → NarrowsTo k l → IsNarrowed l m → NarrowsTo k m
 narrows_further p s = narrows_then p (one s none)
 
-abbrev pub HasOrderPairs : Skeleton → Type 0
-HasOrderPairs k = (p : OrderPair) → IsIn p k.pairs → IsOrderPair k p
-
-abbrev pub HasNoCycle : Skeleton → Type 0
-HasNoCycle k = (n : Node) → Before k n n → ⊥
-
-abbrev pub HasOrigins : Skeleton → Type 0
-HasOrigins k = (u : UniqueAt) → IsIn u k.assumptions.uniquely_originating → IsOrigin k u
-
-narrowed_pairs : (k l : Skeleton) → IsNarrowed k l → HasOrderPairs k → HasOrderPairs l
-narrowed_pairs k l s all = same_order_pairs (skeleton_under s.unifier k) l s.same (λ p i. pair_under s.unifier k p (all p i))
-
-narrowed_no_cycle : (k l : Skeleton) → IsNarrowed k l → HasNoCycle k → HasNoCycle l
-narrowed_no_cycle k l s never = same_no_cycle (skeleton_under s.unifier k) l s.same (λ n before. never n (before_of_under s.unifier k before))
-
-narrowed_origins : (k l : Skeleton) → IsNarrowed k l → HasOrigins k → HasOrigins l
-narrowed_origins k l s all = same_origins (skeleton_under s.unifier k) l s.same (λ u i.
-    let m = in_map (unique_under s.unifier) k.assumptions.uniquely_originating u i in
-    subst (IsOrigin (skeleton_under s.unifier k)) m.2 (origin_under s.unifier k m.0 (all m.0 m.1)))
-
 narrowed_is_skeleton : (protocol : Protocol) (k l : Skeleton) → IsNarrowed k l → IsSkeleton protocol k → IsSkeleton protocol l
 narrowed_is_skeleton protocol k l s sk = same_is_skeleton (skeleton_under s.unifier k) l s.same protocol (skeleton_under_is_skeleton protocol s.unifier k sk)
-
-pub narrows_pairs : {k l : Skeleton} → NarrowsTo k l → HasOrderPairs k → HasOrderPairs l
-narrows_pairs none all = all
-narrows_pairs {k} (one {l = m} s p) all = narrows_pairs p (narrowed_pairs k m s all)
-
-pub narrows_no_cycle : {k l : Skeleton} → NarrowsTo k l → HasNoCycle k → HasNoCycle l
-narrows_no_cycle none never = never
-narrows_no_cycle {k} (one {l = m} s p) never = narrows_no_cycle p (narrowed_no_cycle k m s never)
-
-pub narrows_origins : {k l : Skeleton} → NarrowsTo k l → HasOrigins k → HasOrigins l
-narrows_origins none all = all
-narrows_origins {k} (one {l = m} s p) all = narrows_origins p (narrowed_origins k m s all)
 
 pub narrows_is_skeleton : (protocol : Protocol) {k l : Skeleton} → NarrowsTo k l → IsSkeleton protocol k → IsSkeleton protocol l
 narrows_is_skeleton protocol none sk = sk

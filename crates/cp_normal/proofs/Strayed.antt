@@ -6,6 +6,7 @@ use Rattle.cp_model.specs.Strand.{Event, send, payload}
 use Rattle.cp_model.specs.Bundle.{Node, node_at}
 use Rattle.cp_model.specs.Given.{listed}
 use Rattle.cp_model.specs.Skeleton.{SkeletonStrand, skeleton_trace, term_event_at, UniqueAt, Skeleton}
+use Rattle.cp_skel.specs.Deleting.{as_it_is}
 use Rattle.cp_skel.proofs.EachOnce.{listed-unique}
 use Rattle.cp_skel.proofs.EventLists.{listed_event, occurrence_at, listed_at}
 use Rattle.cp_skel.specs.Events.{Occurrence, is_role_strand, occurrences_on, occurrences_from, events_of}
@@ -64,6 +65,21 @@ module _ {A B : Type 0} (has : B → Type 0) (f : A → B) (xs : List A) (i : �
   pub none_at_all : length xs ≤ i → NoneBefore has (map f xs) i → (y : B) → IsIn y (map f xs) → has y → ⊥
   none_at_all l inv y m h = let r = place_of (map f xs) m in none_of y r.0 inv (before_or_past r.0 l) r.1 h
 
+-- The same of items that are what they show.
+as_they_are : {A : Type 0} (xs : List A) → map as_it_is xs ≡ xs
+as_they_are [] = refl
+as_they_are (x ∷ xs) = ap (λ ys. x ∷ ys) (as_they_are xs)
+
+module _ {B : Type 0} (has : B → Type 0) (xs : List B) (i : ℕ) where
+  shown : NoneBefore has xs i → NoneBefore has (map as_it_is xs) i
+  shown = subst (λ (ys : List B). NoneBefore has ys i) (sym (as_they_are xs))
+
+  pub none_next_of : (x d : B) → i < length xs → x ≡ get_or xs i d → (has x → ⊥) → NoneBefore has xs i → NoneBefore has xs (i + 1)
+  none_next_of x d l e not inv = subst (λ (ys : List B). NoneBefore has ys (i + 1)) (as_they_are xs) (none_next has as_it_is xs i x d l e not (shown inv))
+
+  pub none_of_all : length xs ≤ i → NoneBefore has xs i → (y : B) → IsIn y xs → has y → ⊥
+  none_of_all l inv = subst (λ (ys : List B). (y : B) → IsIn y ys → has y → ⊥) (as_they_are xs) (none_at_all has as_it_is xs i l (shown inv))
+
 -- ---- one event
 
 pub not_carried : (k : Skeleton) (o : Occurrence) (u : UniqueAt) → IsIn o (events_of k) → (IsCarriedByTerm (atom_term u.value) (payload o.event) → ⊥) → Strays k o.node u → ⊥
@@ -73,9 +89,8 @@ not_carried k o u inside not s =
     let same : send s.1.1.sent ≡ o.event = cc in
     not (subst (λ (e : Event Term). IsCarriedByTerm (atom_term u.value) (payload e)) same s.1.1.carried)
 
-pub first_found : {A : Type 0} (f : A → UniqueAt) (k : Skeleton) (x : Node) (xs : List A) (i : ℕ) (u d : A) (v : AtomTerm) → i < length xs → u ≡ get_or xs i d → Strays k x (f u) → (f u).value ≡ v →
-    NoneBefore (Strays k x) (map f xs) i → IsFirstAt k x (map f xs) v
-first_found f k x xs i u d v l e s q inv = record { place = i; entry = f u; at_place = viewed_at f xs i u d l e; strays = s; is_value = q; first = inv }
+pub first_found : (k : Skeleton) (x : Node) (us : List UniqueAt) (i : ℕ) (u d : UniqueAt) (v : AtomTerm) → i < length us → u ≡ get_or us i d → Strays k x u → u.value ≡ v → NoneBefore (Strays k x) us i → IsFirstAt k x us v
+first_found k x us i u d v l e s q inv = record { place = i; entry = u; at_place = subst (λ (ws : List UniqueAt). item_at ws i ≡ Some u) (as_they_are us) (viewed_at as_it_is us i u d l e); strays = s; is_value = q; first = inv }
 
 pub none_of_entries : (k : Skeleton) (o : Occurrence) (us : List UniqueAt) → us ≡ (listed k).uniquely_originating → ((u : UniqueAt) → IsIn u us → Strays k o.node u → ⊥) → StraysOne k o → ⊥
 none_of_entries k o us same none h = none h.0 (subst (IsIn h.0) (sym same) (((listed-unique k).same h.0).1 h.1)) h.2

@@ -10,7 +10,7 @@ use Rattle.cp_model.proofs.LawLists.{item_below, item_there, map_of_item}
 use Rattle.cp_completeness.specs.Normal.{strand_under}
 use Rattle.cp_skel.specs.DeclaredPrefixes.{HasDeclaredPrefixes}
 use Rattle.cp_skel.specs.View.{strand_view}
-use Rattle.cp_skel.specs.declared.skeleton.Strand.{Strand}
+use Rattle.cp_skel.specs.Data.{StrandData as Strand}
 use Rattle.cp_normal.specs.Agreeing.{IsSameStrand, AreSameStrands, no_strands, same_strands}
 use Rattle.cp_normal.specs.Merging.{height_of, IsAsTall, IsTallestTo, AreMergedTo, AreMergedAlike, IsUnder}
 use Rattle.cp_normal.specs.Partitions.{AreOfOneRole, IsPartition}

@@ -3,13 +3,16 @@ use Rattle.std.proofs.Common.{◌≡◌, ◌+◌, ℕ, zero, suc, List, [], ◌�
 use Rattle.cp_model.specs.Lists.{item_at}
 use Rattle.cp_model.specs.Term.{Sort, text_sort, datum_sort, name_sort, skey_sort, akey_sort, Variable, KeyTerm, symmetric_term, asymmetric_term, AtomTerm, text_variable, datum_variable, name_variable, key_term, Term, atom_term, atom_of_variable, Substitution, apply_to_atom, composed}
 use Rattle.cp_model.specs.Strand.{Declaration, Role}
-use Rattle.cp_model.specs.Skeleton.{SkeletonStrand, instance, listener, Skeleton}
+use Rattle.cp_model.specs.Skeleton.{SkeletonStrand, instance, listener, Assumptions, OrderPair, FromProblem, Skeleton}
 use Rattle.cp_model.specs.Homomorphism.{text_in, datum_in, name_in, skey_in, akey_in, substitution_by}
 use Rattle.cp_model.specs.Problem.{declared_sort, IsDeclared}
 use Rattle.cp_model.proofs.LawLists.{map_of_item}
-use Rattle.cp_completeness.specs.Normal.{strand_under, skeleton_under}
+use Rattle.cp_completeness.specs.Normal.{strand_under, assumptions_under, from_problem_under, skeleton_under}
 use Rattle.cp_unify.specs.Bindings.{sort_of}
 use Rattle.cp_skel.specs.Changing.{IsClosedPrefix}
+use Rattle.cp_term.specs.Table.{Declared}
+use Rattle.cp_skel.specs.Data.{StrandData, SkeletonData, skeleton_of}
+use Rattle.cp_skel.specs.View.{strand_view, skeleton_view}
 use Rattle.cp_skel.specs.DeclaredPrefixes.{HasDeclaredPrefixes}
 use Rattle.cp_skel.specs.Occurring.{declared_variables, terms_of}
 use Rattle.cp_normal.specs.Agreeing.{IsSameStrand, same_instance, same_listener, AreSameStrands, no_strands, same_strands, SaysTheSame}
@@ -80,3 +83,9 @@ says_the_same s k l declared strands pairs assumptions from_problem = record {
   assumptions = sym assumptions;
   from_problem = sym from_problem;
 }
+
+-- The same of the program's skeleton of these parts.
+pub made_under : (s : Substitution) (k : SkeletonData) (variables : List Declared) (strands : List StrandData) (order : List OrderPair) (assumptions : Assumptions) (from_problem : FromProblem) → HasDeclaredPrefixes (skeleton_view k) →
+    map strand_view strands ≡ map (declared_under s) (map strand_view k.strands) → order ≡ k.order → assumptions ≡ assumptions_under s k.assumptions → from_problem ≡ from_problem_under s k.from_problem →
+    SaysTheSame (skeleton_under s (skeleton_view k)) (skeleton_view (skeleton_of variables strands order assumptions from_problem))
+made_under s k variables strands order assumptions from_problem = says_the_same s (skeleton_view k) (skeleton_view (skeleton_of variables strands order assumptions from_problem))

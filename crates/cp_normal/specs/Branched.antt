@@ -7,7 +7,7 @@ use Rattle.cp_completeness.specs.Normal.{skeleton_under}
 use Rattle.cp_unify.specs.Bindings.{Binding, as_substitution}
 use Rattle.cp_unify.specs.Unifiers.{IsMostGeneral}
 use Rattle.cp_skel.specs.View.{skeleton_view}
-use Rattle.cp_skel.specs.declared.skeleton.Skeleton.{Skeleton}
+use Rattle.cp_skel.specs.Data.{SkeletonData as Skeleton}
 use Rattle.cp_normal.specs.Agreeing.{SaysTheSame}
 use Rattle.cp_normal.specs.Branching.{NeverEqual}
 use Rattle.cp_normal.specs.Narrowing.{IsMostGeneralFor}

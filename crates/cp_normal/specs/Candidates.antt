@@ -1,11 +1,10 @@
 -- Skeletons on the way to normal forms.
 use Rattle.std.specs.Prelude.{◌≡◌, List, [], ◌∷◌, ◌++◌, map}
 use Rattle.cp_model.specs.Lists.{IsIn}
-use Rattle.cp_model.specs.Bundle.{Node}
-use Rattle.cp_model.specs.Skeleton.{OrderPair, UniqueAt, Skeleton, Before, IsOrderPair, IsOrigin}
+use Rattle.cp_model.specs.Skeleton.{OrderPair, Skeleton}
 use Rattle.cp_skel.specs.DeclaredPrefixes.{HasDeclaredPrefixes}
 use Rattle.cp_skel.specs.View.{skeleton_view}
-use Rattle.cp_skel.specs.declared.skeleton.Skeleton.{Skeleton as Program}
+use Rattle.cp_skel.specs.Data.{SkeletonData as Program}
 use Rattle.cp_completeness.specs.Normal.{with_pairs}
 use Rattle.cp_normal.specs.Normalising.{AreNormalPairs, IsContradictory}
 use Rattle.cp_normal.specs.Branching.{HasFewerVariables, IsSettled, AreNarrowedFrom, AreFormsBeside}
@@ -65,12 +64,6 @@ pub record IsRound (old new : List Candidate) : Type 0 where
   pub all_follow : AllFollow old new
   pub narrowed : (k : Skeleton) → AreNarrowedFrom k (map candidate_view old) → AreNarrowedFrom k (map candidate_view new)
   pub exact : (rs : List Skeleton) → HaveForms (map candidate_view new) rs → HaveForms (map candidate_view old) rs
-
--- Pairs, order and recorded origins of a skeleton are as they have to be.
-pub record IsInOrder (k : Skeleton) : Type 0 where
-  pub order_pairs : (p : OrderPair) → IsIn p k.pairs → IsOrderPair k p
-  pub no_cycle : (n : Node) → Before k n n → ⊥
-  pub origins : (u : UniqueAt) → IsIn u k.assumptions.uniquely_originating → IsOrigin k u
 
 -- A normal form of a settled skeleton: it with its normal pairs.
 pub record IsFormOf (l r : Program) : Type 0 where

@@ -20,3 +20,4 @@ pub mod CollapsingExample
 pub mod Merging
 pub mod Partials
 pub mod BySubstitution
+pub mod MergedParts

@@ -6,7 +6,7 @@ use Rattle.cp_model.specs.Strand.{Role}
 use Rattle.cp_model.specs.Skeleton.{SkeletonStrand, instance, listener, Skeleton}
 use Rattle.cp_completeness.specs.Normal.{strand_under}
 use Rattle.cp_skel.specs.View.{strand_view}
-use Rattle.cp_skel.specs.declared.skeleton.Strand.{Strand}
+use Rattle.cp_skel.specs.Data.{StrandData as Strand}
 use Rattle.cp_normal.specs.Agreeing.{AreSameStrands}
 use Rattle.cp_normal.specs.Partitions.{lowest_before}
 use Rattle.cp_normal.specs.Values.{declared_under}

@@ -7,8 +7,7 @@ use Rattle.cp_model.specs.Homomorphism.{substitution_by}
 use Rattle.cp_model.specs.Skeleton.{Skeleton}
 use Rattle.cp_unify.specs.Bindings.{Binding, Meets, as_substitution}
 use Rattle.cp_unify.specs.Unifiers.{AreLaterToEarlier}
-use Rattle.cp_skel.specs.View.{role_view}
-use Rattle.cp_skel.specs.declared.skeleton.Instance.{Instance}
+use Rattle.cp_skel.specs.declared.strand.Instance.{Instance}
 use Rattle.cp_normal.specs.Partitions.{HaveEqualValues, IdentifiesValues}
 use Rattle.cp_normal.specs.Collapsing.{IsNeverIdentified}
 use Rattle.cp_normal.specs.Extending.{ArePartitionsOfFirst, MayHave, AreExtendedTo, IsExactFor}
@@ -21,7 +20,7 @@ AreSolved r = AreLaterToEarlier r × ((g : Assignment) → Meets (after g (as_su
 
 -- An assignment meets the bindings and gives two instances equal values.
 abbrev pub AlsoEqual : List Binding → Instance → Instance → Assignment → Type 0
-AlsoEqual given a b g = Meets g given × HaveEqualValues (role_view a.role.value) a.height (substitution_by a.values.items) b.height (substitution_by b.values.items) g
+AlsoEqual given a b g = Meets g given × HaveEqualValues a.role a.height (substitution_by a.values) b.height (substitution_by b.values) g
 
 -- The fact is true of no assignment.
 abbrev pub IsNever : (Assignment → Type 0) → Type 0

@@ -2,7 +2,6 @@
 ghost use Rattle.std.specs.Prelude.{◌≡◌, ◌≤◌, IfOk, MatchOption};
 ghost use Rattle.cp_unify.specs.Unifiers.{IsMostGeneral, HasNoUnifier};
 ghost use Rattle.cp_skel.specs.Changing.{IsClosedPrefix};
-ghost use Rattle.cp_skel.specs.View.{role_view};
 ghost use Rattle.cp_normal.specs.Extending.{IsExactFor};
 ghost use Rattle.cp_normal.specs.Partials.{AreSolved, AlsoEqual, IsNever};
 
@@ -38,23 +37,23 @@ fn unify_prefix(
     taller: &Instance,
     given: &Rc<Subst>,
 ) -> Result<Option<Rc<Subst>>, AllocError>
-    requires declared { IsClosedPrefix (role_view shorter.now.role.value) shorter.now.height }
-    requires same_role { role_view shorter.now.role.value ≡ role_view taller.now.role.value }
+    requires declared { IsClosedPrefix shorter.now.role shorter.now.height }
+    requires same_role { shorter.now.role ≡ taller.now.role }
     requires no_taller { shorter.now.height ≤ taller.now.height }
     requires solved { AreSolved given.now.value }
     ensures { IfOk result (λ found. MatchOption found
         (IsNever (AlsoEqual given.now.value shorter.now taller.now))
         (λ r. IsExactFor (AlsoEqual given.now.value shorter.now taller.now) r.value)) }
 {
-    let events = prefix_of(&shorter.role, shorter.height);
+    let events = prefix_of(shorter.role(), shorter.height());
     let mut bindings = given.clone()?;
-    for (number, declaration) in shorter.role.variables.iter().enumerate() {
+    for (number, declaration) in shorter.role().variables().iter().enumerate() {
         let id = VarId::numbered(number);
         if !occurs(events, id, declaration.sort) {
             continue;
         }
-        let first = term_of_variable(alloc, &shorter.values, id, declaration.sort)?;
-        let second = term_of_variable(alloc, &taller.values, id, declaration.sort)?;
+        let first = term_of_variable(alloc, shorter.values(), id, declaration.sort)?;
+        let second = term_of_variable(alloc, taller.values(), id, declaration.sort)?;
         match unify_terms(alloc, &first, &second, &bindings)? {
             Some(next) => bindings = next,
             None => return Ok(None),
@@ -71,15 +70,15 @@ pub(crate) fn unify_instances(
     b: &Instance,
     given: &Rc<Subst>,
 ) -> Result<Option<Rc<Subst>>, AllocError>
-    requires first_declared { IsClosedPrefix (role_view a.now.role.value) a.now.height }
-    requires second_declared { IsClosedPrefix (role_view b.now.role.value) b.now.height }
-    requires same_role { role_view a.now.role.value ≡ role_view b.now.role.value }
+    requires first_declared { IsClosedPrefix a.now.role a.now.height }
+    requires second_declared { IsClosedPrefix b.now.role b.now.height }
+    requires same_role { a.now.role ≡ b.now.role }
     requires solved { AreSolved given.now.value }
     ensures { IfOk result (λ found. MatchOption found
         (IsNever (AlsoEqual given.now.value a.now b.now))
         (λ r. IsExactFor (AlsoEqual given.now.value a.now b.now) r.value)) }
 {
-    if a.height <= b.height {
+    if a.height() <= b.height() {
         unify_prefix(alloc, a, b, given)
     } else {
         unify_prefix(alloc, b, a, given)

@@ -47,7 +47,7 @@ pub(crate) fn some_carries_non_originating(k: &Skeleton, occurrences: &[Occurren
     requires listed { map occurrence_view occurrences.now ≡ events_of (skeleton_view k.now) }
     ensures { IsTrue result ↔ CarriesNonOriginating (skeleton_view k.now) }
 {
-    some_carries_one(occurrences, &k.assumptions.non_originating)
+    some_carries_one(occurrences, k.assumptions().non_originating())
 }
 
 /// Whether some node, of a role strand or a listener, carries a non-originating value. The error is that memory ran out.

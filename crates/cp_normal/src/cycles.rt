@@ -1,7 +1,7 @@
 // Whether the pairs that unique values add close a cycle.
 ghost use Rattle.std.specs.Prelude.{◌↔◌, map, IsTrue, IfOk};
 ghost use Rattle.cp_model.specs.RunView.{node_view};
-ghost use Rattle.cp_skel.specs.View.{pair_view, unique_view};
+ghost use Rattle.cp_skel.specs.View.{pair_view};
 ghost use Rattle.cp_normal.specs.Events.{Has};
 ghost use Rattle.cp_normal.specs.Cycles.{LeadsOn, IsClosedAt};
 
@@ -42,10 +42,10 @@ pub(crate) fn some_is_closed(
     pairs: &[OrderPair],
     uniques: &[UniqueAt],
 ) -> Result<bool, AllocError>
-    ensures { IfOk result (λ found. IsTrue found ↔ Has (λ u. IsClosedAt (map pair_view pairs.now) (unique_view u).origin) uniques.now) }
+    ensures { IfOk result (λ found. IsTrue found ↔ Has (λ u. IsClosedAt (map pair_view pairs.now) u.origin) uniques.now) }
 {
     for unique in uniques {
-        if is_closed_at(alloc, pairs, unique.origin)? {
+        if is_closed_at(alloc, pairs, unique.origin())? {
             return Ok(true);
         }
     }

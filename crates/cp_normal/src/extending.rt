@@ -6,15 +6,14 @@ ghost use Rattle.cp_model.specs.Term.{Substitution};
 ghost use Rattle.cp_model.specs.Skeleton.{instance, Skeleton as PlainSkeleton};
 ghost use Rattle.cp_unify.specs.Bindings.{Meets};
 ghost use Rattle.cp_skel.specs.DeclaredPrefixes.{HasDeclaredPrefixes};
-ghost use Rattle.cp_skel.specs.View.{strand_view, skeleton_view};
-ghost use Rattle.cp_skel.specs.declared.skeleton.Strand.TheVariants as variants;
+ghost use Rattle.cp_skel.specs.View.{instance_as_data, strand_view, skeleton_view};
 ghost use Rattle.cp_normal.specs.Extending.{IsPartitionOfFirst, IsExactFor, EqualAt};
 ghost use Rattle.cp_normal.specs.Partials.{AreSolved, IsNever, IsExact, lists, ArePartials, ArePartlyExtended, Joins, MayNotJoin};
 ghost use Rattle.cp_normal.specs.Partitions.{AreOfOneRole, IdentifiesValues, AreDescending};
 ghost use Rattle.cp_normal.specs.Collapsing.{IsNeverIdentified};
 
 use crate::agreeing::unify_instances;
-use cp_skel::{Instance, Skeleton, Strand, is_same_role};
+use cp_skel::{Instance, Skeleton, Strand, StrandShape, is_same_role};
 use cp_unify::Subst;
 use std::alloc::{AllocError, Global};
 use std::rc::Rc;
@@ -29,13 +28,16 @@ pub(crate) struct Partial {
 
 /// The instance of a role that is the strand with this number, if it is one.
 pub(crate) fn instance_at(strands: &[Strand], number: usize) -> Option<&Instance>
-    ensures some { IfSome result (λ i. item_at strands.now number ≡ Some (variants.Instance i.now)) }
+    ensures some { IfSome result (λ i. item_at strands.now number ≡ Some (instance_as_data i.now)) }
     ensures none { IfNone result ((role : PlainRole) (height : ℕ) (terms : Substitution)
         → item_at (map strand_view strands.now) number ≡ Some (instance role height terms) → ⊥) }
 {
-    match strands.get(number) {
-        Some(Strand::Instance(instance)) => Some(instance),
-        _ => None,
+    let Some(strand) = strands.get(number) else {
+        return None;
+    };
+    match strand.shape() {
+        StrandShape::Instance(instance) => Some(instance),
+        StrandShape::Listener(_) => None,
     }
 }
 
@@ -49,7 +51,7 @@ fn are_of_one_role(strands: &[Strand], s: usize, t: usize) -> bool
     let Some(second) = instance_at(strands, t) else {
         return false;
     };
-    is_same_role(&first.role, &second.role)
+    is_same_role(first.role(), second.role())
 }
 
 /// Bindings that are met where the given ones are and two strands, instances of one role, have equal values, if there are
@@ -68,10 +70,10 @@ fn unify_strands(
         (IsNever (λ g. Meets g given.now.value × EqualAt (skeleton_view k.now) s t g))
         (λ r. IsExactFor (λ g. Meets g given.now.value × EqualAt (skeleton_view k.now) s t g) r.value)) }
 {
-    let Some(first) = instance_at(&k.strands, s) else {
+    let Some(first) = instance_at(k.strands(), s) else {
         unreachable!();
     };
-    let Some(second) = instance_at(&k.strands, t) else {
+    let Some(second) = instance_at(k.strands(), t) else {
         unreachable!();
     };
     unify_instances(alloc, first, second, given)
@@ -157,7 +159,7 @@ fn join(
     if !is_in_block(partial, block, block) {
         return Ok(None);
     }
-    if !are_of_one_role(&k.strands, number, block) {
+    if !are_of_one_role(k.strands(), number, block) {
         return Ok(None);
     }
     match unify_block(alloc, k, partial, block, number)? {
@@ -223,7 +225,7 @@ pub(crate) fn partitions(alloc: Global, k: &Skeleton) -> Result<Vec<Partial>, Al
         lowest: Vec::new(alloc),
         bindings: Rc::new(alloc, Subst::new(alloc))?,
     })?;
-    for number in 0..k.strands.len() {
+    for number in 0..k.strands().len() {
         partials = round(alloc, k, &partials, number)?;
     }
     Ok(partials)

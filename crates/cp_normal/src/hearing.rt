@@ -1,7 +1,7 @@
 // The atoms that receptions carry.
 ghost use Rattle.std.specs.Prelude.{◌≡◌, [], map, IfOk, OnOk};
 ghost use Rattle.cp_model.specs.Given.{atoms_onto};
-ghost use Rattle.cp_unify.specs.Spines.{HasTail};
+ghost use Rattle.cp_term.specs.Spines.{HasTail};
 ghost use Rattle.cp_model.specs.RunView.{node_view};
 ghost use Rattle.cp_skel.specs.Events.{occurrence_view};
 ghost use Rattle.cp_skel.specs.View.{event_view};

@@ -3,7 +3,7 @@ ghost use Rattle.std.specs.Prelude.{◌≡◌, ◌↔◌, ◌≤◌, [], map, Is
 ghost use Rattle.cp_model.specs.Given.{atoms_onto, uniques_onto};
 ghost use Rattle.cp_model.specs.Term.{apply_to_atom};
 ghost use Rattle.cp_unify.specs.Bindings.{as_substitution};
-ghost use Rattle.cp_skel.specs.View.{unique_view, pair_view, assumptions_view, from_problem_view};
+ghost use Rattle.cp_skel.specs.View.{pair_view};
 ghost use Rattle.cp_normal.specs.Collapsing.{unique_in, ArePairsIn, assumptions_in, IsFromProblemIn, LiesOnOne};
 ghost use Rattle.cp_normal.specs.Events.{Has};
 ghost use Rattle.cp_normal.specs.Merging.{IsPutOnce};
@@ -35,12 +35,10 @@ fn unique_image(
     s: &Subst,
     lowest: &[usize],
 ) -> Result<UniqueAt, AllocError>
-    ensures { IfOk result (λ u. unique_view u ≡ unique_in lowest.now (as_substitution s.now) (unique_view unique.now)) }
+    ensures { IfOk result (λ u. u ≡ unique_in lowest.now (as_substitution s.now) unique.now) }
 {
-    Ok(UniqueAt {
-        value: atom_under(alloc, &unique.value, s)?,
-        origin: node_in(lowest, unique.origin),
-    })
+    let value = atom_under(alloc, unique.value(), s)?;
+    Ok(UniqueAt::new(value, node_in(lowest, unique.origin())))
 }
 
 /// The images of unique values, in their order, each once.
@@ -50,7 +48,7 @@ fn unique_images(
     s: &Subst,
     lowest: &[usize],
 ) -> Result<Vec<UniqueAt>, AllocError>
-    ensures { IfOk result (λ v. map unique_view v.items ≡ uniques_onto [] (map (unique_in lowest.now (as_substitution s.now)) (map unique_view uniques.now))) }
+    ensures { IfOk result (λ v. v.items ≡ uniques_onto [] (map (unique_in lowest.now (as_substitution s.now)) uniques.now)) }
 {
     let mut images = Vec::new(alloc);
     for unique in uniques {
@@ -140,13 +138,12 @@ pub(crate) fn assumption_images(
     s: &Subst,
     lowest: &[usize],
 ) -> Result<Assumptions, AllocError>
-    ensures { IfOk result (λ a. assumptions_view a ≡ assumptions_in lowest.now (as_substitution s.now) (assumptions_view assumptions.now)) }
+    ensures { IfOk result (λ a. a ≡ assumptions_in lowest.now (as_substitution s.now) assumptions.now) }
 {
-    Ok(Assumptions {
-        non_originating: atom_images(alloc, &assumptions.non_originating, s)?,
-        penetrator_non_originating: atom_images(alloc, &assumptions.penetrator_non_originating, s)?,
-        uniquely_originating: unique_images(alloc, &assumptions.uniquely_originating, s, lowest)?,
-    })
+    let non = atom_images(alloc, assumptions.non_originating(), s)?;
+    let penetrator_non = atom_images(alloc, assumptions.penetrator_non_originating(), s)?;
+    let unique = unique_images(alloc, assumptions.uniquely_originating(), s, lowest)?;
+    Ok(Assumptions::new(non, penetrator_non, unique))
 }
 
 fn places_of(alloc: Global, strands: &[usize], lowest: &[usize]) -> Result<Vec<usize>, AllocError>
@@ -166,12 +163,11 @@ pub(crate) fn from_problem_image(
     s: &Subst,
     lowest: &[usize],
 ) -> Result<FromProblem, AllocError>
-    ensures { IfOk result (λ p. IsFromProblemIn lowest.now (as_substitution s.now) (from_problem_view from_problem.now) (from_problem_view p)) }
+    ensures { IfOk result (λ p. IsFromProblemIn lowest.now (as_substitution s.now) from_problem.now p) }
 {
-    Ok(FromProblem {
-        strands: places_of(alloc, &from_problem.strands, lowest)?,
-        values: terms_under(alloc, &from_problem.values, s)?,
-        assumptions: assumption_images(alloc, &from_problem.assumptions, s, lowest)?,
-        pairs: pair_images(alloc, &from_problem.pairs, lowest)?,
-    })
+    let strands = places_of(alloc, from_problem.strands(), lowest)?;
+    let values = terms_under(alloc, from_problem.values(), s)?;
+    let assumptions = assumption_images(alloc, from_problem.assumptions(), s, lowest)?;
+    let pairs = pair_images(alloc, from_problem.pairs(), lowest)?;
+    Ok(FromProblem::new(strands, values, assumptions, pairs))
 }

@@ -9,7 +9,7 @@ ghost use Rattle.cp_normal.specs.Partitions.{IsPartition};
 
 use crate::extending::{Partial, is_in_block};
 use crate::substituting::strand_under;
-use cp_skel::{Skeleton, Strand};
+use cp_skel::{Skeleton, Strand, StrandShape};
 use cp_unify::Subst;
 use std::alloc::{AllocError, Global};
 
@@ -17,9 +17,12 @@ use std::alloc::{AllocError, Global};
 fn height_at(strands: &[Strand], number: usize) -> usize
     ensures { result ≡ height_of (item_at (map strand_view strands.now) number) }
 {
-    match strands.get(number) {
-        Some(Strand::Instance(instance)) => instance.height,
-        _ => 0,
+    let Some(strand) = strands.get(number) else {
+        return 0;
+    };
+    match strand.shape() {
+        StrandShape::Instance(instance) => instance.height(),
+        StrandShape::Listener(_) => 0,
     }
 }
 
@@ -34,7 +37,7 @@ fn tallest(k: &Skeleton, partial: &Partial, block: usize) -> usize
         if !is_in_block(partial, strand, block) {
             continue;
         }
-        if height_at(&k.strands, strand) <= height_at(&k.strands, tallest) {
+        if height_at(k.strands(), strand) <= height_at(k.strands(), tallest) {
             continue;
         }
         tallest = strand;
@@ -71,7 +74,7 @@ pub(crate) fn merged_strands(
             continue;
         }
         let tallest = tallest(k, partial, strand);
-        strands.push(merged_strand(alloc, &k.strands, tallest, &partial.bindings)?)?;
+        strands.push(merged_strand(alloc, k.strands(), tallest, &partial.bindings)?)?;
     }
     Ok(strands)
 }

@@ -1,6 +1,5 @@
 // One step of narrowing.
 ghost use Rattle.std.specs.Prelude.{IfOk};
-ghost use Rattle.cp_skel.specs.DeclaredPrefixes.{HasDeclaredPrefixes};
 ghost use Rattle.cp_skel.specs.View.{skeleton_view};
 ghost use Rattle.cp_normal.specs.Branched.{AreBranchesOf};
 
@@ -17,7 +16,6 @@ pub(crate) fn branches(
     value: &Atom,
     atoms: &[Atom],
 ) -> Result<Vec<Skeleton>, AllocError>
-    requires { HasDeclaredPrefixes (skeleton_view k.now) }
     ensures { IfOk result (λ ls. AreBranchesOf k.now value.now atoms.now ls.items) }
 {
     let nothing = Subst::new(alloc);

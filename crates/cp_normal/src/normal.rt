@@ -1,8 +1,5 @@
 // The pairs of a normal form, where there is one.
 ghost use Rattle.std.specs.Prelude.{◌≡◌, ◌↔◌, ◌⊎◌, map, option_map, IsTrue, IfOk};
-ghost use Rattle.cp_model.specs.Lists.{IsIn};
-ghost use Rattle.cp_model.specs.Bundle.{Node};
-ghost use Rattle.cp_model.specs.Skeleton.{OrderPair as Plain, UniqueAt, Before, IsOrderPair, IsOrigin};
 ghost use Rattle.cp_skel.specs.Events.{occurrence_view, events_of};
 ghost use Rattle.cp_skel.specs.View.{pair_view, skeleton_view};
 ghost use Rattle.cp_normal.specs.Normalising.{AreNormalPairs, ClosesCycle, IsNormalised, CarriesNonOriginating, HasTwoOrigins, LosesOrigin};
@@ -39,32 +36,27 @@ fn own_and_added(
     ensures { IfOk result (λ pairs. AreNormalPairs (skeleton_view k.now) (map pair_view pairs.items)) }
 {
     let added = pairs_among(alloc, k, occurrences)?;
-    let own = keys_of(alloc, k.order.pairs())?;
-    let mut pairs = Vec::from_slice(alloc, k.order.pairs())?;
-    add_others(&added, &own, &mut pairs)?;
+    let own = k.order().pairs();
+    let keys = keys_of(alloc, own)?;
+    let mut pairs = Vec::from_slice(alloc, own)?;
+    add_others(&added, &keys, &mut pairs)?;
     Ok(pairs)
 }
 
 /// The pairs of the skeleton's normal form: its own, and those from recorded origins of unique values to the receptions
 /// of other strands, listeners too, that carry the value. There is no normal form where some node carries a
 /// non-originating value, where a unique value has two recorded origins or does not originate at its own, and where the
-/// pairs close a cycle.
-///
-/// Each of the skeleton's own pairs has to go from a transmission to a reception of another strand, which are both there;
-/// they have to close no cycle; and each recorded origin has to be a transmission of a role strand that carries the value.
-/// The error is that memory ran out.
+/// pairs close a cycle. The error is that memory ran out.
 pub fn normal_pairs(alloc: Global, k: &Skeleton) -> Result<Option<Vec<OrderPair>>, AllocError>
-    requires order_pairs { (p : Plain) → IsIn p (skeleton_view k.now).pairs → IsOrderPair (skeleton_view k.now) p }
-    requires no_cycle { (n : Node) → Before (skeleton_view k.now) n n → ⊥ }
-    requires origins { (u : UniqueAt) → IsIn u (skeleton_view k.now).assumptions.uniquely_originating → IsOrigin (skeleton_view k.now) u }
     ensures { IfOk result (λ found. IsNormalised (skeleton_view k.now) (option_map (λ pairs. map pair_view pairs.items) found)) }
 {
+    k.is_sound();
     let occurrences = k.events(alloc)?;
     if is_refuted(k, &occurrences) {
         return Ok(None);
     }
     let pairs = own_and_added(alloc, k, &occurrences)?;
-    if some_is_closed(alloc, &pairs, &k.assumptions.uniquely_originating)? {
+    if some_is_closed(alloc, &pairs, k.assumptions().uniquely_originating())? {
         return Ok(None);
     }
     Ok(Some(pairs))

@@ -4,13 +4,13 @@ ghost use Rattle.cp_model.specs.Derivable.{IsOnInstance};
 ghost use Rattle.cp_model.specs.Realising.{OriginatesAtTerm};
 ghost use Rattle.cp_model.specs.Lists.{item_at};
 ghost use Rattle.cp_model.specs.RunView.{node_view};
-ghost use Rattle.cp_skel.specs.View.{strand_view, unique_view, skeleton_view};
+ghost use Rattle.cp_skel.specs.View.{strand_view, skeleton_view};
 ghost use Rattle.cp_skel.specs.Events.{occurrence_view, events_of};
 ghost use Rattle.cp_normal.specs.Events.{Has, is_instance, IsElsewhere, IsSentAtOrigin, IsCarriedBefore};
 ghost use Rattle.cp_normal.specs.Normalising.{HasTwoOrigins, LosesOrigin};
 
 use crate::carrying::carries_value;
-use cp_skel::{Event, Node, Occurrence, Skeleton, Strand, UniqueAt};
+use cp_skel::{Event, Node, Occurrence, Skeleton, Strand, StrandShape, UniqueAt};
 use std::alloc::{AllocError, Global};
 
 /// Whether the nodes are the same.
@@ -22,14 +22,14 @@ pub(crate) fn is_same_node(first: Node, second: Node) -> bool
 
 /// Whether the other entry is of the same value, with its origin at another node.
 fn is_elsewhere(unique: &UniqueAt, other: &UniqueAt) -> bool
-    ensures { IsTrue result ↔ IsElsewhere (unique_view unique.now) (unique_view other.now) }
+    ensures { IsTrue result ↔ IsElsewhere unique.now other.now }
 {
-    !is_same_node(unique.origin, other.origin) && unique.value.same(&other.value)
+    !is_same_node(unique.origin(), other.origin()) && unique.value().same(other.value())
 }
 
 /// Whether one of the entries gives the value another origin.
 fn has_another_origin(uniques: &[UniqueAt], unique: &UniqueAt) -> bool
-    ensures { IsTrue result ↔ Has (λ w. IsElsewhere (unique_view unique.now) (unique_view w)) uniques.now }
+    ensures { IsTrue result ↔ Has (λ w. IsElsewhere unique.now w) uniques.now }
 {
     for other in uniques {
         if is_elsewhere(unique, other) {
@@ -41,7 +41,7 @@ fn has_another_origin(uniques: &[UniqueAt], unique: &UniqueAt) -> bool
 
 /// Whether one of the values has two origins among these entries.
 fn some_has_two_origins(uniques: &[UniqueAt]) -> bool
-    ensures { IsTrue result ↔ Has (λ u. Has (λ w. IsElsewhere (unique_view u) (unique_view w)) uniques.now) uniques.now }
+    ensures { IsTrue result ↔ Has (λ u. Has (λ w. IsElsewhere u w) uniques.now) uniques.now }
 {
     for unique in uniques {
         if has_another_origin(uniques, unique) {
@@ -55,30 +55,30 @@ fn some_has_two_origins(uniques: &[UniqueAt]) -> bool
 pub fn has_two_origins(k: &Skeleton) -> bool
     ensures { IsTrue result ↔ HasTwoOrigins (skeleton_view k.now) }
 {
-    some_has_two_origins(&k.assumptions.uniquely_originating)
+    some_has_two_origins(k.assumptions().uniquely_originating())
 }
 
 /// Whether the event is a transmission at the recorded origin of a unique value, and carries the value.
 fn is_sent_at_origin(occurrence: &Occurrence, unique: &UniqueAt) -> bool
-    ensures { IsTrue result ↔ IsSentAtOrigin (unique_view unique.now) (occurrence_view occurrence.now) }
+    ensures { IsTrue result ↔ IsSentAtOrigin unique.now (occurrence_view occurrence.now) }
 {
     matches!(occurrence.event, Event::Send(_))
-        && is_same_node(occurrence.node, unique.origin)
-        && carries_value(occurrence, &unique.value)
+        && is_same_node(occurrence.node, unique.origin())
+        && carries_value(occurrence, unique.value())
 }
 
 /// Whether the event is before the recorded origin of a unique value on its strand, and carries the value.
 fn is_carried_before(occurrence: &Occurrence, unique: &UniqueAt) -> bool
-    ensures { IsTrue result ↔ IsCarriedBefore (unique_view unique.now) (occurrence_view occurrence.now) }
+    ensures { IsTrue result ↔ IsCarriedBefore unique.now (occurrence_view occurrence.now) }
 {
-    occurrence.node.strand == unique.origin.strand
-        && occurrence.node.index < unique.origin.index
-        && carries_value(occurrence, &unique.value)
+    occurrence.node.strand == unique.origin().strand
+        && occurrence.node.index < unique.origin().index
+        && carries_value(occurrence, unique.value())
 }
 
 /// Whether one of the events is a transmission at the recorded origin that carries the value.
 fn some_is_sent_at_origin(occurrences: &[Occurrence], unique: &UniqueAt) -> bool
-    ensures { IsTrue result ↔ Has (λ o. IsSentAtOrigin (unique_view unique.now) (occurrence_view o)) occurrences.now }
+    ensures { IsTrue result ↔ Has (λ o. IsSentAtOrigin unique.now (occurrence_view o)) occurrences.now }
 {
     for occurrence in occurrences {
         if is_sent_at_origin(occurrence, unique) {
@@ -90,7 +90,7 @@ fn some_is_sent_at_origin(occurrences: &[Occurrence], unique: &UniqueAt) -> bool
 
 /// Whether one of the events carries the value before the recorded origin, on its strand.
 fn some_is_carried_before(occurrences: &[Occurrence], unique: &UniqueAt) -> bool
-    ensures { IsTrue result ↔ Has (λ o. IsCarriedBefore (unique_view unique.now) (occurrence_view o)) occurrences.now }
+    ensures { IsTrue result ↔ Has (λ o. IsCarriedBefore unique.now (occurrence_view o)) occurrences.now }
 {
     for occurrence in occurrences {
         if is_carried_before(occurrence, unique) {
@@ -104,26 +104,25 @@ fn some_is_carried_before(occurrences: &[Occurrence], unique: &UniqueAt) -> bool
 fn is_instance_at(strands: &[Strand], number: usize) -> bool
     ensures { result ≡ is_instance (item_at (map strand_view strands.now) number) }
 {
-    match strands.get(number) {
-        Some(Strand::Instance(_)) => true,
-        Some(Strand::Listener(_)) => false,
-        None => false,
-    }
+    let Some(strand) = strands.get(number) else {
+        return false;
+    };
+    matches!(strand.shape(), StrandShape::Instance(_))
 }
 
 /// Whether the node is on a role strand.
 fn is_on_instance(k: &Skeleton, node: Node) -> bool
     ensures { IsTrue result ↔ IsOnInstance (skeleton_view k.now) (node_view node) }
 {
-    is_instance_at(&k.strands, node.strand)
+    is_instance_at(k.strands(), node.strand)
 }
 
 /// Whether a unique value originates at its recorded origin, where these are the events of the skeleton.
 pub(crate) fn originates(k: &Skeleton, occurrences: &[Occurrence], unique: &UniqueAt) -> bool
     requires listed { map occurrence_view occurrences.now ≡ events_of (skeleton_view k.now) }
-    ensures { IsTrue result ↔ OriginatesAtTerm (skeleton_view k.now) (unique_view unique.now).value (unique_view unique.now).origin }
+    ensures { IsTrue result ↔ OriginatesAtTerm (skeleton_view k.now) unique.now.value unique.now.origin }
 {
-    if !is_on_instance(k, unique.origin) {
+    if !is_on_instance(k, unique.origin()) {
         return false;
     }
     if !some_is_sent_at_origin(occurrences, unique) {
@@ -136,7 +135,7 @@ pub(crate) fn originates(k: &Skeleton, occurrences: &[Occurrence], unique: &Uniq
 /// skeleton.
 fn one_loses_origin(k: &Skeleton, occurrences: &[Occurrence], uniques: &[UniqueAt]) -> bool
     requires listed { map occurrence_view occurrences.now ≡ events_of (skeleton_view k.now) }
-    ensures { IsTrue result ↔ Has (λ u. OriginatesAtTerm (skeleton_view k.now) (unique_view u).value (unique_view u).origin → ⊥) uniques.now }
+    ensures { IsTrue result ↔ Has (λ u. OriginatesAtTerm (skeleton_view k.now) u.value u.origin → ⊥) uniques.now }
 {
     for unique in uniques {
         if !originates(k, occurrences, unique) {
@@ -151,7 +150,7 @@ pub(crate) fn some_loses_origin(k: &Skeleton, occurrences: &[Occurrence]) -> boo
     requires listed { map occurrence_view occurrences.now ≡ events_of (skeleton_view k.now) }
     ensures { IsTrue result ↔ LosesOrigin (skeleton_view k.now) }
 {
-    one_loses_origin(k, occurrences, &k.assumptions.uniquely_originating)
+    one_loses_origin(k, occurrences, k.assumptions().uniquely_originating())
 }
 
 /// Whether a unique value does not originate at its recorded origin. The error is that memory ran out.

@@ -2,7 +2,7 @@
 ghost use Rattle.std.specs.Prelude.{◌≡◌, ◌↔◌, map, IfOk, OnOk, IfSome, IfNone};
 ghost use Rattle.cp_model.specs.Lists.{IsIn};
 ghost use Rattle.cp_model.specs.Skeleton.{OrderPair as Plain};
-ghost use Rattle.cp_skel.specs.View.{pair_view, unique_view, skeleton_view};
+ghost use Rattle.cp_skel.specs.View.{pair_view, skeleton_view};
 ghost use Rattle.cp_skel.specs.Events.{occurrence_view, events_of};
 ghost use Rattle.cp_normal.specs.Events.{Has, Gathers, IsPairBetween};
 ghost use Rattle.cp_normal.specs.Normalising.{IsAddedPair};
@@ -14,15 +14,15 @@ use std::alloc::{AllocError, Global};
 /// The pair from the recorded origin of a unique value to an event, where that is a reception on another strand that
 /// carries the value.
 fn pair_between(occurrence: &Occurrence, unique: &UniqueAt) -> Option<OrderPair>
-    ensures some { IfSome result (λ p. IsPairBetween (occurrence_view occurrence.now) (unique_view unique.now) (pair_view p)) }
-    ensures none { IfNone result ((p : Plain) → IsPairBetween (occurrence_view occurrence.now) (unique_view unique.now) p → ⊥) }
+    ensures some { IfSome result (λ p. IsPairBetween (occurrence_view occurrence.now) unique.now (pair_view p)) }
+    ensures none { IfNone result ((p : Plain) → IsPairBetween (occurrence_view occurrence.now) unique.now p → ⊥) }
 {
     let is_pair = matches!(occurrence.event, Event::Receive(_))
-        && unique.origin.strand != occurrence.node.strand
-        && carries_value(occurrence, &unique.value);
+        && unique.origin().strand != occurrence.node.strand
+        && carries_value(occurrence, unique.value());
     if is_pair {
         Some(OrderPair {
-            earlier: unique.origin,
+            earlier: unique.origin(),
             later: occurrence.node,
         })
     } else {
@@ -36,7 +36,7 @@ fn add_pairs_to(
     uniques: &[UniqueAt],
     pairs: &mut Vec<OrderPair>,
 ) -> Result<(), AllocError>
-    ensures { OnOk result (Gathers (λ u p. IsPairBetween (occurrence_view occurrence.now) (unique_view u) p) uniques.now (map pair_view pairs.old.items) (map pair_view pairs.new.items)) }
+    ensures { OnOk result (Gathers (λ u p. IsPairBetween (occurrence_view occurrence.now) u p) uniques.now (map pair_view pairs.old.items) (map pair_view pairs.new.items)) }
 {
     for unique in uniques {
         if let Some(pair) = pair_between(occurrence, unique) {
@@ -52,7 +52,7 @@ fn add_pairs(
     uniques: &[UniqueAt],
     pairs: &mut Vec<OrderPair>,
 ) -> Result<(), AllocError>
-    ensures { OnOk result (Gathers (λ o p. Has (λ u. IsPairBetween (occurrence_view o) (unique_view u) p) uniques.now) occurrences.now (map pair_view pairs.old.items) (map pair_view pairs.new.items)) }
+    ensures { OnOk result (Gathers (λ o p. Has (λ u. IsPairBetween (occurrence_view o) u p) uniques.now) occurrences.now (map pair_view pairs.old.items) (map pair_view pairs.new.items)) }
 {
     for occurrence in occurrences {
         add_pairs_to(occurrence, uniques, pairs)?;
@@ -70,7 +70,11 @@ pub(crate) fn pairs_among(
     ensures { IfOk result (λ pairs. (p : Plain) → IsIn p (map pair_view pairs.items) ↔ IsAddedPair (skeleton_view k.now) p) }
 {
     let mut pairs = Vec::new(alloc);
-    add_pairs(occurrences, &k.assumptions.uniquely_originating, &mut pairs)?;
+    add_pairs(
+        occurrences,
+        k.assumptions().uniquely_originating(),
+        &mut pairs,
+    )?;
     Ok(pairs)
 }
 

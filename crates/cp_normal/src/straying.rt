@@ -4,7 +4,7 @@ ghost use Rattle.cp_model.specs.Given.{listed};
 ghost use Rattle.cp_model.specs.Lists.{IsIn, item_at};
 ghost use Rattle.cp_model.specs.Skeleton.{UniqueAt as Plain};
 ghost use Rattle.cp_model.specs.RunView.{node_view};
-ghost use Rattle.cp_skel.specs.View.{unique_view, skeleton_view};
+ghost use Rattle.cp_skel.specs.View.{skeleton_view};
 ghost use Rattle.cp_normal.specs.Branching.{IsSettled};
 ghost use Rattle.cp_skel.specs.Events.{occurrence_view, events_of};
 ghost use Rattle.cp_normal.specs.Straying.{Strays, IsFirstAt, IsFirstStray};
@@ -30,18 +30,15 @@ fn strays(
 ) -> Result<bool, AllocError>
     requires listed { map occurrence_view occurrences.now ≡ events_of (skeleton_view k.now) }
     requires is_there { IsIn (occurrence_view occurrence.now) (events_of (skeleton_view k.now)) }
-    ensures { IfOk result (λ found. IsTrue found ↔ Strays (skeleton_view k.now) (node_view occurrence.now.node) (unique_view unique.now)) }
+    ensures { IfOk result (λ found. IsTrue found ↔ Strays (skeleton_view k.now) (node_view occurrence.now.node) unique.now) }
 {
-    if is_same_node(occurrence.node, unique.origin) {
+    if is_same_node(occurrence.node, unique.origin()) {
         return Ok(false);
     }
-    if !carries_value(occurrence, &unique.value) {
+    if !carries_value(occurrence, unique.value()) {
         return Ok(false);
     }
-    let here = UniqueAt {
-        value: unique.value.copy()?,
-        origin: occurrence.node,
-    };
+    let here = UniqueAt::new(unique.value().copy()?, occurrence.node);
     Ok(originates(k, occurrences, &here))
 }
 
@@ -55,12 +52,12 @@ fn first_at(
     requires listed { map occurrence_view occurrences.now ≡ events_of (skeleton_view k.now) }
     requires is_there { IsIn (occurrence_view occurrence.now) (events_of (skeleton_view k.now)) }
     ensures { IfOk result (λ found. MatchOption found
-        ((u : Plain) → IsIn u (map unique_view uniques.now) → Strays (skeleton_view k.now) (node_view occurrence.now.node) u → ⊥)
-        (λ v. IsFirstAt (skeleton_view k.now) (node_view occurrence.now.node) (map unique_view uniques.now) v)) }
+        ((u : Plain) → IsIn u uniques.now → Strays (skeleton_view k.now) (node_view occurrence.now.node) u → ⊥)
+        (λ v. IsFirstAt (skeleton_view k.now) (node_view occurrence.now.node) uniques.now v)) }
 {
     for unique in uniques {
         if strays(k, occurrences, occurrence, unique)? {
-            return Ok(Some(unique.value.copy()?));
+            return Ok(Some(unique.value().copy()?));
         }
     }
     Ok(None)
@@ -74,7 +71,7 @@ fn first_among(
     uniques: &[UniqueAt],
 ) -> Result<Option<Stray>, AllocError>
     requires listed { map occurrence_view occurrences.now ≡ events_of (skeleton_view k.now) }
-    requires in_order { map unique_view uniques.now ≡ (listed (skeleton_view k.now)).uniquely_originating }
+    requires in_order { uniques.now ≡ (listed (skeleton_view k.now)).uniquely_originating }
     ensures { IfOk result (λ found. MatchOption found
         (IsSettled (skeleton_view k.now))
         (λ s. IsFirstStray (skeleton_view k.now) s.value (node_view s.node))) }
@@ -104,5 +101,5 @@ pub(crate) fn first_stray(
         (λ s. IsFirstStray (skeleton_view k.now) s.value (node_view s.node))) }
 {
     let assumptions = listed(alloc, k)?;
-    first_among(k, occurrences, &assumptions.uniquely_originating)
+    first_among(k, occurrences, assumptions.uniquely_originating())
 }

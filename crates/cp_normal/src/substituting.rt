@@ -4,12 +4,12 @@ ghost use Rattle.cp_model.specs.Term.{apply_to, apply_to_atom};
 ghost use Rattle.cp_completeness.specs.Normal.{unique_under, assumptions_under, from_problem_under, skeleton_under};
 ghost use Rattle.cp_unify.specs.Bindings.{as_substitution};
 ghost use Rattle.cp_skel.specs.DeclaredPrefixes.{HasDeclaredPrefixes};
-ghost use Rattle.cp_skel.specs.View.{unique_view, assumptions_view, from_problem_view, instance_view, strand_view, skeleton_view};
+ghost use Rattle.cp_skel.specs.View.{instance_view, strand_view, skeleton_view};
 ghost use Rattle.cp_normal.specs.Agreeing.{SaysTheSame};
 ghost use Rattle.cp_normal.specs.Values.{declared_under};
 
 use crate::valuing::declared_terms;
-use cp_skel::{Assumptions, Atom, FromProblem, Instance, Skeleton, Strand, UniqueAt};
+use cp_skel::{Assumptions, Atom, FromProblem, Instance, Skeleton, Strand, StrandShape, UniqueAt};
 use cp_term::Term;
 use cp_unify::{Subst, apply};
 use std::alloc::{AllocError, Global};
@@ -47,12 +47,10 @@ fn atoms_under(alloc: Global, atoms: &[Atom], s: &Subst) -> Result<Vec<Atom>, Al
 
 /// A unique value under a substitution; its recorded origin stays.
 fn unique_under(alloc: Global, unique: &UniqueAt, s: &Subst) -> Result<UniqueAt, AllocError>
-    ensures { IfOk result (λ u. unique_view u ≡ unique_under (as_substitution s.now) (unique_view unique.now)) }
+    ensures { IfOk result (λ u. u ≡ unique_under (as_substitution s.now) unique.now) }
 {
-    Ok(UniqueAt {
-        value: atom_under(alloc, &unique.value, s)?,
-        origin: unique.origin,
-    })
+    let value = atom_under(alloc, unique.value(), s)?;
+    Ok(UniqueAt::new(value, unique.origin()))
 }
 
 fn uniques_under(
@@ -60,7 +58,7 @@ fn uniques_under(
     uniques: &[UniqueAt],
     s: &Subst,
 ) -> Result<Vec<UniqueAt>, AllocError>
-    ensures { IfOk result (λ v. map unique_view v.items ≡ map (unique_under (as_substitution s.now)) (map unique_view uniques.now)) }
+    ensures { IfOk result (λ v. v.items ≡ map (unique_under (as_substitution s.now)) uniques.now) }
 {
     let mut changed = Vec::new(alloc);
     for unique in uniques {
@@ -74,13 +72,12 @@ fn assumptions_under(
     assumptions: &Assumptions,
     s: &Subst,
 ) -> Result<Assumptions, AllocError>
-    ensures { IfOk result (λ a. assumptions_view a ≡ assumptions_under (as_substitution s.now) (assumptions_view assumptions.now)) }
+    ensures { IfOk result (λ a. a ≡ assumptions_under (as_substitution s.now) assumptions.now) }
 {
-    Ok(Assumptions {
-        non_originating: atoms_under(alloc, &assumptions.non_originating, s)?,
-        penetrator_non_originating: atoms_under(alloc, &assumptions.penetrator_non_originating, s)?,
-        uniquely_originating: uniques_under(alloc, &assumptions.uniquely_originating, s)?,
-    })
+    let non = atoms_under(alloc, assumptions.non_originating(), s)?;
+    let penetrator_non = atoms_under(alloc, assumptions.penetrator_non_originating(), s)?;
+    let unique = uniques_under(alloc, assumptions.uniquely_originating(), s)?;
+    Ok(Assumptions::new(non, penetrator_non, unique))
 }
 
 /// The way from a problem, followed by a substitution.
@@ -89,34 +86,33 @@ fn from_problem_under(
     from_problem: &FromProblem,
     s: &Subst,
 ) -> Result<FromProblem, AllocError>
-    ensures { IfOk result (λ p. from_problem_view p ≡ from_problem_under (as_substitution s.now) (from_problem_view from_problem.now)) }
+    ensures { IfOk result (λ p. p ≡ from_problem_under (as_substitution s.now) from_problem.now) }
 {
-    Ok(FromProblem {
-        strands: Vec::from_slice(alloc, &from_problem.strands)?,
-        values: terms_under(alloc, &from_problem.values, s)?,
-        assumptions: assumptions_under(alloc, &from_problem.assumptions, s)?,
-        pairs: Vec::from_slice(alloc, &from_problem.pairs)?,
-    })
+    let strands = Vec::from_slice(alloc, from_problem.strands())?;
+    let values = terms_under(alloc, from_problem.values(), s)?;
+    let assumptions = assumptions_under(alloc, from_problem.assumptions(), s)?;
+    let pairs = Vec::from_slice(alloc, from_problem.pairs())?;
+    Ok(FromProblem::new(strands, values, assumptions, pairs))
 }
 
 /// An instance under a substitution: the term of each variable that its role declares.
 fn instance_under(alloc: Global, instance: &Instance, s: &Subst) -> Result<Instance, AllocError>
     ensures { IfOk result (λ i. instance_view i ≡ declared_under (as_substitution s.now) (instance_view instance.now)) }
 {
-    Ok(Instance {
-        role: instance.role.clone()?,
-        height: instance.height,
-        values: declared_terms(alloc, &instance.role.variables, &instance.values, s)?,
-    })
+    let role = instance.role().clone()?;
+    let values = declared_terms(alloc, role.variables(), instance.values(), s)?;
+    Ok(Instance::new(role, instance.height(), values))
 }
 
 /// A strand under a substitution: the terms of an instance, and the message of a listener.
 pub(crate) fn strand_under(alloc: Global, strand: &Strand, s: &Subst) -> Result<Strand, AllocError>
     ensures { IfOk result (λ t. strand_view t ≡ declared_under (as_substitution s.now) (strand_view strand.now)) }
 {
-    match strand {
-        Strand::Instance(instance) => Ok(Strand::Instance(instance_under(alloc, instance, s)?)),
-        Strand::Listener(message) => Ok(Strand::Listener(apply(alloc, s, message)?)),
+    match strand.shape() {
+        StrandShape::Instance(instance) => {
+            Strand::instance(alloc, instance_under(alloc, instance, s)?)
+        }
+        StrandShape::Listener(message) => Strand::listener(alloc, apply(alloc, s, message)?),
     }
 }
 
@@ -130,19 +126,18 @@ fn strands_under(alloc: Global, strands: &[Strand], s: &Subst) -> Result<Vec<Str
     Ok(changed)
 }
 
-/// The skeleton under a substitution: each of its terms is, and strands, nodes and pairs stay where they are. The role of
-/// each instance has to declare the variables of its prefix, and does then too. The error is that memory ran out.
+/// The skeleton under a substitution: each of its terms is, and strands, nodes and pairs stay where they are. The error
+/// is that memory ran out.
 pub fn under(alloc: Global, k: &Skeleton, s: &Subst) -> Result<Skeleton, AllocError>
-    requires declared { HasDeclaredPrefixes (skeleton_view k.now) }
     ensures same { IfOk result (λ l. SaysTheSame (skeleton_under (as_substitution s.now) (skeleton_view k.now)) (skeleton_view l)) }
     ensures declared { IfOk result (λ l. HasDeclaredPrefixes (skeleton_view l)) }
     ensures variables { IfOk result (λ l. l.variables ≡ k.now.variables) }
 {
-    Ok(Skeleton {
-        variables: k.variables.copy()?,
-        strands: strands_under(alloc, &k.strands, s)?,
-        order: k.order.copy(alloc)?,
-        assumptions: assumptions_under(alloc, &k.assumptions, s)?,
-        from_problem: from_problem_under(alloc, &k.from_problem, s)?,
-    })
+    k.is_sound();
+    let variables = k.variables().copy()?;
+    let strands = strands_under(alloc, k.strands(), s)?;
+    let order = k.order().copy(alloc)?;
+    let assumptions = assumptions_under(alloc, k.assumptions(), s)?;
+    let from_problem = from_problem_under(alloc, k.from_problem(), s)?;
+    Ok(Skeleton::new(variables, strands, order, assumptions, from_problem))
 }

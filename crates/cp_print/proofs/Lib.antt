@@ -4,7 +4,6 @@ pub mod Occurrences
 pub mod Marking
 pub mod DeclaredMarks
 pub mod FreeNames
-pub mod NamesInUse
 pub mod Writings
 pub mod ByMarks
 pub mod Tables

@@ -1,6 +1,5 @@
 pub mod Named
 pub mod Variables
-pub mod Sets
 pub mod Marks
 pub mod Sorts
 pub mod Order

@@ -4,7 +4,7 @@ ghost use Rattle.cp_language.specs.Printed.{plain_list, word, atom_form, term_fo
 ghost use Rattle.cp_language.specs.Report.{named_by, unique_form, value_forms, map_form, test_items};
 ghost use Rattle.cp_sexpr.specs.View.{view};
 ghost use Rattle.cp_skel.specs.Trees.{test_view};
-ghost use Rattle.cp_skel.specs.View.{unique_view, skeleton_view};
+ghost use Rattle.cp_skel.specs.View.{skeleton_view};
 ghost use Rattle.cp_print.specs.Named.{named_in};
 
 use crate::items::{node_form, numerals};
@@ -34,10 +34,10 @@ pub(crate) fn atom_forms(
 
 /// A unique value with its recorded origin.
 fn unique_form(alloc: Global, naming: &Naming<'_>, unique: &UniqueAt) -> Result<Form, AllocError>
-    ensures { IfOk result (λ f. view f ≡ unique_form (named_in naming.now) (unique_view unique.now)) }
+    ensures { IfOk result (λ f. view f ≡ unique_form (named_in naming.now) unique.now) }
 {
-    let value = atom_form(alloc, naming, unique.value.as_term())?;
-    let origin = node_form(alloc, unique.origin)?;
+    let value = atom_form(alloc, naming, unique.value().as_term())?;
+    let origin = node_form(alloc, unique.origin())?;
     Ok(plain_list(two(alloc, value, origin)?))
 }
 
@@ -47,7 +47,7 @@ pub(crate) fn unique_forms(
     naming: &Naming<'_>,
     uniques: &[UniqueAt],
 ) -> Result<Vec<Form>, AllocError>
-    ensures { IfOk result (λ fs. map view fs.items ≡ map (unique_form (named_in naming.now)) (map unique_view uniques.now)) }
+    ensures { IfOk result (λ fs. map view fs.items ≡ map (unique_form (named_in naming.now)) uniques.now) }
 {
     let mut forms = Vec::new(alloc);
     for unique in uniques {
@@ -95,8 +95,9 @@ pub(crate) fn map_form(
 ) -> Result<Form, AllocError>
     ensures { IfOk result (λ f. view f ≡ map_form (named_in naming.now) of_problem.now (skeleton_view skeleton.now)) }
 {
-    let strands = plain_list(numerals(alloc, &skeleton.from_problem.strands)?);
-    let mut items = value_forms(alloc, naming, of_problem, &skeleton.from_problem.values)?;
+    let way = skeleton.from_problem();
+    let strands = plain_list(numerals(alloc, way.strands())?);
+    let mut items = value_forms(alloc, naming, of_problem, way.values())?;
     items.insert(0, strands)?;
     headed_list(alloc, "map", items)
 }

@@ -6,7 +6,7 @@ ghost use Rattle.cp_model.specs.Given.{listed};
 ghost use Rattle.cp_sexpr.specs.View.{view};
 ghost use Rattle.cp_skel.specs.Trees.{operation_view, mark_view, test_view, label_view};
 ghost use Rattle.cp_model.specs.RunView.{node_view};
-ghost use Rattle.cp_skel.specs.View.{strand_view, unique_view, skeleton_view};
+ghost use Rattle.cp_skel.specs.View.{strand_view, skeleton_view};
 ghost use Rattle.cp_print.specs.Named.{variable_view, named_in};
 
 use crate::assumptions::{add_test, atom_forms, map_form, pattern_forms, unique_forms};
@@ -40,9 +40,9 @@ fn occurring(alloc: Global, label: &TreeNode) -> Result<Vec<Variable>, AllocErro
 {
     let skeleton = &label.skeleton;
     let mut variables = Vec::new(alloc);
-    add_strands(alloc, &skeleton.strands, &mut variables)?;
-    add_assumptions(&skeleton.assumptions, &mut variables)?;
-    add_terms(&skeleton.from_problem.values, &mut variables)?;
+    add_strands(alloc, skeleton.strands(), &mut variables)?;
+    add_assumptions(skeleton.assumptions(), &mut variables)?;
+    add_terms(skeleton.from_problem().values(), &mut variables)?;
     add_test_variables(&label.test, &mut variables)?;
     add_patterns(alloc, &label.patterns, &mut variables)?;
     Ok(variables)
@@ -60,13 +60,13 @@ fn add_strand_items(
         ++ parent_items label.now.parent
         ++ headed_list (codes "by") (operation_words (operation_view label.now.operation)) ∷ []
         ++ item_unless_empty (codes "vars") (map view vars.items)
-        ++ map (strand_form (named_in naming.now)) (map strand_view label.now.skeleton.strands.items)) }
+        ++ map (strand_form (named_in naming.now)) (map strand_view label.now.skeleton.strands)) }
 {
     add_parent(alloc, label.parent, items)?;
     let operation = operation_words(alloc, &label.operation)?;
     items.push(headed_list(alloc, "by", operation)?)?;
     add_unless_empty(alloc, "vars", vars, items)?;
-    add_strand_forms(alloc, naming, &label.skeleton.strands, items)
+    add_strand_forms(alloc, naming, label.skeleton.strands(), items)
 }
 
 /// Appends the order, and the assumptions in the order of a report, each once.
@@ -85,11 +85,11 @@ fn add_assumption_items(
     let assumptions = listed(alloc, skeleton)?;
     let precedes = covering_pairs(alloc, skeleton)?;
     add_unless_empty(alloc, "precedes", precedes, items)?;
-    let non = atom_forms(alloc, naming, &assumptions.non_originating)?;
+    let non = atom_forms(alloc, naming, assumptions.non_originating())?;
     add_unless_empty(alloc, "non-orig", non, items)?;
-    let penetrator_non = atom_forms(alloc, naming, &assumptions.penetrator_non_originating)?;
+    let penetrator_non = atom_forms(alloc, naming, assumptions.penetrator_non_originating())?;
     add_unless_empty(alloc, "pen-non-orig", penetrator_non, items)?;
-    let uniques = unique_forms(alloc, naming, &assumptions.uniquely_originating)?;
+    let uniques = unique_forms(alloc, naming, assumptions.uniquely_originating())?;
     add_unless_empty(alloc, "uniq-orig", uniques, items)
 }
 
@@ -129,7 +129,7 @@ pub(crate) fn label_form(
 ) -> Result<Form, AllocError>
     ensures { IfOk result (λ f. view f ≡ label_form of_problem.now number (label_view label.now)) }
 {
-    let variables = declarations(alloc, &label.skeleton.variables)?;
+    let variables = declarations(alloc, label.skeleton.variables())?;
     let occurring = occurring(alloc, label)?;
     let marks = marks_of(alloc, variables.len(), &occurring)?;
     let names = label_names(alloc, of_problem, &marks, &variables)?;

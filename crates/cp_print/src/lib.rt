@@ -12,7 +12,6 @@ mod order;
 mod patterns;
 mod report;
 mod strands;
-mod taken;
 mod terms;
 mod variables;
 

@@ -6,7 +6,7 @@ ghost use Rattle.cp_skel.specs.Trees.{variables_view};
 ghost use Rattle.cp_print.specs.Marks.{label_names_by};
 
 use crate::marks::is_marked;
-use crate::taken::Taken;
+use cp_load::Taken;
 use cp_skel::Declaration;
 use cp_term::{Text, VarId, VarTable};
 use itoa::Buffer;

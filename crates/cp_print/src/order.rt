@@ -13,7 +13,7 @@ use crate::items::node_form;
 use crate::making::{plain_list, two};
 use crate::marks::is_marked;
 use cp_sexpr::Form;
-use cp_skel::{Leading, Node, OrderPair, Skeleton, Strand};
+use cp_skel::{Leading, Node, OrderPair, Skeleton, Strand, StrandShape};
 use std::alloc::{AllocError, Global};
 
 /// A node, and for each node of its skeleton whether it is before this one.
@@ -120,9 +120,9 @@ fn add_covered(
 fn length_of(strand: &Strand) -> usize
     ensures { result ≡ length (skeleton_trace (strand_view strand.now)) }
 {
-    match strand {
-        Strand::Instance(instance) => instance.height.min(instance.role.trace.len()),
-        Strand::Listener(_) => 2,
+    match strand.shape() {
+        StrandShape::Instance(instance) => instance.height().min(instance.role().trace().len()),
+        StrandShape::Listener(_) => 2,
     }
 }
 
@@ -200,11 +200,11 @@ fn covered(alloc: Global, all: &[Ordered]) -> Result<Vec<Form>, AllocError>
 pub(crate) fn covering_pairs(alloc: Global, skeleton: &Skeleton) -> Result<Vec<Form>, AllocError>
     ensures { IfOk result (λ fs. map view fs.items ≡ covering_pairs (skeleton_view skeleton.now)) }
 {
-    let pairs = skeleton.order.pairs();
+    let pairs = skeleton.order().pairs();
     if pairs.is_empty() {
         return Ok(Vec::new(alloc));
     }
-    let nodes = nodes_of(alloc, &skeleton.strands)?;
+    let nodes = nodes_of(alloc, skeleton.strands())?;
     let paired = nodes_on_pairs(alloc, pairs, &nodes)?;
     let all = in_order(alloc, pairs, &paired)?;
     covered(alloc, &all)

@@ -111,7 +111,7 @@ fn put_tree(
     ensures ok { OnOk result (HasWritten out.old.items ends.old.items out.new.items ends.new.items (tree_forms (problem_view problem.now) (tree_view tree.now))) }
     ensures err { OnErr result (AppendsFront out.old.items out.new.items (text_of_forms (tree_forms (problem_view problem.now) (tree_view tree.now)))) }
 {
-    let variables = declarations(alloc, &problem.skeleton.variables)?;
+    let variables = declarations(alloc, problem.skeleton.variables())?;
     let names = problem_names(alloc, problem.declared, &variables)?;
     let status = status_form(alloc, tree)?;
     put_labels(alloc, &names, &tree.nodes, out, ends)?;

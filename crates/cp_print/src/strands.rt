@@ -7,7 +7,7 @@ ghost use Rattle.cp_language.specs.Printed.{variable, word, plain_list, atom_for
 ghost use Rattle.cp_language.specs.Report.{strand_form};
 ghost use Rattle.cp_model.specs.Same.{same_sort};
 ghost use Rattle.cp_sexpr.specs.View.{view};
-ghost use Rattle.cp_skel.specs.View.{sort_view, declaration_view, role_view, strand_view, instance_view};
+ghost use Rattle.cp_skel.specs.View.{sort_view, declaration_view, strand_view, instance_view};
 ghost use Rattle.cp_print.specs.Marks.{AreMarksAmong, vars_by, maplets_by};
 ghost use Rattle.cp_model.specs.Strand.{variables_of_prefix};
 ghost use Rattle.cp_print.specs.Named.{named_in};
@@ -19,7 +19,7 @@ use crate::naming::{Naming, is_same_sort, name_of, sort_text};
 use crate::terms::{atom_form, term_form};
 use crate::variables::{add_events, prefix_of};
 use cp_sexpr::Form;
-use cp_skel::{Declaration, Instance, Role, Strand};
+use cp_skel::{Declaration, Instance, Role, Strand, StrandShape};
 use cp_term::{Shape, Sort, Term, Text, VarId};
 use std::alloc::{AllocError, Global};
 
@@ -121,11 +121,11 @@ fn maplets(
 
 /// For each variable of a role whether it occurs in the prefix of this height.
 fn prefix_marks(alloc: Global, role: &Role, height: usize) -> Result<Vec<bool>, AllocError>
-    ensures { IfOk result (λ marks. AreMarksAmong (variables_of_prefix (role_view role.now) height) (role_view role.now).variables marks.items) }
+    ensures { IfOk result (λ marks. AreMarksAmong (variables_of_prefix role.now height) role.now.variables marks.items) }
 {
     let mut variables = Vec::new(alloc);
-    add_events(prefix_of(&role.trace, height), &mut variables)?;
-    marks_among(alloc, &role.variables, &variables)
+    add_events(prefix_of(role.trace(), height), &mut variables)?;
+    marks_among(alloc, role.variables(), &variables)
 }
 
 #[tactic(auto, using(crate::proofs::LabelParts::instance_maplets))]
@@ -136,11 +136,11 @@ fn instance_form(
 ) -> Result<Form, AllocError>
     ensures { IfOk result (λ f. view f ≡ strand_form (named_in naming.now) (instance_view instance.now)) }
 {
-    let role: &Role = &instance.role;
-    let marks = prefix_marks(alloc, role, instance.height)?;
-    let mut items = maplets(alloc, naming, &instance.values, &marks, &role.variables)?;
-    items.insert(0, numeral(instance.height)?)?;
-    items.insert(0, word(alloc, role.name.as_str())?)?;
+    let role: &Role = instance.role();
+    let marks = prefix_marks(alloc, role, instance.height())?;
+    let mut items = maplets(alloc, naming, instance.values(), &marks, role.variables())?;
+    items.insert(0, numeral(instance.height())?)?;
+    items.insert(0, word(alloc, role.name().as_str())?)?;
     headed_list(alloc, "defstrand", items)
 }
 
@@ -148,9 +148,9 @@ fn instance_form(
 fn strand_form(alloc: Global, naming: &Naming<'_>, strand: &Strand) -> Result<Form, AllocError>
     ensures { IfOk result (λ f. view f ≡ strand_form (named_in naming.now) (strand_view strand.now)) }
 {
-    match strand {
-        Strand::Instance(instance) => instance_form(alloc, naming, instance),
-        Strand::Listener(message) => {
+    match strand.shape() {
+        StrandShape::Instance(instance) => instance_form(alloc, naming, instance),
+        StrandShape::Listener(message) => {
             let message = term_form(alloc, naming, message)?;
             headed_list(alloc, "deflistener", one(alloc, message)?)
         }

@@ -6,12 +6,12 @@ ghost use Rattle.cp_model.specs.Problem.{variables_of_atoms, variables_of_unique
 ghost use Rattle.cp_model.specs.Skeleton.{skeleton_trace};
 ghost use Rattle.cp_model.specs.Strand.{variables_of_trace};
 ghost use Rattle.cp_model.specs.Term.{name_sort, variables_of, variables_of_atom};
-ghost use Rattle.cp_skel.specs.View.{sort_view, event_view, strand_view, unique_view, assumptions_view};
+ghost use Rattle.cp_skel.specs.View.{sort_view, event_view, strand_view};
 ghost use Rattle.cp_print.specs.Named.{variable_view};
 ghost use Rattle.cp_print.specs.Variables.{variables_of_leaf, variables_of_instance};
 
 use crate::naming::Variable;
-use cp_skel::{Assumptions, Atom, Event, Instance, Strand, UniqueAt, applied};
+use cp_skel::{Assumptions, Atom, Event, Strand, StrandShape, UniqueAt, applied};
 use cp_term::{Shape, Sort, Term, VarId};
 use std::alloc::{AllocError, Global};
 
@@ -114,15 +114,12 @@ fn add_instance(
 fn add_strand(alloc: Global, strand: &Strand, out: &mut Vec<Variable>) -> Result<(), AllocError>
     ensures { OnOk result (map variable_view out.new.items ≡ map variable_view out.old.items ++ variables_of_trace (skeleton_trace (strand_view strand.now))) }
 {
-    match strand {
-        Strand::Instance(
-            Instance {
-                role,
-                height,
-                values,
-            },
-        ) => add_instance(alloc, values, prefix_of(&role.trace, *height), out),
-        Strand::Listener(message) => {
+    match strand.shape() {
+        StrandShape::Instance(instance) => {
+            let events = prefix_of(instance.role().trace(), instance.height());
+            add_instance(alloc, instance.values(), events, out)
+        }
+        StrandShape::Listener(message) => {
             add_term(message, out)?;
             add_term(message, out)
         }
@@ -159,10 +156,10 @@ fn add_atoms(atoms: &[Atom], out: &mut Vec<Variable>) -> Result<(), AllocError>
 }
 
 fn add_uniques(uniques: &[UniqueAt], out: &mut Vec<Variable>) -> Result<(), AllocError>
-    ensures { OnOk result (map variable_view out.new.items ≡ map variable_view out.old.items ++ variables_of_uniques (map unique_view uniques.now)) }
+    ensures { OnOk result (map variable_view out.new.items ≡ map variable_view out.old.items ++ variables_of_uniques uniques.now) }
 {
     for unique in uniques {
-        add_atom(&unique.value, out)?;
+        add_atom(unique.value(), out)?;
     }
     Ok(())
 }
@@ -172,9 +169,9 @@ pub(crate) fn add_assumptions(
     assumptions: &Assumptions,
     out: &mut Vec<Variable>,
 ) -> Result<(), AllocError>
-    ensures { OnOk result (map variable_view out.new.items ≡ map variable_view out.old.items ++ variables_of_assumptions (assumptions_view assumptions.now)) }
+    ensures { OnOk result (map variable_view out.new.items ≡ map variable_view out.old.items ++ variables_of_assumptions assumptions.now) }
 {
-    add_atoms(&assumptions.non_originating, out)?;
-    add_atoms(&assumptions.penetrator_non_originating, out)?;
-    add_uniques(&assumptions.uniquely_originating, out)
+    add_atoms(assumptions.non_originating(), out)?;
+    add_atoms(assumptions.penetrator_non_originating(), out)?;
+    add_uniques(assumptions.uniquely_originating(), out)
 }

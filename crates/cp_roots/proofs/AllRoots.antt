@@ -1,15 +1,12 @@
 -- The first roots of a problem with those of its collapses behind them.
 use Rattle.std.proofs.Common.{◌≡◌, List, ◌++◌, map, ap, ◌∙◌}
-use Rattle.cp_model.specs.Lists.{IsIn}
 use Rattle.cp_model.specs.Strand.{Declaration, Protocol}
 use Rattle.cp_model.specs.Skeleton.{Skeleton, IsSkeleton}
 use Rattle.cp_model.specs.Problem.{IsPointOfView}
 use Rattle.cp_term.specs.Table.{Declared}
 use Rattle.cp_skel.specs.View.{skeleton_view}
-use Rattle.cp_skel.specs.declared.skeleton.Skeleton.{Skeleton as Program}
-use Rattle.cp_normal.specs.Candidates.{IsInOrder}
+use Rattle.cp_skel.specs.Data.{SkeletonData as Program}
 use Rattle.cp_normal.specs.Collapsing.{AreCollapses}
-use Rattle.cp_normal.proofs.Having.{into_map}
 use Rattle.cp_roots.specs.declared.root.Root.{Root as Made}
 use Rattle.cp_roots.specs.RootView.{root_view}
 use Rattle.cp_roots.specs.Roots.{Root, first_roots, AreRoots}
@@ -17,15 +14,9 @@ use Rattle.cp_roots.specs.Sound.{AreSound}
 use Rattle.cp_roots.specs.Gathering.{AllHave, RootsHave, AreFirstRoots}
 use Rattle.cp_roots.proofs.EachCollapse.{are_roots}
 use Rattle.cp_roots.proofs.RootsSoFar.{AreRootsOf}
-use Rattle.cp_roots.proofs.SoundRoots.{listed_is_skeleton, are_sound}
-
-pub in_order : (protocol : Protocol) (k : Skeleton) → IsSkeleton protocol k → IsInOrder k
-in_order protocol k sk = record { order_pairs = sk.order_pairs; no_cycle = sk.no_cycle; origins = sk.origins }
+use Rattle.cp_roots.proofs.SoundRoots.{are_sound}
 
 module _ (protocol : Protocol) (variables : List Declaration) (k : Skeleton) (sk : IsSkeleton protocol k) (own : IsPointOfView variables k) (collapses : List Program) (are : AreCollapses k (map skeleton_view collapses)) where
-  pub collapse_in_order : (l : Program) → IsIn l collapses → IsInOrder (skeleton_view l)
-  collapse_in_order l i = in_order protocol (skeleton_view l) (listed_is_skeleton protocol variables k sk own are.each (skeleton_view l) (into_map skeleton_view i))
-
   module _ (names : List Declared) (start now : List Made) (first : AreFirstRoots k names start) (all : AreRootsOf collapses start now) where
     whole : map root_view now ≡ first_roots k first.forms ++ all.others
     whole = all.roots ∙ ap (λ (rs : List Root). rs ++ all.others) first.whole

@@ -11,7 +11,7 @@ use Rattle.cp_model.specs.Problem.{numbers_from}
 use Rattle.cp_model.proofs.LawLists.{item_there}
 use Rattle.cp_skel.specs.Events.{is_role_strand}
 use Rattle.cp_skel.specs.View.{strand_view}
-use Rattle.cp_skel.specs.declared.skeleton.Strand.{Strand}
+use Rattle.cp_skel.specs.Data.{StrandData as Strand}
 use Rattle.cp_normal.specs.Partitions.{IsPartition, finest}
 use Rattle.cp_normal.specs.Collapsing.{no_collapses, AreCollapses}
 use Rattle.cp_normal.proofs.Lowest.{at_numbers, numbers_length}

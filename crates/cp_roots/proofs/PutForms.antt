@@ -8,7 +8,7 @@ use Rattle.cp_model.proofs.LawLists.{in_append, in_append_left, in_append_right}
 use Rattle.cp_term.specs.Table.{Declared}
 use Rattle.cp_skel.specs.Trees.{operation_view}
 use Rattle.cp_skel.specs.View.{skeleton_view}
-use Rattle.cp_skel.specs.declared.skeleton.Skeleton.{Skeleton as Program}
+use Rattle.cp_skel.specs.Data.{SkeletonData as Program}
 use Rattle.cp_skel.specs.declared.tree.Operation.{Operation as How}
 use Rattle.cp_normal.proofs.Descending.{only}
 use Rattle.cp_roots.specs.declared.root.Root.{Root}
@@ -126,7 +126,7 @@ module _ (k : Program) (copied : Program) (same : skeleton_view copied ≡ skele
   living_roots forms n empty roots count test = some_living forms empty roots (some_there forms n count test)
 
 pub collapse_put : (l : Program) (by : Operation) (partition places : List ℕ) (forms : List Program) (old new : List Root) → AreNormalForms (skeleton_view l) (map skeleton_view forms) → ((r : Program) → IsIn r forms → r.variables ≡ l.variables) →
-    places ≡ l.from_problem.strands.items → partition ≡ firsts places → by ≡ by_collapse partition → PutsForms by forms old new → PutsCollapse l old new
+    places ≡ l.from_problem.strands → partition ≡ firsts places → by ≡ by_collapse partition → PutsForms by forms old new → PutsCollapse l old new
 collapse_put l by partition places forms old new are names at read made puts = record {
   forms = map skeleton_view forms;
   are_forms = are;

@@ -6,13 +6,13 @@ use Rattle.cp_model.specs.Skeleton.{Skeleton}
 use Rattle.cp_model.proofs.LawLists.{in_append_left, in_append_right}
 use Rattle.cp_term.specs.Table.{Declared}
 use Rattle.cp_skel.specs.View.{skeleton_view}
-use Rattle.cp_skel.specs.declared.skeleton.Skeleton.{Skeleton as Program}
+use Rattle.cp_skel.specs.Data.{SkeletonData as Program}
 use Rattle.cp_roots.specs.declared.root.Root.{Root as Made}
 use Rattle.cp_roots.specs.RootView.{root_view}
 use Rattle.cp_roots.specs.Roots.{Root}
 use Rattle.cp_roots.specs.Gathering.{AllHave, RootsHave, PutsCollapse}
 use Rattle.cp_roots.proofs.EachCollapse.{AreOfEach, roots_of, one_more}
-use Rattle.cp_roots.proofs.PutForms.{next_first, have_reversed, back_again}
+use Rattle.cp_roots.proofs.PutForms.{next_first, have_reversed}
 
 -- Of the collapses, which are taken from the end, those that are left are still to be done.
 pub record AreRootsSoFar (all left : List Program) (start now : List Made) : Type 0 where
@@ -55,9 +55,6 @@ module _ (all left rest : List Program) (start now : List Made) (l : Program) (p
     each_left = λ m i. part.each_left m (subst (IsIn m) (sym popped) (in_append_left (l ∷ []) i));
     have = λ variables roots collapses. puts.variables variables (part.have variables roots collapses) (collapses l is_listed);
   }
-
-  pub collapse_in : (collapses : List Program) → all ≡ reverse collapses → IsIn l collapses
-  collapse_in collapses e = back_again l collapses (subst (IsIn l) e is_listed)
 
 -- All of them are done.
 pub record AreRootsOf (collapses : List Program) (start now : List Made) : Type 0 where

@@ -7,7 +7,7 @@ use Rattle.cp_model.specs.Tree.{Operation, by_collapse}
 use Rattle.cp_completeness.specs.Normal.{LosesNoStanding}
 use Rattle.cp_term.specs.Table.{Declared}
 use Rattle.cp_skel.specs.View.{skeleton_view}
-use Rattle.cp_skel.specs.declared.skeleton.Skeleton.{Skeleton as Program}
+use Rattle.cp_skel.specs.Data.{SkeletonData as Program}
 use Rattle.cp_normal.specs.Exact.{HasForms}
 use Rattle.cp_normal.specs.Narrowing.{IsNormalFormOf}
 use Rattle.cp_roots.specs.declared.root.Root.{Root}
@@ -40,7 +40,7 @@ pub record PutsForms (by : Operation) (forms : List Program) (old new : List Roo
 pub record PutsCollapse (l : Program) (old new : List Root) : Type 0 where
   pub forms : List Skeleton
   pub are_forms : AreNormalForms (skeleton_view l) forms
-  pub roots : map root_view new ≡ map root_view old ++ map (living (by_collapse (firsts l.from_problem.strands.items))) forms
+  pub roots : map root_view new ≡ map root_view old ++ map (living (by_collapse (firsts l.from_problem.strands))) forms
   pub variables : (variables : List Declared) → RootsHave variables old → l.variables ≡ variables → RootsHave variables new
 
 -- The first roots of a problem of these variables.

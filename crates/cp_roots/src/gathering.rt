@@ -1,9 +1,7 @@
 // Roots that are put behind others.
 ghost use Rattle.std.specs.Prelude.{◌≡◌, IfOk, OnOk};
-ghost use Rattle.cp_skel.specs.DeclaredPrefixes.{HasDeclaredPrefixes};
 ghost use Rattle.cp_skel.specs.Trees.{operation_view};
 ghost use Rattle.cp_skel.specs.View.{skeleton_view};
-ghost use Rattle.cp_normal.specs.Candidates.{IsInOrder};
 ghost use Rattle.cp_roots.specs.Gathering.{PutsForms, PutsCollapse, AreFirstRoots};
 
 use crate::partition::partition_of;
@@ -55,8 +53,6 @@ fn put_forms(
 
 /// The first roots of a problem: its normal forms, or the problem itself, dead, where it has none.
 pub(crate) fn first_roots(alloc: Global, problem: &Skeleton) -> Result<Vec<Root>, AllocError>
-    requires order { IsInOrder (skeleton_view problem.now) }
-    requires declared { HasDeclaredPrefixes (skeleton_view problem.now) }
     ensures { IfOk result (λ rs. AreFirstRoots (skeleton_view problem.now) problem.now.variables rs.items) }
 {
     let operation = Operation::Problem;
@@ -80,11 +76,9 @@ pub(crate) fn put_collapse(
     collapse: Skeleton,
     roots: &mut Vec<Root>,
 ) -> Result<(), AllocError>
-    requires order { IsInOrder (skeleton_view collapse) }
-    requires declared { HasDeclaredPrefixes (skeleton_view collapse) }
     ensures { OnOk result (PutsCollapse collapse roots.old.items roots.new.items) }
 {
-    let partition = partition_of(alloc, &collapse.from_problem.strands)?;
+    let partition = partition_of(alloc, collapse.from_problem().strands())?;
     let operation = Operation::Collapsed(partition);
     let forms = normalise(alloc, collapse)?;
     put_forms(alloc, &operation, forms, roots)

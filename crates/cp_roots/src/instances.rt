@@ -3,13 +3,13 @@ ghost use Rattle.std.specs.Prelude.{◌≡◌, count_by, nat_lt};
 ghost use Rattle.cp_skel.specs.Events.{is_role_strand};
 ghost use Rattle.cp_skel.specs.View.{strand_view};
 
-use cp_skel::Strand;
+use cp_skel::{Strand, StrandShape};
 
 /// The strand is an instance of a role.
 fn is_instance(strand: &Strand) -> bool
     ensures { result ≡ is_role_strand (strand_view strand.now) }
 {
-    matches!(strand, Strand::Instance(_))
+    matches!(strand.shape(), StrandShape::Instance(_))
 }
 
 /// Two of the strands at least are instances of roles.

@@ -6,17 +6,13 @@ use Rattle.cp_model.specs.Lists.{item_at, IsIn, here, there}
 use Rattle.cp_model.specs.Skeleton.{Skeleton}
 use Rattle.cp_model.specs.Homomorphism.{Embeds}
 use Rattle.cp_hom.specs.Maps.{IsIsomorphic}
-use Rattle.cp_model.proofs.LawLists.{in_append_left, in_append_right, item_below, item_of_take, take_of_item}
-use Rattle.cp_skel.specs.Ordered.{IsOrdered}
+use Rattle.cp_model.proofs.LawLists.{item_below, item_of_take, take_of_item}
 use Rattle.cp_skel.proofs.Items.{item-found, item-there, map-length}
-use Rattle.cp_skel.specs.View.{skeleton_view}
 use Rattle.cp_term.proofs.CarriedTerms.{not_both}
 use Rattle.cp_hom.specs.Partition.{fingerprint_of}
 use Rattle.cp_hom.proofs.Listed.{in_item}
 use Rattle.cp_normal.proofs.Descending.{end_cases}
 use Rattle.cp_shapes.proofs.Instances.{same_item}
-use Rattle.cp_roots.specs.Roots.{Root as Plain}
-use Rattle.cp_roots.specs.RootView.{root_view}
 use Rattle.cp_roots.specs.declared.root.Root.{Root}
 use Rattle.cp_search.specs.Marks.{IsEarlierIsomorphic}
 use Rattle.cp_search.specs.Judging.{FindsLeast, IsCopyAt, judged_skeleton, IsJudged, AreJudged}
@@ -114,16 +110,6 @@ module _ (roots left rest : List Root) (old : List Judged) (root : Root) (so_far
   is_next : map root_of old ++ root ∷ reverse rest ≡ roots
   is_next = ap (λ ys. map root_of old ++ ys) (sym (ap reverse popped ∙ reverse-append rest (root ∷ []))) ∙ so_far.whole
 
-  pub next_in : IsIn root roots
-  next_in = subst (IsIn root) is_next (in_append_right (map root_of old) here)
-
-  old_in : (r : Root) → IsIn r (map root_of old) → IsIn r roots
-  old_in r i = subst (IsIn r) is_next (in_append_left (root ∷ reverse rest) i)
-
-  -- The roots that are judged are ordered, where all are.
-  pub before_ordered : ((r : Plain) → IsIn r (map root_view roots) → IsOrdered r.skeleton) → (given : List Judged) → given ≡ old → (j : Judged) → IsIn j given → IsOrdered (judged_skeleton j)
-  before_ordered all given e j i = all (root_view j.root) (in_map root_view roots j.root (old_in j.root (in_map root_of old j (subst (IsIn j) e i))))
-
   pub before_fingerprints : (given : List Judged) → given ≡ old → (j : Judged) → IsIn j given → j.fingerprint ≡ fingerprint_of (judged_skeleton j)
   before_fingerprints given e j i = let at = in_item (subst (IsIn j) e i) in (so_far.each at.0 j at.1).fingerprint
 
@@ -159,6 +145,3 @@ module _ (roots left rest : List Root) (old : List Judged) (root : Root) (so_far
 pub all_judged : (roots left : List Root) (judged : List Judged) → AreJudgedSoFar roots left judged → left ≡ [] → map root_of judged ≡ roots
 all_judged roots left judged so_far done =
     sym (append-nil (map root_of judged)) ∙ (ap (λ ys. map root_of judged ++ reverse ys) (sym done) ∙ so_far.whole)
-
-pub root_ordered : (roots : List Root) (root : Root) → ((r : Plain) → IsIn r (map root_view roots) → IsOrdered r.skeleton) → IsIn root roots → IsOrdered (skeleton_view root.skeleton)
-root_ordered roots root all i = all (root_view root) (in_map root_view roots root i)

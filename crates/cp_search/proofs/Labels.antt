@@ -8,7 +8,6 @@ use Rattle.cp_model.specs.Skeleton.{Skeleton}
 use Rattle.cp_model.specs.Tree.{Label, Limits}
 use Rattle.cp_model.specs.Tree as tree
 use Rattle.cp_model.proofs.LawLists.{item_below, item_of_map, map_of_item}
-use Rattle.cp_skel.specs.Ordered.{IsOrdered}
 use Rattle.cp_skel.specs.Trees.{variables_view, label_view, mark_view}
 use Rattle.cp_skel.specs.declared.tree.Mark.{Mark}
 use Rattle.cp_skel.specs.declared.tree.Mark.TheVariants.{Shape, Dead, Seen, InstanceOf, LimitSteps, LimitStrands}
@@ -97,10 +96,6 @@ map_of_map f g (x ∷ xs) = ap (λ ys. g (f x) ∷ ys) (map_of_map f g xs)
 -- The plain roots are those of what is judged.
 pub same_roots : (judged : List Judged) (roots : List Program) → map root_of judged ≡ roots → map judged_view judged ≡ map root_view roots
 same_roots judged roots e = sym (map_of_map root_of root_view judged) ∙ ap (map root_view) e
-
-pub ordered_judged : (judged : List Judged) (roots : List Program) (given : List Judged) → map root_of judged ≡ roots → given ≡ judged → ((r : Root) → IsIn r (map root_view roots) → IsOrdered r.skeleton) → (j : Judged) → IsIn j given → IsOrdered (judged_skeleton j)
-ordered_judged judged roots given e g all j i =
-    all (judged_view j) (subst (IsIn (judged_view j)) (same_roots judged roots e) (in_map judged_view judged j (subst (IsIn j) g i)))
 
 same_maps : {A B C : Type 0} (f : A → C) (g : B → C) (xs : List A) (ys : List B) → length xs ≡ length ys → ((i : ℕ) (x : A) (y : B) → item_at xs i ≡ Some x → item_at ys i ≡ Some y → f x ≡ g y) → map f xs ≡ map g ys
 same_maps f g [] [] e same = refl

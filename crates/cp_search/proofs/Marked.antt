@@ -2,7 +2,7 @@
 use Rattle.std.proofs.Common.{◌≡◌, ℕ, zero, suc, ◌+◌, ◌<◌, nat_lt, nat_eq, List, [], ◌∷◌, ◌++◌, Bool, true, false, if◌then◌else◌, length, map, drop, take, get_or, slice_index_or, Option, Some, None, refl, sym, ap, subst, ◌∙◌, arith, eqb-true, eq-eqb}
 use Rattle.std.proofs.lemmas.Bool.{ltb-true, ltb-false}
 use Rattle.std.specs.Prelude.{IfSome}
-use Rattle.cp_model.specs.Lists.{item_at, IsIn, here, there}
+use Rattle.cp_model.specs.Lists.{item_at, here}
 use Rattle.cp_model.specs.Bundle.{Node}
 use Rattle.cp_model.specs.RunView.{node_view}
 use Rattle.cp_model.specs.declared.strand.Node.{Node as Program}
@@ -11,7 +11,6 @@ use Rattle.cp_model.specs.Derivable.{IsUnrealised}
 use Rattle.cp_model.specs.Tree.{Mark, dead, limit_steps, limit_strands, Limits}
 use Rattle.cp_model.proofs.LawLists.{item_below, item_there, map_of_item}
 use Rattle.cp_derive.specs.Unrealised.{ListsUnrealised, IsUnrealisedAt}
-use Rattle.cp_skel.specs.Ordered.{IsOrdered}
 use Rattle.cp_skel.specs.Trees.{mark_view}
 use Rattle.cp_skel.specs.declared.tree.Mark.{Mark as ProgramMark}
 use Rattle.cp_skel.proofs.Items.{item-drop, map-length}
@@ -80,30 +79,6 @@ index_at (m ∷ ns) (suc i) n e = index_at ns i n e
 
 pub item_at_index : {A : Type 0} (xs : List A) (i : ℕ) (x : A) → i < length xs → x ≡ get_or xs i x → item_at xs i ≡ Some x
 item_at_index xs i x l is = at_drop i xs x (drop (i + 1) xs) (item-drop xs i x l is)
-
--- A candidate's skeleton is that of one of the roots.
--- A root whose skeleton this is.
-abbrev HasRoot : List Judged → Skeleton → Type 0
-HasRoot js k = (j : Judged) × IsIn j js × (judged_skeleton j ≡ k)
-
-first_or : (j : Judged) (js : List Judged) (k first : Skeleton) (ls : List Skeleton) → IsIn k (first ∷ ls) → judged_skeleton j ≡ first → (IsIn k ls → HasRoot js k) → HasRoot (j ∷ js) k
-first_or j js k first ls here e rest = (j, here, e)
-first_or j js k first ls (there h) e rest = let r = rest h in (r.0, there r.1, r.2)
-
-root_by : (n : ℕ) (j : Judged) (js : List Judged) (k : Skeleton) (b : Bool) → is_candidate j ≡ b → (IsIn k (skeletons_of (candidates_from (suc n) js)) → HasRoot js k) → IsIn k (skeletons_of (candidates_from n (j ∷ js))) → HasRoot (j ∷ js) k
-root_by n j js k true e rest i =
-    let same : skeletons_of (candidates_from n (j ∷ js)) ≡ judged_skeleton j ∷ skeletons_of (candidates_from (suc n) js) = rw e refl in
-    first_or j js k (judged_skeleton j) (skeletons_of (candidates_from (suc n) js)) (subst (IsIn k) same i) refl rest
-root_by n j js k false e rest i =
-    let same : skeletons_of (candidates_from n (j ∷ js)) ≡ skeletons_of (candidates_from (suc n) js) = rw e refl in
-    let r = rest (subst (IsIn k) same i) in (r.0, there r.1, r.2)
-
-pub candidate_of : (n : ℕ) (js : List Judged) (k : Skeleton) → IsIn k (skeletons_of (candidates_from n js)) → HasRoot js k
-candidate_of n [] k i = elim i [ ]
-candidate_of n (j ∷ js) k i = root_by n j js k (is_candidate j) refl (candidate_of (suc n) js k) i
-
-pub candidates_ordered : (js : List Judged) (ks : List Skeleton) → ks ≡ skeletons_of (candidates_from 0 js) → ((j : Judged) → IsIn j js → IsOrdered (judged_skeleton j)) → (k : Skeleton) → IsIn k ks → IsOrdered k
-candidates_ordered js ks e all k i = let h = candidate_of 0 js k (subst (IsIn k) e i) in subst IsOrdered h.2 (all h.0 h.1)
 
 -- ---- marks
 

@@ -1,10 +1,8 @@
 // Roots with what is found of each.
 ghost use Rattle.std.specs.Prelude.{◌≡◌, map, IfOk};
 ghost use Rattle.cp_model.specs.Lists.{IsIn};
-ghost use Rattle.cp_skel.specs.Ordered.{IsOrdered};
 ghost use Rattle.cp_skel.specs.View.{skeleton_view};
 ghost use Rattle.cp_hom.specs.Partition.{fingerprint_of};
-ghost use Rattle.cp_roots.specs.Roots as plain;
 ghost use Rattle.cp_roots.specs.RootView.{root_view};
 ghost use Rattle.cp_model.specs.RunView.{node_view};
 ghost use Rattle.cp_search.specs.Unexpanded.{AreUnrealisedOf};
@@ -34,8 +32,6 @@ fn first_copy(
     fingerprint: usize,
     skeleton: &Skeleton,
 ) -> Result<Option<usize>, AllocError>
-    requires ordered { IsOrdered (skeleton_view skeleton.now) }
-    requires others_ordered { (j : program.Judged) → IsIn j judged.now → IsOrdered (judged_skeleton j) }
     requires fingerprint { fingerprint ≡ fingerprint_of (skeleton_view skeleton.now) }
     requires fingerprints { (j : program.Judged) → IsIn j judged.now → j.fingerprint ≡ fingerprint_of (judged_skeleton j) }
     ensures { IfOk result (FindsLeast (IsCopyAt (map judged_skeleton judged.now) (skeleton_view skeleton.now))) }
@@ -53,7 +49,6 @@ fn first_copy(
 
 /// The receptions of a root that are not realised; of one that is dead none are listed.
 fn unrealised_of(alloc: Global, root: &Root) -> Result<Vec<Node>, AllocError>
-    requires ordered { IsOrdered (skeleton_view root.now.skeleton) }
     ensures { IfOk result (λ nodes. AreUnrealisedOf (root_view root.now) (map node_view nodes.items)) }
 {
     if root.dead {
@@ -64,8 +59,6 @@ fn unrealised_of(alloc: Global, root: &Root) -> Result<Vec<Node>, AllocError>
 
 /// The root with what is found of it beside those before it.
 fn judge(alloc: Global, before: &[Judged], root: Root) -> Result<Judged, AllocError>
-    requires ordered { IsOrdered (skeleton_view root.skeleton) }
-    requires others_ordered { (j : program.Judged) → IsIn j before.now → IsOrdered (judged_skeleton j) }
     requires fingerprints { (j : program.Judged) → IsIn j before.now → j.fingerprint ≡ fingerprint_of (judged_skeleton j) }
     ensures root { IfOk result (λ j. j.root ≡ root) }
     ensures judged { IfOk result (IsJudged (map judged_skeleton before.now)) }
@@ -83,7 +76,6 @@ fn judge(alloc: Global, before: &[Judged], root: Root) -> Result<Judged, AllocEr
 
 /// The roots with what is found of each, in their order.
 pub(crate) fn judge_each(alloc: Global, roots: Vec<Root>) -> Result<Vec<Judged>, AllocError>
-    requires ordered { (r : plain.Root) → IsIn r (map root_view roots.items) → IsOrdered r.skeleton }
     ensures roots { IfOk result (λ js. map (λ j. j.root) js.items ≡ roots.items) }
     ensures judged { IfOk result (λ js. AreJudged js.items) }
 {

@@ -2,9 +2,7 @@
 ghost use Rattle.std.specs.Prelude.{◌≡◌, ◌↔◌, List, length, map, Some, IsTrue, IfOk};
 ghost use Rattle.cp_model.specs.Lists.{IsIn};
 ghost use Rattle.cp_model.specs.Strand.{Declaration};
-ghost use Rattle.cp_skel.specs.Ordered.{IsOrdered};
 ghost use Rattle.cp_skel.specs.Trees.{variables_view, limits_view, mark_view, outcome_view, label_view, tree_view};
-ghost use Rattle.cp_roots.specs.Roots as plain;
 ghost use Rattle.cp_roots.specs.RootView.{root_view};
 ghost use Rattle.cp_search.specs.Unexpanded.{label_of, AreLabelsOf, IsMarked, HasOutcome};
 ghost use Rattle.cp_search.specs.Judging.{judged_view, judged_nodes};
@@ -92,7 +90,6 @@ fn outcome_of(labels: &[TreeNode]) -> Outcome
 
 /// The tree of these roots when no label may be expanded. The error is that memory ran out.
 pub(crate) fn tree_of(alloc: Global, roots: Vec<Root>, limits: Limits) -> Result<Tree, AllocError>
-    requires ordered { (r : plain.Root) → IsIn r (map root_view roots.items) → IsOrdered r.skeleton }
     ensures labels { IfOk result (λ t. (variables : List Declaration) → ((r : program.Root) → IsIn r roots.items → variables_view r.skeleton.variables ≡ variables)
         → AreLabelsOf variables (limits_view limits) (map root_view roots.items) (tree_view t).labels) }
     ensures outcome { IfOk result (λ t. HasOutcome (tree_view t).labels (tree_view t).outcome) }

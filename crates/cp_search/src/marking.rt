@@ -1,12 +1,9 @@
 // What becomes of each root.
 ghost use Rattle.std.specs.Prelude.{◌≡◌, ◌<◌, length, map, IfOk, IfSome};
-ghost use Rattle.cp_model.specs.Lists.{IsIn};
-ghost use Rattle.cp_skel.specs.Ordered.{IsOrdered};
 ghost use Rattle.cp_skel.specs.Trees.{limits_view, mark_view};
 ghost use Rattle.cp_skel.specs.View.{skeleton_view};
-ghost use Rattle.cp_search.specs.Judging.{judged_skeleton, AreJudged};
+ghost use Rattle.cp_search.specs.Judging.{AreJudged};
 ghost use Rattle.cp_search.specs.Marking.{is_candidate, candidates_from, candidate_mark, other_mark, AreMarked};
-ghost use Rattle.cp_search.specs.declared.judging.Judged as program;
 
 use crate::judging::Judged;
 use cp_shapes::shapes;
@@ -76,7 +73,7 @@ fn other_mark(judged: &Judged, limits: Limits) -> Mark
     if let Some(number) = judged.copy {
         return Mark::Seen(number);
     }
-    if judged.root.skeleton.strands.len() > limits.strands as usize {
+    if judged.root.skeleton.strands().len() > limits.strands as usize {
         return Mark::LimitStrands;
     }
     Mark::LimitSteps
@@ -88,7 +85,6 @@ pub(crate) fn marks(
     judged: &[Judged],
     limits: Limits,
 ) -> Result<Vec<Mark>, AllocError>
-    requires ordered { (j : program.Judged) → IsIn j judged.now → IsOrdered (judged_skeleton j) }
     requires judged { AreJudged judged.now }
     ensures count { IfOk result (λ marks. length marks.items ≡ length judged.now) }
     ensures marked { IfOk result (λ marks. AreMarked (limits_view limits) judged.now (map mark_view marks.items)) }

@@ -3,8 +3,7 @@ ghost use Rattle.std.specs.Prelude.{◌≡◌, IfOk};
 ghost use Rattle.cp_model.specs.Problem.{IsPointOfView};
 ghost use Rattle.cp_model.specs.Skeleton.{IsSkeleton};
 ghost use Rattle.cp_model.specs.Tree.{IsTrueOf};
-ghost use Rattle.cp_skel.specs.DeclaredPrefixes.{HasDeclaredPrefixes};
-ghost use Rattle.cp_skel.specs.View.{protocol_view, skeleton_view};
+ghost use Rattle.cp_skel.specs.View.{skeleton_view};
 ghost use Rattle.cp_skel.specs.Trees.{variables_view, limits_view, tree_view};
 ghost use Rattle.cp_search.specs.Unexpanded.{IsUnexpanded};
 
@@ -25,19 +24,18 @@ use std::alloc::{AllocError, Global};
 /// complete: then every execution of the problem is an execution of a shape. At a limit too every execution of the problem
 /// is one of a shape or of a label at the limit.
 ///
-/// The problem has to be a skeleton over the protocol that maps to itself, the role of each instance has to declare the
-/// variables of its prefix, and no step may be allowed. The error is that memory ran out.
+/// The problem has to be a skeleton over the protocol that maps to itself, and no step may be allowed. The error is that
+/// memory ran out.
 pub fn unexpanded(
     alloc: Global,
     protocol: &Protocol,
     problem: &Skeleton,
     limits: Limits,
 ) -> Result<Tree, AllocError>
-    requires skeleton { IsSkeleton (protocol_view protocol.now) (skeleton_view problem.now) }
+    requires skeleton { IsSkeleton protocol.now (skeleton_view problem.now) }
     requires own { IsPointOfView (variables_view problem.now.variables) (skeleton_view problem.now) }
-    requires declared { HasDeclaredPrefixes (skeleton_view problem.now) }
     requires no_steps { limits.steps ≡ 0 }
-    ensures true_tree { IfOk result (λ t. IsTrueOf (protocol_view protocol.now) (skeleton_view problem.now) (limits_view limits) (tree_view t)) }
+    ensures true_tree { IfOk result (λ t. IsTrueOf protocol.now (skeleton_view problem.now) (limits_view limits) (tree_view t)) }
     ensures exact { IfOk result (λ t. IsUnexpanded (skeleton_view problem.now) (variables_view problem.now.variables) (limits_view limits) (tree_view t)) }
 {
     let roots = roots(alloc, protocol, problem)?;

@@ -2,14 +2,12 @@
 use Rattle.std.proofs.Common.{◌≡◌, ◌↔◌, ◌⊎◌, inl, inr, ℕ, zero, suc, ◌<◌, ◌≤◌, List, [], ◌∷◌, Bool, true, false, not, length, map, slice_index_or, Option, Some, None, refl, sym, ap, subst, ◌∙◌, arith}
 use Rattle.std.specs.Prelude.{IfSome, IfNone}
 use Rattle.std.specs.Option.{is_some}
-use Rattle.cp_model.specs.Lists.{item_at, IsIn}
+use Rattle.cp_model.specs.Lists.{item_at}
 use Rattle.cp_model.specs.Skeleton.{Skeleton}
 use Rattle.cp_model.specs.Homomorphism.{SkeletonMap, IsEmbedding, Embeds}
 use Rattle.cp_hom.specs.Maps.{map_view}
 use Rattle.cp_hom.specs.declared.mapping.Map.{Map}
 use Rattle.cp_hom.specs.Partition.{fingerprint_of}
-use Rattle.cp_hom.proofs.Listed.{item_in}
-use Rattle.cp_skel.specs.Ordered.{IsOrdered}
 use Rattle.cp_skel.proofs.Items.{map-length}
 use Rattle.cp_term.proofs.CarriedTerms.{not_both}
 use Rattle.cp_shapes.specs.Shapes.{EmbedsAt, IsInstanceWithin}
@@ -68,9 +66,6 @@ module _ (ks : List Skeleton) (m n : ℕ) (km kn : Skeleton) (at_m : item_at ks 
       (λ e. record { other = other; embeds = h; first = inl (no_embedding ks n m kn km at_n at_m (none_found km kn found flag flag_is e none)) }),
       (λ i. back_or_not flag refl (not_first l i.first)),
     )
-
-pub ordered_item : (ks : List Skeleton) (n : ℕ) (k : Skeleton) → item_at ks n ≡ Some k → ((k : Skeleton) → IsIn k ks → IsOrdered k) → IsOrdered k
-ordered_item ks n k at all = all k (item_in ks n k at)
 
 -- ---- fingerprints
 

@@ -1,8 +1,7 @@
 // What each candidate is, by those of which it is an instance.
 ghost use Rattle.std.specs.Prelude.{◌≡◌, ℕ, List, map, IfOk};
-ghost use Rattle.cp_model.specs.Lists.{item_at, IsIn};
+ghost use Rattle.cp_model.specs.Lists.{item_at};
 ghost use Rattle.cp_model.specs.Skeleton as model;
-ghost use Rattle.cp_skel.specs.Ordered.{IsOrdered};
 ghost use Rattle.cp_skel.specs.View.{skeleton_view};
 ghost use Rattle.cp_shapes.specs.Shapes.{AreMarksOf};
 ghost use Rattle.cp_shapes.specs.Rows.{IsRowOf, AreRowsOf, is_empty_row, FindsShape, rows_view};
@@ -34,10 +33,9 @@ fn first_shape(rows: &[Vec<usize>], row: &[usize]) -> Option<usize>
 }
 
 /// For each candidate the first shape of which it is an instance; none exactly where it is a shape itself. One candidate is an
-/// instance of another that embeds in it where it does not embed in that, or that comes first. The pairs of each go from a
-/// transmission to a reception of another strand, and its order has no cycle. The error is that memory ran out.
+/// instance of another that embeds in it where it does not embed in that, or that comes first. The error is that memory ran
+/// out.
 pub fn shapes(alloc: Global, candidates: &[&Skeleton]) -> Result<Vec<Option<usize>>, AllocError>
-    requires ordered { (k : model.Skeleton) → IsIn k (map (λ k. skeleton_view k.now) candidates.now) → IsOrdered k }
     ensures exact { IfOk result (λ marks. AreMarksOf (map (λ k. skeleton_view k.now) candidates.now) marks.items) }
 {
     let rows = rows(alloc, candidates)?;

@@ -1,8 +1,5 @@
 // For each candidate those of which it is an instance.
 ghost use Rattle.std.specs.Prelude.{◌≡◌, ◌↔◌, ◌<◌, length, map, IsTrue, IfOk};
-ghost use Rattle.cp_model.specs.Lists.{IsIn};
-ghost use Rattle.cp_model.specs.Skeleton as model;
-ghost use Rattle.cp_skel.specs.Ordered.{IsOrdered};
 ghost use Rattle.cp_skel.specs.View.{skeleton_view};
 ghost use Rattle.cp_hom.specs.Partition.{fingerprint_of};
 ghost use Rattle.cp_shapes.specs.Shapes.{IsInstanceWithin};
@@ -30,7 +27,6 @@ fn is_instance(
     instance: usize,
     shape: usize,
 ) -> Result<bool, AllocError>
-    requires ordered { (k : model.Skeleton) → IsIn k (map (λ k. skeleton_view k.now) candidates.now) → IsOrdered k }
     requires instance_within { instance < length candidates.now }
     requires shape_within { shape < length candidates.now }
     ensures { IfOk result (λ flag. IsTrue flag ↔ IsInstanceWithin (map (λ k. skeleton_view k.now) candidates.now) instance shape) }
@@ -55,7 +51,6 @@ fn row_of(
     fingerprints: &[usize],
     instance: usize,
 ) -> Result<Vec<usize>, AllocError>
-    requires ordered { (k : model.Skeleton) → IsIn k (map (λ k. skeleton_view k.now) candidates.now) → IsOrdered k }
     requires fingerprints { fingerprints.now ≡ map (λ k. fingerprint_of (skeleton_view k.now)) candidates.now }
     requires within { instance < length candidates.now }
     ensures { IfOk result (λ row. IsRowOf (map (λ k. skeleton_view k.now) candidates.now) instance row.items) }
@@ -76,7 +71,6 @@ fn row_of(
 
 /// For each candidate those of which it is an instance, in their order.
 pub(crate) fn rows(alloc: Global, candidates: &[&Skeleton]) -> Result<Vec<Vec<usize>>, AllocError>
-    requires ordered { (k : model.Skeleton) → IsIn k (map (λ k. skeleton_view k.now) candidates.now) → IsOrdered k }
     ensures { IfOk result (λ rows. AreRowsOf (map (λ k. skeleton_view k.now) candidates.now) (rows_view rows.items)) }
 {
     let fingerprints = fingerprints(alloc, candidates)?;

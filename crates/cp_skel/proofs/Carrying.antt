@@ -173,13 +173,12 @@ module _ (s height : ℕ) (values : List Term) (old new : Skeleton) (x : Extends
       from_problem = x.from_problem;
     }
 
-  -- What can grow grows to a height that is not less, and that its role declares the variables for.
-  pub extension_fits : CanExtend old s height values → (x.before ≤ height) × IsClosedPrefix x.role height
+  -- What can grow grows to a height that is not less.
+  pub extension_fits : CanExtend old s height values → x.before ≤ height
   extension_fits can =
       let both : Some (instance can.role can.before can.terms) ≡ Some (instance x.role x.before x.old_terms) = sym can.on_instance ∙ x.was_instance in
-      let same_role : can.role ≡ x.role = cc in
       let same_height : can.before ≡ x.before = cc in
-      (subst (λ n. n ≤ height) same_height can.higher, subst (λ (r : Role). IsClosedPrefix r height) same_role can.closed)
+      subst (λ n. n ≤ height) same_height can.higher
 
 -- ---- another order
 
@@ -218,7 +217,7 @@ module _ (protocol : Protocol) (k : Skeleton) (is : IsSkeleton protocol k) (pair
   given_too : (s : ℕ) (role : Role) (height : ℕ) (terms : Substitution) → GivesAssumptions k s role height terms → GivesAssumptions (ordered_by k pairs) s role height terms
   given_too s role height terms g = record { non = g.non; penetrator_non = g.penetrator_non; unique = g.unique }
 
-  ordered_is_skeleton : IsOrdered (ordered_by k pairs) → IsSkeleton protocol (ordered_by k pairs)
+  pub ordered_is_skeleton : IsOrdered (ordered_by k pairs) → IsSkeleton protocol (ordered_by k pairs)
   ordered_is_skeleton ordered = record {
     of_role = is.of_role;
     heights = is.heights;

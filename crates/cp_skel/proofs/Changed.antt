@@ -40,16 +40,16 @@ module _ (old : Skeleton) (role r : Role) (height h : ℕ) (values ts : List Ter
     from_problem = refl;
   }
 
-  pub strand-extended : (strands : List SkeletonStrand) (s before : ℕ) (terms : List Term) (can : CanExtend old s height values) →
+  pub strand-extended : (strands : List SkeletonStrand) (s before : ℕ) (terms : List Term) (can : CanExtend old s height values) → IsClosedPrefix can.role height →
       item_at old.strands s ≡ Some (instance role before (substitution_by terms)) → ts ≡ made role before height terms values →
       item_at strands s ≡ Some (instance r h (substitution_by ts)) → ((t : ℕ) → t ≢ s → item_at strands t ≡ item_at old.strands t) →
       AddsGiven r h (substitution_by ts) s old.assumptions (joined old.assumptions more) →
       Extends s height values old (record { strands = strands; pairs = old.pairs; assumptions = joint; from_problem = old.from_problem })
-  strand-extended strands s before terms can was is on others g =
+  strand-extended strands s before terms can declared was is on others g =
       let both : Some (instance can.role can.before can.terms) ≡ Some (instance role before (substitution_by terms)) = sym can.on_instance ∙ was in
       let role_is : can.role ≡ role = cc in
       let before_is : can.before ≡ before = cc in
-      let closed : IsClosedPrefix role height = subst (λ q. IsClosedPrefix q height) role_is can.closed in
+      let closed : IsClosedPrefix role height = subst (λ q. IsClosedPrefix q height) role_is declared in
       let fit : AreTermsFor (added_variables role before height) values =
       subst (λ k. AreTermsFor (added_variables role k height) values) before_is (subst (λ q. AreTermsFor (added_variables q can.before height) values) role_is can.fitting) in
       let higher : before ≤ height = subst (λ k. k ≤ height) before_is can.higher in

@@ -12,7 +12,7 @@ in-either : (xs ys zs : List Variable) (x : Variable) → IsIn x xs ⊎ IsIn x y
 in-either xs ys zs x (inl i) f = in_append_left zs i
 in-either xs ys zs x (inr i) f = in_append_right xs (f i)
 
-in-trace : (height : ℕ) (es : List (Event Term)) (x : Variable) → IsIn x (variables_of_trace (take height es)) → IsIn x (variables_of_trace es)
+pub in-trace : (height : ℕ) (es : List (Event Term)) (x : Variable) → IsIn x (variables_of_trace (take height es)) → IsIn x (variables_of_trace es)
 in-trace zero es x i = elim i [ ]
 in-trace (suc height) [] x i = elim i [ ]
 in-trace (suc height) (e ∷ es) x i =

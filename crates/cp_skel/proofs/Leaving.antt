@@ -1,7 +1,7 @@
 -- Lists without some of their items.
-use Rattle.std.proofs.Common.{◌≡◌, ℕ, ◌+◌, ◌<◌, ◌≤◌, List, [], ◌∷◌, ◌++◌, map, take, length, get_or, sym, ap, ◌∙◌, subst}
+use Rattle.std.proofs.Common.{◌≡◌, ℕ, ◌+◌, ◌<◌, ◌≤◌, List, [], ◌∷◌, ◌++◌, map, take, length, get_or, refl, sym, ap, ◌∙◌, subst}
 use Rattle.std.proofs.lemmas.List.{map_more, take_all}
-use Rattle.cp_skel.specs.Deleting.{LeavesOut, all_left, is_gone, is_left}
+use Rattle.cp_skel.specs.Deleting.{LeavesOut, as_it_is, all_left, is_gone, is_left}
 
 module _ {B : Type 0} (gone : B → Type 0) (form : B → B) where
   gone_behind : (xs ys : List B) (x : B) → gone x → LeavesOut gone form xs ys → LeavesOut gone form (xs ++ x ∷ []) ys
@@ -30,3 +30,8 @@ module _ {A B : Type 0} (view : A → B) (gone : B → Type 0) (form : B → B) 
 
   pub all_taken : length xs ≤ i → LeavesOut gone form (map view (take i xs)) ys → LeavesOut gone form (map view xs) ys
   all_taken l h = subst (λ zs. LeavesOut gone form (map view zs) ys) (take_all i xs l) h
+
+-- Items as they are.
+pub as_they_are : {A : Type 0} (xs : List A) → map as_it_is xs ≡ xs
+as_they_are [] = refl
+as_they_are (x ∷ xs) = ap (λ ys. x ∷ ys) (as_they_are xs)

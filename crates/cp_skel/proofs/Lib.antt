@@ -12,7 +12,6 @@ mod SkeletonWithout
 pub mod OrderKept
 pub mod SameNode
 mod SortedPairs
-pub mod Spinewise
 pub mod Items
 pub mod Occurrences
 pub mod Once
@@ -34,3 +33,4 @@ pub mod UnderVariables
 pub mod DeclaredChanges
 pub mod Carrying
 pub mod EventLists
+pub mod SoundSkeletons

@@ -11,7 +11,7 @@ use Rattle.cp_model.specs.Given.{atoms_onto, uniques_onto, applying, unique_if_b
 use Rattle.cp_model.proofs.SameTests.{origin_found, finds_origin}
 use Rattle.cp_skel.specs.Given.{with_given_from}
 use Rattle.cp_skel.specs.View.{strand_view}
-use Rattle.cp_skel.specs.declared.skeleton.Strand.{Strand}
+use Rattle.cp_skel.specs.Data.{StrandData}
 use Rattle.cp_skel.proofs.Items.{item-drop}
 use Rattle.cp_skel.proofs.EachOnce.{atoms, uniques, onto-append}
 
@@ -97,8 +97,8 @@ given-step s (instance role height terms) ks own = λ i. record {
   uniquely_originating = split_uniques own.uniquely_originating (applying_uniques role height terms s role.uniquely_originating) (given_uniques (suc s) ks) i;
 }
 
-module _ (ks : List Strand) (n : ℕ) (own new all : Assumptions) where
-  pub strand-gives : (k : Strand) → n < length ks → k ≡ get_or ks n k → new ≡ with_given_from n (strand_view k ∷ []) own
+module _ (ks : List StrandData) (n : ℕ) (own new all : Assumptions) where
+  pub strand-gives : (k : StrandData) → n < length ks → k ≡ get_or ks n k → new ≡ with_given_from n (strand_view k ∷ []) own
       → with_given_from n (map strand_view (drop n ks)) own ≡ all → with_given_from (n + 1) (map strand_view (drop (n + 1) ks)) new ≡ all
   strand-gives k lt is g h =
       let rest = map strand_view (drop (n + 1) ks) in

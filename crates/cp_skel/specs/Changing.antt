@@ -34,7 +34,6 @@ pub record CanExtend (k : Skeleton) (s height : ℕ) (values : List Term) : Type
   pub on_instance : item_at k.strands s ≡ Some (instance role before terms)
   pub higher : before ≤ height
   pub reached : height ≤ length role.trace
-  pub closed : IsClosedPrefix role height
   pub fitting : AreTermsFor (added_variables role before height) values
 
 -- In the new skeleton the instance on strand number s has grown to this height: the variables of its old prefix have the

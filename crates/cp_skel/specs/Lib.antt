@@ -1,10 +1,15 @@
 pub mod Atoms
+pub mod Data
 pub mod View
+pub mod Bodies
+pub mod RoleParts
+pub mod Parts
+pub mod Shapes
+pub mod Sound
 pub mod Leading
 pub mod Sorted
 pub mod Trees
 pub mod Sorts
-pub mod Spines
 pub mod Originating
 pub mod Given
 pub mod Occurring

@@ -3,8 +3,7 @@ use Rattle.std.specs.Prelude.{◌≡◌, List}
 use Rattle.cp_model.specs.Lists.{IsIn}
 use Rattle.cp_model.specs.Bundle.{Node}
 use Rattle.cp_model.specs.Skeleton.{OrderPair, Skeleton, Before, IsOrderPair}
-use Rattle.cp_skel.specs.View.{skeleton_view}
-use Rattle.cp_skel.specs.declared.skeleton.Skeleton as program
+use Rattle.cp_skel.specs.Data.{SkeletonData}
 
 -- Each pair of the skeleton goes from a transmission to a reception of another strand, and its order has no cycle.
 pub record IsOrdered (k : Skeleton) : Type 0 where
@@ -16,11 +15,11 @@ abbrev pub ordered_by : Skeleton → List OrderPair → Skeleton
 ordered_by k pairs = record { strands = k.strands; pairs = pairs; assumptions = k.assumptions; from_problem = k.from_problem }
 
 -- The skeletons are the same but for their orders.
-pub record ChangesOrderOnly (old new : program.Skeleton) : Type 0 where
+pub record ChangesOrderOnly (old new : SkeletonData) : Type 0 where
   pub variables : new.variables ≡ old.variables
-  pub strands : (skeleton_view new).strands ≡ (skeleton_view old).strands
-  pub assumptions : (skeleton_view new).assumptions ≡ (skeleton_view old).assumptions
-  pub from_problem : (skeleton_view new).from_problem ≡ (skeleton_view old).from_problem
+  pub strands : new.strands ≡ old.strands
+  pub assumptions : new.assumptions ≡ old.assumptions
+  pub from_problem : new.from_problem ≡ old.from_problem
 
 -- The same of plain skeletons.
 pub record DiffersInOrder (old new : Skeleton) : Type 0 where

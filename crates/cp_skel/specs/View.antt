@@ -1,4 +1,4 @@
--- The plain data that protocols and skeletons of the program stand for.
+-- What sorts, events, strands and skeletons of the program stand for.
 use Rattle.std.specs.Prelude.{map}
 use Rattle.cp_model.specs.Term as model
 use Rattle.cp_model.specs.Strand as strand
@@ -10,16 +10,8 @@ use Rattle.cp_term.specs.declared.variable.Sort.TheVariants as sorts
 use Rattle.cp_skel.specs.declared.protocol.Declaration.{Declaration}
 use Rattle.cp_skel.specs.declared.protocol.Event.{Event}
 use Rattle.cp_skel.specs.declared.protocol.Event.TheVariants as events
-use Rattle.cp_skel.specs.declared.protocol.Role.{Role}
-use Rattle.cp_skel.specs.declared.protocol.Protocol.{Protocol}
 use Rattle.cp_skel.specs.declared.skeleton.OrderPair.{OrderPair}
-use Rattle.cp_skel.specs.declared.skeleton.Instance.{Instance}
-use Rattle.cp_skel.specs.declared.skeleton.Strand.{Strand}
-use Rattle.cp_skel.specs.declared.skeleton.Strand.TheVariants as strands
-use Rattle.cp_skel.specs.declared.skeleton.UniqueAt.{UniqueAt}
-use Rattle.cp_skel.specs.declared.skeleton.Assumptions.{Assumptions}
-use Rattle.cp_skel.specs.declared.skeleton.FromProblem.{FromProblem}
-use Rattle.cp_skel.specs.declared.skeleton.Skeleton.{Skeleton}
+use Rattle.cp_skel.specs.Data.{InstanceData, StrandData, instance_data, listener_data, SkeletonData}
 
 -- The sort.
 abbrev pub sort_view : Sort → model.Sort
@@ -36,51 +28,24 @@ abbrev pub event_view : Event → strand.Event model.Term
 event_view (events.Send t) = strand.send t
 event_view (events.Receive t) = strand.recv t
 
-abbrev pub role_view : Role → strand.Role
-role_view r = record {
-  name = r.name;
-  variables = map declaration_view r.variables.items;
-  trace = map event_view r.trace.items;
-  non_originating = r.non_originating.items;
-  penetrator_non_originating = r.penetrator_non_originating.items;
-  uniquely_originating = r.uniquely_originating.items;
-}
-
-abbrev pub protocol_view : Protocol → strand.Protocol
-protocol_view p = record { name = p.name; roles = map (λ r. role_view r.value) p.roles.items }
-
 abbrev pub pair_view : OrderPair → skeleton.OrderPair
 pair_view p = record { earlier = node_view p.earlier; later = node_view p.later }
 
-abbrev pub instance_view : Instance → skeleton.SkeletonStrand
-instance_view i = skeleton.instance (role_view i.role.value) i.height (substitution_by i.values.items)
+abbrev pub instance_view : InstanceData → skeleton.SkeletonStrand
+instance_view i = skeleton.instance i.role i.height (substitution_by i.values)
 
-abbrev pub strand_view : Strand → skeleton.SkeletonStrand
-strand_view (strands.Instance i) = instance_view i
-strand_view (strands.Listener t) = skeleton.listener t
+abbrev pub instance_as_data : InstanceData → StrandData
+instance_as_data i = instance_data i.role i.height i.values
 
-abbrev pub unique_view : UniqueAt → skeleton.UniqueAt
-unique_view u = record { value = u.value; origin = node_view u.origin }
+abbrev pub strand_view : StrandData → skeleton.SkeletonStrand
+strand_view (instance_data role height values) = skeleton.instance role height (substitution_by values)
+strand_view (listener_data t) = skeleton.listener t
 
-abbrev pub assumptions_view : Assumptions → skeleton.Assumptions
-assumptions_view a = record {
-  non_originating = a.non_originating.items;
-  penetrator_non_originating = a.penetrator_non_originating.items;
-  uniquely_originating = map unique_view a.uniquely_originating.items;
-}
-
-abbrev pub from_problem_view : FromProblem → skeleton.FromProblem
-from_problem_view p = record {
-  strands = p.strands.items;
-  values = p.values.items;
-  assumptions = assumptions_view p.assumptions;
-  pairs = map pair_view p.pairs.items;
-}
-
-abbrev pub skeleton_view : Skeleton → skeleton.Skeleton
+-- The skeleton that such data stand for; its table of variables is no part of it.
+abbrev pub skeleton_view : SkeletonData → skeleton.Skeleton
 skeleton_view k = record {
-  strands = map strand_view k.strands.items;
+  strands = map strand_view k.strands;
   pairs = k.order;
-  assumptions = assumptions_view k.assumptions;
-  from_problem = from_problem_view k.from_problem;
+  assumptions = k.assumptions;
+  from_problem = k.from_problem;
 }

@@ -2,10 +2,11 @@
 ghost use Rattle.std.specs.Prelude.{◌≡◌, ◌∷◌, [], map, OnOk};
 ghost use Rattle.cp_model.specs.Given.{with_given};
 ghost use Rattle.cp_skel.specs.Given.{with_given_from};
-ghost use Rattle.cp_skel.specs.View.{instance_view, strand_view, assumptions_view};
+ghost use Rattle.cp_skel.specs.View.{instance_view, strand_view};
 
+use crate::assumptions::Assumptions;
 use crate::giving::lacking;
-use crate::skeleton::{Assumptions, Instance, Strand};
+use crate::strand::{Instance, Strand, StrandShape};
 use std::alloc::{AllocError, Global};
 
 /// Adds what the role of an instance, which is the strand of this number, gives.
@@ -15,13 +16,11 @@ fn add_given_by(
     instance: &Instance,
     assumptions: &mut Assumptions,
 ) -> Result<(), AllocError>
-    ensures { OnOk result (assumptions_view assumptions.new
-        ≡ with_given_from strand (instance_view instance.now ∷ []) (assumptions_view assumptions.old)) }
+    ensures { OnOk result (assumptions.new
+        ≡ with_given_from strand (instance_view instance.now ∷ []) assumptions.old) }
 {
     let more = lacking(alloc, strand, instance, assumptions)?;
-    assumptions.reserve(&more)?;
-    assumptions.join(more);
-    Ok(())
+    assumptions.append(more)
 }
 
 /// Adds what the roles of these strands give, strand by strand, each that is not there yet. The error is that memory
@@ -31,13 +30,13 @@ pub fn add_given(
     strands: &[Strand],
     assumptions: &mut Assumptions,
 ) -> Result<(), AllocError>
-    ensures { OnOk result (assumptions_view assumptions.new
-        ≡ with_given (map strand_view strands.now) (assumptions_view assumptions.old)) }
+    ensures { OnOk result (assumptions.new
+        ≡ with_given (map strand_view strands.now) assumptions.old) }
 {
     for (number, strand) in strands.iter().enumerate() {
-        match strand {
-            Strand::Instance(instance) => add_given_by(alloc, number, instance, assumptions)?,
-            Strand::Listener(_) => {}
+        match strand.shape() {
+            StrandShape::Instance(instance) => add_given_by(alloc, number, instance, assumptions)?,
+            StrandShape::Listener(_) => {}
         }
     }
     Ok(())

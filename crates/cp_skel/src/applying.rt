@@ -8,9 +8,9 @@ ghost use Rattle.cp_model.specs.Homomorphism.{substitution_by};
 ghost use Rattle.cp_skel.specs.View.{event_view, instance_view, strand_view};
 
 use crate::protocol::Event;
-use crate::skeleton::{Instance, Strand};
-use crate::substituting::{or_copy, under};
-use cp_term::Term;
+use crate::strand::{Instance, Strand, StrandShape};
+use crate::substituting::ByNumber;
+use cp_term::{Term, substituted};
 use std::alloc::{AllocError, Global};
 
 /// A role's term under the terms of an instance: variable number i becomes the i-th of these, where that is of its sort.
@@ -18,8 +18,7 @@ use std::alloc::{AllocError, Global};
 pub fn applied(alloc: Global, values: &[Term], term: &Term) -> Result<Term, AllocError>
     ensures { IfOk result (λ t. t ≡ apply_to (substitution_by values.now) term.now) }
 {
-    let changed = under(alloc, values, term)?;
-    or_copy(changed, term)
+    substituted(alloc, &ByNumber { terms: values }, term)
 }
 
 /// A role's event under the terms of an instance.
@@ -47,11 +46,11 @@ fn instance_event(
 ) -> Result<Option<Event>, AllocError>
     ensures { IfOk result (λ e. option_map event_view e ≡ item_at (skeleton_trace (instance_view instance.now)) index) }
 {
-    if index >= instance.height {
+    if index >= instance.height() {
         return Ok(None);
     }
-    match event_at(&instance.role.trace, index) {
-        Some(event) => Ok(Some(applied_event(alloc, &instance.values, event)?)),
+    match event_at(instance.role().trace(), index) {
+        Some(event) => Ok(Some(applied_event(alloc, instance.values(), event)?)),
         None => Ok(None),
     }
 }
@@ -72,9 +71,9 @@ impl Strand {
     pub fn event(&self, alloc: Global, index: usize) -> Result<Option<Event>, AllocError>
         ensures { IfOk result (λ e. option_map event_view e ≡ item_at (skeleton_trace (strand_view self.now)) index) }
     {
-        match self {
-            Strand::Instance(instance) => instance_event(alloc, instance, index),
-            Strand::Listener(message) => listener_event(message, index),
+        match self.shape() {
+            StrandShape::Instance(instance) => instance_event(alloc, instance, index),
+            StrandShape::Listener(message) => listener_event(message, index),
         }
     }
 }

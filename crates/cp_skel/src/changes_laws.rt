@@ -7,6 +7,7 @@ ghost use Rattle.cp_model.specs.Skeleton.{OrderPair, Skeleton, Before, IsOrderPa
 ghost use Rattle.cp_model.specs.Homomorphism.{CarriesHomomorphism};
 ghost use Rattle.cp_model.specs.Stated.{KeepsStated};
 ghost use Rattle.cp_skel.specs.Changing.{AddsListener, IsClosedPrefix, AddsStrand, CanExtend, Extends};
+ghost use Rattle.cp_skel.specs.Sound.{IsSound};
 ghost use Rattle.cp_skel.specs.Ordered.{IsOrdered, ordered_by, DiffersInOrder};
 
 /// A skeleton over a protocol stays one when a transmission is put before a reception of another strand, which is not before
@@ -35,7 +36,9 @@ pub fn changes_keep_what_is_stated()
     ensures reordered { (problem old new : Skeleton) → DiffersInOrder old new → ((x y : Node) → Before old x y → Before new x y) → KeepsStated problem old → KeepsStated problem new }
 {}
 
-/// An instance that can grow to a height is not higher before, and its role declares the variables of the longer prefix.
+/// An instance that can grow to a height is not higher before, and in a sound skeleton its role declares the variables of
+/// the longer prefix.
 pub fn extensions_fit()
-    ensures { (s height : ℕ) (values : List Term) (old new : Skeleton) → CanExtend old s height values → (x : Extends s height values old new) → (x.before ≤ height) × IsClosedPrefix x.role height }
+    ensures higher { (s height : ℕ) (values : List Term) (old new : Skeleton) → CanExtend old s height values → (x : Extends s height values old new) → x.before ≤ height }
+    ensures declared { (s height : ℕ) (values : List Term) (old new : Skeleton) → IsSound old → (x : Extends s height values old new) → IsClosedPrefix x.role height }
 {}

@@ -1,13 +1,15 @@
 // Strands that are added to skeletons, and strands that grow.
-ghost use Rattle.std.specs.Prelude.{◌≡◌, map, length, IfOk, OnOk, OnErr};
+ghost use Rattle.std.specs.Prelude.{◌≡◌, length, IfOk, OnOk, OnErr};
 ghost use Rattle.cp_model.specs.Strand.{IsHeight};
 ghost use Rattle.cp_skel.specs.Occurring.{prefix_variables, AreTermsFor};
 ghost use Rattle.cp_skel.specs.Changing.{AddsListener, AddsStrand, CanExtend, Extends};
-ghost use Rattle.cp_skel.specs.View.{role_view, skeleton_view};
+ghost use Rattle.cp_skel.specs.Sound.{DeclaresItsVariables};
+ghost use Rattle.cp_skel.specs.View.{skeleton_view};
 
 use crate::giving::missing;
 use crate::protocol::Role;
-use crate::skeleton::{Skeleton, Strand};
+use crate::skeleton::Skeleton;
+use crate::strand::{Strand, StrandShape};
 use crate::valuing::instance_of;
 use cp_term::Term;
 use std::alloc::{AllocError, Global};
@@ -16,21 +18,22 @@ use std::rc::Rc;
 impl Skeleton {
     /// Adds a listener behind the strands, and answers its number. The error is that memory ran out; then nothing
     /// changes.
-    pub fn add_listener(&mut self, message: Term) -> Result<usize, AllocError>
+    pub fn add_listener(&mut self, alloc: Global, message: Term) -> Result<usize, AllocError>
         ensures number { IfOk result (λ s. s ≡ length (skeleton_view self.old).strands) }
         ensures changed { OnOk result (AddsListener message (skeleton_view self.old) (skeleton_view self.new)) }
         ensures unchanged { OnErr result (skeleton_view self.new ≡ skeleton_view self.old) }
         ensures variables { self.new.variables ≡ self.old.variables }
     {
-        let strand = self.strands.len();
-        self.strands.push(Strand::Listener(message))?;
-        Ok(strand)
+        let listener = Strand::listener(alloc, message)?;
+        let number = self.strands.len();
+        self.strands.push(listener)?;
+        Ok(number)
     }
 
     /// Adds an instance of a role behind the strands, and answers its number. The height is at least 1 and at most the
-    /// length of the role's trace. There is a value for each variable of the prefix, of the variable's sort, in the order
-    /// of their declarations. What the role gives the instance is added to the assumptions. The error is that memory ran
-    /// out; then nothing changes.
+    /// length of the role's trace. The role declares the variables of its events, and there is a value for each of
+    /// those of the prefix, of the variable's sort, in the order of their declarations. What the role gives the
+    /// instance is added to the assumptions. The error is that memory ran out; then nothing changes.
     pub fn add_strand(
         &mut self,
         alloc: Global,
@@ -38,26 +41,29 @@ impl Skeleton {
         height: usize,
         values: &[Term],
     ) -> Result<usize, AllocError>
-        requires height { IsHeight (role_view role.now.value) height }
-        requires values { AreTermsFor (prefix_variables (role_view role.now.value) height) values.now }
+        requires height { IsHeight role.now.value height }
+        requires declared { DeclaresItsVariables role.now.value }
+        requires values { AreTermsFor (prefix_variables role.now.value height) values.now }
         ensures number { IfOk result (λ s. s ≡ length (skeleton_view self.old).strands) }
-        ensures changed { OnOk result (AddsStrand (role_view role.now.value) height values.now (skeleton_view self.old) (skeleton_view self.new)) }
+        ensures changed { OnOk result (AddsStrand role.now.value height values.now (skeleton_view self.old) (skeleton_view self.new)) }
         ensures unchanged { OnErr result (skeleton_view self.new ≡ skeleton_view self.old) }
         ensures variables { self.new.variables ≡ self.old.variables }
     {
         let number = self.strands.len();
         let instance = instance_of(alloc, role, 0, height, &[], values)?;
         let more = missing(alloc, number, &instance, &self.assumptions)?;
-        self.assumptions.reserve(&more)?;
-        self.strands.push(Strand::Instance(instance))?;
-        self.assumptions.join(more);
+        let strand = Strand::instance(alloc, instance)?;
+        let mut assumptions = self.assumptions.copy(alloc)?;
+        assumptions.append(more)?;
+        self.strands.push(strand)?;
+        self.assumptions = assumptions;
         Ok(number)
     }
 
-    /// Lets an instance grow to a height, which is not less than its own and at most the length of its role's trace. The
-    /// role declares all variables that occur in the longer prefix, and there is a value for each that this adds, of the
-    /// variable's sort, in the order of their declarations. What the role then gives the instance is added to the
-    /// assumptions. The error is that memory ran out; then nothing changes.
+    /// Lets an instance grow to a height, which is not less than its own and at most the length of its role's trace.
+    /// There is a value for each variable that the longer prefix adds, of the variable's sort, in the order of their
+    /// declarations. What the role then gives the instance is added to the assumptions. The error is that memory ran
+    /// out; then nothing changes.
     pub fn extend(
         &mut self,
         alloc: Global,
@@ -70,14 +76,21 @@ impl Skeleton {
         ensures unchanged { OnErr result (skeleton_view self.new ≡ skeleton_view self.old) }
         ensures variables { self.new.variables ≡ self.old.variables }
     {
-        let Strand::Instance(old) = &self.strands[strand] else {
+        let StrandShape::Instance(old) = self.strands[strand].shape() else {
             unreachable!()
         };
-        let instance = instance_of(alloc, &old.role, old.height, height, &old.values, values)?;
+        let instance = instance_of(
+            alloc,
+            old.role(),
+            old.height(),
+            height,
+            old.values(),
+            values,
+        )?;
         let more = missing(alloc, strand, &instance, &self.assumptions)?;
-        self.assumptions.reserve(&more)?;
-        self.assumptions.join(more);
-        self.strands[strand] = Strand::Instance(instance);
+        let grown = Strand::instance(alloc, instance)?;
+        self.assumptions.append(more)?;
+        self.strands[strand] = grown;
         Ok(())
     }
 }

@@ -1,11 +1,10 @@
 // Lists of assumptions in which each stands once.
-ghost use Rattle.std.specs.Prelude.{◌≡◌, [], ◌∷◌, map, OnOk, OnErr};
+ghost use Rattle.std.specs.Prelude.{◌≡◌, [], ◌∷◌, OnOk, OnErr};
 ghost use Rattle.cp_model.specs.Given.{atoms_onto, uniques_onto};
-ghost use Rattle.cp_skel.specs.View.{unique_view};
 
+use crate::assumptions::UniqueAt;
 use crate::atom::Atom;
 use crate::giving::{has_atom, has_unique};
-use crate::skeleton::UniqueAt;
 use std::alloc::AllocError;
 
 /// Puts an atom behind these, if it is not one of them. The error is that memory ran out; they then hold what they held.
@@ -35,7 +34,7 @@ pub fn add_atoms(atoms: &mut Vec<Atom>, more: &[Atom]) -> Result<(), AllocError>
 /// Puts a unique value with its origin behind these, if it is not one of them. The error is that memory ran out; they
 /// then hold what they held.
 pub fn add_unique(uniques: &mut Vec<UniqueAt>, unique: UniqueAt) -> Result<(), AllocError>
-    ensures added { OnOk result (map unique_view uniques.new.items ≡ uniques_onto (map unique_view uniques.old.items) (unique_view unique ∷ [])) }
+    ensures added { OnOk result (uniques.new.items ≡ uniques_onto uniques.old.items (unique ∷ [])) }
     ensures unchanged { OnErr result (uniques.new.items ≡ uniques.old.items) }
 {
     if has_unique(uniques, &unique) {
@@ -47,7 +46,7 @@ pub fn add_unique(uniques: &mut Vec<UniqueAt>, unique: UniqueAt) -> Result<(), A
 
 /// Puts copies of these unique values behind others, each that is not there yet.
 pub(crate) fn add_uniques(uniques: &mut Vec<UniqueAt>, more: &[UniqueAt]) -> Result<(), AllocError>
-    ensures { OnOk result (map unique_view uniques.new.items ≡ uniques_onto (map unique_view uniques.old.items) (map unique_view more.now)) }
+    ensures { OnOk result (uniques.new.items ≡ uniques_onto uniques.old.items more.now) }
 {
     for unique in more {
         let unique = unique.copy()?;

@@ -4,10 +4,10 @@ ghost use Rattle.std.specs.Option.{option_map};
 ghost use Rattle.cp_model.specs.Term.{PairTerm, akey_variable, pubk_term, ltk_term, symmetric_term, asymmetric_term, IsCarriedByTerm, apply_to};
 ghost use Rattle.cp_model.specs.Homomorphism.{substitution_by};
 ghost use Rattle.cp_term.specs.Keys.{key_as_term};
-ghost use Rattle.cp_skel.specs.Spines.{HasTail};
+ghost use Rattle.cp_term.specs.Spines.{HasTail};
 
-use crate::substituting::{name_for, value_of};
-use cp_term::{Shape, Sort, Term, VarId};
+use crate::substituting::{ByNumber, value_of};
+use cp_term::{Shape, Sort, Term, VarId, name_for};
 
 /// Whether the purposes of two keys are the same.
 fn same_purpose(a: Option<&str>, b: Option<&str>) -> bool
@@ -70,6 +70,7 @@ fn same_leaf_under(values: &[Term], leaf: &Term, term: &Term) -> bool
     requires { ¬ HasTail leaf.now }
     ensures { IsTrue result ↔ (apply_to (substitution_by values.now) leaf.now ≡ term.now) }
 {
+    let by_number = ByNumber { terms: values };
     match leaf.shape() {
         Shape::Variable(variable, sort) => match value_of(values, sort, variable) {
             Some(value) => value.same(term),
@@ -79,8 +80,8 @@ fn same_leaf_under(values: &[Term], leaf: &Term, term: &Term) -> bool
             Some(key) => is_inverse(key, term),
             None => leaf.same(term),
         },
-        Shape::Ltk(a, b) => is_ltk(term, name_for(values, a), name_for(values, b)),
-        Shape::Pubk(flag, purpose, a) => is_pubk(term, flag, purpose, name_for(values, a)),
+        Shape::Ltk(a, b) => is_ltk(term, name_for(&by_number, a), name_for(&by_number, b)),
+        Shape::Pubk(flag, purpose, a) => is_pubk(term, flag, purpose, name_for(&by_number, a)),
         _ => leaf.same(term),
     }
 }

@@ -3,16 +3,17 @@ ghost use Rattle.std.specs.Prelude.{◌≡◌, ◌<◌, length, IfOk, OnOk, OnEr
 ghost use Rattle.std.specs.List.{remove};
 ghost use Rattle.cp_model.specs.Lists.{IsIn};
 ghost use Rattle.cp_skel.specs.Closed.{IsClosed};
-ghost use Rattle.cp_skel.specs.View.{assumptions_view, from_problem_view, skeleton_view};
-ghost use Rattle.cp_skel.specs.Ordered.{IsOrdered};
+ghost use Rattle.cp_skel.specs.View.{skeleton_view};
 ghost use Rattle.cp_skel.specs.Deleting.{ForgetsAssumptions, KeepsFromProblem, KeepsOrderOfOthers};
 
+use crate::assumptions::Assumptions;
 use crate::bridging::pairs_without;
 use crate::copying::{copy_atoms, copy_terms};
 use crate::forgetting::assumptions_without;
+use crate::from_problem::FromProblem;
 use crate::order::Order;
 use crate::renumbering::{pairs_left, strands_renumbered, uniques_left};
-use crate::skeleton::{Assumptions, FromProblem, Skeleton};
+use crate::skeleton::Skeleton;
 use std::alloc::{AllocError, Global};
 
 /// The way from the problem where a strand is gone.
@@ -21,36 +22,33 @@ fn from_problem_without(
     from: &FromProblem,
     gone: usize,
 ) -> Result<FromProblem, AllocError>
-    ensures { IfOk result (λ p. KeepsFromProblem gone (from_problem_view from.now) (from_problem_view p)) }
+    ensures { IfOk result (λ p. KeepsFromProblem gone from.now p) }
 {
-    let own = &from.assumptions;
-    let assumptions = Assumptions {
-        non_originating: copy_atoms(alloc, &own.non_originating)?,
-        penetrator_non_originating: copy_atoms(alloc, &own.penetrator_non_originating)?,
-        uniquely_originating: uniques_left(alloc, gone, &own.uniquely_originating)?,
-    };
-    Ok(FromProblem {
-        strands: strands_renumbered(alloc, gone, &from.strands)?,
-        values: copy_terms(alloc, &from.values)?,
+    let own = from.assumptions();
+    let assumptions = Assumptions::new(
+        copy_atoms(alloc, own.non_originating())?,
+        copy_atoms(alloc, own.penetrator_non_originating())?,
+        uniques_left(alloc, gone, own.uniquely_originating())?,
+    );
+    Ok(FromProblem::new(
+        strands_renumbered(alloc, gone, from.strands())?,
+        copy_terms(alloc, from.values())?,
         assumptions,
-        pairs: pairs_left(alloc, gone, &from.pairs)?,
-    })
+        pairs_left(alloc, gone, from.pairs())?,
+    ))
 }
 
 impl Skeleton {
-    /// Deletes a strand that is there and is no image of a strand of the problem. The skeleton's pairs have to go from a
-    /// transmission to a reception of another strand and to close no cycle. The strands above the deleted one fall by one.
-    /// The nodes of the others are ordered as they were, also where the order went through the strand, and the order is
-    /// closed. What its role alone gave is forgotten, unless the problem itself states it. On an error, which is that
-    /// memory ran out, nothing has changed.
+    /// Deletes a strand that is there and is no image of a strand of the problem. The strands above the deleted one
+    /// fall by one. The nodes of the others are ordered as they were, also where the order went through the strand, and
+    /// the order is closed. What its role alone gave is forgotten, unless the problem itself states it. On an error,
+    /// which is that memory ran out, nothing has changed.
     pub fn delete_strand(&mut self, alloc: Global, strand: usize) -> Result<(), AllocError>
         requires there_is { strand < length (skeleton_view self.old).strands }
         requires no_image { IsIn strand (skeleton_view self.old).from_problem.strands → ⊥ }
-        requires ordered { IsOrdered (skeleton_view self.old) }
         ensures strands { OnOk result ((skeleton_view self.new).strands ≡ remove (skeleton_view self.old).strands strand) }
         ensures order { OnOk result (KeepsOrderOfOthers strand (skeleton_view self.old) (skeleton_view self.new)) }
         ensures closed { OnOk result (IsClosed (skeleton_view self.new).pairs) }
-        ensures is_ordered { OnOk result (IsOrdered (skeleton_view self.new)) }
         ensures assumptions { OnOk result (ForgetsAssumptions strand (skeleton_view self.old) (skeleton_view self.new).assumptions) }
         ensures from_problem { OnOk result (KeepsFromProblem strand (skeleton_view self.old).from_problem (skeleton_view self.new).from_problem) }
         ensures variables { self.new.variables ≡ self.old.variables }

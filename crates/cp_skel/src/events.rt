@@ -5,7 +5,8 @@ ghost use Rattle.cp_skel.specs.Events.{occurrence_view, is_role_strand, occurren
 ghost use Rattle.cp_skel.specs.View.{strand_view, skeleton_view};
 
 use crate::protocol::Event;
-use crate::skeleton::{Node, Skeleton, Strand};
+use crate::skeleton::{Node, Skeleton};
+use crate::strand::{Strand, StrandShape};
 use std::alloc::{AllocError, Global};
 
 /// An event of a skeleton, the node where it stands, and whether a role strand is there and no listener.
@@ -20,9 +21,9 @@ pub struct Occurrence {
 fn event_count(strand: &Strand) -> usize
     ensures { result ≡ length (skeleton_trace (strand_view strand.now)) }
 {
-    match strand {
-        Strand::Instance(instance) => instance.height.min(instance.role.trace.len()),
-        Strand::Listener(_) => 2,
+    match strand.shape() {
+        StrandShape::Instance(instance) => instance.height().min(instance.role().trace().len()),
+        StrandShape::Listener(_) => 2,
     }
 }
 
@@ -30,7 +31,7 @@ fn event_count(strand: &Strand) -> usize
 fn is_role_strand(strand: &Strand) -> bool
     ensures { result ≡ is_role_strand (strand_view strand.now) }
 {
-    matches!(strand, Strand::Instance(_))
+    matches!(strand.shape(), StrandShape::Instance(_))
 }
 
 /// Puts the events of the strand with this number behind others.
@@ -65,7 +66,7 @@ impl Skeleton {
         ensures listed { IfOk result (λ os. map occurrence_view os.items ≡ events_of (skeleton_view self.now)) }
     {
         let mut occurrences = Vec::new(alloc);
-        for (number, strand) in self.strands.iter().enumerate() {
+        for (number, strand) in self.strands().iter().enumerate() {
             add_events(alloc, number, strand, &mut occurrences)?;
         }
         Ok(occurrences)

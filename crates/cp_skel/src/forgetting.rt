@@ -2,15 +2,17 @@
 ghost use Rattle.std.specs.Prelude.{◌≡◌, ◌↔◌, ◌⊎◌, ◌++◌, ◌<◌, length, map, IsTrue, IfOk};
 ghost use Rattle.cp_model.specs.Term.{AtomTerm};
 ghost use Rattle.cp_model.specs.Lists.{IsIn};
-ghost use Rattle.cp_skel.specs.View.{role_view, strand_view, assumptions_view, skeleton_view};
+ghost use Rattle.cp_skel.specs.View.{strand_view, skeleton_view};
 ghost use Rattle.cp_skel.specs.Deleting.{LeavesOut, as_it_is, GivesFrom, IsGivenAt, IsGivenElsewhere, IsForgotten, ForgetsAssumptions};
 ghost use Rattle.cp_skel.specs.Kinds.{stated_as, IsInFirstAlone};
 
+use crate::assumptions::Assumptions;
 use crate::atom::Atom;
 use crate::giving::{has_atom, missing_atoms};
 use crate::protocol::Role;
 use crate::renumbering::uniques_left;
-use crate::skeleton::{Assumptions, Skeleton, Strand};
+use crate::skeleton::Skeleton;
+use crate::strand::{Strand, StrandShape};
 use std::alloc::{AllocError, Global};
 
 /// The kinds of assumptions that are atoms alone.
@@ -22,11 +24,11 @@ enum Kind {
 
 /// What a role states of a kind.
 fn stated(kind: Kind, role: &Role) -> &[Atom]
-    ensures { result.now ≡ stated_as kind (role_view role.now) }
+    ensures { result.now ≡ stated_as kind role.now }
 {
     match kind {
-        Kind::NonOriginating => &role.non_originating,
-        Kind::PenetratorNonOriginating => &role.penetrator_non_originating,
+        Kind::NonOriginating => role.non_originating(),
+        Kind::PenetratorNonOriginating => role.penetrator_non_originating(),
     }
 }
 
@@ -40,11 +42,11 @@ fn given_by(
     ensures { IfOk result (λ more. (v : AtomTerm)
         → IsIn v (given.now ++ more.items) ↔ (IsIn v given.now ⊎ GivesFrom (stated_as kind) (strand_view strand.now) v)) }
 {
-    match strand {
-        Strand::Instance(instance) => {
-            missing_atoms(alloc, instance, stated(kind, &instance.role), given)
+    match strand.shape() {
+        StrandShape::Instance(instance) => {
+            missing_atoms(alloc, instance, stated(kind, instance.role()), given)
         }
-        Strand::Listener(_) => Ok(Vec::new(alloc)),
+        StrandShape::Listener(_) => Ok(Vec::new(alloc)),
     }
 }
 
@@ -121,30 +123,30 @@ pub(crate) fn assumptions_without(
     gone: usize,
 ) -> Result<Assumptions, AllocError>
     requires { gone < length (skeleton_view k.now).strands }
-    ensures { IfOk result (λ a. ForgetsAssumptions gone (skeleton_view k.now) (assumptions_view a)) }
+    ensures { IfOk result (λ a. ForgetsAssumptions gone (skeleton_view k.now) a) }
 {
-    let had = &k.assumptions;
-    let own = &k.from_problem.assumptions;
+    let had = k.assumptions();
+    let own = k.from_problem().assumptions();
     let non_originating = kind_left(
         alloc,
         Kind::NonOriginating,
-        &k.strands,
+        k.strands(),
         gone,
-        &had.non_originating,
-        &own.non_originating,
+        had.non_originating(),
+        own.non_originating(),
     )?;
     let penetrator_non_originating = kind_left(
         alloc,
         Kind::PenetratorNonOriginating,
-        &k.strands,
+        k.strands(),
         gone,
-        &had.penetrator_non_originating,
-        &own.penetrator_non_originating,
+        had.penetrator_non_originating(),
+        own.penetrator_non_originating(),
     )?;
-    let uniquely_originating = uniques_left(alloc, gone, &had.uniquely_originating)?;
-    Ok(Assumptions {
+    let uniquely_originating = uniques_left(alloc, gone, had.uniquely_originating())?;
+    Ok(Assumptions::new(
         non_originating,
         penetrator_non_originating,
         uniquely_originating,
-    })
+    ))
 }

@@ -7,13 +7,15 @@ ghost use Rattle.cp_model.specs.Homomorphism.{substitution_by};
 ghost use Rattle.cp_model.specs.Given.{applying, applying_uniques, atoms_onto, uniques_onto};
 ghost use Rattle.cp_skel.specs.Given.{AddsGiven, with_given_from};
 ghost use Rattle.cp_skel.specs.Joining.{joined};
-ghost use Rattle.cp_skel.specs.View.{event_view, role_view, instance_view, unique_view, assumptions_view};
+ghost use Rattle.cp_skel.specs.View.{event_view, instance_view};
 
 use crate::applying::applied;
+use crate::assumptions::{Assumptions, UniqueAt};
 use crate::atom::Atom;
 use crate::occurring::{all_occur, prefix_of};
 use crate::protocol::Event;
-use crate::skeleton::{Assumptions, Instance, Node, UniqueAt};
+use crate::skeleton::Node;
+use crate::strand::Instance;
 use cp_term::{Term, carries};
 use std::alloc::{AllocError, Global};
 
@@ -57,14 +59,14 @@ pub fn has_atom(atoms: &[Atom], atom: &Atom) -> bool
 
 /// Whether one unique value with its origin is the other.
 fn is_same_unique(first: &UniqueAt, second: &UniqueAt) -> bool
-    ensures { IsTrue result ↔ (unique_view first.now ≡ unique_view second.now) }
+    ensures { IsTrue result ↔ (first.now ≡ second.now) }
 {
-    first.value.same(&second.value) && first.origin == second.origin
+    first.value().same(second.value()) && first.origin() == second.origin()
 }
 
 /// Whether the unique value, with this origin, is one of these.
 pub fn has_unique(uniques: &[UniqueAt], unique: &UniqueAt) -> bool
-    ensures { IsTrue result ↔ IsIn (unique_view unique.now) (map unique_view uniques.now) }
+    ensures { IsTrue result ↔ IsIn unique.now uniques.now }
 {
     for other in uniques {
         if is_same_unique(other, unique) {
@@ -91,8 +93,8 @@ fn push_missing_unique(
     more: &mut Vec<UniqueAt>,
     unique: UniqueAt,
 ) -> Result<(), AllocError>
-    ensures { OnOk result (map unique_view old.now ++ map unique_view more.new.items
-        ≡ uniques_onto (map unique_view old.now ++ map unique_view more.old.items) (unique_view unique ∷ [])) }
+    ensures { OnOk result (old.now ++ more.new.items
+        ≡ uniques_onto (old.now ++ more.old.items) (unique ∷ [])) }
 {
     if has_unique(old, &unique) || has_unique(more, &unique) {
         return Ok(());
@@ -109,15 +111,15 @@ pub(crate) fn missing_atoms(
     old: &[Atom],
 ) -> Result<Vec<Atom>, AllocError>
     ensures { IfOk result (λ more. old.now ++ more.items ≡ atoms_onto old.now
-        (applying (role_view instance.now.role.value) instance.now.height (substitution_by instance.now.values.items) stated.now)) }
+        (applying instance.now.role instance.now.height (substitution_by instance.now.values) stated.now)) }
 {
-    let prefix = prefix_of(&instance.role, instance.height);
+    let prefix = prefix_of(instance.role(), instance.height());
     let mut more = Vec::new(alloc);
     for atom in stated {
         if !all_occur(prefix, atom) {
             continue;
         }
-        let value = applied_atom(alloc, &instance.values, atom)?;
+        let value = applied_atom(alloc, instance.values(), atom)?;
         push_missing(old, &mut more, value)?;
     }
     Ok(more)
@@ -132,20 +134,20 @@ fn missing_uniques(
     stated: &[Atom],
     old: &[UniqueAt],
 ) -> Result<Vec<UniqueAt>, AllocError>
-    ensures { IfOk result (λ more. map unique_view old.now ++ map unique_view more.items ≡ uniques_onto (map unique_view old.now)
-        (applying_uniques (role_view instance.now.role.value) instance.now.height (substitution_by instance.now.values.items) strand stated.now)) }
+    ensures { IfOk result (λ more. old.now ++ more.items ≡ uniques_onto old.now
+        (applying_uniques instance.now.role instance.now.height (substitution_by instance.now.values) strand stated.now)) }
 {
     let mut more = Vec::new(alloc);
     for atom in stated {
-        let Some(index) = origin(&instance.role.trace, atom.as_term()) else {
+        let Some(index) = origin(instance.role().trace(), atom.as_term()) else {
             continue;
         };
-        if index >= instance.height {
+        if index >= instance.height() {
             continue;
         }
-        let value = applied_atom(alloc, &instance.values, atom)?;
+        let value = applied_atom(alloc, instance.values(), atom)?;
         let origin = Node { strand, index };
-        push_missing_unique(old, &mut more, UniqueAt { value, origin })?;
+        push_missing_unique(old, &mut more, UniqueAt::new(value, origin))?;
     }
     Ok(more)
 }
@@ -158,32 +160,32 @@ pub(crate) fn lacking(
     instance: &Instance,
     assumptions: &Assumptions,
 ) -> Result<Assumptions, AllocError>
-    ensures { IfOk result (λ more. joined (assumptions_view assumptions.now) (assumptions_view more)
-        ≡ with_given_from strand (instance_view instance.now ∷ []) (assumptions_view assumptions.now)) }
+    ensures { IfOk result (λ more. joined assumptions.now more
+        ≡ with_given_from strand (instance_view instance.now ∷ []) assumptions.now) }
 {
-    let role = &*instance.role;
-    let a = &assumptions.non_originating;
-    let b = &assumptions.penetrator_non_originating;
-    let c = &assumptions.uniquely_originating;
-    let non_originating = missing_atoms(alloc, instance, &role.non_originating, a)?;
+    let role = instance.role();
+    let a = assumptions.non_originating();
+    let b = assumptions.penetrator_non_originating();
+    let c = assumptions.uniquely_originating();
+    let non_originating = missing_atoms(alloc, instance, role.non_originating(), a)?;
     let penetrator_non_originating = missing_atoms(
         alloc,
         instance,
-        &role.penetrator_non_originating,
+        role.penetrator_non_originating(),
         b,
     )?;
     let uniquely_originating = missing_uniques(
         alloc,
         strand,
         instance,
-        &role.uniquely_originating,
+        role.uniquely_originating(),
         c,
     )?;
-    Ok(Assumptions {
+    Ok(Assumptions::new(
         non_originating,
         penetrator_non_originating,
         uniquely_originating,
-    })
+    ))
 }
 
 /// What an instance, which is the strand of this number, gives and the assumptions lack, each once. The error is that
@@ -194,8 +196,8 @@ pub fn missing(
     instance: &Instance,
     assumptions: &Assumptions,
 ) -> Result<Assumptions, AllocError>
-    ensures { IfOk result (λ more. AddsGiven (role_view instance.now.role.value) instance.now.height (substitution_by instance.now.values.items) strand
-        (assumptions_view assumptions.now) (joined (assumptions_view assumptions.now) (assumptions_view more))) }
+    ensures { IfOk result (λ more. AddsGiven instance.now.role instance.now.height (substitution_by instance.now.values) strand
+        assumptions.now (joined assumptions.now more)) }
 {
     lacking(alloc, strand, instance, assumptions)
 }

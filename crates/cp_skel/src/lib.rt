@@ -3,6 +3,7 @@
 
 mod adding;
 mod applying;
+mod assumptions;
 mod atom;
 mod bridging;
 mod changes_laws;
@@ -14,8 +15,8 @@ mod copying;
 mod deleting;
 mod events;
 mod forgetting;
+mod from_problem;
 mod giving;
-mod joining;
 mod laws;
 mod leading;
 mod listing;
@@ -27,6 +28,7 @@ mod protocol;
 mod renumbering;
 mod same_role;
 mod skeleton;
+mod strand;
 mod substituting;
 mod tree;
 mod valuing;
@@ -35,12 +37,14 @@ mod ways;
 
 pub use adding::add_given;
 pub use applying::applied;
+pub use assumptions::{Assumptions, UniqueAt};
 pub use atom::Atom;
 pub use changes_laws::{
     changes_keep_homomorphisms, changes_keep_what_is_stated, extensions_fit, order_keeps_skeletons,
 };
 pub use collecting::{add_atom, add_atoms, add_unique};
 pub use events::Occurrence;
+pub use from_problem::FromProblem;
 pub use giving::{applied_atom, has_atom, has_unique, missing, origin};
 pub use laws::{
     deleting_keeps_skeletons, extending_keeps_skeletons, given_behind_own_is_listed,
@@ -53,8 +57,7 @@ pub use occurring::{all_occur, occurs, prefix_of};
 pub use order::Order;
 pub use protocol::{Declaration, Event, Protocol, Role};
 pub use same_role::is_same_role;
-pub use skeleton::{
-    Assumptions, FromProblem, Instance, Node, OrderPair, Skeleton, Strand, UniqueAt,
-};
+pub use skeleton::{Node, OrderPair, Skeleton};
+pub use strand::{Instance, Strand, StrandShape};
 pub use tree::{Limits, Mark, Operation, Outcome, Test, Tree, TreeNode};
 pub use variables_laws::changes_keep_declared_variables;

@@ -1,14 +1,15 @@
 // The order in which a report lists assumptions.
-ghost use Rattle.std.specs.Prelude.{◌≡◌, ◌++◌, [], map, IfOk, OnOk, OnErr};
+ghost use Rattle.std.specs.Prelude.{◌≡◌, ◌++◌, [], IfOk, OnOk, OnErr};
 ghost use Rattle.std.specs.List.{filter};
 ghost use Rattle.cp_model.specs.Given.{has_atom, atoms_onto, has_unique, uniques_onto, listed};
-ghost use Rattle.cp_skel.specs.View.{unique_view, assumptions_view, skeleton_view};
+ghost use Rattle.cp_skel.specs.View.{skeleton_view};
 
 use crate::adding::add_given;
+use crate::assumptions::{Assumptions, UniqueAt};
 use crate::atom::Atom;
 use crate::collecting::{add_atom, add_atoms, add_unique, add_uniques};
 use crate::giving::{has_atom, has_unique};
-use crate::skeleton::{Assumptions, Skeleton, UniqueAt};
+use crate::skeleton::Skeleton;
 use std::alloc::{AllocError, Global};
 
 /// The stated atoms that are among the old ones, and then the others of these, each once.
@@ -31,8 +32,8 @@ fn listed_uniques(
     stated: &[UniqueAt],
     old: &[UniqueAt],
 ) -> Result<Vec<UniqueAt>, AllocError>
-    ensures { IfOk result (λ v. map unique_view v.items
-        ≡ uniques_onto [] (filter (has_unique (map unique_view old.now)) (map unique_view stated.now) ++ map unique_view old.now)) }
+    ensures { IfOk result (λ v. v.items
+        ≡ uniques_onto [] (filter (has_unique old.now) stated.now ++ old.now)) }
 {
     let mut listed = Vec::new(alloc);
     for unique in stated {
@@ -47,24 +48,24 @@ fn listed_uniques(
 /// The assumptions of a skeleton in the order in which a report lists them: the problem's own first, then those that the
 /// strands' roles give, strand by strand, each once, and at last any others. The error is that memory ran out.
 pub fn listed(alloc: Global, skeleton: &Skeleton) -> Result<Assumptions, AllocError>
-    ensures { IfOk result (λ a. assumptions_view a ≡ listed (skeleton_view skeleton.now)) }
+    ensures { IfOk result (λ a. a ≡ listed (skeleton_view skeleton.now)) }
 {
-    let mut stated = skeleton.from_problem.assumptions.copy(alloc)?;
-    add_given(alloc, &skeleton.strands, &mut stated)?;
-    let old = &skeleton.assumptions;
-    Ok(Assumptions {
-        non_originating: listed_atoms(alloc, &stated.non_originating, &old.non_originating)?,
-        penetrator_non_originating: listed_atoms(
+    let mut stated = skeleton.from_problem().assumptions().copy(alloc)?;
+    add_given(alloc, skeleton.strands(), &mut stated)?;
+    let old = skeleton.assumptions();
+    Ok(Assumptions::new(
+        listed_atoms(alloc, stated.non_originating(), old.non_originating())?,
+        listed_atoms(
             alloc,
-            &stated.penetrator_non_originating,
-            &old.penetrator_non_originating,
+            stated.penetrator_non_originating(),
+            old.penetrator_non_originating(),
         )?,
-        uniquely_originating: listed_uniques(
+        listed_uniques(
             alloc,
-            &stated.uniquely_originating,
-            &old.uniquely_originating,
+            stated.uniquely_originating(),
+            old.uniquely_originating(),
         )?,
-    })
+    ))
 }
 
 impl Skeleton {

@@ -4,7 +4,7 @@ ghost use Rattle.cp_model.specs.Term.{variables_of, variables_of_atom};
 ghost use Rattle.cp_model.specs.Strand.{variables_of_trace, prefix_of};
 ghost use Rattle.cp_model.specs.Same.{same_sort, has_variable, has_variables};
 ghost use Rattle.cp_skel.specs.Occurring.{is_added};
-ghost use Rattle.cp_skel.specs.View.{sort_view, event_view, role_view};
+ghost use Rattle.cp_skel.specs.View.{sort_view, event_view};
 
 use crate::atom::Atom;
 use crate::protocol::{Event, Role};
@@ -12,9 +12,9 @@ use cp_term::{Shape, Sort, Term, VarId};
 
 /// The first events of a role, as many as the height says.
 pub fn prefix_of(role: &Role, height: usize) -> &[Event]
-    ensures { map event_view result.now ≡ prefix_of (role_view role.now) height }
+    ensures { map event_view result.now ≡ prefix_of role.now height }
 {
-    let events = role.trace.as_slice();
+    let events = role.trace();
     if events.len() < height {
         return events;
     }

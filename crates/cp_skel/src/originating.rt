@@ -10,7 +10,8 @@ ghost use Rattle.cp_skel.specs.Originating.{IsCarriedByOne, OriginatesUnder};
 use crate::applying::event_at;
 use crate::comparing::carries_under;
 use crate::protocol::Event;
-use crate::skeleton::{Instance, Node, Skeleton, Strand};
+use crate::skeleton::{Node, Skeleton};
+use crate::strand::{Instance, Strand, StrandShape};
 use cp_term::Term;
 
 /// Whether one of a role's events becomes one that carries the term.
@@ -45,7 +46,7 @@ impl Instance {
     fn originates(&self, index: usize, t: &Term) -> bool
         ensures { IsTrue result ↔ OriginatesInTerms (skeleton_trace (instance_view self.now)) t.now index }
     {
-        index < self.height && originates_under(&self.values, &self.role.trace, index, t)
+        index < self.height() && originates_under(self.values(), self.role().trace(), index, t)
     }
 }
 
@@ -54,9 +55,9 @@ impl Strand {
     fn originates(&self, index: usize, t: &Term) -> bool
         ensures { IsTrue result ↔ OriginatesInTerms (skeleton_trace (strand_view self.now)) t.now index }
     {
-        match self {
-            Strand::Instance(instance) => instance.originates(index, t),
-            Strand::Listener(_) => false,
+        match self.shape() {
+            StrandShape::Instance(instance) => instance.originates(index, t),
+            StrandShape::Listener(_) => false,
         }
     }
 }
@@ -68,7 +69,7 @@ impl Skeleton {
         ensures exact { IsTrue result
             ↔ OriginatesInTerms (skeleton_trace_or_none (item_at (skeleton_view self.now).strands n.strand)) t.now n.index }
     {
-        match self.strands.get(n.strand) {
+        match self.strands().get(n.strand) {
             Some(strand) => strand.originates(n.index, t),
             None => false,
         }

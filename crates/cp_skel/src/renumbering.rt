@@ -1,10 +1,11 @@
 // Nodes, pairs and recorded origins where a strand is gone.
 ghost use Rattle.std.specs.Prelude.{◌≡◌, ◌↔◌, map, IsTrue, IfOk};
 ghost use Rattle.cp_model.specs.RunView.{node_view};
-ghost use Rattle.cp_skel.specs.View.{pair_view, unique_view};
+ghost use Rattle.cp_skel.specs.View.{pair_view};
 ghost use Rattle.cp_skel.specs.Deleting.{renumbered, node_renumbered, pair_renumbered, unique_renumbered, IsPairOn, IsOriginOn, LeavesOut};
 
-use crate::skeleton::{Node, OrderPair, UniqueAt};
+use crate::assumptions::UniqueAt;
+use crate::skeleton::{Node, OrderPair};
 use std::alloc::{AllocError, Global};
 
 /// The number of a strand once another is gone: those above it fall by one.
@@ -80,16 +81,16 @@ pub(crate) fn uniques_left(
     gone: usize,
     uniques: &[UniqueAt],
 ) -> Result<Vec<UniqueAt>, AllocError>
-    ensures { IfOk result (λ v. LeavesOut (IsOriginOn gone) (unique_renumbered gone) (map unique_view uniques.now) (map unique_view v.items)) }
+    ensures { IfOk result (λ v. LeavesOut (IsOriginOn gone) (unique_renumbered gone) uniques.now v.items) }
 {
     let mut left = Vec::new(alloc);
     for unique in uniques {
-        if unique.origin.strand == gone {
+        if unique.origin().strand == gone {
             continue;
         }
-        let value = unique.value.copy()?;
-        let origin = node_renumbered(gone, unique.origin);
-        left.push(UniqueAt { value, origin })?;
+        let value = unique.value().copy()?;
+        let origin = node_renumbered(gone, unique.origin());
+        left.push(UniqueAt::new(value, origin))?;
     }
     Ok(left)
 }

@@ -1,6 +1,6 @@
 // Equality of roles.
 ghost use Rattle.std.specs.Prelude.{◌≡◌, ◌↔◌, map, IsTrue};
-ghost use Rattle.cp_skel.specs.View.{sort_view, declaration_view, event_view, role_view};
+ghost use Rattle.cp_skel.specs.View.{sort_view, declaration_view, event_view};
 
 use crate::atom::Atom;
 use crate::protocol::{Declaration, Event, Role};
@@ -73,21 +73,24 @@ fn are_same_atoms(a: &[Atom], b: &[Atom]) -> bool
 
 /// Whether the assumptions of two roles are the same.
 fn have_same_assumptions(a: &Role, b: &Role) -> bool
-    ensures { IsTrue result ↔ ((role_view a.now).non_originating ≡ (role_view b.now).non_originating)
-        × ((role_view a.now).penetrator_non_originating ≡ (role_view b.now).penetrator_non_originating)
-        × ((role_view a.now).uniquely_originating ≡ (role_view b.now).uniquely_originating) }
+    ensures { IsTrue result ↔ (a.now.non_originating ≡ b.now.non_originating)
+        × (a.now.penetrator_non_originating ≡ b.now.penetrator_non_originating)
+        × (a.now.uniquely_originating ≡ b.now.uniquely_originating) }
 {
-    are_same_atoms(&a.non_originating, &b.non_originating)
-        && are_same_atoms(&a.penetrator_non_originating, &b.penetrator_non_originating)
-        && are_same_atoms(&a.uniquely_originating, &b.uniquely_originating)
+    are_same_atoms(a.non_originating(), b.non_originating())
+        && are_same_atoms(
+            a.penetrator_non_originating(),
+            b.penetrator_non_originating(),
+        )
+        && are_same_atoms(a.uniquely_originating(), b.uniquely_originating())
 }
 
 /// Whether two roles are the same: their names, variables, events and assumptions are.
 pub fn is_same_role(a: &Role, b: &Role) -> bool
-    ensures { IsTrue result ↔ (role_view a.now ≡ role_view b.now) }
+    ensures { IsTrue result ↔ (a.now ≡ b.now) }
 {
-    a.name.as_str() == b.name.as_str()
-        && are_same_declarations(&a.variables, &b.variables)
-        && are_same_events(&a.trace, &b.trace)
+    a.name().as_str() == b.name().as_str()
+        && are_same_declarations(a.variables(), b.variables())
+        && are_same_events(a.trace(), b.trace())
         && have_same_assumptions(a, b)
 }

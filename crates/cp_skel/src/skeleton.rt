@@ -1,12 +1,19 @@
-// Skeletons and their parts.
-use crate::atom::Atom;
-use crate::order::Order;
-use crate::protocol::Role;
-pub use cp_model::Node;
-use cp_term::{Term, VarTable};
-use std::rc::Rc;
+// Skeletons, and the pairs of their orders.
+ghost use Rattle.std.specs.Prelude.{◌≡◌};
+ghost use Rattle.cp_skel.specs.Data.{skeleton_of};
+ghost use Rattle.cp_skel.specs.Sound.{IsSound};
+ghost use Rattle.cp_skel.specs.View.{skeleton_view};
 
-/// A pair of the order: the earlier node comes before the later one. In an ordered skeleton they are a transmission and a
+use crate::assumptions::Assumptions;
+use crate::from_problem::FromProblem;
+use crate::order::Order;
+use crate::strand::Strand;
+pub use cp_model::Node;
+use cp_term::VarTable;
+use std::alloc::{AllocError, Global};
+use std::marker::Model;
+
+/// A pair of the order: the earlier node comes before the later one. In a skeleton they are a transmission and a
 /// reception of different strands.
 #[derive(Clone, Copy, Debug, PartialEq, Eq)]
 pub struct OrderPair {
@@ -14,54 +21,95 @@ pub struct OrderPair {
     pub later: Node,
 }
 
-/// An instance of a role, of some height, with a term for each of the role's variables. A term of a variable outside
-/// the prefix has no meaning.
-#[derive(Drop)]
-pub struct Instance {
-    pub role: Rc<Role>,
-    pub height: usize,
-    pub values: Vec<Term>,
-}
-
-/// A strand of a skeleton: an instance of a role, or a listener, which receives a message and sends it on.
-#[derive(Drop)]
-pub enum Strand {
-    Instance(Instance),
-    Listener(Term),
-}
-
-/// A unique value with its recorded origin.
-#[derive(Drop)]
-pub struct UniqueAt {
-    pub value: Atom,
-    pub origin: Node,
-}
-
-/// The three lists of assumptions.
-#[derive(Drop)]
-pub struct Assumptions {
-    pub non_originating: Vec<Atom>,
-    pub penetrator_non_originating: Vec<Atom>,
-    pub uniquely_originating: Vec<UniqueAt>,
-}
-
-/// The way from a problem: a strand for each strand of the problem, and a term for each of its variables; and the
-/// images of the assumptions and the pairs that the problem itself states.
-#[derive(Drop)]
-pub struct FromProblem {
-    pub strands: Vec<usize>,
-    pub values: Vec<Term>,
-    pub assumptions: Assumptions,
-    pub pairs: Vec<OrderPair>,
-}
-
-/// A skeleton: its variables, those of its problem first and then those that were made on the way to it; strands, the
-/// order of their nodes beside the order of each strand, assumptions, and the way from the problem.
+/// A skeleton: its variables, those of its problem and those that were made on the way to it; strands, the order of their
+/// nodes beside the order of each strand, assumptions, and the way from the problem. Each is sound: its instances are of
+/// heights of their roles, which declare the variables of their events; its pairs go from a transmission to a reception of
+/// another strand, and its order has no cycle; its recorded origins are ones; and what its strands' roles give is assumed.
 #[derive(Drop)]
 pub struct Skeleton {
-    pub variables: VarTable,
-    pub strands: Vec<Strand>,
-    pub order: Order,
-    pub assumptions: Assumptions,
-    pub from_problem: FromProblem,
+    pub(crate) variables: VarTable,
+    pub(crate) strands: Vec<Strand>,
+    pub(crate) order: Order,
+    pub(crate) assumptions: Assumptions,
+    pub(crate) from_problem: FromProblem,
+}
+
+impl Model for Skeleton {
+    ghost use Rattle.cp_skel.specs.Data.{SkeletonData, coded_skeleton};
+
+    ghost Value = { SkeletonData };
+
+    ghost coded = { coded_skeleton };
+
+    ghost use Rattle.cp_skel.specs.Parts.{skeleton_of_parts};
+    ghost use Rattle.cp_skel.specs.Sound.{IsSound};
+    ghost use Rattle.cp_skel.specs.View.{skeleton_view};
+
+    ghost view = { skeleton_of_parts };
+
+    ghost invariant = { λ k. IsSound (skeleton_view (skeleton_of_parts k)) };
+}
+
+impl Skeleton {
+    /// The skeleton of these parts.
+    pub fn new(
+        variables: VarTable,
+        strands: Vec<Strand>,
+        order: Order,
+        assumptions: Assumptions,
+        from_problem: FromProblem,
+    ) -> Skeleton
+        requires { IsSound (skeleton_view (skeleton_of variables strands.items order assumptions from_problem)) }
+        ensures { result ≡ skeleton_of variables strands.items order assumptions from_problem }
+    {
+        Skeleton {
+            variables,
+            strands,
+            order,
+            assumptions,
+            from_problem,
+        }
+    }
+
+    /// Every skeleton is sound.
+    pub fn is_sound(&self)
+        ensures { IsSound (skeleton_view self.now) }
+    {
+        let _ = &self.order;
+    }
+
+    /// Its variables.
+    pub fn variables(&self) -> &VarTable
+        ensures { result.now ≡ self.now.variables }
+    {
+        &self.variables
+    }
+
+    /// Its strands.
+    pub fn strands(&self) -> &[Strand]
+        ensures { result.now ≡ self.now.strands }
+    {
+        &self.strands
+    }
+
+    /// The order of its nodes.
+    pub fn order(&self) -> &Order
+        ensures { result.now ≡ self.now.order }
+    {
+        &self.order
+    }
+
+    /// What it assumes.
+    pub fn assumptions(&self) -> &Assumptions
+        ensures { result.now ≡ self.now.assumptions }
+    {
+        &self.assumptions
+    }
+
+    /// The way from its problem.
+    pub fn from_problem(&self) -> &FromProblem
+        ensures { result.now ≡ self.now.from_problem }
+    {
+        &self.from_problem
+    }
 }

@@ -1,14 +1,14 @@
 // The terms of instances.
-ghost use Rattle.std.specs.Prelude.{◌≡◌, map, IfOk};
+ghost use Rattle.std.specs.Prelude.{◌≡◌, IfOk};
 ghost use Rattle.std.specs.Option.{option_map};
 ghost use Rattle.cp_model.specs.Strand.{variables_of_prefix};
 ghost use Rattle.cp_skel.specs.Occurring.{is_added};
 ghost use Rattle.cp_skel.specs.Valued.{term_or, valued};
-ghost use Rattle.cp_skel.specs.View.{sort_view, declaration_view, role_view};
+ghost use Rattle.cp_skel.specs.View.{sort_view};
 
 use crate::occurring::{is_added, prefix_of};
 use crate::protocol::Role;
-use crate::skeleton::Instance;
+use crate::strand::Instance;
 use crate::substituting::value_at;
 use cp_term::{Sort, Term, VarId, var};
 use std::alloc::{AllocError, Global};
@@ -40,14 +40,14 @@ fn terms_of(
     values: &[Term],
 ) -> Result<Vec<Term>, AllocError>
     ensures { IfOk result (λ v. v.items ≡ valued
-        (is_added (variables_of_prefix (role_view role.now) before) (variables_of_prefix (role_view role.now) height))
-        old.now 0 (map declaration_view role.now.variables.items) values.now) }
+        (is_added (variables_of_prefix role.now before) (variables_of_prefix role.now height))
+        old.now 0 role.now.variables values.now) }
 {
     let earlier = prefix_of(role, before);
     let prefix = prefix_of(role, height);
     let mut terms = Vec::new(alloc);
     let mut next = 0;
-    for (number, declaration) in role.variables.iter().enumerate() {
+    for (number, declaration) in role.variables().iter().enumerate() {
         let id = VarId::numbered(number);
         if !is_added(earlier, prefix, id, declaration.sort) {
             terms.push(term_or_variable(alloc, value_at(old, number), id, declaration.sort)?)?;
@@ -69,17 +69,13 @@ pub(crate) fn instance_of(
     old: &[Term],
     values: &[Term],
 ) -> Result<Instance, AllocError>
-    ensures role { IfOk result (λ i. role_view i.role.value ≡ role_view role.now.value) }
+    ensures role { IfOk result (λ i. i.role ≡ role.now.value) }
     ensures height { IfOk result (λ i. i.height ≡ height) }
-    ensures terms { IfOk result (λ i. i.values.items ≡ valued
-        (is_added (variables_of_prefix (role_view role.now.value) before) (variables_of_prefix (role_view role.now.value) height))
-        old.now 0 (map declaration_view role.now.value.variables.items) values.now) }
+    ensures terms { IfOk result (λ i. i.values ≡ valued
+        (is_added (variables_of_prefix role.now.value before) (variables_of_prefix role.now.value height))
+        old.now 0 role.now.value.variables values.now) }
 {
     let values = terms_of(alloc, role, before, height, old, values)?;
     let role = role.clone()?;
-    Ok(Instance {
-        role,
-        height,
-        values,
-    })
+    Ok(Instance::new(role, height, values))
 }

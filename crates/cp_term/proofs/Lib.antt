@@ -5,4 +5,5 @@ pub mod Listed
 pub mod LocalVariables
 pub mod PositionLaws
 pub mod SameTerms
+pub mod Spinewise
 pub mod TableEntries

@@ -76,7 +76,7 @@ atom_back (datum_variable n) = refl
 atom_back (name_variable n) = refl
 atom_back (key_term k) = refl
 
-abbrev coded_atom : Coded AtomTerm
+abbrev pub coded_atom : Coded AtomTerm
 coded_atom = code_by ((ℕ ⊎ ℕ) ⊎ (ℕ ⊎ KeyTerm)) (coded⊎ (coded⊎ coded_ℕ coded_ℕ) (coded⊎ coded_ℕ coded_key)) atom_parts atom_from atom_back
 
 -- One token: a tag, an atom, that the two terms before it are a pair, or that the one before it is encrypted.
@@ -186,7 +186,7 @@ sort_back name_sort = refl
 sort_back skey_sort = refl
 sort_back akey_sort = refl
 
-abbrev coded_sort : Coded Sort
+abbrev pub coded_sort : Coded Sort
 coded_sort = code_by ℕ coded_ℕ sort_number sort_from sort_back
 
 abbrev coded_variable : Coded Variable

@@ -10,5 +10,6 @@ pub mod Preorder
 pub mod Same
 pub mod Shapes
 pub mod Size
+pub mod Spines
 pub mod Table
 pub mod Variables

@@ -8,6 +8,7 @@ mod pattern;
 mod position;
 mod same;
 mod shape;
+mod substituting;
 mod term;
 mod variable;
 
@@ -18,5 +19,6 @@ pub use path::{Path, Step};
 pub use pattern::{Locals, Pattern};
 pub use position::{at, carries, depth, paths_of};
 pub use shape::Shape;
+pub use substituting::{Valuation, name_for, substituted};
 pub use term::Term;
 pub use variable::{Sort, VarId, VarTable};

@@ -10,6 +10,7 @@ use Rattle.std.specs.List.{filter}
 use Rattle.cp_model.specs.Same.{has_variable}
 use Rattle.cp_skel.specs.Occurring.{is_added, declared_variables, prefix_variables, added_variables, AreTermsFor}
 use Rattle.cp_skel.specs.Changing.{AddsStrand, CanExtend}
+use Rattle.cp_skel.specs.Sound.{DeclaresItsVariables}
 use Rattle.cp_tests.specs.Example.{example_variables, example_trace, IsExample, example_values, added_values}
 use Rattle.cp_skel.proofs.StaySkeletons.{item-last}
 
@@ -28,7 +29,7 @@ example-fits role values is e =
 added-literally : AreTermsFor (filter (is_added (variables_of_trace (take 1 example_trace)) (variables_of_trace (take 3 example_trace))) (declared_variables 0 example_variables)) added_values
 added-literally = (refl, tt)
 
-closed-literally : (x : Variable) → IsIn x (variables_of_trace (take 3 example_trace)) → IsDeclared example_variables x
+closed-literally : (x : Variable) → IsIn x (variables_of_trace example_trace) → IsDeclared example_variables x
 closed-literally x here = refl
 closed-literally x (there here) = refl
 closed-literally x (there (there here)) = refl
@@ -38,6 +39,11 @@ closed-literally x (there (there (there (there (there here))))) = refl
 closed-literally x (there (there (there (there (there (there here)))))) = refl
 closed-literally x (there (there (there (there (there (there (there here))))))) = refl
 closed-literally x (there (there (there (there (there (there (there (there p)))))))) = elim p [ ]
+
+pub example-declares : (role : Role) → IsExample role → DeclaresItsVariables role
+example-declares role is =
+    subst (λ es. (x : Variable) → IsIn x (variables_of_trace es) → IsDeclared role.variables x) (sym is.trace)
+    (subst (λ ds. (x : Variable) → IsIn x (variables_of_trace example_trace) → IsDeclared ds x) (sym is.variables) closed-literally)
 
 pub example-extends : (role : Role) (values more : List Term) (old new : Skeleton) (s : ℕ) → IsExample role → AddsStrand role 1 values old new → more ≡ added_values → s ≡ length old.strands → CanExtend new s 3 more
 example-extends role values more old new s is adds e number =
@@ -49,8 +55,6 @@ example-extends role values more old new s is adds e number =
       on_instance = ap (item_at new.strands) number ∙ ap (λ ss. item_at ss (length old.strands)) adds.strands ∙ item-last old.strands (instance role 1 adds.terms);
       higher = omega arith;
       reached = omega (arith, n);
-      closed = subst (λ es. (x : Variable) → IsIn x (variables_of_trace (take 3 es)) → IsDeclared role.variables x) (sym is.trace)
-          (subst (λ ds. (x : Variable) → IsIn x (variables_of_trace (take 3 example_trace)) → IsDeclared ds x) (sym is.variables) closed-literally);
       fitting = subst (AreTermsFor (added_variables role 1 3)) (sym e)
           (subst (λ es. AreTermsFor (filter (is_added (variables_of_trace (take 1 es)) (variables_of_trace (take 3 es))) (declared_variables 0 role.variables)) added_values) (sym is.trace)
           (subst (λ ds. AreTermsFor (filter (is_added (variables_of_trace (take 1 example_trace)) (variables_of_trace (take 3 example_trace))) (declared_variables 0 ds)) added_values) (sym is.variables) added-literally));

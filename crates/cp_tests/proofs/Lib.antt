@@ -1,4 +1,3 @@
-pub mod AnyProblem
 pub mod ExampleRole
-pub mod LoadedProblems
 pub mod Nodes
+pub mod OtherParts

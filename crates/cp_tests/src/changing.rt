@@ -3,11 +3,11 @@ ghost use Rattle.std.specs.Prelude.{◌≡◌, [], ◌∷◌, None, false, map, 
 ghost use Rattle.cp_model.specs.Term.{pubk_term, asymmetric_term, text_variable, atom_term, enc_term};
 ghost use Rattle.cp_term.specs.Keys.{name_of};
 ghost use Rattle.cp_tests.specs.Example.{example_variables, example_trace, IsExample, example_values, added_values};
-ghost use Rattle.cp_skel.specs.View.{declaration_view, event_view, role_view};
+ghost use Rattle.cp_skel.specs.View.{declaration_view, event_view};
 
 use crate::stated::skeleton_of;
 use cp_model::Node;
-use cp_skel::{Atom, Declaration, Event, Role, Skeleton, UniqueAt};
+use cp_skel::{Atom, Declaration, Event, Protocol, Role, Skeleton, UniqueAt};
 use cp_term::{Sort, Term, Text, VarId, enc, invert, pair, pubk, var};
 use std::alloc::{AllocError, Global};
 use std::rc::Rc;
@@ -90,19 +90,19 @@ fn only(alloc: Global, atom: Atom) -> Result<Vec<Atom>, AllocError> {
 
 /// The private key of b is non-originating, the penetrator does not originate n, and m originates uniquely.
 fn initiator(alloc: Global) -> Result<Rc<Role>, Fail>
-    ensures { IfOk result (λ r. IsExample (role_view r.value)) }
+    ensures { IfOk result (λ r. IsExample r.value) }
 {
     let non_originating = only(alloc, private_key(alloc, 1)?)?;
     let penetrator_non_originating = only(alloc, atom(text(alloc, 3)?)?)?;
     let uniquely_originating = only(alloc, atom(text(alloc, 2)?)?)?;
-    let role = Role {
-        name: Text::new(alloc, "init")?,
-        variables: variables(alloc)?,
-        trace: trace(alloc)?,
+    let role = Role::new(
+        Text::new(alloc, "init")?,
+        variables(alloc)?,
+        trace(alloc)?,
         non_originating,
         penetrator_non_originating,
         uniquely_originating,
-    };
+    );
     Ok(Rc::new(alloc, role)?)
 }
 
@@ -125,7 +125,7 @@ fn added(alloc: Global) -> Result<Vec<Term>, AllocError>
 }
 
 fn is_event(skeleton: &Skeleton, alloc: Global, at: Node, message: &Term) -> Result<bool, Fail> {
-    let Some(strand) = skeleton.strands.get(at.strand) else {
+    let Some(strand) = skeleton.strands().get(at.strand) else {
         return Ok(false);
     };
     match strand.event(alloc, at.index)? {
@@ -139,11 +139,55 @@ fn are_atoms(atoms: &[Atom], wanted: &[&Atom]) -> bool {
 }
 
 fn is_unique(unique: Option<&UniqueAt>, value: &Atom, origin: Node) -> bool {
-    unique.is_some_and(|u| u.value.same(value) && u.origin == origin)
+    unique.is_some_and(|u| u.value().same(value) && u.origin() == origin)
 }
 
 fn node(strand: usize, index: usize) -> Node {
     Node { strand, index }
+}
+
+/// Whether the strands are so many, and the second and a third are as after a change, or as before it.
+fn is_as_changed(
+    alloc: Global,
+    k: &Skeleton,
+    strands: usize,
+    is_changed: bool,
+) -> Result<bool, Fail> {
+    let last = sealed(alloc, text(alloc, 13)?, 11)?;
+    Ok(
+        k.strands().len() == strands
+            && is_event(k, alloc, node(1, 0), &first(alloc, 12, 10, 11)?)?
+            && is_event(k, alloc, node(1, 2), &last)? == is_changed
+            && is_event(k, alloc, node(2, 0), &text(alloc, 14)?)? == is_changed
+            && k.assumptions().penetrator_non_originating().is_empty() != is_changed,
+    )
+}
+
+/// Whether the role has what it was made of.
+fn has_its_parts(role: &Role, key: &Atom, n: &Atom, m: &Atom) -> bool {
+    role.name().as_str() == "init"
+        && role.variables().len() == 4
+        && role.trace().len() == 3
+        && are_atoms(role.non_originating(), &[key])
+        && are_atoms(role.penetrator_non_originating(), &[n])
+        && are_atoms(role.uniquely_originating(), &[m])
+}
+
+#[test]
+fn parts_of_roles_and_protocols(rt: HostRuntime) -> Result<(), Fail> {
+    let alloc = rt.alloc();
+    let key = private_key(alloc, 1)?;
+    let n = atom(text(alloc, 3)?)?;
+    let m = atom(text(alloc, 2)?)?;
+    let mut roles = Vec::new(alloc);
+    roles.push(initiator(alloc)?)?;
+    let protocol = Protocol::new(Text::new(alloc, "u")?, roles);
+    assert_eq!(rt; protocol.name().as_str(), "u");
+    assert_eq!(rt; protocol.roles().len(), 1);
+    for role in protocol.roles() {
+        assert!(rt; has_its_parts(role, &key, &n, &m));
+    }
+    Ok(())
 }
 
 const LISTENER: &str = "(defskeleton u (vars (t text)) (deflistener t))";
@@ -156,7 +200,12 @@ fn a_strand_is_added_and_grows(rt: HostRuntime) -> Result<(), Fail> {
     let strand = skeleton.add_strand(alloc, &role, 1, &values(alloc)?)?;
     assert_eq!(rt; strand, 1);
     assert!(rt; is_event(&skeleton, alloc, node(1, 0), &first(alloc, 12, 10, 11)?)?);
-    assert!(rt; skeleton.assumptions.penetrator_non_originating.is_empty());
+    assert!(rt;
+        skeleton
+            .assumptions()
+            .penetrator_non_originating()
+            .is_empty()
+    );
     skeleton.extend(alloc, strand, 3, &added(alloc)?)?;
     assert!(rt; is_event(&skeleton, alloc, node(1, 0), &first(alloc, 12, 10, 11)?)?);
     assert!(rt;
@@ -169,11 +218,26 @@ fn a_strand_is_added_and_grows(rt: HostRuntime) -> Result<(), Fail> {
     );
     let key = private_key(alloc, 11)?;
     let n = atom(text(alloc, 13)?)?;
-    let assumptions = &skeleton.assumptions;
-    assert!(rt; are_atoms(&assumptions.non_originating, &[&key]));
-    assert!(rt; are_atoms(&assumptions.penetrator_non_originating, &[&n]));
-    assert_eq!(rt; assumptions.uniquely_originating.len(), 1);
+    let assumptions = skeleton.assumptions();
+    assert!(rt; are_atoms(assumptions.non_originating(), &[&key]));
+    assert!(rt; are_atoms(assumptions.penetrator_non_originating(), &[&n]));
+    assert_eq!(rt; assumptions.uniquely_originating().len(), 1);
     let m = atom(text(alloc, 12)?)?;
-    assert!(rt; is_unique(assumptions.uniquely_originating.first(), &m, node(1, 0)));
+    assert!(rt; is_unique(assumptions.uniquely_originating().first(), &m, node(1, 0)));
+    Ok(())
+}
+
+// A copy shares its strands with the skeleton; where that changes, the copy stays.
+#[test]
+fn a_copy_stays(rt: HostRuntime) -> Result<(), Fail> {
+    let alloc = rt.alloc();
+    let role = initiator(alloc)?;
+    let mut skeleton = skeleton_of(alloc, "(defprotocol u basic)", LISTENER)?;
+    let strand = skeleton.add_strand(alloc, &role, 1, &values(alloc)?)?;
+    let copy = skeleton.copy(alloc)?;
+    skeleton.extend(alloc, strand, 3, &added(alloc)?)?;
+    skeleton.add_listener(alloc, text(alloc, 14)?)?;
+    assert!(rt; is_as_changed(alloc, &skeleton, 3, true)?);
+    assert!(rt; is_as_changed(alloc, &copy, 2, false)?);
     Ok(())
 }

@@ -1,7 +1,4 @@
 // What can be derived, and what is critical, worked out by hand, and a long chain.
-ghost use Rattle.cp_skel.specs.Ordered.{IsOrdered};
-ghost use Rattle.cp_skel.specs.View.{skeleton_view};
-
 use crate::stated::{NEEDHAM_SCHROEDER, event_at, is_there, skeleton_of, terms_of};
 use cp_derive::{Critical, Known, buildable, critical, critical_in, known, unrealised};
 use cp_model::Node;
@@ -102,9 +99,7 @@ fn messages_from_what_was_sent(rt: HostRuntime) -> Result<(), Fail> {
 
 /// What is critical at a node that is there. Where the node is a reception, that is nothing exactly where its message can
 /// be derived.
-fn critical_at(alloc: Global, k: &Skeleton, node: Node) -> Result<Option<Critical>, Fail>
-    requires { IsOrdered (skeleton_view k.now) }
-{
+fn critical_at(alloc: Global, k: &Skeleton, node: Node) -> Result<Option<Critical>, Fail> {
     if !is_there(alloc, k, node)? {
         return Err(Fail::new("no such node"));
     }

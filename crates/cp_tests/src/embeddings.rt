@@ -1,8 +1,5 @@
 // Embeddings of small skeletons that texts state, worked out by hand.
-ghost use Rattle.std.specs.Prelude.{IfOk};
-ghost use Rattle.cp_skel.specs.Ordered.{IsOrdered};
-ghost use Rattle.cp_skel.specs.View.{skeleton_view};
-
+use crate::rebuilt::with_way_of;
 use crate::stated::skeleton_of;
 use cp_hom::{Map, embed, isomorphic};
 use cp_model::Node;
@@ -39,13 +36,9 @@ const UNIQUE_SECOND: &str =
     "(defskeleton e (vars (y x text)) (defstrand speaker 1 (n x)) (uniq-orig x))";
 
 /// The skeleton of the problem, of which the first strand and so many variables alone are said to come from a problem.
-fn over(alloc: Global, problem: &str, count: usize) -> Result<Skeleton, Fail>
-    ensures { IfOk result (λ k. IsOrdered (skeleton_view k)) }
-{
-    let mut k = skeleton_of(alloc, PROTOCOL, problem)?;
-    k.from_problem.strands.truncate(1);
-    k.from_problem.values.truncate(count);
-    Ok(k)
+fn over(alloc: Global, problem: &str, count: usize) -> Result<Skeleton, Fail> {
+    let k = skeleton_of(alloc, PROTOCOL, problem)?;
+    Ok(with_way_of(alloc, &k, 1, count)?)
 }
 
 // Two problems, how many variables come from one, and whether the first embeds in the second and the second in the first.

@@ -6,9 +6,9 @@ use cp_forms::{
     front_items, headed, is_out_of_profile, is_word, item_at, item_head, items_behind, last_item,
     later_items, list_items, place_of, sort_word, symbol, symbol_or_empty, term_head, top_head,
 };
-use cp_load::Problem;
+use cp_load::{Problem, Taken};
 use cp_sexpr::{Form, write, write_top};
-use cp_term::Sort;
+use cp_term::{Sort, Text};
 use std::alloc::Global;
 use std::test::Fail;
 
@@ -120,6 +120,17 @@ fn words_of_the_language(rt: HostRuntime) {
     assert!(rt; matches!(item_head(b"pen-non-orig"), ItemHead::PenetratorNon));
     assert!(rt; matches!(top_head(b"defskeleton"), TopHead::Problem));
     assert!(rt; is_out_of_profile(b"defrule") && !is_out_of_profile(b"defrole"));
+}
+
+#[test]
+fn names_in_use(rt: HostRuntime) -> Result<(), Fail> {
+    let mut taken = Taken::new(rt.alloc());
+    for name in ["a", "b", "a"] {
+        taken.push(rt.alloc(), Text::new(rt.alloc(), name)?)?;
+    }
+    assert_eq!(rt; taken.len(), 3);
+    assert!(rt; taken.has("b") && !taken.has("c"));
+    Ok(())
 }
 
 fn at(line: u32, col: u32, code: Code) -> Refusal {

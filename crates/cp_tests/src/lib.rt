@@ -17,6 +17,8 @@ mod normal_forms;
 #[cfg(test)]
 mod orders;
 #[cfg(test)]
+mod rebuilt;
+#[cfg(test)]
 mod reports;
 #[cfg(test)]
 mod skeletons;

@@ -1,12 +1,8 @@
 // Skeletons that texts state, and what calls make of them, worked out by hand.
 ghost use Rattle.std.specs.Prelude.{◌≡◌, IfOk};
-ghost use Rattle.cp_model.specs.Lists.{IsIn};
-ghost use Rattle.cp_model.specs.Skeleton.{UniqueAt as PlainUnique, IsOrigin};
 ghost use Rattle.cp_model.specs.Term.{atom_term, text_variable};
-ghost use Rattle.cp_skel.specs.DeclaredPrefixes.{HasDeclaredPrefixes};
-ghost use Rattle.cp_skel.specs.Ordered.{IsOrdered};
-ghost use Rattle.cp_skel.specs.View.{skeleton_view};
 
+use crate::rebuilt::{with_mixed, with_way_of};
 use crate::stated::{NEEDHAM_SCHROEDER, forms_of, joined, labels, last_problem, skeleton_of};
 use cp_model::Node;
 use cp_normal::{
@@ -14,7 +10,7 @@ use cp_normal::{
     normalise, under,
 };
 use cp_sexpr::Form;
-use cp_skel::{OrderPair, Skeleton, listed};
+use cp_skel::{OrderPair, Skeleton};
 use cp_term::{Sort, Term, VarId, var};
 use cp_unify::{Binding, Subst};
 use std::alloc::{AllocError, Global};
@@ -43,51 +39,34 @@ fn text(alloc: Global, number: usize) -> Result<Term, AllocError>
 }
 
 /// The skeleton without a strand.
-fn without(alloc: Global, mut k: Skeleton, strand: usize) -> Result<Skeleton, Fail>
-    requires { IsOrdered (skeleton_view k) }
-{
-    if strand >= k.strands.len() {
+fn without(alloc: Global, k: &Skeleton, strand: usize) -> Result<Skeleton, Fail> {
+    if strand >= k.strands().len() {
         return Err(Fail::new("no such strand"));
     }
-    k.from_problem.strands = Vec::new(alloc);
-    k.delete_strand(alloc, strand)?;
-    Ok(k)
+    let mut left = with_way_of(alloc, k, 0, k.from_problem().values().len())?;
+    left.delete_strand(alloc, strand)?;
+    Ok(left)
 }
 
 /// The skeleton with a listener more.
 fn with_listener(alloc: Global, mut k: Skeleton, number: usize) -> Result<Skeleton, AllocError> {
     let message = text(alloc, number)?;
-    k.add_listener(message)?;
+    k.add_listener(alloc, message)?;
     Ok(k)
 }
 
 /// The skeleton with one text in place of another.
-fn bound(alloc: Global, k: &Skeleton) -> Result<Skeleton, AllocError>
-    requires { HasDeclaredPrefixes (skeleton_view k.now) }
-{
+fn bound(alloc: Global, k: &Skeleton) -> Result<Skeleton, AllocError> {
     let binding = Binding::new(VarId::numbered(1), text(alloc, 0)?);
     let s = Subst::new(alloc).with(binding)?;
     under(alloc, k, &s)
 }
 
 /// The skeleton with its assumptions backwards, then once more, and then listed.
-fn mixed(alloc: Global, mut k: Skeleton) -> Result<Skeleton, AllocError> {
-    let again = k.assumptions.copy(alloc)?;
-    let assumptions = &mut k.assumptions;
-    assumptions.non_originating.reverse();
-    assumptions.penetrator_non_originating.reverse();
-    assumptions.uniquely_originating.reverse();
-    for atom in again.non_originating {
-        assumptions.non_originating.push(atom)?;
-    }
-    for atom in again.penetrator_non_originating {
-        assumptions.penetrator_non_originating.push(atom)?;
-    }
-    for unique in again.uniquely_originating {
-        assumptions.uniquely_originating.push(unique)?;
-    }
-    k.list_assumptions(alloc)?;
-    Ok(k)
+fn mixed(alloc: Global, k: &Skeleton) -> Result<Skeleton, AllocError> {
+    let mut mixed = with_mixed(alloc, &k)?;
+    mixed.list_assumptions(alloc)?;
+    Ok(mixed)
 }
 
 /// One skeleton alone.
@@ -97,19 +76,15 @@ fn alone(alloc: Global, k: Skeleton) -> Result<Vec<Skeleton>, AllocError> {
     Ok(all)
 }
 
-fn changed(alloc: Global, k: Skeleton, change: Change) -> Result<Vec<Skeleton>, Fail>
-    requires ordered { IsOrdered (skeleton_view k) }
-    requires origins { (u : PlainUnique) → IsIn u (skeleton_view k).assumptions.uniquely_originating → IsOrigin (skeleton_view k) u }
-    requires declared { HasDeclaredPrefixes (skeleton_view k) }
-{
+fn changed(alloc: Global, k: Skeleton, change: Change) -> Result<Vec<Skeleton>, Fail> {
     Ok(match change {
         Change::Copy => alone(alloc, k.copy(alloc)?)?,
         Change::Normal => normalise(alloc, k)?,
         Change::Collapses => collapses(alloc, &k)?,
-        Change::Delete(strand) => alone(alloc, without(alloc, k, strand)?)?,
+        Change::Delete(strand) => alone(alloc, without(alloc, &k, strand)?)?,
         Change::Listen(number) => alone(alloc, with_listener(alloc, k, number)?)?,
         Change::Bind => alone(alloc, bound(alloc, &k)?)?,
-        Change::List => alone(alloc, mixed(alloc, k)?)?,
+        Change::List => alone(alloc, mixed(alloc, &k)?)?,
     })
 }
 
@@ -118,7 +93,7 @@ fn labels_after(alloc: Global, forms: &[Form], change: Change) -> Result<Vec<u8>
     let k = last_problem(alloc, forms)?;
     let mut all = changed(alloc, k, change)?;
     for k in &mut all {
-        k.assumptions = listed(alloc, k)?;
+        k.list_assumptions(alloc)?;
     }
     labels(alloc, forms, all)
 }
@@ -346,19 +321,19 @@ fn what_contradicts_a_skeleton(rt: HostRuntime) -> Result<(), Fail> {
     Ok(())
 }
 
-const TWO_SPEAKERS: &str =
-    "(defskeleton u (vars (n m text)) (defstrand s 1 (n n)) (defstrand s 1 (n m)))";
+const HEARD_AND_SAID: &str = "(defprotocol v basic \
+    (defrole r (vars (x m text)) (trace (recv x) (send m)) (uniq-orig m)))";
 
-// Each text is said to originate where the other does.
+const ANOTHER_HEARD: &str = "(defskeleton v (vars (n m text)) (defstrand r 2 (x m) (m n)))";
+
+// What a strand says first is then what it heard.
 #[test]
 fn an_origin_that_is_lost(rt: HostRuntime) -> Result<(), Fail> {
     let alloc = rt.alloc();
-    let mut k = skeleton_of(alloc, SAID_AND_HEARD, TWO_SPEAKERS)?;
+    let k = skeleton_of(alloc, HEARD_AND_SAID, ANOTHER_HEARD)?;
     assert!(rt; !loses_origin(alloc, &k)?);
-    for unique in &mut k.assumptions.uniquely_originating {
-        unique.origin.strand = 1_usize.saturating_sub(unique.origin.strand);
-    }
-    assert!(rt; loses_origin(alloc, &k)? && !has_two_origins(&k));
+    let heard = bound(alloc, &k)?;
+    assert!(rt; loses_origin(alloc, &heard)? && !has_two_origins(&heard));
     Ok(())
 }
 

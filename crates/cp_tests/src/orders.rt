@@ -1,8 +1,7 @@
 // What leads to nodes, and orders of the nodes of two and three strands, worked out by hand.
-ghost use Rattle.std.specs.Prelude.{IfOk, OnOk, IsTrue};
+ghost use Rattle.std.specs.Prelude.{IfOk, IsTrue};
 ghost use Rattle.cp_model.specs.RunView.{node_view};
 ghost use Rattle.cp_model.specs.Skeleton.{IsOrderPair};
-ghost use Rattle.cp_skel.specs.Ordered.{IsOrdered};
 ghost use Rattle.cp_skel.specs.View.{skeleton_view};
 
 use crate::stated::{NEEDHAM_SCHROEDER, event_at, is_there, skeleton_of};
@@ -149,11 +148,7 @@ fn may_be_ordered(alloc: Global, k: &Skeleton, n: Node, m: Node) -> Result<bool,
 }
 
 /// Puts n before m, if that closes no cycle.
-#[tactic(auto, using(crate::proofs::LoadedProblems::ordered_either_way))]
-fn add_pair(alloc: Global, k: &mut Skeleton, n: Node, m: Node) -> Result<bool, Fail>
-    requires { IsOrdered (skeleton_view k.old) }
-    ensures { OnOk result (IsOrdered (skeleton_view k.new)) }
-{
+fn add_pair(alloc: Global, k: &mut Skeleton, n: Node, m: Node) -> Result<bool, Fail> {
     if !may_be_ordered(alloc, k, n, m)? {
         return Err(Fail::new("no pair of a transmission and a reception"));
     }
@@ -161,13 +156,18 @@ fn add_pair(alloc: Global, k: &mut Skeleton, n: Node, m: Node) -> Result<bool, F
 }
 
 /// Whether a node that is there is before another.
-fn is_before(alloc: Global, k: &Skeleton, n: Node, m: Node) -> Result<bool, Fail>
-    requires { IsOrdered (skeleton_view k.now) }
-{
+fn is_before(alloc: Global, k: &Skeleton, n: Node, m: Node) -> Result<bool, Fail> {
     if !is_there(alloc, k, n)? || !is_there(alloc, k, m)? {
         return Err(Fail::new("no such node"));
     }
     Ok(k.before(n, m))
+}
+
+/// The skeleton with its own pairs in place of them.
+fn with_its_pairs(alloc: Global, k: Skeleton) -> Result<Skeleton, AllocError> {
+    let pairs = Vec::from_slice(alloc, k.order().pairs())?;
+    k.is_sound();
+    k.with_pairs(alloc, pairs)
 }
 
 const TWO_STRANDS: &str = "(defskeleton ns (vars) (defstrand init 3) (defstrand resp 3))";
@@ -179,7 +179,22 @@ fn pair_that_closes_a_cycle(rt: HostRuntime) -> Result<(), Fail> {
     let mut k = skeleton_of(alloc, NEEDHAM_SCHROEDER, TWO_STRANDS)?;
     assert!(rt; add_pair(alloc, &mut k, node(0, 2), node(1, 0))?);
     assert!(rt; !add_pair(alloc, &mut k, node(1, 1), node(0, 1))?);
-    assert_eq!(rt; k.order.pairs(), [pair(node(0, 2), node(1, 0))].as_slice());
+    assert_eq!(rt;
+        k.order().pairs(),
+        [pair(node(0, 2), node(1, 0))].as_slice()
+    );
+    Ok(())
+}
+
+// The skeleton with its own pairs in place of them is as it was.
+#[test]
+fn the_same_pairs_again(rt: HostRuntime) -> Result<(), Fail> {
+    let alloc = rt.alloc();
+    let mut k = skeleton_of(alloc, NEEDHAM_SCHROEDER, TWO_STRANDS)?;
+    assert!(rt; add_pair(alloc, &mut k, node(0, 0), node(1, 0))?);
+    let again = with_its_pairs(alloc, k.copy(alloc)?)?;
+    assert_eq!(rt; again.order().pairs(), k.order().pairs());
+    assert!(rt; is_before(alloc, &again, node(0, 0), node(1, 2))?);
     Ok(())
 }
 

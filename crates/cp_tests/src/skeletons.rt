@@ -2,9 +2,9 @@
 use crate::stated::{joined, skeleton_of, terms_of};
 use cp_model::Node;
 use cp_skel::{
-    Assumptions, Atom, Event, Instance, Role, Skeleton, Strand, UniqueAt, add_atom, add_atoms,
-    add_given, add_unique, all_occur, applied, applied_atom, has_atom, has_unique, is_same_role,
-    missing, occurs, origin, prefix_of,
+    Assumptions, Atom, Event, Instance, Role, Skeleton, Strand, StrandShape, UniqueAt, add_atom,
+    add_atoms, add_given, add_unique, all_occur, applied, applied_atom, has_atom, has_unique,
+    is_same_role, listed, missing, occurs, origin, prefix_of,
 };
 use cp_term::{Sort, Term, VarId, pair, var};
 use std::alloc::{AllocError, Global};
@@ -67,9 +67,7 @@ fn atoms_each_once(rt: HostRuntime) -> Result<(), Fail> {
 
 /// The value with its origin at the first node of the strand.
 fn unique(value: &Atom, strand: usize) -> Result<UniqueAt, AllocError> {
-    let value = value.copy()?;
-    let origin = node(strand, 0);
-    Ok(UniqueAt { value, origin })
+    Ok(UniqueAt::new(value.copy()?, node(strand, 0)))
 }
 
 #[test]
@@ -81,7 +79,7 @@ fn unique_values_each_once(rt: HostRuntime) -> Result<(), Fail> {
             add_unique(&mut held, unique(value, strand)?)?;
         }
         assert_eq!(rt; held.len(), 2);
-        assert!(rt; has_unique(&held, &unique(value, 1)?));
+        assert!(rt; has_unique(&held, &unique(value, 1)?.copy()?));
         assert!(rt; !has_unique(&held, &unique(value, 2)?));
     }
     Ok(())
@@ -89,9 +87,9 @@ fn unique_values_each_once(rt: HostRuntime) -> Result<(), Fail> {
 
 /// The instance that is the first strand.
 fn first_instance(strands: &[Strand]) -> Option<&Instance> {
-    match strands.first() {
-        Some(Strand::Instance(instance)) => Some(instance),
-        _ => None,
+    match strands.first()?.shape() {
+        StrandShape::Instance(instance) => Some(instance),
+        StrandShape::Listener(_) => None,
     }
 }
 
@@ -107,8 +105,8 @@ fn is_initiator(role: &Role, terms: &[Term], key: &Atom) -> bool {
         && !occurs(prefix_of(role, 1), second, Sort::Text)
         && occurs(prefix_of(role, 2), second, Sort::Text)
         && all_occur(prefix_of(role, 1), key)
-        && origin(&role.trace, m) == Some(0)
-        && origin(&role.trace, n).is_none()
+        && origin(role.trace(), m) == Some(0)
+        && origin(role.trace(), n).is_none()
 }
 
 #[test]
@@ -116,29 +114,27 @@ fn roles(rt: HostRuntime) -> Result<(), Fail> {
     let alloc = rt.alloc();
     let k = skeleton_of(alloc, PROTOCOL, INITIATOR)?;
     let other = skeleton_of(alloc, PROTOCOL, "(defskeleton p (vars) (defstrand resp 1))")?;
-    let first = first_instance(&k.strands).ok_or("no instance")?;
-    let second = first_instance(&other.strands).ok_or("no instance")?;
-    assert!(rt; is_same_role(&first.role, &first.role) && !is_same_role(&first.role, &second.role));
+    let first = first_instance(k.strands()).ok_or("no instance")?;
+    let second = first_instance(other.strands()).ok_or("no instance")?;
+    assert!(rt;
+        is_same_role(first.role(), first.role()) && !is_same_role(first.role(), second.role())
+    );
     let terms = terms_of(alloc, "(a b name) (m n text)", &["n", "m"])?;
     for key in &atoms(alloc, "(a b name)", &["(privk b)"])? {
-        assert!(rt; is_initiator(&first.role, &terms, key));
-        let applied = applied_atom(alloc, &first.values, key)?;
+        assert!(rt; is_initiator(first.role(), &terms, key));
+        let applied = applied_atom(alloc, first.values(), key)?;
         for wanted in &atoms(alloc, "(n m text) (b a name)", &["(privk b)"])? {
             assert!(rt; applied.same(wanted));
         }
     }
     for key in &atoms(alloc, "(a b c name)", &["(privk c)"])? {
-        assert!(rt; !all_occur(prefix_of(&first.role, 3), key));
+        assert!(rt; !all_occur(prefix_of(first.role(), 3), key));
     }
     Ok(())
 }
 
 fn none_assumed(alloc: Global) -> Assumptions {
-    Assumptions {
-        non_originating: Vec::new(alloc),
-        penetrator_non_originating: Vec::new(alloc),
-        uniquely_originating: Vec::new(alloc),
-    }
+    Assumptions::new(Vec::new(alloc), Vec::new(alloc), Vec::new(alloc))
 }
 
 /// Whether these are what the instance gives, the last from its first node.
@@ -147,16 +143,16 @@ fn are_given(given: &Assumptions, wanted: &[Term]) -> bool {
         return false;
     };
     let ([first], [second], [third]) = (
-        given.non_originating.as_slice(),
-        given.penetrator_non_originating.as_slice(),
-        given.uniquely_originating.as_slice(),
+        given.non_originating(),
+        given.penetrator_non_originating(),
+        given.uniquely_originating(),
     ) else {
         return false;
     };
     first.as_term().same(key)
         && second.as_term().same(heard)
-        && third.value.as_term().same(said)
-        && third.origin == node(0, 0)
+        && third.value().as_term().same(said)
+        && third.origin() == node(0, 0)
 }
 
 #[test]
@@ -164,13 +160,14 @@ fn what_an_instance_gives(rt: HostRuntime) -> Result<(), Fail> {
     let alloc = rt.alloc();
     let wanted = terms_of(alloc, "(n m text) (b a name)", &["(privk b)", "n", "m"])?;
     let k = skeleton_of(alloc, PROTOCOL, INITIATOR)?;
-    let instance = first_instance(&k.strands).ok_or("no instance")?;
-    assert!(rt; are_given(&k.assumptions, &wanted));
-    assert!(rt; are_given(&k.assumptions.copy(alloc)?, &wanted));
+    let instance = first_instance(k.strands()).ok_or("no instance")?;
+    assert!(rt; are_given(k.assumptions(), &wanted));
+    assert!(rt; are_given(&k.assumptions().copy(alloc)?, &wanted));
+    assert!(rt; are_given(&listed(alloc, &k)?, &wanted));
     assert!(rt; are_given(&missing(alloc, 0, instance, &none_assumed(alloc))?, &wanted));
     let mut assumed = none_assumed(alloc);
     for _ in 0..2 {
-        add_given(alloc, &k.strands, &mut assumed)?;
+        add_given(alloc, k.strands(), &mut assumed)?;
     }
     assert!(rt; are_given(&assumed, &wanted));
     Ok(())
@@ -204,6 +201,54 @@ fn terms_under_values(rt: HostRuntime) -> Result<(), Fail> {
     Ok(())
 }
 
+/// Whether the assumptions are so many of each kind.
+fn are_so_many(assumptions: &Assumptions, count: usize) -> bool {
+    assumptions.non_originating().len() == count
+        && assumptions.penetrator_non_originating().len() == count
+        && assumptions.uniquely_originating().len() == count
+}
+
+// Of the problem's own assumptions there are none: its role gives them.
+#[test]
+fn the_way_from_a_problem(rt: HostRuntime) -> Result<(), Fail> {
+    let alloc = rt.alloc();
+    let k = skeleton_of(alloc, PROTOCOL, INITIATOR)?;
+    assert_eq!(rt; k.variables().len(), 4);
+    let way = k.from_problem().copy(alloc)?;
+    assert_eq!(rt; way.strands(), [0].as_slice());
+    assert_eq!(rt; way.values().len(), 4);
+    assert!(rt; way.pairs().is_empty() && are_so_many(way.assumptions(), 0));
+    let mut twice = k.assumptions().copy(alloc)?;
+    twice.append(k.assumptions().copy(alloc)?)?;
+    assert!(rt; are_so_many(&twice, 2) && are_so_many(k.assumptions(), 1));
+    Ok(())
+}
+
+/// Whether the strand is an instance of this height, with so many terms.
+fn is_instance(strand: &Strand, height: usize, values: usize) -> bool {
+    match strand.shape() {
+        StrandShape::Instance(instance) => {
+            instance.height() == height && instance.values().len() == values
+        }
+        StrandShape::Listener(_) => false,
+    }
+}
+
+#[test]
+fn strands_by_themselves(rt: HostRuntime) -> Result<(), Fail> {
+    let alloc = rt.alloc();
+    let k = skeleton_of(alloc, PROTOCOL, STRANDS)?;
+    let instance = first_instance(k.strands()).ok_or("no instance")?;
+    assert!(rt; is_instance(&without_terms(alloc, instance.role())?, 2, 0));
+    for message in &terms_of(alloc, "(n text) (k skey)", &["(enc n k)"])? {
+        let listener = Strand::listener(alloc, message.copy()?)?;
+        assert!(rt;
+            matches!(listener.shape(), StrandShape::Listener(heard) if heard.same(message))
+        );
+    }
+    Ok(())
+}
+
 const STRANDS: &str = "(defskeleton p (vars (t text) (c name)) \
     (defstrand resp 2 (n t) (a c) (b c)) (defstrand resp 1 (n t)) (deflistener t))";
 
@@ -233,10 +278,10 @@ fn events(rt: HostRuntime) -> Result<(), Fail> {
     let alloc = rt.alloc();
     let k = skeleton_of(alloc, PROTOCOL, STRANDS)?;
     for &(strand, index, done, message) in EVENTS {
-        let strand = k.strands.get(strand).ok_or("no strand")?;
+        let strand = k.strands().get(strand).ok_or("no strand")?;
         for message in &terms_of(alloc, "(t text) (c name)", &[message])? {
             assert!(rt; is_done(&strand.event(alloc, index)?, done, message));
-            assert!(rt; is_done(&strand.copy(alloc)?.event(alloc, index)?, done, message));
+            assert!(rt; is_done(&strand.copy()?.event(alloc, index)?, done, message));
         }
     }
     Ok(())
@@ -244,19 +289,15 @@ fn events(rt: HostRuntime) -> Result<(), Fail> {
 
 /// An instance of the whole role without terms: its variables stand for themselves.
 fn without_terms(alloc: Global, role: &Rc<Role>) -> Result<Strand, AllocError> {
-    Ok(Strand::Instance(Instance {
-        role: role.clone()?,
-        height: 2,
-        values: Vec::new(alloc),
-    }))
+    Strand::instance(alloc, Instance::new(role.clone()?, 2, Vec::new(alloc)))
 }
 
 #[test]
 fn event_without_terms(rt: HostRuntime) -> Result<(), Fail> {
     let alloc = rt.alloc();
     let k = skeleton_of(alloc, PROTOCOL, STRANDS)?;
-    let instance = first_instance(&k.strands).ok_or("no instance")?;
-    let strand = without_terms(alloc, &instance.role)?;
+    let instance = first_instance(k.strands()).ok_or("no instance")?;
+    let strand = without_terms(alloc, instance.role())?;
     for message in &terms_of(alloc, "(n text) (a b name)", &["(enc n (ltk a b))"])? {
         assert!(rt; is_done(&strand.event(alloc, 1)?, "send", message));
     }

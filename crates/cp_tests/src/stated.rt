@@ -1,10 +1,7 @@
 // What texts state, for the tests: forms, skeletons and terms; and what is printed of skeletons.
 ghost use Rattle.std.specs.Prelude.{◌≡◌, option_map, IfOk, IsTrue};
-ghost use Rattle.cp_model.specs.Lists.{IsIn};
 ghost use Rattle.cp_model.specs.RunView.{node_view};
-ghost use Rattle.cp_model.specs.Skeleton.{UniqueAt as PlainUnique, IsNodeOf, IsOrigin, term_event_at};
-ghost use Rattle.cp_skel.specs.DeclaredPrefixes.{HasDeclaredPrefixes};
-ghost use Rattle.cp_skel.specs.Ordered.{IsOrdered};
+ghost use Rattle.cp_model.specs.Skeleton.{IsNodeOf, term_event_at};
 ghost use Rattle.cp_skel.specs.View.{event_view, skeleton_view};
 
 use cp_forms::{front_items, later_items};
@@ -12,7 +9,7 @@ use cp_load::{Input, load};
 use cp_model::Node;
 use cp_print::print;
 use cp_sexpr::{Form, MAX_LENGTH, read, write};
-use cp_skel::{Event, Operation, Outcome, Skeleton, Strand, Tree, TreeNode};
+use cp_skel::{Event, Operation, Outcome, Skeleton, Strand, StrandShape, Tree, TreeNode};
 use cp_term::Term;
 use std::alloc::{AllocError, Global};
 use std::test::Fail;
@@ -50,11 +47,7 @@ pub(crate) fn input_of(alloc: Global, forms: &[Form]) -> Result<Input<'_>, Fail>
 }
 
 /// The skeleton of the problem that the last of the forms states.
-pub(crate) fn last_problem(alloc: Global, forms: &[Form]) -> Result<Skeleton, Fail>
-    ensures ordered { IfOk result (λ k. IsOrdered (skeleton_view k)) }
-    ensures origins { IfOk result (λ k. (u : PlainUnique) → IsIn u (skeleton_view k).assumptions.uniquely_originating → IsOrigin (skeleton_view k) u) }
-    ensures declared { IfOk result (λ k. HasDeclaredPrefixes (skeleton_view k)) }
-{
+pub(crate) fn last_problem(alloc: Global, forms: &[Form]) -> Result<Skeleton, Fail> {
     let Ok(input) = load(alloc, forms) else {
         return Err(Fail::new("the forms have a fault"));
     };
@@ -66,11 +59,7 @@ pub(crate) fn last_problem(alloc: Global, forms: &[Form]) -> Result<Skeleton, Fa
 }
 
 /// The skeleton of the problem, which stands behind its protocol.
-pub(crate) fn skeleton_of(alloc: Global, protocol: &str, problem: &str) -> Result<Skeleton, Fail>
-    ensures ordered { IfOk result (λ k. IsOrdered (skeleton_view k)) }
-    ensures origins { IfOk result (λ k. (u : PlainUnique) → IsIn u (skeleton_view k).assumptions.uniquely_originating → IsOrigin (skeleton_view k) u) }
-    ensures declared { IfOk result (λ k. HasDeclaredPrefixes (skeleton_view k)) }
-{
+pub(crate) fn skeleton_of(alloc: Global, protocol: &str, problem: &str) -> Result<Skeleton, Fail> {
     let text = joined(alloc, &[protocol, problem])?;
     let forms = forms_of(alloc, &text)?;
     last_problem(alloc, &forms)
@@ -80,7 +69,7 @@ pub(crate) fn skeleton_of(alloc: Global, protocol: &str, problem: &str) -> Resul
 pub(crate) fn event_at(alloc: Global, k: &Skeleton, node: Node) -> Result<Option<Event>, AllocError>
     ensures { IfOk result (λ e. option_map event_view e ≡ term_event_at (skeleton_view k.now).strands (node_view node)) }
 {
-    match k.strands.get(node.strand) {
+    match k.strands().get(node.strand) {
         Some(strand) => strand.event(alloc, node.index),
         None => Ok(None),
     }
@@ -101,7 +90,7 @@ pub(crate) fn is_there(alloc: Global, k: &Skeleton, node: Node) -> Result<bool, 
 fn heard(alloc: Global, strands: &[Strand]) -> Result<Vec<Term>, AllocError> {
     let mut terms = Vec::new(alloc);
     for strand in strands {
-        if let Strand::Listener(term) = strand {
+        if let StrandShape::Listener(term) = strand.shape() {
             terms.push(term.copy()?)?;
         }
     }
@@ -125,7 +114,7 @@ pub(crate) fn terms_of(alloc: Global, variables: &str, terms: &[&str]) -> Result
     text.push(b')')?;
     let forms = forms_of(alloc, &text)?;
     let k = last_problem(alloc, &forms)?;
-    Ok(heard(alloc, &k.strands)?)
+    Ok(heard(alloc, k.strands())?)
 }
 
 /// The label of a skeleton in a tree, as if it were the problem's.

@@ -3,26 +3,30 @@ use Rattle.std.proofs.Common.{◌≡◌, ◌<◌, ◌≤◌, ◌+◌, ℕ, List,
 use Rattle.std.proofs.lemmas.List.{drop_all}
 use Rattle.cp_model.specs.Lists.{here, there}
 use Rattle.cp_model.specs.Message.{atom}
-use Rattle.cp_model.specs.Term.{Term, atom_term, atom_of_variable, variables_of_atom, variables_of, Assignment, value_of_atom, value_of}
-use Rattle.cp_unify.specs.Bindings.{Binding, variable_of, MeetsBinding, Meets, variables_of_bindings}
-use Rattle.cp_unify.specs.Solved.{IsSolved, SolvesBeside}
+use Rattle.cp_model.specs.Term.{Term, atom_term, atom_of_variable, variables_of_atom, variables_of, value_of_atom, value_of}
+use Rattle.cp_unify.specs.Bindings.{Binding, variable_of, MeetsBinding, variables_of_bindings}
+use Rattle.cp_unify.specs.Solved.{IsSolved, SolvesBeside, AreSolvedBut}
 use Rattle.cp_unify.specs.Unifiers.{AreAmong, IsMostGeneral, HasNoUnifier}
 use Rattle.cp_unify.proofs.Looked.{rest_at}
 use Rattle.cp_unify.proofs.Members.{in_none, in_left, in_right, among_append}
 use Rattle.cp_unify.proofs.SolvedBindings.{factoring, idempotent_term, unified, solves, solvable}
 use Rattle.cp_unify.proofs.Steps.{one_variable}
 
--- The bindings r solve those of s but the rest.
-pub record AreSolvedBut (s rest r : List Binding) : Type 0 where
-  pub solved : IsSolved r
-  pub sound : (g : Assignment) → Meets g r → Meets g rest → Meets g s
-  pub general : (g : Assignment) → Meets g s → Meets g r × Meets g rest
-  pub within : AreAmong (variables_of_bindings r) (variables_of_bindings s)
-  pub rest_within : AreAmong (variables_of_bindings rest) (variables_of_bindings s)
+pub none_at_all : IsSolved []
+none_at_all = record { met = λ g. tt; later_to_earlier = tt }
+
+pub already_solved : (s r : List Binding) → r ≡ s → IsSolved s → AreSolvedBut s [] r
+already_solved s r e h = subst (λ (q : List Binding). AreSolvedBut s [] q) (sym e) (record {
+  solved = h;
+  sound = λ g m n. m;
+  general = λ g m. (m, tt);
+  within = λ x i. i;
+  rest_within = λ x i. absurd (in_none i);
+})
 
 pub solved_but_all : (s : List Binding) → AreSolvedBut s s []
 solved_but_all s = record {
-  solved = record { met = λ g. tt; later_to_earlier = tt };
+  solved = none_at_all;
   sound = λ g m n. n;
   general = λ g m. (tt, m);
   within = λ x i. absurd (in_none i);
@@ -67,36 +71,34 @@ no_next s r i b left right h below read el er k =
 all_solved : (s r : List Binding) (i : ℕ) → AreSolvedBut s (drop i s) r → length s ≤ i → AreSolvedBut s [] r
 all_solved s r i h end = subst (λ (t : List Binding). AreSolvedBut s t r) (drop_all i s end) h
 
-pub most_general : (s r answer : List Binding) (i : ℕ) (a b : Term) → AreSolvedBut s (drop i s) r → length s ≤ i → SolvesBeside a b r answer → IsMostGeneral a b s answer
-most_general s r answer i a b so_far end k =
-    let h : AreSolvedBut s [] r = all_solved s r i so_far end in
-    record {
-      sound = λ g m. let p = k.sound g m in (h.sound g p.0 tt, p.1);
-      general = λ g m e. k.general g (h.general g m).0 e;
-      solvable = solvable answer k.solved.met;
-      factors = factoring answer s a b (λ g m e. k.general g (h.general g m).0 e);
-      unifies = unified answer a b k.solved.met (λ g m. (k.sound g m).1);
-      solves_given = solves answer s k.solved.met (λ g m. h.sound g (k.sound g m).0 tt);
-      idempotent = idempotent_term answer k.solved.met;
-      no_new = λ x i. among_append (variables_of a) _ _ (λ y j. in_left y _ _ j)
-          (among_append (variables_of b) (variables_of_bindings r) _ (λ y j. in_right y (variables_of a) _ (in_left y _ _ j))
-          (λ y j. in_right y (variables_of a) _ (in_right y (variables_of b) _ (h.within y j)))) x (k.no_new x i);
-      later_to_earlier = k.solved.later_to_earlier;
-    }
+pub most_general : (s r answer : List Binding) (a b : Term) → AreSolvedBut s [] r → SolvesBeside a b r answer → IsMostGeneral a b s answer
+most_general s r answer a b h k = record {
+  sound = λ g m. let p = k.sound g m in (h.sound g p.0 tt, p.1);
+  general = λ g m e. k.general g (h.general g m).0 e;
+  solvable = solvable answer k.solved.met;
+  factors = factoring answer s a b (λ g m e. k.general g (h.general g m).0 e);
+  unifies = unified answer a b k.solved.met (λ g m. (k.sound g m).1);
+  solves_given = solves answer s k.solved.met (λ g m. h.sound g (k.sound g m).0 tt);
+  idempotent = idempotent_term answer k.solved.met;
+  no_new = λ x i. among_append (variables_of a) _ _ (λ y j. in_left y _ _ j)
+      (among_append (variables_of b) (variables_of_bindings r) _ (λ y j. in_right y (variables_of a) _ (in_left y _ _ j))
+      (λ y j. in_right y (variables_of a) _ (in_right y (variables_of b) _ (h.within y j)))) x (k.no_new x i);
+  later_to_earlier = k.solved.later_to_earlier;
+}
 
-pub no_unifier : (s r : List Binding) (i : ℕ) (a b : Term) → AreSolvedBut s (drop i s) r → length s ≤ i → HasNoUnifier a b r → HasNoUnifier a b s
-no_unifier s r i a b so_far end k g m e = k g ((all_solved s r i so_far end).general g m).0 e
+pub some_answer : (s r : List Binding) (a b : Term) → AreSolvedBut s [] r → (answer : Option (List Binding)) →
+    MatchOption answer (HasNoUnifier a b r) (λ q. SolvesBeside a b r q) → IfSome answer (λ q. IsMostGeneral a b s q)
+some_answer s r a b h None k = tt
+some_answer s r a b h (Some q) k = most_general s r q a b h k
+
+pub none_answer : (s r : List Binding) (a b : Term) → AreSolvedBut s [] r → (answer : Option (List Binding)) →
+    MatchOption answer (HasNoUnifier a b r) (λ q. SolvesBeside a b r q) → IfNone answer (HasNoUnifier a b s)
+none_answer s r a b h None k = λ g m e. k g (h.general g m).0 e
+none_answer s r a b h (Some q) k = tt
 
 -- What the loop has found, for bindings that are those given.
-pub some_answer : (s given r : List Binding) (i : ℕ) (a b : Term) → s ≡ given → AreSolvedBut s (drop i s) r → length s ≤ i → (answer : Option (List Binding)) →
-    MatchOption answer (HasNoUnifier a b r) (λ q. SolvesBeside a b r q) → IfSome answer (λ q. IsMostGeneral a b given q)
-some_answer s given r i a b e h end None k = tt
-some_answer s given r i a b e h end (Some q) k = subst (λ (t : List Binding). IsMostGeneral a b t q) e (most_general s r q i a b h end k)
-
-pub none_answer : (s given r : List Binding) (i : ℕ) (a b : Term) → s ≡ given → AreSolvedBut s (drop i s) r → length s ≤ i → (answer : Option (List Binding)) →
-    MatchOption answer (HasNoUnifier a b r) (λ q. SolvesBeside a b r q) → IfNone answer (HasNoUnifier a b given)
-none_answer s given r i a b e h end None k = subst (λ (t : List Binding). HasNoUnifier a b t) e (no_unifier s r i a b h end k)
-none_answer s given r i a b e h end (Some q) k = tt
+pub all_found : (s given r : List Binding) (i : ℕ) → s ≡ given → AreSolvedBut s (drop i s) r → length s ≤ i → AreSolvedBut given [] r
+all_found s given r i e h end = subst (λ (t : List Binding). AreSolvedBut t [] r) e (all_solved s r i h end)
 
 pub none_early : (s given r : List Binding) (i : ℕ) (x : Binding) (left right : Term) → s ≡ given → AreSolvedBut s (drop i s) r → i < length s → x ≡ get_or s i x →
     left ≡ atom_term (atom_of_variable (variable_of x)) → right ≡ atom_term x.term → (answer : Option (List Binding)) → answer ≡ None →

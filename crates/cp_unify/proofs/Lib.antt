@@ -1,3 +1,4 @@
+pub mod Beginning
 pub mod Free
 pub mod Members
 pub mod SolvedBindings
@@ -7,7 +8,6 @@ pub mod Occurring
 pub mod Deciding
 pub mod Steps
 pub mod Looked
-pub mod Applied
 pub mod Composed
 pub mod Differing
 pub mod Answered

@@ -1,13 +1,14 @@
 -- Looking a variable up in a list of bindings.
-use Rattle.std.proofs.Common.{◌≡◌, ◌<◌, ◌≤◌, ◌+◌, ℕ, suc, Bool, true, false, if◌then◌else◌, Some, None, List, [], ◌∷◌, length, get_or, drop, refl, sym, ap, ◌∙◌, add-one, drop-cons}
+use Rattle.std.proofs.Common.{◌≡◌, inl, inr, Option, MatchOption, ◌<◌, ◌≤◌, ◌+◌, ℕ, suc, Bool, true, false, if◌then◌else◌, Some, None, List, [], ◌∷◌, length, get_or, drop, refl, sym, ap, ◌∙◌, add-one, drop-cons}
 use Rattle.std.proofs.lemmas.List.{drop_all}
-use Rattle.cp_model.specs.Term.{text_sort, datum_sort, name_sort, skey_sort, akey_sort, Variable, Term, atom_term, atom_of_variable, apply_to}
+use Rattle.cp_model.specs.Term.{Sort, text_sort, datum_sort, name_sort, skey_sort, akey_sort, Variable, skey_variable, ltk_term, akey_variable, pubk_term, symmetric_term, asymmetric_term, AtomTerm, text_variable, datum_variable, name_variable, key_term, Term, tag_term, atom_term, pair_term, enc_term, atom_of_variable, apply_to}
 use Rattle.cp_model.proofs.LawTerms.{term_unchanged}
 use Rattle.cp_term.specs.Variables.{variable_term}
 use Rattle.cp_term.specs.declared.variable.Sort.{Sort as ProgramSort}
 use Rattle.cp_term.specs.declared.variable.Sort.TheVariants.{Text, Datum, Name, Skey, Akey}
-use Rattle.cp_unify.specs.Bindings.{Binding, variable_of, as_substitution}
+use Rattle.cp_unify.specs.Bindings.{Binding, sort_of, variable_of, as_substitution}
 use Rattle.cp_unify.specs.Matched.{bound_term}
+use Rattle.cp_unify.specs.Places.{IsBehind}
 use Rattle.cp_term.specs.Same.{is_same}
 use Rattle.cp_term.proofs.SameTerms.{same_Decides}
 use Rattle.cp_unify.proofs.Occurring.{bound, other}
@@ -77,3 +78,58 @@ found_nowhere bs i v so_far end =
       so_far.applied ∙ ap (λ (cs : List Binding). apply_to (as_substitution cs) v) none ∙ term_unchanged v,
       so_far.exact ∙ ap (λ (cs : List Binding). bound_term cs v) none,
     )
+
+-- Behind bindings of other numbers all of a number are found.
+abbrev atom_number : AtomTerm → ℕ
+atom_number (text_variable n) = n
+atom_number (datum_variable n) = n
+atom_number (name_variable n) = n
+atom_number (key_term (symmetric_term (skey_variable n))) = n
+atom_number (key_term (symmetric_term (ltk_term a b))) = 0
+atom_number (key_term (asymmetric_term flag (akey_variable n))) = n
+atom_number (key_term (asymmetric_term flag (pubk_term p a))) = 0
+
+abbrev term_number : Term → ℕ
+term_number (atom_term u) = atom_number u
+term_number (tag_term bytes) = 0
+term_number (pair_term a b) = 0
+term_number (enc_term a k) = 0
+
+number_of_term : (s : ProgramSort) (n : ℕ) → term_number (variable_term s n) ≡ n
+number_of_term Text n = refl
+number_of_term Datum n = refl
+number_of_term Name n = refl
+number_of_term Skey n = refl
+number_of_term Akey n = refl
+
+number_of_atom : (s : Sort) (n : ℕ) → atom_number (atom_of_variable (record { sort = s; number = n })) ≡ n
+number_of_atom text_sort n = refl
+number_of_atom datum_sort n = refl
+number_of_atom name_sort n = refl
+number_of_atom skey_sort n = refl
+number_of_atom akey_sort n = refl
+
+other_number : (s : ProgramSort) (n : ℕ) (b : Binding) → (b.number ≡ n → ⊥) → variable_term s n ≡ atom_term (atom_of_variable (variable_of b)) → ⊥
+other_number s n b apart e =
+    apart (sym (number_of_atom (sort_of b.term) b.number) ∙ sym (ap term_number e) ∙ number_of_term s n)
+
+pub behind_applied : (s : ProgramSort) (n : ℕ) (rest bs : List Binding) → IsBehind n rest bs →
+    apply_to (as_substitution bs) (variable_term s n) ≡ apply_to (as_substitution rest) (variable_term s n)
+behind_applied s n rest [] h = ap (λ (cs : List Binding). apply_to (as_substitution cs) (variable_term s n)) (sym h)
+behind_applied s n rest (b ∷ bs) (inl e) = ap (λ (cs : List Binding). apply_to (as_substitution cs) (variable_term s n)) (sym e)
+behind_applied s n rest (b ∷ bs) (inr p) =
+    not_here b bs (variable_term s n) (variable_is_term s n) (other_number s n b p.0) ∙ behind_applied s n rest bs p.1
+
+pub behind_bound : (s : ProgramSort) (n : ℕ) (rest bs : List Binding) → IsBehind n rest bs →
+    bound_term bs (variable_term s n) ≡ bound_term rest (variable_term s n)
+behind_bound s n rest [] h = ap (λ (cs : List Binding). bound_term cs (variable_term s n)) (sym h)
+behind_bound s n rest (b ∷ bs) (inl e) = ap (λ (cs : List Binding). bound_term cs (variable_term s n)) (sym e)
+behind_bound s n rest (b ∷ bs) (inr p) =
+    term_not_here b bs (variable_term s n) (other_number s n b p.0) ∙ behind_bound s n rest bs p.1
+
+-- What a look-up in the rest has found is of all.
+pub found_behind : {A : Type 0} (f : A → Term) (s : ProgramSort) (n : ℕ) (rest bs : List Binding) (found : Option A) → IsBehind n rest bs →
+    MatchOption found (apply_to (as_substitution rest) (variable_term s n) ≡ variable_term s n) (λ t. apply_to (as_substitution rest) (variable_term s n) ≡ f t) →
+    MatchOption found (apply_to (as_substitution bs) (variable_term s n) ≡ variable_term s n) (λ t. apply_to (as_substitution bs) (variable_term s n) ≡ f t)
+found_behind f s n rest bs None h k = behind_applied s n rest bs h ∙ k
+found_behind f s n rest bs (Some t) h k = behind_applied s n rest bs h ∙ k

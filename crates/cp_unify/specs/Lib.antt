@@ -5,6 +5,6 @@ pub mod Differences
 pub mod Joined
 pub mod Matched
 pub mod Matching
+pub mod Places
 pub mod Solved
-pub mod Spines
 pub mod Unifiers

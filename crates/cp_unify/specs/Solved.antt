@@ -16,3 +16,11 @@ pub record SolvesBeside (a b : Term) (s r : List Binding) : Type 0 where
   pub general : (g : Assignment) → Meets g s → value_of g a ≡ value_of g b → Meets g r
   pub solved : IsSolved r
   pub no_new : AreAmong (variables_of_bindings r) (variables_of a ++ (variables_of b ++ variables_of_bindings s))
+
+-- The bindings r are solved, and solve those of s but for the rest.
+pub record AreSolvedBut (s rest r : List Binding) : Type 0 where
+  pub solved : IsSolved r
+  pub sound : (g : Assignment) → Meets g r → Meets g rest → Meets g s
+  pub general : (g : Assignment) → Meets g s → Meets g r × Meets g rest
+  pub within : AreAmong (variables_of_bindings r) (variables_of_bindings s)
+  pub rest_within : AreAmong (variables_of_bindings rest) (variables_of_bindings s)

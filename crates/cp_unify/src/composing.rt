@@ -23,7 +23,7 @@ pub(crate) fn join(alloc: Global, first: &Subst, second: &Subst) -> Result<Subst
         let copy = binding.copy()?;
         bindings.push(copy)?;
     }
-    Ok(Subst::made(bindings))
+    Subst::made(alloc, bindings)
 }
 
 /// The substitution that does what the first does, and then what the second does.

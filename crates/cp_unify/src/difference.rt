@@ -7,7 +7,7 @@ ghost use Rattle.cp_term.specs.Keys.{key_as_term, IsKey};
 ghost use Rattle.cp_term.specs.Variables.{variable_term};
 ghost use Rattle.cp_unify.specs.Atoms.{IsAtom, atom_of};
 ghost use Rattle.cp_unify.specs.Differences.{akey_atom, between, between_names, between_akeys, between_opposites, difference_of_symmetric, difference_of_pairs, difference_of};
-ghost use Rattle.cp_unify.specs.Spines.{HasTail};
+ghost use Rattle.cp_term.specs.Spines.{HasTail};
 
 use crate::binding::Binding;
 use cp_term::{Shape, Sort, Term, VarId, invert, var};

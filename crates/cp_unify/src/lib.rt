@@ -6,6 +6,7 @@ mod binding;
 mod composing;
 mod difference;
 mod matcher;
+mod places;
 mod subst;
 mod unifying;
 

@@ -11,9 +11,8 @@ ghost use Rattle.cp_unify.specs.Differences.{akey_atom};
 ghost use Rattle.cp_unify.specs.Beside.{MatchesBeside, NeverMatchesBeside};
 ghost use Rattle.cp_unify.specs.Matched.{is_listed, bound_term, is_same_sort, matched, matched_names};
 ghost use Rattle.cp_unify.specs.Matching.{IsMatch, HasNoMatch};
-ghost use Rattle.cp_unify.specs.Spines.{HasTail};
+ghost use Rattle.cp_term.specs.Spines.{HasTail};
 
-use crate::applying::bound;
 use crate::binding::Binding;
 use crate::difference::is_same_purpose;
 use crate::subst::Subst;
@@ -55,12 +54,12 @@ fn is_variable(term: &Term, sort: Sort, variable: VarId) -> bool
 }
 
 /// Whether a variable of this sort is bound to the term, if it is bound.
-fn is_bound_to(bindings: &[Binding], sort: Sort, variable: VarId, term: &Term) -> Option<bool>
+fn is_bound_to(given: &Subst, sort: Sort, variable: VarId, term: &Term) -> Option<bool>
     requires { IsAtom term.now }
     ensures { result ≡ option_map (λ t. same_atom t (atom_of term.now))
-        (bound_term bindings.now (variable_term sort variable)) }
+        (bound_term given.now (variable_term sort variable)) }
 {
-    match bound(bindings, sort, variable) {
+    match given.bound(sort, variable) {
         Some(found) => Some(found.same(term)),
         None => None,
     }
@@ -86,7 +85,7 @@ fn variable_match(
         }
         return Ok(None);
     }
-    match is_bound_to(given.bindings(), sort, variable, term) {
+    match is_bound_to(&given, sort, variable, term) {
         Some(true) => Ok(Some(given)),
         Some(false) => Ok(None),
         None => {

@@ -1,7 +1,10 @@
 // Substitutions.
-ghost use Rattle.std.specs.Prelude.{◌≡◌, [], ◌∷◌, IfOk};
+ghost use Rattle.std.specs.Prelude.{◌≡◌, [], ◌∷◌, IfOk, IsTrue};
+ghost use Rattle.cp_unify.specs.Places.{IsBehind};
+ghost use Rattle.cp_unify.specs.Solved.{IsSolved};
 
 use crate::binding::Binding;
+use crate::places::{count_at, places_with, worthy_places};
 use std::alloc::{AllocError, Global};
 use std::marker::Model;
 
@@ -9,6 +12,10 @@ use std::marker::Model;
 #[derive(Drop)]
 pub struct Subst {
     bindings: Vec<Binding>,
+    /// Set where the bindings are known to be solved, so that unifying beside them need not solve them again.
+    is_solved: bool,
+    /// Where the bindings of each number begin; empty where they are few, or where numbers are great.
+    places: Vec<usize>,
 }
 
 impl Model for Subst {
@@ -18,6 +25,13 @@ impl Model for Subst {
     ghost Value = { List Plain };
 
     ghost view = { λ s. s.bindings.items };
+
+    ghost use Rattle.std.specs.Prelude.{◌≡◌, true};
+    ghost use Rattle.cp_unify.specs.Places.{ArePlacesIfAny};
+    ghost use Rattle.cp_unify.specs.Solved.{IsSolved};
+
+    ghost invariant = { λ s. (s.is_solved ≡ true → IsSolved s.bindings.items)
+        × ArePlacesIfAny s.places.items s.bindings.items };
 }
 
 impl Subst {
@@ -27,6 +41,8 @@ impl Subst {
     {
         Subst {
             bindings: Vec::new(alloc),
+            is_solved: true,
+            places: Vec::new(alloc),
         }
     }
 
@@ -36,7 +52,11 @@ impl Subst {
     {
         let mut bindings = Vec::new(alloc);
         bindings.push(binding)?;
-        Ok(Subst { bindings })
+        Ok(Subst {
+            bindings,
+            is_solved: false,
+            places: Vec::new(alloc),
+        })
     }
 
     /// The bindings.
@@ -46,14 +66,35 @@ impl Subst {
         self.bindings.as_slice()
     }
 
+    /// The bindings from the first of this number on, or from an earlier one on.
+    pub(crate) fn from_number(&self, number: usize) -> &[Binding]
+        ensures { IsBehind number result.now self.now }
+    {
+        let bindings = self.bindings.as_slice();
+        if self.places.is_empty() {
+            return bindings;
+        }
+        let start = bindings
+            .len()
+            .saturating_sub(count_at(&self.places, number));
+        &bindings[start..]
+    }
+
     /// The substitution with a further binding before the others, which counts in place of an earlier one of the same
     /// variable.
     pub fn with(self, binding: Binding) -> Result<Subst, AllocError>
         ensures { IfOk result (λ s. s ≡ binding ∷ self) }
     {
+        let number = binding.variable().number();
         let mut bindings = self.bindings;
+        let alloc = *bindings.allocator();
         bindings.insert(0, binding)?;
-        Ok(Subst { bindings })
+        let places = places_with(alloc, self.places, &bindings, number)?;
+        Ok(Subst {
+            bindings,
+            is_solved: false,
+            places,
+        })
     }
 
     /// The same substitution again.
@@ -64,13 +105,42 @@ impl Subst {
         for binding in self.bindings() {
             bindings.push(binding.copy()?)?;
         }
-        Ok(Subst { bindings })
+        let places = Vec::from_slice(alloc, &self.places)?;
+        Ok(Subst {
+            bindings,
+            is_solved: self.is_solved,
+            places,
+        })
     }
 
     /// The substitution of these bindings.
-    pub(crate) fn made(bindings: Vec<Binding>) -> Subst
-        ensures { result ≡ bindings.items }
+    pub(crate) fn made(alloc: Global, bindings: Vec<Binding>) -> Result<Subst, AllocError>
+        ensures { IfOk result (λ s. s ≡ bindings.items) }
     {
-        Subst { bindings }
+        let places = worthy_places(alloc, &bindings)?;
+        Ok(Subst {
+            bindings,
+            is_solved: false,
+            places,
+        })
+    }
+
+    /// Whether the bindings are known to be solved.
+    pub(crate) fn is_solved(&self) -> bool
+        ensures { IsTrue result → IsSolved self.now }
+    {
+        self.is_solved
+    }
+
+    /// The same substitution, which is solved.
+    pub(crate) fn into_solved(self) -> Subst
+        requires { IsSolved self }
+        ensures { result ≡ self }
+    {
+        Subst {
+            bindings: self.bindings,
+            is_solved: true,
+            places: self.places,
+        }
     }
 }

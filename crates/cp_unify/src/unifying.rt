@@ -1,6 +1,7 @@
 // Unification.
-ghost use Rattle.std.specs.Prelude.{MatchOption, IfSome, IfNone, IfOk};
-ghost use Rattle.cp_unify.specs.Solved.{IsSolved, SolvesBeside};
+ghost use Rattle.std.specs.Prelude.{[], MatchOption, IfSome, IfNone, IfOk};
+ghost use Rattle.cp_model.specs.Term.{Term as Plain};
+ghost use Rattle.cp_unify.specs.Solved.{IsSolved, SolvesBeside, AreSolvedBut};
 ghost use Rattle.cp_unify.specs.Unifiers.{IsMostGeneral, HasNoUnifier};
 
 use crate::applying::apply;
@@ -22,7 +23,7 @@ fn solve(alloc: Global, a: &Term, b: &Term, given: Subst) -> Result<Option<Subst
     let mut solved = given;
     loop {
         match first_difference(alloc, &left, &right)? {
-            Difference::Same => return Ok(Some(solved)),
+            Difference::Same => return Ok(Some(solved.into_solved())),
             Difference::Clash => return Ok(None),
             Difference::Bind(binding) => {
                 let one = Subst::of(alloc, binding)?;
@@ -34,12 +35,15 @@ fn solve(alloc: Global, a: &Term, b: &Term, given: Subst) -> Result<Option<Subst
     }
 }
 
-/// A most general unifier of two terms beside a substitution, whose bindings are solved along with them as equations;
-/// none exactly where there is no unifier.
-pub fn unify(alloc: Global, a: &Term, b: &Term, s: &Subst) -> Result<Option<Subst>, AllocError>
-    ensures some { IfOk result (λ answer. IfSome answer (λ r. IsMostGeneral a.now b.now s.now r)) }
-    ensures none { IfOk result (λ answer. IfNone answer (HasNoUnifier a.now b.now s.now)) }
+/// Solved bindings that are met where those of a substitution are; none where no assignment meets these.
+fn solved_form(alloc: Global, s: &Subst) -> Result<Option<Subst>, AllocError>
+    ensures { IfOk result (λ found. MatchOption found
+        ((a b : Plain) → HasNoUnifier a b s.now) (λ r. AreSolvedBut s.now [] r)) }
 {
+    if s.is_solved() {
+        let same = s.copy(alloc)?;
+        return Ok(Some(same));
+    }
     let mut solved = Subst::new(alloc);
     for binding in s.bindings() {
         let left = binding.left(alloc)?;
@@ -48,5 +52,17 @@ pub fn unify(alloc: Global, a: &Term, b: &Term, s: &Subst) -> Result<Option<Subs
             None => return Ok(None),
         }
     }
-    solve(alloc, a, b, solved)
+    Ok(Some(solved))
+}
+
+/// A most general unifier of two terms beside a substitution, whose bindings are solved along with them as equations;
+/// none exactly where there is no unifier.
+pub fn unify(alloc: Global, a: &Term, b: &Term, s: &Subst) -> Result<Option<Subst>, AllocError>
+    ensures some { IfOk result (λ answer. IfSome answer (λ r. IsMostGeneral a.now b.now s.now r)) }
+    ensures none { IfOk result (λ answer. IfNone answer (HasNoUnifier a.now b.now s.now)) }
+{
+    match solved_form(alloc, s)? {
+        Some(solved) => solve(alloc, a, b, solved),
+        None => Ok(None),
+    }
 }

@@ -1,6 +1,6 @@
 use Rattle.std.proofs.Common.{List, map, sym, subst₂}
 use Rattle.cp_skel.specs.View.{strand_view, skeleton_view}
-use Rattle.cp_skel.specs.declared.skeleton.Strand.{Strand}
+use Rattle.cp_skel.specs.Data.{StrandData}
 use Rattle.cp_term.proofs.CarriedTerms.{not_both}
 use Rattle.cp_hom.specs.Counting.{HaveRoom}
 use Rattle.cp_hom.proofs.Crowded.{embedding_has_room}
@@ -14,5 +14,5 @@ search-requires-clause-started c =
 pub returns-then-not-have_room-clause-none : goal.returns-then-not-have_room-clause-none
 returns-then-not-have_room-clause-none c = λ f h.
     not_both c.if-not-have_room.true
-    (c.have_room.ensures.1 (subst₂ (λ (xs ys : List Strand). HaveRoom (map strand_view xs) (map strand_view ys)) (sym c.deref.ensures.value) (sym c.deref-2.ensures.value)
+    (c.have_room.ensures.1 (subst₂ (λ (xs ys : List StrandData). HaveRoom (map strand_view xs) (map strand_view ys)) (sym c.strands.ensures) (sym c.strands-2.ensures)
     (embedding_has_room (skeleton_view c.args.a.now) (skeleton_view c.args.b.now) f h)))

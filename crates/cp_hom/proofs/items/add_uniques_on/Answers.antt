@@ -1,7 +1,6 @@
-use Rattle.std.proofs.Common.{◌<◌, List, length, map, ap, arith}
-use Rattle.std.proofs.lemmas.List.{length-map}
-use Rattle.cp_skel.specs.View.{unique_view, skeleton_view}
-use Rattle.cp_skel.specs.declared.skeleton.UniqueAt.{UniqueAt}
+use Rattle.std.proofs.Common.{◌<◌, length, ap, ◌∙◌, subst}
+use Rattle.cp_model.specs.Skeleton.{Assumptions}
+use Rattle.cp_skel.specs.View.{skeleton_view}
 use Rattle.cp_hom.specs.declared.items.Kind.TheVariants.{Uniques}
 use Rattle.cp_hom.specs.declared.items.Item.{Item}
 use Rattle.cp_hom.proofs.Itemised.{adds_nothing, adds_one}
@@ -13,7 +12,6 @@ loop-index-init c = adds_nothing (skeleton_view c.args.k.now) c.args.items.now.i
 pub loop-index-preserved : goal.loop-index-preserved
 loop-index-preserved c =
     let x : Item = record { kind = Uniques; index = c.loop-index.index } in
-    let us : List UniqueAt = c.args.k.now.assumptions.uniquely_originating.items in
-    let l : c.loop-index.index < length (map unique_view us) =
-    (let e = ap (λ (xs : List UniqueAt). length xs) c.as_slice-uniques.ensures.value in let d = length-map us unique_view in let h = c.loop-index-test.true in omega (arith, e, d, h)) in
+    let l : c.loop-index.index < length c.args.k.now.assumptions.uniquely_originating =
+    subst (λ us. c.loop-index.index < length us) (c.uniquely_originating-uniques.ensures ∙ ap (λ (a : Assumptions). a.uniquely_originating) c.assumptions.ensures) c.loop-index-test.true in
     adds_one (skeleton_view c.args.k.now) c.args.items.now.items c.loop-index.items.items c.push.new.self.items x c.in_ok-push.ensures.items c.loop-index.invariant l

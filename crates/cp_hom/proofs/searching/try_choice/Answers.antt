@@ -1,7 +1,7 @@
 use Rattle.std.proofs.Common.{List, map, subst, subst₂}
 use Rattle.std.proofs.lemmas.Result.{IfOk-weaker}
 use Rattle.cp_skel.specs.View.{strand_view, skeleton_view}
-use Rattle.cp_skel.specs.declared.skeleton.Strand.{Strand}
+use Rattle.cp_skel.specs.Data.{StrandData}
 use Rattle.cp_hom.specs.Following.{PartialMap, partial_view, Finds}
 use Rattle.cp_hom.specs.Taking.{Takes, KeepsApart, IsBlocked}
 use Rattle.cp_hom.specs.declared.partials.Placement.{Placement}
@@ -11,7 +11,7 @@ use Rattle.cp_hom.proofs.searching.try_choice.Goals as goal
 pub returns-then-is_blocked : goal.returns-then-is_blocked
 returns-then-is_blocked c =
     blocked_never (skeleton_view c.args.a.now) (skeleton_view c.args.b.now) c.args.item c.args.choice (partial_view c.args.given.now)
-    (subst₂ (λ (xs : List Strand) (ps : List Placement). IsBlocked (map strand_view xs) c.args.item c.args.choice ps) c.deref.ensures.value c.deref-2.ensures.value
+    (subst₂ (λ (xs : List StrandData) (ps : List Placement). IsBlocked (map strand_view xs) c.args.item c.args.choice ps) c.strands.ensures c.deref.ensures.value
     (c.is_blocked.ensures.0 c.if-is_blocked.true))
 
 pub returns : goal.returns

@@ -1,6 +1,7 @@
-use Rattle.std.proofs.Common.{◌≡◌, map, subst}
+use Rattle.std.proofs.Common.{◌≡◌, map, ap, subst, ◌∙◌}
 use Rattle.std.proofs.lemmas.Result.{IfOk-weaker}
 use Rattle.cp_model.specs.Term.{apply_to}
+use Rattle.cp_model.specs.Skeleton.{FromProblem}
 use Rattle.cp_skel.specs.View.{skeleton_view}
 use Rattle.cp_hom.specs.Following.{PartialMap, partial_view, IsExtended, Finds}
 use Rattle.cp_hom.proofs.Becoming.{problem_kept}
@@ -8,8 +9,9 @@ use Rattle.cp_hom.proofs.starting.start.Goals as goal
 
 pub returns-in-Some : goal.returns-in-Some
 returns-in-Some c =
-    IfOk-weaker c.match_term_lists.result (Finds (λ f. map (apply_to f.terms) c.deref-in-Some.result.now ≡ c.deref-in-Some-2.result.now) (partial_view c.in-Some.found)) _
-    (λ answer. problem_kept (skeleton_view c.args.a.now) (skeleton_view c.args.b.now) c.deref.result.now c.deref-2.result.now c.deref-in-Some.result.now c.deref-in-Some-2.result.now _ (partial_view c.in-Some.found) answer
-    c.deref.ensures.value c.deref-2.ensures.value c.deref-in-Some.ensures.value c.deref-in-Some-2.ensures.value
-    (subst (λ (g : PartialMap). IsExtended (λ f. map f.strands c.deref.result.now ≡ c.deref-2.result.now) g (partial_view c.in-Some.found)) c.new.ensures (rw c.in-Some.is at c.in_ok-found.ensures)))
+    IfOk-weaker c.match_term_lists.result (Finds (λ f. map (apply_to f.terms) c.values.result.now ≡ c.values-in-Some.result.now) (partial_view c.in-Some.found)) _
+    (λ answer. problem_kept (skeleton_view c.args.a.now) (skeleton_view c.args.b.now) c.strands.result.now c.strands-2.result.now c.values.result.now c.values-in-Some.result.now _ (partial_view c.in-Some.found) answer
+    (c.strands.ensures ∙ ap (λ (p : FromProblem). p.strands) c.from_problem-first.ensures) (c.strands-2.ensures ∙ ap (λ (p : FromProblem). p.strands) c.from_problem-second.ensures)
+    (c.values.ensures ∙ ap (λ (p : FromProblem). p.values) c.from_problem-first.ensures) (c.values-in-Some.ensures ∙ ap (λ (p : FromProblem). p.values) c.from_problem-second.ensures)
+    (subst (λ (g : PartialMap). IsExtended (λ f. map f.strands c.strands.result.now ≡ c.strands-2.result.now) g (partial_view c.in-Some.found)) c.new.ensures (rw c.in-Some.is at c.in_ok-found.ensures)))
     c.match_term_lists.ensures

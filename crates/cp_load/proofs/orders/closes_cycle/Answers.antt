@@ -1,7 +1,12 @@
 use Rattle.std.proofs.Common.{map, sym, ◌∙◌}
 use Rattle.cp_skel.specs.View.{pair_view}
 use Rattle.cp_load.proofs.Cycles.{cycle-searched, no-way-from, no-way-to}
+use Rattle.cp_load.proofs.NoCycles.{known-acyclic}
 use Rattle.cp_load.proofs.orders.closes_cycle.Goals as goal
+
+pub returns-then-acyclic : goal.returns-then-acyclic
+returns-then-acyclic c =
+    known-acyclic (map pair_view c.args.before.now) (pair_view c.args.pair) c.args.acyclic (sym c.is_on_one_strand.ensures ∙ c.if-is_on_one_strand.false) c.if-acyclic.true c.requires
 
 pub returns-then-not-some_begins_behind : goal.returns-then-not-some_begins_behind
 returns-then-not-some_begins_behind c =

@@ -2,6 +2,7 @@ use Rattle.std.proofs.Common.{map, ap, ◌∙◌}
 use Rattle.cp_skel.specs.View.{strand_view, pair_view}
 use Rattle.cp_forms.specs.FirstFault.{first_onto}
 use Rattle.cp_load.proofs.Cycles.{few_in_pair, pair-read}
+use Rattle.cp_load.proofs.NoCycles.{pair-in-front}
 use Rattle.cp_load.proofs.orders.pair_items_faults.Goals as goal
 
 pub returns-in_default : goal.returns-in_default
@@ -14,3 +15,7 @@ returns c =
     c.list_items.result.now c.list_items-2.result.now c.list_items.ensures c.list_items-2.ensures
     c.args.first.now c.nodes_or_order_faults.new.first c.exceeds.new.first c.exceeds-2.new.first c.exceeds-3.new.first
     c.in_ok-nodes_or_order_faults.ensures c.exceeds.ensures c.exceeds-2.ensures c.exceeds-3.ensures
+
+pub nodes_or_order_faults-requires : goal.nodes_or_order_faults-requires
+nodes_or_order_faults-requires c =
+    pair-in-front c.args.acyclic (map pair_view c.args.before.now) c.args.items.now c.earlier-item.result c.later-item.result c.in-len2-up.len_at_least c.earlier-item.is c.later-item.is c.requires

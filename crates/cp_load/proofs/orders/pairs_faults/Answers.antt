@@ -1,10 +1,12 @@
-use Rattle.std.proofs.Common.{◌++◌, List, map, ap, ◌∙◌}
+use Rattle.std.proofs.Common.{◌++◌, List, map, sym, ap, ◌∙◌, subst}
 use Rattle.cp_sexpr.specs.View.{view}
-use Rattle.cp_language.specs.Problems.{pair_faults}
+use Rattle.cp_language.specs.Problems.{pair_of, pair_faults}
 use Rattle.cp_skel.specs.View.{strand_view, pair_view}
 use Rattle.cp_skel.specs.declared.skeleton.OrderPair.{OrderPair}
 use Rattle.cp_forms.specs.FirstFault.{first_onto}
 use Rattle.cp_load.proofs.Cycles.{pairs-taken, pairs-judged}
+use Rattle.cp_load.specs.Acyclic.{IsAcyclicIf}
+use Rattle.cp_load.proofs.NoCycles.{first-pair}
 use Rattle.cp_load.proofs.orders.pairs_faults.Goals as goal
 
 pub loop-form-preserved : goal.loop-form-preserved
@@ -16,3 +18,8 @@ loop-form-preserved c =
       pairs-judged strands c.args.items.now c.loop-form.form-index c.form-item.result c.loop-form-test.true c.form-item.is before (map pair_view c.add_pair.new.pairs.items) added c.loop-form.first c.pair_faults.new.first _ judged c.loop-form.invariant.0,
       pairs-taken strands c.args.items.now c.loop-form.form-index c.form-item.result c.loop-form-test.true c.form-item.is before (map pair_view c.add_pair.new.pairs.items) added _ c.loop-form.invariant.1,
     )
+
+pub pair_faults-requires : goal.pair_faults-requires
+pair_faults-requires c =
+    subst (λ (ps : List OrderPair). IsAcyclicIf c.args.acyclic (map pair_view ps ++ pair_of (view c.form-item.result))) (sym c.deref.ensures.value)
+    (first-pair c.args.items.now c.loop-form.form-index c.form-item.result c.loop-form-test.true c.form-item.is (map pair_view c.loop-form.before.items) _ c.args.acyclic c.loop-form.invariant.1 c.requires)

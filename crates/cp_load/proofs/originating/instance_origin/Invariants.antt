@@ -8,5 +8,5 @@ use Rattle.cp_load.proofs.originating.instance_origin.Given as goal
 
 abbrev pub invariant-loop-index : goal.invariant-loop-index
 invariant-loop-index l =
-    let terms = apply_to (substitution_by l.instance.values.items) in
+    let terms = apply_to (substitution_by l.instance.values) in
     origin_from l.value 0 (map (event_map terms) (map event_view l.prefix)) ≡ origin_from l.value l.index (map (event_map terms) (map event_view (drop l.index l.prefix)))

@@ -1,18 +1,18 @@
-use Rattle.std.proofs.Common.{refl, map}
-use Rattle.cp_skel.specs.View.{pair_view, unique_view}
+use Rattle.std.proofs.Common.{refl, sym, subst, map}
+use Rattle.cp_skel.specs.View.{pair_view}
 use Rattle.cp_normal.specs.Cycles.{IsClosedAt}
 use Rattle.cp_normal.proofs.Having.{not_both, found, next, none}
 use Rattle.cp_normal.proofs.cycles.some_is_closed.Goals as goal
 
 pub returns-then-branch : goal.returns-then-branch
 returns-then-branch c = (
-  λ _. found (λ u. IsClosedAt (map pair_view c.args.pairs.now) (unique_view u).origin) _ _ _ c.loop-unique-test.true c.unique-item.is (c.in_ok-is_closed_at.ensures.0 c.if-branch.true),
+  λ _. found (λ u. IsClosedAt (map pair_view c.args.pairs.now) u.origin) _ _ _ c.loop-unique-test.true c.unique-item.is (subst (IsClosedAt (map pair_view c.args.pairs.now)) c.origin.ensures (c.in_ok-is_closed_at.ensures.0 c.if-branch.true)),
   λ _. refl,
 )
 
 pub loop-unique-preserved : goal.loop-unique-preserved
 loop-unique-preserved c =
-    λ h. next (λ u. IsClosedAt (map pair_view c.args.pairs.now) (unique_view u).origin) _ _ _ c.loop-unique-test.true c.unique-item.is (λ p. not_both c.if-branch.false (c.in_ok-is_closed_at.ensures.1 p)) (c.loop-unique.invariant h)
+    λ h. next (λ u. IsClosedAt (map pair_view c.args.pairs.now) u.origin) _ _ _ c.loop-unique-test.true c.unique-item.is (λ p. not_both c.if-branch.false (c.in_ok-is_closed_at.ensures.1 (subst (IsClosedAt (map pair_view c.args.pairs.now)) (sym c.origin.ensures) p))) (c.loop-unique.invariant h)
 
 pub returns : goal.returns
-returns c = (λ r. absurd (not_both refl r), λ h. absurd (none (λ u. IsClosedAt (map pair_view c.args.pairs.now) (unique_view u).origin) _ _ c.loop-unique-test.false (c.loop-unique.invariant h)))
+returns c = (λ r. absurd (not_both refl r), λ h. absurd (none (λ u. IsClosedAt (map pair_view c.args.pairs.now) u.origin) _ _ c.loop-unique-test.false (c.loop-unique.invariant h)))

@@ -14,11 +14,11 @@ loop-number-init c =
 
 pub loop-number-preserved : goal.loop-number-preserved
 loop-number-preserved c =
-    let below : c.loop-number.number < length c.args.k.now.strands.items = search rules in
+    let below : c.loop-number.number < length c.args.k.now.strands = search rules in
     (omega (arith, below), c.in_ok-partials.ensures)
 
 pub returns : goal.returns
 returns c =
-    let done : length c.args.k.now.strands.items ≤ c.loop-number.number = search rules in
-    let all : c.loop-number.number ≡ length (map strand_view c.args.k.now.strands.items) = (let e = count_of_views strand_view c.args.k.now.strands.items in let le = c.loop-number.invariant.0 in omega (arith, done, le, e)) in
+    let done : length c.args.k.now.strands ≤ c.loop-number.number = search rules in
+    let all : c.loop-number.number ≡ length (map strand_view c.args.k.now.strands) = (let e = count_of_views strand_view c.args.k.now.strands in let le = c.loop-number.invariant.0 in omega (arith, done, le, e)) in
     subst (λ (m : ℕ). ArePartials (skeleton_view c.args.k.now) m c.loop-number.partials.items) all c.loop-number.invariant.1

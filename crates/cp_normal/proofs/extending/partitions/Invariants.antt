@@ -4,4 +4,4 @@ use Rattle.cp_normal.specs.Partials.{ArePartials}
 use Rattle.cp_normal.proofs.extending.partitions.Given as goal
 
 abbrev pub invariant-loop-number : goal.invariant-loop-number
-invariant-loop-number l = (l.number ≤ length l.k.strands.items) × ArePartials (skeleton_view l.k) l.number l.partials.items
+invariant-loop-number l = (l.number ≤ length l.k.strands) × ArePartials (skeleton_view l.k) l.number l.partials.items

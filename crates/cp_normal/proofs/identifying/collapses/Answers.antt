@@ -1,6 +1,7 @@
 use Rattle.std.proofs.Common.{rules, ◌<◌, ◌≤◌, ◌∙◌, length, map, ap, arith}
 use Rattle.std.proofs.lemmas.List.{map-append}
 use Rattle.cp_skel.specs.View.{skeleton_view}
+use Rattle.cp_skel.proofs.SoundSkeletons.{sound_prefixes}
 use Rattle.cp_normal.specs.Partials.{lists}
 use Rattle.cp_normal.proofs.CollapsesCover.{collapses_are_complete, standings_go_through}
 use Rattle.cp_normal.proofs.Declared.{collapses_declared}
@@ -9,8 +10,14 @@ use Rattle.cp_normal.proofs.PartialLists.{count_of_views, listed_at, exact_item}
 use Rattle.cp_normal.proofs.Prefixes.{item_is}
 use Rattle.cp_normal.proofs.identifying.collapses.Goals as goal
 
+pub partitions-requires : goal.partitions-requires
+partitions-requires c = sound_prefixes (skeleton_view c.args.k.now) c.is_sound.ensures
+
 pub loop-number-init : goal.loop-number-init
 loop-number-init c = (first_done (skeleton_view c.args.k.now) (lists c.in_ok-partials.partials.items) c.in_ok-partials.ensures.partitions _ (ap (map skeleton_view) c.new-collapses.ensures.items), omega arith, none_of_these c.args.k.now _ c.new-collapses.ensures.items)
+
+pub collapse-requires-clause-declared : goal.collapse-requires-clause-declared
+collapse-requires-clause-declared c = sound_prefixes (skeleton_view c.args.k.now) c.is_sound.ensures
 
 pub collapse-requires-clause-partition : goal.collapse-requires-clause-partition
 collapse-requires-clause-partition c =
@@ -65,7 +72,7 @@ pub returns-clause-declared : goal.returns-clause-declared
 returns-clause-declared c =
     let done : length c.in_ok-partials.partials.items ≤ c.loop-number.number = search rules in
     let e = count_of_views (λ p. p.lowest.items) c.in_ok-partials.partials.items in
-    collapses_declared (skeleton_view c.args.k.now) _ (all_done (skeleton_view c.args.k.now) (lists c.in_ok-partials.partials.items) c.in_ok-partials.ensures.partitions c.loop-number.number _ (omega (arith, done, e)) c.loop-number.invariant.0) c.requires.declared
+    collapses_declared (skeleton_view c.args.k.now) _ (all_done (skeleton_view c.args.k.now) (lists c.in_ok-partials.partials.items) c.in_ok-partials.ensures.partitions c.loop-number.number _ (omega (arith, done, e)) c.loop-number.invariant.0) (sound_prefixes (skeleton_view c.args.k.now) c.is_sound.ensures)
 
 pub returns-clause-variables : goal.returns-clause-variables
 returns-clause-variables c = λ l i. c.loop-number.invariant.2 l i

@@ -1,11 +1,10 @@
 use Rattle.std.proofs.Common.{◌≡◌, [], map, drop}
 use Rattle.cp_model.specs.Given.{uniques_onto}
 use Rattle.cp_unify.specs.Bindings.{as_substitution}
-use Rattle.cp_skel.specs.View.{unique_view}
 use Rattle.cp_normal.specs.Collapsing.{unique_in}
 use Rattle.cp_normal.proofs.images.unique_images.Given as goal
 
 abbrev pub invariant-loop-unique : goal.invariant-loop-unique
 invariant-loop-unique l =
-    uniques_onto (map unique_view l.images.items) (map (unique_in l.lowest (as_substitution l.s)) (map unique_view (drop l.unique-index l.uniques)))
-    ≡ uniques_onto [] (map (unique_in l.lowest (as_substitution l.s)) (map unique_view l.uniques))
+    uniques_onto l.images.items (map (unique_in l.lowest (as_substitution l.s)) (drop l.unique-index l.uniques))
+    ≡ uniques_onto [] (map (unique_in l.lowest (as_substitution l.s)) l.uniques)

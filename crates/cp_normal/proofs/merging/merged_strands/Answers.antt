@@ -21,17 +21,17 @@ loop-strand-preserved-then-not-is_in_block c =
 pub merged_strand-requires : goal.merged_strand-requires
 merged_strand-requires c =
     let there = tallest_there (skeleton_view c.args.k.now) c.args.partial.now.lowest.items c.requires.partition c.loop-strand.strand c.tallest-tallest.result c.tallest-tallest.ensures in
-    let count = count_of_views strand_view c.args.k.now.strands.items in
-    let same = ap length c.deref.ensures.value in
+    let count = count_of_views strand_view c.args.k.now.strands in
+    let same = ap length c.strands.ensures in
     omega (arith, there, count, same)
 
 pub loop-strand-preserved : goal.loop-strand-preserved
 loop-strand-preserved c =
     let below : c.loop-strand.strand < length c.args.partial.now.lowest.items = search rules in
-    let under : IsUnder c.args.k.now.strands.items c.tallest-tallest.result (as_substitution c.args.partial.now.bindings.value) c.in_ok-merged_strand.field-0 =
-    subst (λ ss. IsUnder ss c.tallest-tallest.result (as_substitution c.args.partial.now.bindings.value) c.in_ok-merged_strand.field-0) c.deref.ensures.value
-    (subst (λ b. IsUnder c.deref.result.now c.tallest-tallest.result (as_substitution b) c.in_ok-merged_strand.field-0) c.deref-in-loop-strand.ensures c.in_ok-merged_strand.ensures) in (
+    let under : IsUnder c.args.k.now.strands c.tallest-tallest.result (as_substitution c.args.partial.now.bindings.value) c.in_ok-merged_strand.field-0 =
+    subst (λ ss. IsUnder ss c.tallest-tallest.result (as_substitution c.args.partial.now.bindings.value) c.in_ok-merged_strand.field-0) c.strands.ensures
+    (subst (λ b. IsUnder c.strands.result.now c.tallest-tallest.result (as_substitution b) c.in_ok-merged_strand.field-0) c.deref.ensures c.in_ok-merged_strand.ensures) in (
       alike_puts (skeleton_view c.args.k.now) c.args.partial.now.lowest.items (as_substitution c.args.partial.now.bindings.value) c.loop-strand.strand c.loop-strand.strands.items c.loop-strand.invariant.0
-          c.args.k.now.strands.items refl c.requires.declared c.tallest-tallest.result _ c.in_ok-merged_strand.field-0 (c.is_in_block.ensures.0 c.if-not-is_in_block.false) c.tallest-tallest.ensures under c.in_ok-push.ensures.items,
+          c.args.k.now.strands refl c.requires.declared c.tallest-tallest.result _ c.in_ok-merged_strand.field-0 (c.is_in_block.ensures.0 c.if-not-is_in_block.false) c.tallest-tallest.ensures under c.in_ok-push.ensures.items,
       omega (arith, below),
     )

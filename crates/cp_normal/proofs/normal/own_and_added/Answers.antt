@@ -9,6 +9,6 @@ use Rattle.cp_normal.proofs.normal.own_and_added.Goals as goal
 
 pub returns : goal.returns
 returns c =
-    normal_of_both (skeleton_view c.args.k.now) c.in_ok-pairs.pairs.items c.in_ok-added.added.items c.in_ok-own.own (ap (map pair_view) c.in_ok-pairs.ensures.items ∙ c.pairs-2.ensures) c.in_ok-added.ensures
-    (subst (λ (ps : List OrderPair). AreKeysOf c.in_ok-own.own ps) c.pairs.ensures c.in_ok-own.ensures) c.add_others.new.pairs.items
-    (c.in_ok-add_others.ensures ∙ ap (λ (ps : List Pair). c.in_ok-pairs.pairs.items ++ filter (λ p. is_other c.in_ok-own.own (pair_view p)) ps) c.deref.ensures.value)
+    normal_of_both (skeleton_view c.args.k.now) c.in_ok-pairs.pairs.items c.in_ok-added.added.items c.in_ok-keys.keys (ap (map pair_view) c.in_ok-pairs.ensures.items ∙ (c.pairs-own.ensures ∙ c.order.ensures)) c.in_ok-added.ensures
+    (subst (λ (ps : List OrderPair). AreKeysOf c.in_ok-keys.keys ps) (c.pairs-own.ensures ∙ c.order.ensures) c.in_ok-keys.ensures) c.add_others.new.pairs.items
+    (c.in_ok-add_others.ensures ∙ ap (λ (ps : List Pair). c.in_ok-pairs.pairs.items ++ filter (λ p. is_other c.in_ok-keys.keys (pair_view p)) ps) c.deref.ensures.value)

@@ -1,18 +1,12 @@
 use Rattle.std.proofs.Common.{sym, subst, ◌∙◌}
-use Rattle.cp_skel.specs.View.{skeleton_view}
-use Rattle.cp_skel.specs.declared.skeleton.Skeleton.{Skeleton}
-use Rattle.cp_normal.specs.Candidates.{IsInOrder, PutsForm}
+use Rattle.cp_skel.specs.Data.{SkeletonData as Skeleton}
+use Rattle.cp_normal.specs.Candidates.{PutsForm}
 use Rattle.cp_normal.proofs.Following.{empty_list}
-use Rattle.cp_normal.proofs.Gathered.{none_so_far, next_form, all_forms, form_in}
+use Rattle.cp_normal.proofs.Gathered.{none_so_far, next_form, all_forms}
 use Rattle.cp_normal.proofs.normalising.forms_of.Goals as goal
 
 pub loop-candidate-init : goal.loop-candidate-init
 loop-candidate-init c = none_so_far _ _ c.new-forms.ensures.items
-
-pub add_form-requires : goal.add_form-requires
-add_form-requires c =
-    let i = form_in c.args.candidates.items _ _ _ _ c.in-Some.candidate c.reverse.ensures.items c.loop-candidate.invariant c.in-Some.ensures.items in
-    subst (λ (k : Skeleton). IsInOrder (skeleton_view k)) (sym c.into_skeleton.ensures) (c.requires c.in-Some.candidate i)
 
 pub loop-candidate-preserved : goal.loop-candidate-preserved
 loop-candidate-preserved c =

@@ -1,6 +1,7 @@
 use Rattle.std.proofs.Common.{List, ap, subst, sym, ◌∙◌, ◌∷◌, [], ◌++◌}
 use Rattle.std.proofs.lemmas.Result.{IfOk-weaker}
 use Rattle.cp_skel.specs.View.{skeleton_view}
+use Rattle.cp_skel.proofs.SoundSkeletons.{sound_prefixes}
 use Rattle.cp_normal.specs.Candidates.{IsOpen}
 use Rattle.cp_normal.specs.Events.{Has}
 use Rattle.cp_normal.specs.declared.candidates.Candidate.{Candidate}
@@ -9,12 +10,12 @@ use Rattle.cp_normal.proofs.BySubstitution.{come_by_substitutions}
 use Rattle.cp_normal.proofs.Declared.{forms_declared}
 use Rattle.cp_normal.proofs.Having.{not_both}
 use Rattle.cp_normal.proofs.TreeOfForms.{has_forms}
-use Rattle.cp_normal.proofs.Ranked.{round_falls, reached_at_first, reached_next, reached_forms, reached_loses_none, reached_exact, reached_in_order}
+use Rattle.cp_normal.proofs.Ranked.{round_falls, reached_at_first, reached_next, reached_forms, reached_loses_none, reached_exact}
 use Rattle.cp_normal.proofs.normalising.normalise.Goals as goal
 
 pub loop-candidates-init : goal.loop-candidates-init
 loop-candidates-init c =
-    reached_at_first c.args.k _ c.requires.declared (c.in_ok-push.ensures.items ∙ ap (λ (cs : List Candidate). cs ++ Open c.args.k ∷ []) c.new-candidates.ensures.items)
+    reached_at_first c.args.k _ (sound_prefixes (skeleton_view c.args.k) c.is_sound.ensures) (c.in_ok-push.ensures.items ∙ ap (λ (cs : List Candidate). cs ++ Open c.args.k ∷ []) c.new-candidates.ensures.items)
 
 pub loop-candidates-preserved : goal.loop-candidates-preserved
 loop-candidates-preserved c = reached_next c.args.k _ _ c.loop-candidates.invariant c.in_ok-candidates.ensures
@@ -23,9 +24,6 @@ pub loop-candidates-smaller : goal.loop-candidates-smaller
 loop-candidates-smaller c =
     round_falls c.loop-candidates.candidates.items c.in_ok-candidates.candidates.items (subst (λ (cs : List Candidate). Has IsOpen cs) c.deref.ensures.value (c.some_is_open.ensures.0 c.loop-candidates-test.true))
     c.in_ok-candidates.ensures
-
-pub forms_of-requires : goal.forms_of-requires
-forms_of-requires c = reached_in_order c.args.k c.loop-candidates.candidates.items c.loop-candidates.invariant c.requires.order_pairs c.requires.no_cycle c.requires.origins
 
 pub returns-clause-forms : goal.returns-clause-forms
 returns-clause-forms c =
@@ -69,5 +67,5 @@ returns-clause-declared c =
     forms_declared (skeleton_view c.args.k) forms.items
     (reached_forms c.args.k c.loop-candidates.candidates.items c.loop-candidates.invariant
     (λ h. not_both c.loop-candidates-test.false (c.some_is_open.ensures.1 (subst (λ (cs : List Candidate). Has IsOpen cs) (sym c.deref.ensures.value) h))) forms.items f)
-    c.requires.declared)
+    (sound_prefixes (skeleton_view c.args.k) c.is_sound.ensures))
     c.forms_of.ensures

@@ -1,7 +1,6 @@
 use Rattle.std.proofs.Common.{drop}
-use Rattle.cp_skel.specs.View.{unique_view}
 use Rattle.cp_normal.specs.Events.{Has, IsElsewhere}
 use Rattle.cp_normal.proofs.origins.has_another_origin.Given as goal
 
 abbrev pub invariant-loop-other : goal.invariant-loop-other
-invariant-loop-other l = Has (λ w. IsElsewhere (unique_view l.unique) (unique_view w)) l.uniques → Has (λ w. IsElsewhere (unique_view l.unique) (unique_view w)) (drop l.other-index l.uniques)
+invariant-loop-other l = Has (λ w. IsElsewhere l.unique w) l.uniques → Has (λ w. IsElsewhere l.unique w) (drop l.other-index l.uniques)

@@ -1,8 +1,8 @@
 use Rattle.std.proofs.Common.{drop}
 use Rattle.cp_model.specs.Realising.{OriginatesAtTerm}
-use Rattle.cp_skel.specs.View.{unique_view, skeleton_view}
+use Rattle.cp_skel.specs.View.{skeleton_view}
 use Rattle.cp_normal.specs.Events.{Has}
 use Rattle.cp_normal.proofs.origins.one_loses_origin.Given as goal
 
 abbrev pub invariant-loop-unique : goal.invariant-loop-unique
-invariant-loop-unique l = Has (λ u. OriginatesAtTerm (skeleton_view l.k) (unique_view u).value (unique_view u).origin → ⊥) l.uniques → Has (λ u. OriginatesAtTerm (skeleton_view l.k) (unique_view u).value (unique_view u).origin → ⊥) (drop l.unique-index l.uniques)
+invariant-loop-unique l = Has (λ u. OriginatesAtTerm (skeleton_view l.k) u.value u.origin → ⊥) l.uniques → Has (λ u. OriginatesAtTerm (skeleton_view l.k) u.value u.origin → ⊥) (drop l.unique-index l.uniques)

@@ -1,7 +1,6 @@
 use Rattle.std.proofs.Common.{drop}
-use Rattle.cp_skel.specs.View.{unique_view}
 use Rattle.cp_normal.specs.Events.{Has, IsElsewhere}
 use Rattle.cp_normal.proofs.origins.some_has_two_origins.Given as goal
 
 abbrev pub invariant-loop-unique : goal.invariant-loop-unique
-invariant-loop-unique l = Has (λ u. Has (λ w. IsElsewhere (unique_view u) (unique_view w)) l.uniques) l.uniques → Has (λ u. Has (λ w. IsElsewhere (unique_view u) (unique_view w)) l.uniques) (drop l.unique-index l.uniques)
+invariant-loop-unique l = Has (λ u. Has (λ w. IsElsewhere u w) l.uniques) l.uniques → Has (λ u. Has (λ w. IsElsewhere u w) l.uniques) (drop l.unique-index l.uniques)

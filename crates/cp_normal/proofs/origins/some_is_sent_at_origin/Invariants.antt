@@ -1,8 +1,7 @@
 use Rattle.std.proofs.Common.{drop}
-use Rattle.cp_skel.specs.View.{unique_view}
 use Rattle.cp_skel.specs.Events.{occurrence_view}
 use Rattle.cp_normal.specs.Events.{Has, IsSentAtOrigin}
 use Rattle.cp_normal.proofs.origins.some_is_sent_at_origin.Given as goal
 
 abbrev pub invariant-loop-occurrence : goal.invariant-loop-occurrence
-invariant-loop-occurrence l = Has (λ o. IsSentAtOrigin (unique_view l.unique) (occurrence_view o)) l.occurrences → Has (λ o. IsSentAtOrigin (unique_view l.unique) (occurrence_view o)) (drop l.occurrence-index l.occurrences)
+invariant-loop-occurrence l = Has (λ o. IsSentAtOrigin l.unique (occurrence_view o)) l.occurrences → Has (λ o. IsSentAtOrigin l.unique (occurrence_view o)) (drop l.occurrence-index l.occurrences)

@@ -1,24 +1,51 @@
-use Rattle.std.proofs.Common.{◌∙◌, map, ap}
+use Rattle.std.proofs.Common.{◌∙◌, List, map, sym, ap, subst}
+use Rattle.cp_completeness.specs.Normal.{assumptions_under, from_problem_under, skeleton_under}
 use Rattle.cp_unify.specs.Bindings.{as_substitution}
+use Rattle.cp_skel.specs.Data.{StrandData, SkeletonData}
 use Rattle.cp_skel.specs.View.{strand_view, skeleton_view}
+use Rattle.cp_skel.proofs.SoundSkeletons.{sound_prefixes}
+use Rattle.cp_normal.specs.Agreeing.{SaysTheSame}
 use Rattle.cp_normal.specs.Values.{declared_under}
 use Rattle.cp_normal.proofs.Declared.{under_declared}
-use Rattle.cp_normal.proofs.Values.{says_the_same}
+use Rattle.cp_normal.proofs.SoundSkeletons.{under_sound}
+use Rattle.cp_normal.proofs.Values.{made_under}
 use Rattle.cp_normal.proofs.substituting.under.Goals as goal
+
+pub new-requires : goal.new-requires
+new-requires c =
+    let s = as_substitution c.args.s.now in
+    let k = c.args.k.now in
+    let same =
+    made_under s k c.in_ok-variables.variables c.in_ok-strands.strands.items c.in_ok-order.order c.in_ok-assumptions.assumptions c.in_ok-from_problem.from_problem (sound_prefixes (skeleton_view k) c.is_sound.ensures)
+    (c.in_ok-strands.ensures ∙ ap (λ (ss : List StrandData). map (declared_under s) (map strand_view ss)) c.strands.ensures)
+    (c.in_ok-order.ensures ∙ c.order.ensures)
+    (c.in_ok-assumptions.ensures ∙ ap (assumptions_under s) c.assumptions.ensures)
+    (c.in_ok-from_problem.ensures ∙ ap (from_problem_under s) c.from_problem.ensures) in
+    under_sound s (skeleton_view k) _ c.is_sound.ensures same
 
 pub returns-clause-same : goal.returns-clause-same
 returns-clause-same c =
-    says_the_same (as_substitution c.args.s.now) (skeleton_view c.args.k.now)
-    (skeleton_view (record { variables = c.in_ok-copy.field-0; strands = c.in_ok-strands_under.field-0; order = c.in_ok-copy-2.field-0; assumptions = c.in_ok-assumptions_under.field-0; from_problem = c.in_ok-from_problem_under.field-0 }))
-    c.requires.declared (c.in_ok-strands_under.ensures ∙ ap (λ ss. map (declared_under (as_substitution c.args.s.now)) (map strand_view ss)) c.deref.ensures.value)
-    c.in_ok-copy-2.ensures c.in_ok-assumptions_under.ensures c.in_ok-from_problem_under.ensures
+    let s = as_substitution c.args.s.now in
+    let k = c.args.k.now in
+    let same =
+    made_under s k c.in_ok-variables.variables c.in_ok-strands.strands.items c.in_ok-order.order c.in_ok-assumptions.assumptions c.in_ok-from_problem.from_problem (sound_prefixes (skeleton_view k) c.is_sound.ensures)
+    (c.in_ok-strands.ensures ∙ ap (λ (ss : List StrandData). map (declared_under s) (map strand_view ss)) c.strands.ensures)
+    (c.in_ok-order.ensures ∙ c.order.ensures)
+    (c.in_ok-assumptions.ensures ∙ ap (assumptions_under s) c.assumptions.ensures)
+    (c.in_ok-from_problem.ensures ∙ ap (from_problem_under s) c.from_problem.ensures) in
+    subst (λ (l : SkeletonData). SaysTheSame (skeleton_under s (skeleton_view k)) (skeleton_view l)) (sym c.new.ensures) same
 
 pub returns-clause-declared : goal.returns-clause-declared
 returns-clause-declared c =
-    under_declared (as_substitution c.args.s.now) (skeleton_view c.args.k.now)
-    (skeleton_view (record { variables = c.in_ok-copy.field-0; strands = c.in_ok-strands_under.field-0; order = c.in_ok-copy-2.field-0; assumptions = c.in_ok-assumptions_under.field-0; from_problem = c.in_ok-from_problem_under.field-0 }))
-    (says_the_same (as_substitution c.args.s.now) (skeleton_view c.args.k.now)
-    (skeleton_view (record { variables = c.in_ok-copy.field-0; strands = c.in_ok-strands_under.field-0; order = c.in_ok-copy-2.field-0; assumptions = c.in_ok-assumptions_under.field-0; from_problem = c.in_ok-from_problem_under.field-0 }))
-    c.requires.declared (c.in_ok-strands_under.ensures ∙ ap (λ ss. map (declared_under (as_substitution c.args.s.now)) (map strand_view ss)) c.deref.ensures.value)
-    c.in_ok-copy-2.ensures c.in_ok-assumptions_under.ensures c.in_ok-from_problem_under.ensures)
-    c.requires.declared
+    let s = as_substitution c.args.s.now in
+    let k = c.args.k.now in
+    let same =
+    made_under s k c.in_ok-variables.variables c.in_ok-strands.strands.items c.in_ok-order.order c.in_ok-assumptions.assumptions c.in_ok-from_problem.from_problem (sound_prefixes (skeleton_view k) c.is_sound.ensures)
+    (c.in_ok-strands.ensures ∙ ap (λ (ss : List StrandData). map (declared_under s) (map strand_view ss)) c.strands.ensures)
+    (c.in_ok-order.ensures ∙ c.order.ensures)
+    (c.in_ok-assumptions.ensures ∙ ap (assumptions_under s) c.assumptions.ensures)
+    (c.in_ok-from_problem.ensures ∙ ap (from_problem_under s) c.from_problem.ensures) in
+    under_declared s (skeleton_view k) (skeleton_view c.new.result) (subst (λ (l : SkeletonData). SaysTheSame (skeleton_under s (skeleton_view k)) (skeleton_view l)) (sym c.new.ensures) same) (sound_prefixes (skeleton_view k) c.is_sound.ensures)
+
+pub returns-clause-variables : goal.returns-clause-variables
+returns-clause-variables c = ap (λ (l : SkeletonData). l.variables) c.new.ensures ∙ (c.in_ok-variables.ensures ∙ c.variables.ensures)

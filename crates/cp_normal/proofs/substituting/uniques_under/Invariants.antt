@@ -1,8 +1,7 @@
 use Rattle.std.proofs.Common.{◌≡◌, ◌++◌, drop, map}
 use Rattle.cp_completeness.specs.Normal.{unique_under}
-use Rattle.cp_skel.specs.View.{unique_view}
 use Rattle.cp_unify.specs.Bindings.{as_substitution}
 use Rattle.cp_normal.proofs.substituting.uniques_under.Given as goal
 
 abbrev pub invariant-loop-unique : goal.invariant-loop-unique
-invariant-loop-unique l = map unique_view l.changed.items ++ map (unique_under (as_substitution l.s)) (map unique_view (drop l.unique-index l.uniques)) ≡ map (unique_under (as_substitution l.s)) (map unique_view l.uniques)
+invariant-loop-unique l = l.changed.items ++ map (unique_under (as_substitution l.s)) (drop l.unique-index l.uniques) ≡ map (unique_under (as_substitution l.s)) l.uniques

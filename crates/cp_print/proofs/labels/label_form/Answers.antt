@@ -4,7 +4,7 @@ use Rattle.cp_language.specs.Report.{occurring}
 use Rattle.cp_language.specs.Names.{label_names}
 use Rattle.cp_sexpr.specs.View.{view}
 use Rattle.cp_skel.specs.View.{declaration_view}
-use Rattle.cp_skel.specs.Trees.{label_view}
+use Rattle.cp_skel.specs.Trees.{variables_view, label_view}
 use Rattle.cp_print.specs.Marks.{marked, label_names_by, vars_by}
 use Rattle.cp_print.specs.Named.{variable_view}
 use Rattle.cp_print.proofs.Covering.{length_map}
@@ -24,9 +24,10 @@ returns c =
     let fs = map view c.in_ok-vars.vars.items in
     let marks-are : marks ≡ marked xs (replicate count false) =
     c.in_ok-marks.ensures ∙ ap (λ ys. marked (map variable_view ys) (replicate count false)) c.deref.ensures.value ∙ ap (λ ys. marked ys (replicate count false)) c.in_ok-occurring.ensures in
-    let declared : map declaration_view c.deref-3.result.now ≡ ds = ap (map declaration_view) c.deref-3.ensures.value ∙ c.in_ok-variables.ensures in
+    let table : map declaration_view c.in_ok-variables.variables.items ≡ ds = c.in_ok-variables.ensures ∙ ap variables_view c.variables.ensures in
+    let declared : map declaration_view c.deref-3.result.now ≡ ds = ap (map declaration_view) c.deref-3.ensures.value ∙ table in
     let counted : length ds ≡ count = ap length (sym declared) ∙ length_map declaration_view c.deref-3.result.now ∙ c.deref-3.ensures.len ∙ sym c.len.ensures in
-    let declared-again : map declaration_view c.deref-6.result.now ≡ ds = ap (map declaration_view) c.deref-6.ensures.value ∙ c.in_ok-variables.ensures in
+    let declared-again : map declaration_view c.deref-6.result.now ≡ ds = ap (map declaration_view) c.deref-6.ensures.value ∙ table in
     let by-marks : names ≡ label_names_by of_problem marks ds = c.in_ok-names.ensures ∙ ap₂ (λ (ms : List Bool) (es : List Declaration). label_names_by of_problem ms es) c.deref-2.ensures.value declared in
     let named : names ≡ label_names of_problem xs ds = label_named of_problem names xs count marks ds by-marks marks-are counted in
     let lent : c.deref-4.result.now ≡ label_names of_problem xs ds = c.deref-4.ensures.value ∙ named in

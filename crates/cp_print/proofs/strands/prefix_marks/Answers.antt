@@ -1,7 +1,7 @@
 use Rattle.std.proofs.Common.{◌++◌, map, length, take, sym, ap, ◌∙◌}
 use Rattle.std.proofs.lemmas.List.{length-map}
 use Rattle.cp_model.specs.Strand.{variables_of_trace, variables_of_prefix}
-use Rattle.cp_skel.specs.View.{declaration_view, event_view, role_view}
+use Rattle.cp_skel.specs.View.{declaration_view, event_view}
 use Rattle.cp_print.specs.Named.{variable_view}
 use Rattle.cp_print.proofs.BPrefix.{prefix_marked}
 use Rattle.cp_print.proofs.strands.prefix_marks.Goals as goal
@@ -9,10 +9,10 @@ use Rattle.cp_print.proofs.strands.prefix_marks.Goals as goal
 pub returns : goal.returns
 returns c =
     let role = c.args.role.now in
-    let prefix = variables_of_prefix (role_view role) c.args.height in
+    let prefix = variables_of_prefix role c.args.height in
     let met = c.in_ok-add_events.ensures in
     let from_none = ap (λ vs. map variable_view vs ++ variables_of_trace (map event_view c.prefix_of.result.now)) c.new-variables.ensures.items in
-    let of_prefix = ap variables_of_trace (c.prefix_of.ensures ∙ ap (λ es. take c.args.height (map event_view es)) c.deref.ensures.value) in
-    prefix_marked c.marks_among.result (map declaration_view role.variables.items) _ prefix _ _ c.marks_among.ensures (ap (map declaration_view) c.deref-2.ensures.value)
-    (ap (map variable_view) c.deref-3.ensures.value ∙ met ∙ from_none ∙ of_prefix)
-    (ap length c.deref-2.ensures.value ∙ sym (length-map role.variables.items declaration_view))
+    let of_prefix = ap variables_of_trace (c.prefix_of.ensures ∙ ap (take c.args.height) c.trace.ensures) in
+    prefix_marked c.marks_among.result role.variables _ prefix _ _ c.marks_among.ensures c.variables.ensures
+    (ap (map variable_view) c.deref.ensures.value ∙ met ∙ from_none ∙ of_prefix)
+    (sym (length-map c.variables.result.now declaration_view) ∙ ap length c.variables.ensures)

@@ -1,27 +1,14 @@
 use Rattle.std.proofs.Common.{[], map, sym, ap, ◌∙◌}
 use Rattle.cp_skel.specs.Trees.{variables_view}
-use Rattle.cp_skel.specs.View.{strand_view, protocol_view, skeleton_view}
+use Rattle.cp_skel.specs.View.{strand_view, skeleton_view}
 use Rattle.cp_normal.proofs.Following.{empty_list}
-use Rattle.cp_roots.proofs.AllRoots.{in_order, collapse_in_order, all_exact, all_sound, all_have}
+use Rattle.cp_roots.proofs.AllRoots.{all_exact, all_sound, all_have}
 use Rattle.cp_roots.proofs.FewInstances.{nothing_to_identify}
-use Rattle.cp_roots.proofs.RootsSoFar.{none_done, one_done, all_done, collapse_in, no_others}
+use Rattle.cp_roots.proofs.RootsSoFar.{none_done, one_done, all_done, no_others}
 use Rattle.cp_roots.proofs.rooting.roots.Goals as goal
-
-pub first_roots-requires-clause-order : goal.first_roots-requires-clause-order
-first_roots-requires-clause-order c = in_order (protocol_view c.args.protocol.now) (skeleton_view c.args.problem.now) c.requires.skeleton
 
 pub loop-collapse-init : goal.loop-collapse-init
 loop-collapse-init c = none_done c.reverse.new.self.items c.in_ok-roots.roots.items
-
-pub put_collapse-requires-clause-order : goal.put_collapse-requires-clause-order
-put_collapse-requires-clause-order c =
-    collapse_in_order (protocol_view c.args.protocol.now) (variables_view c.args.problem.now.variables) (skeleton_view c.args.problem.now) c.requires.skeleton c.requires.own c.in_ok-rest.rest.items c.in_ok-rest.ensures.exact c.in-Some.collapse
-    (collapse_in c.reverse.new.self.items c.loop-collapse.rest.items c.pop.new.self.items c.in_ok-roots.roots.items c.loop-collapse.roots.items c.in-Some.collapse c.loop-collapse.invariant c.in-Some.ensures.items c.in_ok-rest.rest.items c.reverse.ensures.items)
-
-pub put_collapse-requires-clause-declared : goal.put_collapse-requires-clause-declared
-put_collapse-requires-clause-declared c =
-    c.in_ok-rest.ensures.declared c.in-Some.collapse
-    (collapse_in c.reverse.new.self.items c.loop-collapse.rest.items c.pop.new.self.items c.in_ok-roots.roots.items c.loop-collapse.roots.items c.in-Some.collapse c.loop-collapse.invariant c.in-Some.ensures.items c.in_ok-rest.rest.items c.reverse.ensures.items)
 
 pub loop-collapse-preserved : goal.loop-collapse-preserved
 loop-collapse-preserved c =
@@ -30,33 +17,33 @@ loop-collapse-preserved c =
 
 pub returns-then-not-has_two_instances-clause-exact : goal.returns-then-not-has_two_instances-clause-exact
 returns-then-not-has_two_instances-clause-exact c =
-    all_exact (protocol_view c.args.protocol.now) (variables_view c.args.problem.now.variables) (skeleton_view c.args.problem.now) c.requires.skeleton c.requires.own []
-    (nothing_to_identify (skeleton_view c.args.problem.now) c.deref.result.now (ap (map strand_view) (sym c.deref.ensures.value)) (sym c.has_two_instances.ensures ∙ c.if-not-has_two_instances.true))
+    all_exact c.args.protocol.now (variables_view c.args.problem.now.variables) (skeleton_view c.args.problem.now) c.requires.skeleton c.requires.own []
+    (nothing_to_identify (skeleton_view c.args.problem.now) c.strands.result.now (ap (map strand_view) (sym c.strands.ensures)) (sym c.has_two_instances.ensures ∙ c.if-not-has_two_instances.true))
     c.args.problem.now.variables c.in_ok-roots.roots.items c.in_ok-roots.roots.items c.in_ok-roots.ensures (no_others c.in_ok-roots.roots.items)
 
 pub returns-clause-exact : goal.returns-clause-exact
 returns-clause-exact c =
-    all_exact (protocol_view c.args.protocol.now) (variables_view c.args.problem.now.variables) (skeleton_view c.args.problem.now) c.requires.skeleton c.requires.own c.in_ok-rest.rest.items c.in_ok-rest.ensures.exact
+    all_exact c.args.protocol.now (variables_view c.args.problem.now.variables) (skeleton_view c.args.problem.now) c.requires.skeleton c.requires.own c.in_ok-rest.rest.items c.in_ok-rest.ensures.exact
     c.args.problem.now.variables c.in_ok-roots.roots.items c.loop-collapse.roots.items c.in_ok-roots.ensures
     (all_done c.in_ok-rest.rest.items c.reverse.new.self.items c.loop-collapse.rest.items c.in_ok-roots.roots.items c.loop-collapse.roots.items c.reverse.ensures.items
     (empty_list c.loop-collapse.rest.items (sym c.loop-collapse.rest.ok.0 ∙ c.in_default.ensures.cases.0)) c.loop-collapse.invariant)
 
 pub returns-then-not-has_two_instances-clause-sound : goal.returns-then-not-has_two_instances-clause-sound
 returns-then-not-has_two_instances-clause-sound c =
-    all_sound (protocol_view c.args.protocol.now) (variables_view c.args.problem.now.variables) (skeleton_view c.args.problem.now) c.requires.skeleton c.requires.own []
-    (nothing_to_identify (skeleton_view c.args.problem.now) c.deref.result.now (ap (map strand_view) (sym c.deref.ensures.value)) (sym c.has_two_instances.ensures ∙ c.if-not-has_two_instances.true))
+    all_sound c.args.protocol.now (variables_view c.args.problem.now.variables) (skeleton_view c.args.problem.now) c.requires.skeleton c.requires.own []
+    (nothing_to_identify (skeleton_view c.args.problem.now) c.strands.result.now (ap (map strand_view) (sym c.strands.ensures)) (sym c.has_two_instances.ensures ∙ c.if-not-has_two_instances.true))
     c.args.problem.now.variables c.in_ok-roots.roots.items c.in_ok-roots.roots.items c.in_ok-roots.ensures (no_others c.in_ok-roots.roots.items)
 
 pub returns-clause-sound : goal.returns-clause-sound
 returns-clause-sound c =
-    all_sound (protocol_view c.args.protocol.now) (variables_view c.args.problem.now.variables) (skeleton_view c.args.problem.now) c.requires.skeleton c.requires.own c.in_ok-rest.rest.items c.in_ok-rest.ensures.exact
+    all_sound c.args.protocol.now (variables_view c.args.problem.now.variables) (skeleton_view c.args.problem.now) c.requires.skeleton c.requires.own c.in_ok-rest.rest.items c.in_ok-rest.ensures.exact
     c.args.problem.now.variables c.in_ok-roots.roots.items c.loop-collapse.roots.items c.in_ok-roots.ensures
     (all_done c.in_ok-rest.rest.items c.reverse.new.self.items c.loop-collapse.rest.items c.in_ok-roots.roots.items c.loop-collapse.roots.items c.reverse.ensures.items
     (empty_list c.loop-collapse.rest.items (sym c.loop-collapse.rest.ok.0 ∙ c.in_default.ensures.cases.0)) c.loop-collapse.invariant)
 
 pub returns-clause-variables : goal.returns-clause-variables
 returns-clause-variables c =
-    all_have (protocol_view c.args.protocol.now) (variables_view c.args.problem.now.variables) (skeleton_view c.args.problem.now) c.requires.skeleton c.requires.own c.in_ok-rest.rest.items c.in_ok-rest.ensures.exact
+    all_have c.args.protocol.now (variables_view c.args.problem.now.variables) (skeleton_view c.args.problem.now) c.requires.skeleton c.requires.own c.in_ok-rest.rest.items c.in_ok-rest.ensures.exact
     c.args.problem.now.variables c.in_ok-roots.roots.items c.loop-collapse.roots.items c.in_ok-roots.ensures
     (all_done c.in_ok-rest.rest.items c.reverse.new.self.items c.loop-collapse.rest.items c.in_ok-roots.roots.items c.loop-collapse.roots.items c.reverse.ensures.items
     (empty_list c.loop-collapse.rest.items (sym c.loop-collapse.rest.ok.0 ∙ c.in_default.ensures.cases.0)) c.loop-collapse.invariant)

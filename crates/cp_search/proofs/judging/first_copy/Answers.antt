@@ -5,10 +5,6 @@ use Rattle.std.proofs.Common.{map}
 use Rattle.cp_search.proofs.Judgings.{none_next, copy_here, no_copy_here, listed_here, kept_apart, copy_below}
 use Rattle.cp_search.proofs.judging.first_copy.Goals as goal
 
-pub isomorphic-requires-clause-ordered : goal.isomorphic-requires-clause-ordered
-isomorphic-requires-clause-ordered c =
-    c.requires.others_ordered c.index-judged-number.result (listed_here c.args.judged.now c.loop-number.number c.index-judged-number.result c.loop-number-test.true c.index-judged-number.is (skeleton_view c.args.skeleton.now))
-
 pub loop-number-preserved-then-not-may_embed : goal.loop-number-preserved-then-not-may_embed
 loop-number-preserved-then-not-may_embed c =
     let k = skeleton_view c.args.skeleton.now in

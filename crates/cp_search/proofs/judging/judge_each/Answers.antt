@@ -1,6 +1,6 @@
 use Rattle.std.proofs.Common.{sym, ◌∙◌}
 use Rattle.cp_normal.proofs.Following.{empty_list}
-use Rattle.cp_search.proofs.Judgings.{none_judged, next_in, before_ordered, before_fingerprints, next_judged, all_judged, root_ordered}
+use Rattle.cp_search.proofs.Judgings.{none_judged, before_fingerprints, next_judged, all_judged}
 use Rattle.cp_search.proofs.judging.judge_each.Goals as goal
 
 pub loop-root-init : goal.loop-root-init
@@ -8,8 +8,6 @@ loop-root-init c = none_judged c.args.roots.items _ _ c.reverse.ensures.items c.
 
 pub judge-requires : goal.judge-requires
 judge-requires c = record {
-  ordered = root_ordered c.args.roots.items c.in-Some.root c.requires.ordered (next_in c.args.roots.items _ _ _ c.in-Some.root c.loop-root.invariant c.in-Some.ensures.items);
-  others_ordered = before_ordered c.args.roots.items _ _ _ c.in-Some.root c.loop-root.invariant c.in-Some.ensures.items c.requires.ordered c.deref.result.now c.deref.ensures.value;
   fingerprints = before_fingerprints c.args.roots.items _ _ _ c.in-Some.root c.loop-root.invariant c.in-Some.ensures.items c.deref.result.now c.deref.ensures.value;
 }
 

@@ -4,12 +4,11 @@ use Rattle.cp_skel.specs.declared.tree.Mark.{Mark}
 use Rattle.cp_search.specs.Judging.{AreJudged}
 use Rattle.cp_search.specs.Marking.{AreMarked}
 use Rattle.cp_search.specs.declared.judging.Judged.{Judged}
-use Rattle.cp_search.proofs.Labels.{ordered_judged, labels_of}
+use Rattle.cp_search.proofs.Labels.{labels_of}
 use Rattle.cp_search.proofs.labelling.tree_of.Goals as goal
 
 pub marks-requires : goal.marks-requires
 marks-requires c = record {
-  ordered = ordered_judged c.in_ok-judged.judged.items c.args.roots.items c.deref.result.now c.in_ok-judged.ensures.roots c.deref.ensures.value c.requires.ordered;
   judged = subst AreJudged (sym c.deref.ensures.value) c.in_ok-judged.ensures.judged;
 }
 

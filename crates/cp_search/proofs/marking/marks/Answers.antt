@@ -1,11 +1,8 @@
 use Rattle.std.proofs.Common.{map, sym, ap, subst, ◌<◌, ◌∙◌}
 use Rattle.cp_skel.specs.View.{skeleton_view}
 use Rattle.cp_skel.specs.Trees.{limits_view}
-use Rattle.cp_search.proofs.Marked.{candidates_ordered, next_other, next_candidate, place_within, number_within}
+use Rattle.cp_search.proofs.Marked.{next_other, next_candidate, place_within, number_within}
 use Rattle.cp_search.proofs.marking.marks.Goals as goal
-
-pub shapes-requires : goal.shapes-requires
-shapes-requires c = record { ordered = candidates_ordered c.args.judged.now _ (ap (map (λ k. skeleton_view k.now)) c.deref.ensures.value ∙ c.in_ok-skeletons.ensures) c.requires.ordered }
 
 pub loop-each-preserved-then-not-is_candidate : goal.loop-each-preserved-then-not-is_candidate
 loop-each-preserved-then-not-is_candidate c =

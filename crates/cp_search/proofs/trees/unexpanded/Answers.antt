@@ -1,21 +1,16 @@
 use Rattle.std.proofs.Common.{map}
 use Rattle.cp_model.specs.Tree.{IsTrueOf}
-use Rattle.cp_skel.specs.View.{protocol_view, skeleton_view}
+use Rattle.cp_skel.specs.View.{skeleton_view}
 use Rattle.cp_skel.specs.Trees.{variables_view, limits_view, tree_view}
 use Rattle.cp_roots.specs.RootView.{root_view}
 use Rattle.cp_search.specs.Unexpanded.{HasOutcome, IsUnexpanded}
 use Rattle.cp_search.proofs.RootTrees.{true_of}
-use Rattle.cp_search.proofs.Unexpanding.{are_ordered, same_declarations, from_both}
+use Rattle.cp_search.proofs.Unexpanding.{same_declarations, from_both}
 use Rattle.cp_search.proofs.trees.unexpanded.Goals as goal
-
-pub tree_of-requires : goal.tree_of-requires
-tree_of-requires c = record {
-  ordered = are_ordered (protocol_view c.args.protocol.now) (skeleton_view c.args.problem.now) (map root_view c.in_ok-roots.roots.items) c.in_ok-roots.ensures.sound;
-}
 
 pub returns-clause-true_tree : goal.returns-clause-true_tree
 returns-clause-true_tree c =
-    let protocol = protocol_view c.args.protocol.now in
+    let protocol = c.args.protocol.now in
     let k = skeleton_view c.args.problem.now in
     let variables = variables_view c.args.problem.now.variables in
     let roots = map root_view c.in_ok-roots.roots.items in

@@ -1,23 +1,7 @@
 use Rattle.cp_skel.specs.View.{skeleton_view}
 use Rattle.cp_skel.proofs.Items.{item-there}
-use Rattle.cp_shapes.proofs.Telling.{ordered_item, does_not_embed, embeds_here, comes_first, comes_later}
+use Rattle.cp_shapes.proofs.Telling.{does_not_embed, embeds_here, comes_first, comes_later}
 use Rattle.cp_shapes.proofs.rows.is_instance.Goals as goal
-
-pub embed-requires-clause-ordered : goal.embed-requires-clause-ordered
-embed-requires-clause-ordered c =
-    ordered_item _ c.args.shape _ (item-there (λ k. skeleton_view k.now) c.args.candidates.now c.args.shape c.index-candidates-shape.result c.requires.shape_within c.index-candidates-shape.is) c.requires.ordered
-
-pub embed-requires-clause-other_ordered : goal.embed-requires-clause-other_ordered
-embed-requires-clause-other_ordered c =
-    ordered_item _ c.args.instance _ (item-there (λ k. skeleton_view k.now) c.args.candidates.now c.args.instance c.index-candidates-instance.result c.requires.instance_within c.index-candidates-instance.is) c.requires.ordered
-
-pub embed-requires-2-clause-ordered : goal.embed-requires-2-clause-ordered
-embed-requires-2-clause-ordered c =
-    ordered_item _ c.args.instance _ (item-there (λ k. skeleton_view k.now) c.args.candidates.now c.args.instance c.index-candidates-instance-2.result c.requires.instance_within c.index-candidates-instance-2.is) c.requires.ordered
-
-pub embed-requires-2-clause-other_ordered : goal.embed-requires-2-clause-other_ordered
-embed-requires-2-clause-other_ordered c =
-    ordered_item _ c.args.shape _ (item-there (λ k. skeleton_view k.now) c.args.candidates.now c.args.shape c.index-candidates-shape-2.result c.requires.shape_within c.index-candidates-shape-2.is) c.requires.ordered
 
 pub returns-then-is_none : goal.returns-then-is_none
 returns-then-is_none c =

@@ -1,12 +1,18 @@
-use Rattle.std.proofs.Common.{map, ap, subst}
-use Rattle.cp_skel.specs.View.{strand_view, unique_view}
-use Rattle.cp_skel.specs.Deleting.{as_it_is, LeavesOut, IsOriginOn, unique_renumbered}
+use Rattle.std.proofs.Common.{◌≡◌, map, sym, ap, ◌∙◌, subst}
+use Rattle.cp_skel.specs.View.{strand_view, skeleton_view}
+use Rattle.cp_skel.specs.Deleting.{as_it_is, LeavesOut, IsOriginOn, unique_renumbered, ForgetsAssumptions}
 use Rattle.cp_skel.proofs.GivenElsewhere.{kept_of}
 use Rattle.cp_skel.proofs.forgetting.assumptions_without.Goals as goal
 
 pub returns : goal.returns
-returns c = record {
-  non = kept_of (λ role. role.non_originating) c.args.gone as_it_is _ _ _ _ _ _ _ (ap (map strand_view) c.deref.ensures.value) c.deref-2.ensures.value c.deref-3.ensures.value c.in_ok-non_originating.ensures;
-  penetrator_non = kept_of (λ role. role.penetrator_non_originating) c.args.gone as_it_is _ _ _ _ _ _ _ (ap (map strand_view) c.deref-4.ensures.value) c.deref-5.ensures.value c.deref-6.ensures.value c.in_ok-penetrator_non_originating.ensures;
-  unique = subst (λ us. LeavesOut (IsOriginOn c.args.gone) (unique_renumbered c.args.gone) (map unique_view us) (map unique_view c.in_ok-uniquely_originating.uniquely_originating.items)) c.deref-7.ensures.value c.in_ok-uniquely_originating.ensures;
-}
+returns c =
+    let own : c.assumptions-own.result.now ≡ c.args.k.now.from_problem.assumptions = c.assumptions-own.ensures ∙ ap (λ f. f.assumptions) c.from_problem.ensures in
+    subst (ForgetsAssumptions c.args.gone (skeleton_view c.args.k.now)) (sym c.new.ensures) (record {
+      non = kept_of (λ role. role.non_originating) c.args.gone as_it_is _ _ _ _ _ _ _ (ap (map strand_view) c.strands.ensures)
+          (c.non_originating.ensures ∙ ap (λ a. a.non_originating) c.assumptions-had.ensures) (c.non_originating-2.ensures ∙ ap (λ a. a.non_originating) own) c.in_ok-non_originating.ensures;
+      penetrator_non = kept_of (λ role. role.penetrator_non_originating) c.args.gone as_it_is _ _ _ _ _ _ _ (ap (map strand_view) c.strands-2.ensures)
+          (c.penetrator_non_originating.ensures ∙ ap (λ a. a.penetrator_non_originating) c.assumptions-had.ensures)
+          (c.penetrator_non_originating-2.ensures ∙ ap (λ a. a.penetrator_non_originating) own) c.in_ok-penetrator_non_originating.ensures;
+      unique = subst (λ us. LeavesOut (IsOriginOn c.args.gone) (unique_renumbered c.args.gone) us c.in_ok-uniquely_originating.uniquely_originating.items)
+          (c.uniquely_originating.ensures ∙ ap (λ a. a.uniquely_originating) c.assumptions-had.ensures) c.in_ok-uniquely_originating.ensures;
+    })

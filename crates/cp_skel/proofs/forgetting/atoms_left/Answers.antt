@@ -1,8 +1,8 @@
-use Rattle.std.proofs.Common.{◌≡◌, List, [], ◌∷◌, map, refl, ap, subst, sym}
+use Rattle.std.proofs.Common.{[], subst, sym}
 use Rattle.cp_term.proofs.CarriedTerms.{not_both}
 use Rattle.cp_skel.specs.Kinds.{IsInFirstAlone}
 use Rattle.cp_skel.specs.Deleting.{LeavesOut, as_it_is, all_left}
-use Rattle.cp_skel.proofs.Leaving.{next_gone, next_left, all_taken}
+use Rattle.cp_skel.proofs.Leaving.{next_gone, next_left, all_taken, as_they_are}
 use Rattle.cp_skel.proofs.forgetting.atoms_left.Goals as goal
 
 pub loop-atom-init : goal.loop-atom-init
@@ -18,11 +18,7 @@ loop-atom-preserved c =
     next_left as_it_is (IsInFirstAlone c.args.gave.now c.args.elsewhere.now c.args.own.now) as_it_is c.args.atoms.now _ _ c.atom-item.result c.atom-item.result _ _
     c.loop-atom-test.true c.atom-item.is (λ g. not_both c.if-is_in_first_alone.false (c.is_in_first_alone.ensures.1 g)) c.in_ok-copy.ensures c.in_ok-push.ensures.items c.loop-atom.invariant
 
-map_as_it_is : {A : Type 0} (xs : List A) → map as_it_is xs ≡ xs
-map_as_it_is [] = refl
-map_as_it_is (x ∷ xs) = ap (λ ys. x ∷ ys) (map_as_it_is xs)
-
 pub returns : goal.returns
 returns c =
-    subst (λ xs. LeavesOut (IsInFirstAlone c.args.gave.now c.args.elsewhere.now c.args.own.now) as_it_is xs c.loop-atom.left.items) (map_as_it_is c.args.atoms.now)
+    subst (λ xs. LeavesOut (IsInFirstAlone c.args.gave.now c.args.elsewhere.now c.args.own.now) as_it_is xs c.loop-atom.left.items) (as_they_are c.args.atoms.now)
     (all_taken as_it_is (IsInFirstAlone c.args.gave.now c.args.elsewhere.now c.args.own.now) as_it_is c.args.atoms.now _ _ c.loop-atom-test.false c.loop-atom.invariant)

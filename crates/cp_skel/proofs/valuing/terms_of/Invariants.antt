@@ -9,5 +9,5 @@ use Rattle.cp_skel.proofs.valuing.terms_of.Given as goal
 abbrev pub invariant-loop-number : goal.invariant-loop-number
 invariant-loop-number l =
     let wanted = is_added (variables_of_trace (map event_view l.earlier)) (variables_of_trace (map event_view l.prefix)) in
-    (l.terms.items ++ valued wanted l.old l.number (map declaration_view (drop l.number l.role.variables.items)) (drop l.next l.values)
-    ≡ valued wanted l.old 0 (map declaration_view l.role.variables.items) l.values) × (l.next ≤ l.number)
+    (l.terms.items ++ valued wanted l.old l.number (map declaration_view (drop l.number l.declaration-items)) (drop l.next l.values)
+    ≡ valued wanted l.old 0 (map declaration_view l.declaration-items) l.values) × (l.next ≤ l.number)

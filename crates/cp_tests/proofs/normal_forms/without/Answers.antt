@@ -1,6 +1,6 @@
-use Rattle.cp_skel.specs.View.{skeleton_view}
-use Rattle.cp_tests.proofs.AnyProblem.{ordered_over}
+use Rattle.std.proofs.Common.{subst}
+use Rattle.cp_model.specs.Lists.{IsIn}
 use Rattle.cp_tests.proofs.normal_forms.without.Goals as goal
 
-pub delete_strand-requires-clause-ordered : goal.delete_strand-requires-clause-ordered
-delete_strand-requires-clause-ordered c = ordered_over (skeleton_view c.args.k) _ c.requires
+pub delete_strand-requires-clause-no_image : goal.delete_strand-requires-clause-no_image
+delete_strand-requires-clause-no_image c = λ m. elim (subst (IsIn c.args.strand) c.in_ok-left.ensures.images m) [ ]

@@ -1,17 +1,34 @@
-use Rattle.std.proofs.Common.{[], map, sym, ap, ◌∙◌}
-use Rattle.cp_skel.specs.View.{role_view, strand_view, assumptions_view, skeleton_view}
+use Rattle.std.proofs.Common.{◌++◌, ◌∷◌, [], map, sym, ap, ◌∙◌, subst}
+use Rattle.cp_model.specs.Skeleton.{Skeleton}
+use Rattle.cp_skel.specs.Changing.{AddsStrand}
+use Rattle.cp_skel.specs.Parts.{skeleton_of_parts}
+use Rattle.cp_skel.specs.View.{strand_view, skeleton_view}
 use Rattle.cp_skel.proofs.Gathering.{views_push}
 use Rattle.cp_skel.proofs.Items.{map-length}
 use Rattle.cp_skel.proofs.Changed.{strand-added}
+use Rattle.cp_skel.proofs.SoundSkeletons.{strand_sound}
 use Rattle.cp_skel.proofs.skeleton.Skeleton.add_strand.Goals as goal
 
-pub returns-clause-changed : goal.returns-clause-changed
-returns-clause-changed c =
+abbrev before : goal.After-drop-self-inside-3 → Skeleton
+before c = skeleton_view (skeleton_of_parts c.self.inside)
+
+abbrev behind : goal.After-drop-self-inside-3 → Skeleton
+behind c = record { strands = map strand_view c.push.new.self.items; pairs = (before c).pairs; assumptions = c.append.new.self; from_problem = (before c).from_problem }
+
+adds : (c : goal.After-drop-self-inside-3) → AddsStrand c.args.role.now.value c.args.height c.args.values.now (before c) (behind c)
+adds c =
     let i = c.in_ok-instance.instance in
-    let before = c.args.self.now.strands in
-    strand-added (skeleton_view c.args.self.now) (role_view c.args.role.now.value) (role_view i.role.value) c.args.height i.height c.args.values.now i.values.items
-    (assumptions_view c.in_ok-more.more) (assumptions_view c.reserve.new.self) (assumptions_view c.join.new.self)
-    c.in_ok-instance.ensures.role c.in_ok-instance.ensures.height c.in_ok-reserve.ensures.same c.join.ensures
+    let strands = c.self.inside.strands in
+    strand-added (before c) c.args.role.now.value i.role c.args.height i.height c.args.values.now i.values
+    c.in_ok-more.more c.in_ok-assumptions.assumptions c.append.new.self
+    c.in_ok-instance.ensures.role c.in_ok-instance.ensures.height c.in_ok-assumptions.ensures c.in_ok-append.ensures.joined
     (map strand_view c.push.new.self.items) [] c.len-number.result c.in_ok-instance.ensures.terms c.requires.values
-    (ap (map strand_view) c.in_ok-push.ensures.items ∙ views_push strand_view before.items _)
-    (c.len-number.ensures ∙ before.ok.0 ∙ sym (map-length strand_view before.items)) c.in_ok-more.ensures
+    (ap (map strand_view) c.in_ok-push.ensures.items ∙ views_push strand_view strands.items c.in_ok-strand.strand
+    ∙ ap (λ s. map strand_view strands.items ++ strand_view s ∷ []) c.in_ok-strand.ensures)
+    (c.len-number.ensures ∙ strands.ok.0 ∙ sym (map-length strand_view strands.items)) c.in_ok-more.ensures
+
+pub invariant_of-self-2 : goal.invariant_of-self-2
+invariant_of-self-2 c = strand_sound c.args.role.now.value c.args.height c.args.values.now (before c) (behind c) c.requires.height c.requires.declared c.self.invariant (adds c)
+
+pub returns-clause-changed : goal.returns-clause-changed
+returns-clause-changed c = subst (λ d. AddsStrand c.args.role.now.value c.args.height c.args.values.now (skeleton_view d) (behind c)) c.self.view_is (adds c)

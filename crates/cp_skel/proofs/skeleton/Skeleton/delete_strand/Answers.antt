@@ -1,25 +1,47 @@
-use Rattle.std.proofs.Common.{map, ap, sym, ◌∙◌, subst}
-use Rattle.cp_skel.specs.View.{strand_view, pair_view, skeleton_view}
+use Rattle.std.proofs.Common.{◌≡◌, map, ap, sym, ◌∙◌, subst}
+use Rattle.std.specs.List.{remove}
+use Rattle.cp_model.specs.Skeleton.{Skeleton}
 use Rattle.cp_skel.specs.Bridging.{IsWithoutStrand}
+use Rattle.cp_skel.specs.Deleting.{ForgetsAssumptions, KeepsOrderOfOthers}
+use Rattle.cp_skel.specs.Ordered.{IsOrdered}
+use Rattle.cp_skel.specs.Parts.{skeleton_of_parts}
+use Rattle.cp_skel.specs.View.{strand_view, pair_view, skeleton_view}
 use Rattle.cp_skel.proofs.Numbering.{removed_map}
 use Rattle.cp_skel.proofs.OrderWithout.{keeps_order_anew, is_ordered_anew}
+use Rattle.cp_skel.proofs.SoundSkeletons.{sound_ordered, deleted_sound}
 use Rattle.cp_skel.proofs.skeleton.Skeleton.delete_strand.Goals as goal
 
+abbrev before : goal.After-drop-self-inside-11 → Skeleton
+before c = skeleton_view (skeleton_of_parts c.self.inside)
+
+abbrev left : goal.After-drop-self-inside-11 → Skeleton
+left c = record {
+  strands = map strand_view c.remove.new.self.items;
+  pairs = c.close.new.self;
+  assumptions = c.in_ok-assumptions.assumptions;
+  from_problem = c.in_ok-from_problem.from_problem;
+}
+
+strands_left : (c : goal.After-drop-self-inside-11) → (left c).strands ≡ remove (before c).strands c.args.strand
+strands_left c = ap (map strand_view) c.remove.ensures.items ∙ removed_map strand_view c.self.inside.strands.items c.args.strand
+
+without : (c : goal.After-drop-self-inside-11) → IsWithoutStrand c.args.strand (before c).pairs c.of-order.result
+without c =
+    subst (IsWithoutStrand c.args.strand (before c).pairs) (sym c.of-order.ensures)
+    (subst (λ ps. IsWithoutStrand c.args.strand ps (map pair_view c.in_ok-pairs.pairs.items)) c.pairs.ensures c.in_ok-pairs.ensures)
+
+ordered : (c : goal.After-drop-self-inside-11) → IsOrdered (left c)
+ordered c = is_ordered_anew (before c) (left c) c.args.strand c.of-order.result (strands_left c) (without c) c.in_ok-close.ensures.keeps (sound_ordered (before c) c.self.invariant)
+
+pub invariant_of-self : goal.invariant_of-self
+invariant_of-self c =
+    deleted_sound c.args.strand (before c) (left c) c.self.invariant (strands_left c)
+    (subst (λ d. ForgetsAssumptions c.args.strand (skeleton_view d) (left c).assumptions) (sym c.self.view_is) c.in_ok-assumptions.ensures) (ordered c)
+
 pub returns-clause-strands : goal.returns-clause-strands
-returns-clause-strands c = ap (map strand_view) c.remove.ensures.items ∙ removed_map strand_view c.args.self.now.strands.items c.args.strand
+returns-clause-strands c = subst (λ d. (left c).strands ≡ remove (skeleton_view d).strands c.args.strand) c.self.view_is (strands_left c)
 
 pub returns-clause-order : goal.returns-clause-order
 returns-clause-order c =
-    keeps_order_anew (skeleton_view c.args.self.now) _ c.args.strand c.of-order.result
-    (ap (map strand_view) c.remove.ensures.items ∙ removed_map strand_view c.args.self.now.strands.items c.args.strand)
-    (subst (IsWithoutStrand c.args.strand c.args.self.now.order) (sym c.of-order.ensures)
-    (subst (λ ps. IsWithoutStrand c.args.strand ps (map pair_view c.in_ok-pairs.pairs.items)) c.pairs.ensures c.in_ok-pairs.ensures))
-    c.in_ok-close.ensures.keeps c.requires.ordered
-
-pub returns-clause-is_ordered : goal.returns-clause-is_ordered
-returns-clause-is_ordered c =
-    is_ordered_anew (skeleton_view c.args.self.now) _ c.args.strand c.of-order.result
-    (ap (map strand_view) c.remove.ensures.items ∙ removed_map strand_view c.args.self.now.strands.items c.args.strand)
-    (subst (IsWithoutStrand c.args.strand c.args.self.now.order) (sym c.of-order.ensures)
-    (subst (λ ps. IsWithoutStrand c.args.strand ps (map pair_view c.in_ok-pairs.pairs.items)) c.pairs.ensures c.in_ok-pairs.ensures))
-    c.in_ok-close.ensures.keeps c.requires.ordered
+    subst (λ d. KeepsOrderOfOthers c.args.strand (skeleton_view d) (left c)) c.self.view_is
+    (keeps_order_anew (before c) (left c) c.args.strand c.of-order.result (strands_left c) (without c) c.in_ok-close.ensures.keeps (sound_ordered (before c) c.self.invariant))

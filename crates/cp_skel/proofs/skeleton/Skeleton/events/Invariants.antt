@@ -6,5 +6,5 @@ use Rattle.cp_skel.proofs.skeleton.Skeleton.events.Given as goal
 -- with the events of the strands that are left, all is there
 abbrev pub invariant-loop-number : goal.invariant-loop-number
 invariant-loop-number l =
-    map occurrence_view l.occurrences.items ++ occurrences_from l.number (map strand_view (drop l.number l.self.strands.items))
-    ≡ occurrences_from 0 (map strand_view l.self.strands.items)
+    map occurrence_view l.occurrences.items ++ occurrences_from l.number (map strand_view (drop l.number l.self.strands))
+    ≡ occurrences_from 0 (map strand_view l.self.strands)

@@ -1,23 +1,56 @@
-use Rattle.std.proofs.Common.{◌<◌, length, set, map, ap, ◌∙◌, subst}
+use Rattle.std.proofs.Common.{◌<◌, length, set, map, refl, sym, ap, ◌∙◌, subst}
 use Rattle.std.specs.Prelude.{Some}
+use Rattle.cp_model.specs.Skeleton.{Skeleton}
 use Rattle.cp_model.proofs.LawLists.{item_below}
-use Rattle.cp_skel.specs.View.{role_view, strand_view, assumptions_view, skeleton_view}
-use Rattle.cp_skel.specs.declared.skeleton.Strand.TheVariants.{Instance}
+use Rattle.cp_skel.specs.Changing.{CanExtend, Extends}
+use Rattle.cp_skel.specs.Parts.{skeleton_of_parts}
+use Rattle.cp_skel.specs.Shapes.{strand_of_shape}
+use Rattle.cp_skel.specs.View.{strand_view, skeleton_view}
 use Rattle.cp_skel.proofs.Items.{item-there, map-length}
 use Rattle.cp_skel.proofs.Changed.{made, strand-extended, set-there, set-elsewhere}
+use Rattle.cp_skel.proofs.SoundSkeletons.{sound_longer, extended_sound}
 use Rattle.cp_skel.proofs.skeleton.Skeleton.extend.Goals as goal
 
-pub returns-clause-changed : goal.returns-clause-changed
-returns-clause-changed c =
+pub index_mut-requires : goal.index_mut-requires
+index_mut-requires c =
+    let items = c.self.inside.strands.items in
+    let can = subst (λ d. CanExtend (skeleton_view d) c.args.strand c.args.height c.args.values.now) (sym c.self.view_is) c.requires in
+    subst (λ n. c.args.strand < n) (map-length strand_view items ∙ sym c.self.inside.strands.ok.0) (item_below (map strand_view items) c.args.strand _ can.on_instance)
+
+abbrev before : goal.After-drop-index_mut → Skeleton
+before c = skeleton_view (skeleton_of_parts c.self.inside)
+
+abbrev grown : goal.After-drop-index_mut → Skeleton
+grown c = record {
+  strands = map strand_view (set c.self.inside.strands.items c.args.strand c.in_ok-grown.grown);
+  pairs = (before c).pairs;
+  assumptions = c.append.new.self;
+  from_problem = (before c).from_problem;
+}
+
+can_extend : (c : goal.After-drop-index_mut) → CanExtend (before c) c.args.strand c.args.height c.args.values.now
+can_extend c = subst (λ d. CanExtend (skeleton_view d) c.args.strand c.args.height c.args.values.now) (sym c.self.view_is) c.requires
+
+extends : (c : goal.After-drop-index_mut) → Extends c.args.strand c.args.height c.args.values.now (before c) (grown c)
+extends c =
     let i = c.in_ok-instance.instance in
-    let old = c.in-Instance.old in
-    let items = c.args.self.now.strands.items in
+    let old = c.in-Instance.old.now in
+    let items = c.self.inside.strands.items in
     let s = c.args.strand in
-    let below : s < length items = subst (λ n. s < n) (map-length strand_view items) (item_below (map strand_view items) s _ c.requires.on_instance) in
-    strand-extended (skeleton_view c.args.self.now) (role_view old.role.value) (role_view i.role.value) c.args.height i.height c.args.values.now i.values.items
-    (assumptions_view c.in_ok-more.more) (assumptions_view c.reserve.new.self) (assumptions_view c.join.new.self)
-    c.in_ok-instance.ensures.role c.in_ok-instance.ensures.height c.in_ok-reserve.ensures.same c.join.ensures
-    (map strand_view (set items s (Instance i))) s old.height old.values.items c.requires
-    (item-there strand_view items s c.index.result.now below c.index.ensures ∙ ap (λ k. Some (strand_view k)) c.in-Instance.is)
-    (c.in_ok-instance.ensures.terms ∙ ap (λ ts. made (role_view old.role.value) old.height c.args.height ts c.args.values.now) c.deref.ensures.value)
-    (set-there strand_view items s (Instance i) below) (λ t other. set-elsewhere strand_view items s (Instance i) t other) c.in_ok-more.ensures
+    let can = can_extend c in
+    let below : s < length items = subst (λ n. s < n) (map-length strand_view items) (item_below (map strand_view items) s _ can.on_instance) in
+    strand-extended (before c) old.role i.role c.args.height i.height c.args.values.now i.values
+    c.in_ok-more.more c.self.inside.assumptions c.append.new.self
+    (c.in_ok-instance.ensures.role ∙ c.role.ensures) c.in_ok-instance.ensures.height refl c.in_ok-append.ensures.joined
+    (map strand_view (set items s c.in_ok-grown.grown)) s old.height old.values can (sound_longer (before c) s can.role can.before c.args.height can.terms c.self.invariant can.on_instance)
+    (item-there strand_view items s c.index.result.now below c.index.ensures ∙ ap (λ k. Some (strand_view k)) (sym c.shape.ensures ∙ ap strand_of_shape c.in-Instance.is))
+    (c.in_ok-instance.ensures.terms ∙ ap (λ r. made r c.height.result c.args.height c.values.result.now c.args.values.now) c.role.ensures
+    ∙ ap (λ h. made old.role h c.args.height c.values.result.now c.args.values.now) c.height.ensures ∙ ap (λ ts. made old.role old.height c.args.height ts c.args.values.now) c.values.ensures)
+    (set-there strand_view items s c.in_ok-grown.grown below ∙ ap (λ k. Some (strand_view k)) c.in_ok-grown.ensures)
+    (λ t other. set-elsewhere strand_view items s c.in_ok-grown.grown t other) c.in_ok-more.ensures
+
+pub invariant_of-self-2 : goal.invariant_of-self-2
+invariant_of-self-2 c = extended_sound c.args.strand c.args.height c.args.values.now (before c) (grown c) (can_extend c) c.self.invariant (extends c)
+
+pub returns-clause-changed : goal.returns-clause-changed
+returns-clause-changed c = subst (λ d. Extends c.args.strand c.args.height c.args.values.now (skeleton_view d) (grown c)) c.self.view_is (extends c)

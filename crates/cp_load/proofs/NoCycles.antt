@@ -1,0 +1,184 @@
+-- Pairs that have no cycle.
+use Rattle.std.proofs.Common.{◌≡◌, ◌⊎◌, inl, inr, ℕ, zero, suc, ◌+◌, ◌<◌, ◌≤◌, List, [], ◌∷◌, ◌++◌, length, get_or, map, drop, Bool, true, false, ◌||◌, if◌then◌else◌, refl, sym, ap, ◌∙◌, subst, arith}
+use Rattle.std.specs.Prelude.{Some, nat_le}
+use Rattle.std.specs.List.Sorted.{IsPermutation}
+use Rattle.std.proofs.lemmas.Bool.{cond-false}
+use Rattle.std.proofs.lemmas.List.{append-nil, drop_all}
+use Rattle.std.proofs.lemmas.List.Sorted.{All-permutation, IsPermutation-sym}
+use Rattle.cp_model.specs.Lists.{IsIn, here, there}
+use Rattle.cp_model.specs.Bundle.{Node}
+use Rattle.cp_model.specs.Skeleton.{OrderPair}
+use Rattle.cp_model.specs.Order.{IsAtOrAfter, LeadsTo, on_strand, over_pair}
+use Rattle.cp_sexpr.specs.View.{view}
+use Rattle.cp_sexpr.specs.declared.form.Form as program
+use Rattle.cp_language.specs.Problems.{on_one_strand, at_or_after, any_pair, reaches, closes_cycle, node_of, pair_of_nodes, pair_of, pairs_in, between_strands}
+use Rattle.cp_language.proofs.Reaching.{reaches_all}
+use Rattle.cp_skel.specs.Leading.{Tops, is_below, is_at_or_before}
+use Rattle.cp_forms.proofs.Items.{item-drop}
+use Rattle.cp_load.specs.Acyclic.{IsAcyclic, IsAcyclicIf, IsSwept, pair_in, pairs_under, pairs_stated}
+use Rattle.cp_load.proofs.Cycles.{same_bool, none_in, not_after, stays_behind, append_assoc}
+
+-- ---- some of the pairs
+
+leads_within : (ps qs : List OrderPair) (x y : Node) → ((p : OrderPair) → IsIn p ps → IsIn p qs) → LeadsTo ps x y → LeadsTo qs x y
+leads_within ps qs x y f (on_strand a) = on_strand a
+leads_within ps qs x y f (over_pair {p} m a l) = over_pair (f p m) a (leads_within ps qs p.later y f l)
+
+some_acyclic : (ps qs : List OrderPair) → ((p : OrderPair) → IsIn p ps → IsIn p qs) → IsAcyclic qs → IsAcyclic ps
+some_acyclic ps qs f h p m l = h p (f p m) (leads_within ps qs p.later p.earlier f l)
+
+pub acyclic-within : (b : Bool) (ps qs : List OrderPair) → ((p : OrderPair) → IsIn p ps → IsIn p qs) → IsAcyclicIf b qs → IsAcyclicIf b ps
+acyclic-within b ps qs f h e = some_acyclic ps qs f (h e)
+
+in_front : {A : Type 0} {x : A} (xs ys : List A) → IsIn x xs → IsIn x (xs ++ ys)
+in_front [] ys m = elim m [ ]
+in_front (y ∷ xs) ys here = here
+in_front (y ∷ xs) ys (there m) = there (in_front xs ys m)
+
+in_back : {A : Type 0} {x : A} (xs ys : List A) → IsIn x ys → IsIn x (xs ++ ys)
+in_back [] ys m = m
+in_back (y ∷ xs) ys m = there (in_back xs ys m)
+
+-- the first of the pairs that are left, behind those before
+front_acyclic : (b : Bool) (ps qs rs whole : List OrderPair) → (ps ++ qs) ++ rs ≡ whole → IsAcyclicIf b whole → IsAcyclicIf b (ps ++ qs)
+front_acyclic b ps qs rs whole e = acyclic-within b (ps ++ qs) whole (λ p m. subst (IsIn p) e (in_front (ps ++ qs) rs m))
+
+module _ (items : List program.Form) (k : ℕ) (f : program.Form) (lt : k < length items) (is : f ≡ get_or items k f) (before whole : List OrderPair) where
+  pub first-pair : (b : Bool) → before ++ pairs_in (map view (drop k items)) ≡ whole → IsAcyclicIf b whole → IsAcyclicIf b (before ++ pair_of (view f))
+  first-pair b h =
+      let rest = pairs_in (map view (drop (k + 1) items)) in
+      front_acyclic b before (pair_of (view f)) rest whole (append_assoc before (pair_of (view f)) rest ∙ sym (ap (λ gs. before ++ pairs_in (map view gs)) (item-drop items k f lt is)) ∙ h)
+
+  split : before ++ pairs_stated (map view (drop k items)) ≡ whole → (before ++ pairs_under (view f)) ++ pairs_stated (map view (drop (k + 1) items)) ≡ whole
+  split h = append_assoc before (pairs_under (view f)) (pairs_stated (map view (drop (k + 1) items))) ∙ sym (ap (λ gs. before ++ pairs_stated (map view gs)) (item-drop items k f lt is)) ∙ h
+
+  pub first-item : (b : Bool) → before ++ pairs_stated (map view (drop k items)) ≡ whole → IsAcyclicIf b whole → IsAcyclicIf b (before ++ pairs_under (view f))
+  first-item b h = front_acyclic b before (pairs_under (view f)) (pairs_stated (map view (drop (k + 1) items))) whole (split h)
+
+  pub items-stated : (after : List OrderPair) → after ≡ before ++ pairs_under (view f) → before ++ pairs_stated (map view (drop k items)) ≡ whole → after ++ pairs_stated (map view (drop (k + 1) items)) ≡ whole
+  items-stated after e h = ap (λ ps. ps ++ pairs_stated (map view (drop (k + 1) items))) e ∙ split h
+
+pub stated-all : (items : List program.Form) (k : ℕ) → length items ≤ k → (ps whole : List OrderPair) → ps ++ pairs_stated (map view (drop k items)) ≡ whole → ps ≡ whole
+stated-all items k h ps whole e = sym (append-nil ps) ∙ sym (ap (λ gs. ps ++ pairs_stated (map view gs)) (drop_all k items h)) ∙ e
+
+pub all-listed : {A : Type 0} (f : A → OrderPair) (xs : List A) (k : ℕ) → length xs ≤ k → (ps whole : List OrderPair) → ps ++ map f (drop k xs) ≡ whole → ps ≡ whole
+all-listed f xs k h ps whole e = sym (append-nil ps) ∙ sym (ap (λ ys. ps ++ map f ys) (drop_all k xs h)) ∙ e
+
+-- ---- a pair that closes no cycle
+
+pub known-acyclic : (before : List OrderPair) (p : OrderPair) (b : Bool) → on_one_strand p ≡ false → b ≡ true → IsAcyclicIf b (before ++ between_strands (Some p)) → false ≡ closes_cycle before p
+known-acyclic before p b other e h =
+    let all : IsAcyclicIf b (before ++ p ∷ []) = subst (λ c. IsAcyclicIf b (before ++ (if c then [] else p ∷ []))) other h in
+    same_bool false (reaches (length before) before p.later p.earlier) (λ e. absurd (cc))
+    (λ r. absurd (all e p (in_back before (p ∷ []) here) (leads_within before (before ++ p ∷ []) p.later p.earlier (λ q m. in_front before (p ∷ []) m) ((reaches_all before p.later p.earlier).0 r))))
+    ∙ sym (cond-false (on_one_strand p) (nat_le p.later.index p.earlier.index) (reaches (length before) before p.later p.earlier) other)
+
+-- the pair of the first two items
+pub pair-in-front : (b : Bool) (before : List OrderPair) (items : List program.Form) (f g : program.Form) → 2 ≤ length items → f ≡ get_or items 0 f → g ≡ get_or items 1 g
+    → IsAcyclicIf b (before ++ pair_in (map view items)) → IsAcyclicIf b (before ++ between_strands (pair_of_nodes (node_of (view f)) (node_of (view g))))
+pair-in-front b before [] f g l e i h = absurd (omega arith)
+pair-in-front b before (x ∷ []) f g l e i h = absurd (omega arith)
+pair-in-front b before (x ∷ y ∷ items) f g l e i h =
+    subst (λ k. IsAcyclicIf b (before ++ between_strands (pair_of_nodes (node_of (view k)) (node_of (view g))))) (sym e)
+    (subst (λ k. IsAcyclicIf b (before ++ between_strands (pair_of_nodes (node_of (view x)) (node_of (view k))))) (sym i) h)
+
+-- ---- one pair after another, none of which ends where one before it begins
+
+or_swap : (b c d : Bool) → d ≡ (b || c) → d ≡ (c || b)
+or_swap true true d e = e
+or_swap true false d e = e
+or_swap false true d e = e
+or_swap false false d e = e
+
+module _ (done : List OrderPair) (p : OrderPair) (none : any_pair (λ q. at_or_after p.later q.earlier) (p ∷ done) ≡ false) where
+  never_after : (q : OrderPair) → IsIn q (p ∷ done) → IsAtOrAfter p.later q.earlier → ⊥
+  never_after q m a = not_after p.later.strand q.earlier.strand p.later.index q.earlier.index (none_in (λ r. at_or_after p.later r.earlier) (p ∷ done) q none m) a
+
+  -- what leads over the new pair goes no further than its later node's strand
+  without : (x y : Node) → LeadsTo (p ∷ done) x y → LeadsTo done x y ⊎ IsAtOrAfter p.later y
+  without x y (on_strand a) = inl (on_strand a)
+  without x y (over_pair here a l) = inr (stays_behind (p ∷ done) p.later y none l)
+  without x y (over_pair {p = q} (there m) a l) = elim (without q.later y l) as (λ _. LeadsTo done x y ⊎ IsAtOrAfter p.later y) [
+    | inl k ↦ inl (over_pair m a k)
+    | inr k ↦ inr k
+  ]
+
+  one_more : IsAcyclic done → IsAcyclic (p ∷ done)
+  one_more h q here l = never_after p here (stays_behind (p ∷ done) p.later p.earlier none l)
+  one_more h q (there m) l = elim (without q.later q.earlier l) as (λ _. ⊥) [
+    | inl k ↦ h q m k
+    | inr k ↦ never_after q (there m) k
+  ]
+
+pub swept-first : (all : List OrderPair) (tops : Tops) → ((x : Node) → is_below tops x ≡ false) → IsSwept all all [] tops
+swept-first all tops none = record {
+  acyclic = λ p m l. elim m [ ];
+  tops_are = none;
+  each = λ p m. inr m;
+}
+
+module _ (all rest more done : List OrderPair) (old new : Tops) (p : OrderPair) (left : rest ≡ p ∷ more) (s : IsSwept all rest done old)
+    (raised : (x : Node) → is_below new x ≡ (is_below old x || is_at_or_before x p.earlier)) where
+  raised_tops : (x : Node) → is_below new x ≡ any_pair (λ q. at_or_after x q.earlier) (p ∷ done)
+  raised_tops x = or_swap (any_pair (λ q. at_or_after x q.earlier) done) (at_or_after x p.earlier) (is_below new x) (raised x ∙ ap (λ b. b || at_or_after x p.earlier) (s.tops_are x))
+
+  one_of : (q : OrderPair) → IsIn q (p ∷ more) → IsIn q (p ∷ done) ⊎ IsIn q more
+  one_of q here = inl here
+  one_of q (there m) = inr m
+
+  pub swept-next : is_below new p.later ≡ false → IsSwept all more (p ∷ done) new
+  swept-next h = record {
+    acyclic = one_more done p (sym (raised_tops p.later) ∙ h) s.acyclic;
+    tops_are = raised_tops;
+    each = λ q m. elim (s.each q m) as (λ _. IsIn q (p ∷ done) ⊎ IsIn q more) [
+      | inl i ↦ inl (there i)
+      | inr i ↦ one_of q (subst (IsIn q) left i)
+    ];
+  }
+
+same_item : {A : Type 0} (xs : List A) (k : ℕ) (d e : A) → k < length xs → get_or xs k d ≡ get_or xs k e
+same_item [] k d e h = absurd (omega arith)
+same_item (x ∷ xs) zero d e h = refl
+same_item (x ∷ xs) (suc k) d e h = same_item xs k d e (omega (arith, h))
+
+pub swept-step : {A : Type 0} (f : A → OrderPair) (xs : List A) (k : ℕ) (d : A) (old new : Tops) → k < length xs → (done : List OrderPair) × IsSwept (map f xs) (map f (drop k xs)) done old
+    → ((x : Node) → is_below new x ≡ (is_below old x || is_at_or_before x (f (get_or xs k d)).earlier)) → is_below new (f (get_or xs k d)).later ≡ false
+    → (done : List OrderPair) × IsSwept (map f xs) (map f (drop (k + 1) xs)) done new
+swept-step f xs k d old new h s raised e =
+    let x = get_or xs k d in
+    (f x ∷ s.0, swept-next (map f xs) (map f (drop k xs)) (map f (drop (k + 1) xs)) s.0 old new (f x) (ap (map f) (item-drop xs k x h (same_item xs k d x h))) s.1 raised e)
+
+done_or_none : {A : Type 0} {x : A} (done : List A) → IsIn x done ⊎ IsIn x [] → IsIn x done
+done_or_none done (inl m) = m
+done_or_none done (inr m) = elim m [ ]
+
+pub swept-all : (all rest done : List OrderPair) (tops : Tops) → rest ≡ [] → IsSwept all rest done tops → IsAcyclic all
+swept-all all rest done tops e s = some_acyclic all done (λ p m. done_or_none done (subst (λ ps. IsIn p done ⊎ IsIn p ps) e (s.each p m))) s.acyclic
+
+-- ---- the pairs in another order
+
+item_in : {A : Type 0} (xs : List A) (i : ℕ) (d : A) → i < length xs → IsIn (get_or xs i d) xs
+item_in [] i d h = absurd (omega arith)
+item_in (x ∷ xs) zero d h = here
+item_in (x ∷ xs) (suc i) d h = there (item_in xs i d (omega (arith, h)))
+
+each_in : {A : Type 0} (xs ys : List A) (y : A) → ((i : ℕ) (d : A) → i < length ys → IsIn (get_or ys i d) xs) → IsIn y ys → IsIn y xs
+each_in xs [] y h m = elim m [ ]
+each_in xs (z ∷ ys) y h here = h 0 y (omega arith)
+each_in xs (z ∷ ys) y h (there m) = each_in xs ys y (λ i d l. h (suc i) d (omega (arith, l))) m
+
+in_permuted : {A : Type 0} (xs ys : List A) (y : A) → IsPermutation xs ys → IsIn y xs → IsIn y ys
+in_permuted xs ys y h m = each_in ys xs y (All-permutation (λ x. IsIn x ys) ys xs (IsPermutation-sym xs ys h) (λ i d l. item_in ys i d l)) m
+
+in_map : {A B : Type 0} (f : A → B) (xs : List A) (x : A) → IsIn x xs → IsIn (f x) (map f xs)
+in_map f [] x m = elim m [ ]
+in_map f (y ∷ xs) x here = here
+in_map f (y ∷ xs) x (there m) = there (in_map f xs x m)
+
+map_in : {A B : Type 0} (f : A → B) (xs ys : List A) → ((x : A) → IsIn x xs → IsIn x ys) → (y : B) → IsIn y (map f xs) → IsIn y (map f ys)
+map_in f [] ys h y m = elim m [ ]
+map_in f (x ∷ xs) ys h y here = in_map f ys x (h x here)
+map_in f (x ∷ xs) ys h y (there m) = map_in f xs ys (λ z i. h z (there i)) y m
+
+pub each-permuted : {A : Type 0} (f : A → OrderPair) (xs ys : List A) (ps : List OrderPair) → IsPermutation xs ys → map f xs ≡ ps → (p : OrderPair) → IsIn p ps → IsIn p (map f ys)
+each-permuted f xs ys ps h e p m = map_in f xs ys (λ x i. in_permuted xs ys x h i) p (subst (IsIn p) (sym e) m)

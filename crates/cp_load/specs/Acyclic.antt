@@ -1,0 +1,38 @@
+-- Pairs without a cycle.
+use Rattle.std.specs.Prelude.{◌≡◌, ◌⊎◌, List, [], ◌∷◌, ◌++◌, Bool, true}
+use Rattle.cp_model.specs.Lists.{IsIn}
+use Rattle.cp_model.specs.Bundle.{Node}
+use Rattle.cp_model.specs.Skeleton.{OrderPair}
+use Rattle.cp_model.specs.Order.{LeadsTo}
+use Rattle.cp_sexpr.specs.Syntax.{Form}
+use Rattle.cp_language.specs.Roles.{headed, item_or_none, items_behind}
+use Rattle.cp_language.specs.Problems.{first_form, second_form, option_node, pair_of_nodes, between_strands, at_or_after, any_pair, is_precedes_item, pairs_if}
+use Rattle.cp_skel.specs.Leading.{Tops, is_below}
+
+-- No pair's later node leads to its earlier one.
+abbrev pub IsAcyclic : List OrderPair → Type 0
+IsAcyclic ps = (p : OrderPair) → IsIn p ps → LeadsTo ps p.later p.earlier → ⊥
+
+-- Where the flag is set, the pairs have no cycle.
+abbrev pub IsAcyclicIf : Bool → List OrderPair → Type 0
+IsAcyclicIf b ps = b ≡ true → IsAcyclic ps
+
+-- The pair that these items of a pair state, if it is between two strands.
+abbrev pub pair_in : List Form → List OrderPair
+pair_in fs = between_strands (pair_of_nodes (option_node (first_form fs)) (option_node (second_form fs)))
+
+-- The pairs that an item of a problem states, and those that items do.
+abbrev pub pairs_under : Form → List OrderPair
+pairs_under f = pairs_if (is_precedes_item (item_or_none (headed f))) (items_behind (headed f))
+
+abbrev pub pairs_stated : List Form → List OrderPair
+pairs_stated [] = []
+pairs_stated (f ∷ fs) = pairs_under f ++ pairs_stated fs
+
+-- ---- pairs that are taken one after another
+
+-- Those that are done have no cycle; the tops are at the nodes where they begin; and the others are still to be taken.
+pub record IsSwept (all rest done : List OrderPair) (tops : Tops) : Type 0 where
+  pub acyclic : IsAcyclic done
+  pub tops_are : (x : Node) → is_below tops x ≡ any_pair (λ p. at_or_after x p.earlier) done
+  pub each : (p : OrderPair) → IsIn p all → IsIn p done ⊎ IsIn p rest

@@ -1,0 +1,108 @@
+// Whether the pairs of a problem have no cycle, seen at once for all of them.
+ghost use Rattle.std.specs.Prelude.{◌≡◌, ◌++◌, ◌||◌, map, IfOk, OnOk};
+ghost use Rattle.cp_model.specs.Lists.{IsIn};
+ghost use Rattle.cp_model.specs.Bundle as bundle;
+ghost use Rattle.cp_model.specs.Skeleton as model;
+ghost use Rattle.cp_model.specs.RunView.{node_view};
+ghost use Rattle.cp_sexpr.specs.View.{view};
+ghost use Rattle.cp_skel.specs.View.{pair_view};
+ghost use Rattle.cp_skel.specs.Leading.{tops_of, is_below, is_at_or_before};
+ghost use Rattle.cp_load.specs.Acyclic.{IsAcyclicIf, pairs_under, pairs_stated};
+
+use crate::pairs::add_pairs;
+use crate::ranking::ranks_of;
+use cp_forms::{ItemHead, headed, item_head};
+use cp_sexpr::Form;
+use cp_skel::{Node, OrderPair};
+use std::alloc::{AllocError, Global};
+use std::collections::HashMap;
+
+/// A pair, and the rank of its earlier node.
+#[derive(Clone, Copy)]
+struct Ranked {
+    rank: usize,
+    pair: OrderPair,
+}
+
+/// The pairs in the order of these ranks. That each of them is there is all that is promised: the order is checked.
+fn in_order(alloc: Global, pairs: &[OrderPair], ranks: &[usize]) -> Result<Vec<Ranked>, AllocError>
+    ensures { IfOk result (λ v. (p : model.OrderPair) → IsIn p (map pair_view pairs.now) → IsIn p (map (λ r. pair_view r.pair) v.items)) }
+{
+    let mut ranked = Vec::new(alloc);
+    for (number, pair) in pairs.iter().enumerate() {
+        let rank = ranks.get(number).copied().unwrap_or(0);
+        ranked.push(Ranked { rank, pair: *pair })?;
+    }
+    ranked.sort_by_key(|ranked| ranked.rank)?;
+    Ok(ranked)
+}
+
+/// Whether a node is at the top of its strand or below it.
+fn is_below(tops: &HashMap<usize, usize>, node: Node) -> bool
+    ensures { result ≡ is_below (tops_of tops.now) (node_view node) }
+{
+    match tops.get(&node.strand) {
+        Some(top) => node.index <= *top,
+        None => false,
+    }
+}
+
+/// Raises the top of a node's strand to this node, where it is below it.
+fn raise(tops: &mut HashMap<usize, usize>, node: Node) -> Result<(), AllocError>
+    ensures { OnOk result ((x : bundle.Node) → is_below (tops_of tops.new) x ≡ (is_below (tops_of tops.old) x || is_at_or_before x (node_view node))) }
+{
+    if !is_below(tops, node) {
+        tops.insert(node.strand, node.index)?;
+    }
+    Ok(())
+}
+
+/// Whether no pair ends at a node where it or one before it begins, or before such a node on its strand. Then the pairs
+/// have no cycle.
+fn none_leads_back(alloc: Global, ranked: &[Ranked]) -> Result<bool, AllocError>
+    ensures { IfOk result (λ b. IsAcyclicIf b (map (λ r. pair_view r.pair) ranked.now)) }
+{
+    let mut tops = HashMap::new(alloc);
+    for next in ranked {
+        raise(&mut tops, next.pair.earlier)?;
+        if is_below(&tops, next.pair.later) {
+            return Ok(false);
+        }
+    }
+    Ok(true)
+}
+
+/// Whether it was seen that the pairs have no cycle. No contract says that it is seen wherever they have none.
+fn have_no_cycle(alloc: Global, pairs: &[OrderPair]) -> Result<bool, AllocError>
+    ensures { IfOk result (λ b. IsAcyclicIf b (map pair_view pairs.now)) }
+{
+    let Some(ranks) = ranks_of(alloc, pairs)? else {
+        return Ok(false);
+    };
+    let ranked = in_order(alloc, pairs, &ranks)?;
+    none_leads_back(alloc, &ranked)
+}
+
+/// Puts the pairs that an item of a problem states behind others.
+fn add_pairs_under(item: &Form, pairs: &mut Vec<OrderPair>) -> Result<(), AllocError>
+    ensures { OnOk result (map pair_view pairs.new.items ≡ map pair_view pairs.old.items ++ pairs_under (view item.now)) }
+{
+    let Some(list) = headed(item) else {
+        return Ok(());
+    };
+    match item_head(list.head) {
+        ItemHead::Precedes => add_pairs(list.items, pairs),
+        _ => Ok(()),
+    }
+}
+
+/// Whether it was seen that the pairs that these items of a problem state have no cycle.
+pub(crate) fn state_no_cycle(alloc: Global, items: &[Form]) -> Result<bool, AllocError>
+    ensures { IfOk result (λ b. IsAcyclicIf b (pairs_stated (map view items.now))) }
+{
+    let mut pairs = Vec::new(alloc);
+    for item in items {
+        add_pairs_under(item, &mut pairs)?;
+    }
+    have_no_cycle(alloc, &pairs)
+}

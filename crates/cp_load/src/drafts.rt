@@ -1,0 +1,79 @@
+// Problems while forms are read, and what becomes of them where the forms have no faults.
+ghost use Rattle.std.specs.Prelude.{◌≡◌, map, option_map, IfOk};
+ghost use Rattle.cp_skel.specs.Sound.{IsSound};
+ghost use Rattle.cp_load.specs.Drafts.{draft_view, IsSoundIfThere, AreSound};
+ghost use Rattle.cp_load.specs.Inputs.{problem_view};
+
+use crate::input::Problem;
+use cp_skel::{Assumptions, FromProblem, Order, Protocol, Skeleton, Strand};
+use cp_term::VarTable;
+use std::alloc::{AllocError, Global};
+use std::rc::Rc;
+
+/// The parts of a problem's skeleton. Where the form has faults, they may be those of no skeleton.
+#[derive(Drop)]
+pub(crate) struct SkeletonDraft {
+    pub(crate) variables: VarTable,
+    pub(crate) strands: Vec<Strand>,
+    pub(crate) order: Order,
+    pub(crate) assumptions: Assumptions,
+    pub(crate) from_problem: FromProblem,
+}
+
+/// A problem while forms are read: its protocol, how many of its variables it declares, and the parts of its skeleton.
+#[derive(Drop)]
+pub(crate) struct Draft {
+    pub(crate) protocol: Rc<Protocol>,
+    pub(crate) declared: usize,
+    pub(crate) skeleton: SkeletonDraft,
+}
+
+/// The problem of a draft whose skeleton is sound.
+fn finished(draft: Draft) -> Problem
+    requires { IsSound (draft_view draft).skeleton }
+    ensures { problem_view result ≡ draft_view draft }
+{
+    let Draft {
+        protocol,
+        declared,
+        skeleton,
+    } = draft;
+    let SkeletonDraft {
+        variables,
+        strands,
+        order,
+        assumptions,
+        from_problem,
+    } = skeleton;
+    Problem {
+        protocol,
+        declared,
+        skeleton: Skeleton::new(variables, strands, order, assumptions, from_problem),
+    }
+}
+
+/// The problem of a draft whose skeleton is sound, if there is one.
+fn finished_if_there(draft: Option<Draft>) -> Option<Problem>
+    requires { IsSoundIfThere draft }
+    ensures { option_map problem_view result ≡ option_map draft_view draft }
+{
+    match draft {
+        Some(draft) => Some(finished(draft)),
+        None => None,
+    }
+}
+
+/// The problems of drafts whose skeletons are sound, each at its place.
+pub(crate) fn all_finished(
+    alloc: Global,
+    drafts: Vec<Option<Draft>>,
+) -> Result<Vec<Option<Problem>>, AllocError>
+    requires { AreSound drafts.items }
+    ensures { IfOk result (λ v. map (option_map problem_view) v.items ≡ map (option_map draft_view) drafts.items) }
+{
+    let mut problems = Vec::new(alloc);
+    for draft in drafts {
+        problems.push(finished_if_there(draft))?;
+    }
+    Ok(problems)
+}

@@ -1,0 +1,160 @@
+// What skeletons assume.
+ghost use Rattle.std.specs.Prelude.{◌≡◌, IfOk, OnOk, OnErr};
+ghost use Rattle.cp_model.specs.RunView.{node_view};
+ghost use Rattle.cp_skel.specs.Joining.{joined};
+
+use crate::atom::Atom;
+use crate::copying::{copy_atoms, copy_uniques};
+use cp_model::Node;
+use std::alloc::{AllocError, Global};
+use std::marker::Model;
+
+/// A unique value with its recorded origin.
+#[derive(Drop)]
+pub struct UniqueAt {
+    value: Atom,
+    origin: Node,
+}
+
+impl Model for UniqueAt {
+    ghost use Rattle.cp_model.specs.Skeleton.{UniqueAt as Plain};
+    ghost use Rattle.cp_skel.specs.Data.{coded_unique};
+
+    ghost Value = { Plain };
+
+    ghost coded = { coded_unique };
+
+    ghost use Rattle.cp_model.specs.RunView.{node_view};
+
+    ghost view = { λ u. record { value = u.value; origin = node_view u.origin } };
+}
+
+impl UniqueAt {
+    /// This value with this recorded origin.
+    pub fn new(value: Atom, origin: Node) -> UniqueAt
+        ensures { result ≡ record { value = value; origin = node_view origin } }
+    {
+        UniqueAt { value, origin }
+    }
+
+    /// The value.
+    pub fn value(&self) -> &Atom
+        ensures { result.now ≡ self.now.value }
+    {
+        &self.value
+    }
+
+    /// The recorded origin.
+    pub fn origin(&self) -> Node
+        ensures { node_view result ≡ self.now.origin }
+    {
+        self.origin
+    }
+
+    /// The same value with the same origin again. The error is that memory ran out.
+    pub fn copy(&self) -> Result<UniqueAt, AllocError>
+        ensures { IfOk result (λ u. u ≡ self.now) }
+    {
+        Ok(UniqueAt {
+            value: self.value.copy()?,
+            origin: self.origin,
+        })
+    }
+}
+
+/// The three lists of assumptions.
+#[derive(Drop)]
+pub struct Assumptions {
+    non_originating: Vec<Atom>,
+    penetrator_non_originating: Vec<Atom>,
+    uniquely_originating: Vec<UniqueAt>,
+}
+
+impl Model for Assumptions {
+    ghost use Rattle.cp_model.specs.Skeleton.{Assumptions as Plain};
+    ghost use Rattle.cp_skel.specs.Data.{coded_assumptions};
+
+    ghost Value = { Plain };
+
+    ghost coded = { coded_assumptions };
+
+    ghost view = { λ a. record {
+      non_originating = a.non_originating.items;
+      penetrator_non_originating = a.penetrator_non_originating.items;
+      uniquely_originating = a.uniquely_originating.items;
+    } };
+}
+
+impl Assumptions {
+    /// The assumptions that these values do not originate, that the penetrator does not originate these, and that these
+    /// originate at their recorded origins alone.
+    pub fn new(
+        non_originating: Vec<Atom>,
+        penetrator_non_originating: Vec<Atom>,
+        uniquely_originating: Vec<UniqueAt>,
+    ) -> Assumptions
+        ensures { result ≡ record {
+          non_originating = non_originating.items;
+          penetrator_non_originating = penetrator_non_originating.items;
+          uniquely_originating = uniquely_originating.items;
+        } }
+    {
+        Assumptions {
+            non_originating,
+            penetrator_non_originating,
+            uniquely_originating,
+        }
+    }
+
+    /// The values that do not originate.
+    pub fn non_originating(&self) -> &[Atom]
+        ensures { result.now ≡ self.now.non_originating }
+    {
+        &self.non_originating
+    }
+
+    /// The values that the penetrator does not originate.
+    pub fn penetrator_non_originating(&self) -> &[Atom]
+        ensures { result.now ≡ self.now.penetrator_non_originating }
+    {
+        &self.penetrator_non_originating
+    }
+
+    /// The unique values, each with its recorded origin.
+    pub fn uniquely_originating(&self) -> &[UniqueAt]
+        ensures { result.now ≡ self.now.uniquely_originating }
+    {
+        &self.uniquely_originating
+    }
+
+    /// The same assumptions again. The error is that memory ran out.
+    pub fn copy(&self, alloc: Global) -> Result<Assumptions, AllocError>
+        ensures { IfOk result (λ a. a ≡ self.now) }
+    {
+        Ok(Assumptions {
+            non_originating: copy_atoms(alloc, &self.non_originating)?,
+            penetrator_non_originating: copy_atoms(alloc, &self.penetrator_non_originating)?,
+            uniquely_originating: copy_uniques(alloc, &self.uniquely_originating)?,
+        })
+    }
+
+    /// Puts others behind its own. The error is that memory ran out; then nothing changes.
+    pub fn append(&mut self, mut more: Assumptions) -> Result<(), AllocError>
+        ensures joined { OnOk result (self.new ≡ joined self.old more) }
+        ensures unchanged { OnErr result (self.new ≡ self.old) }
+    {
+        self.non_originating.reserve(more.non_originating.len())?;
+        self.penetrator_non_originating
+            .reserve(more.penetrator_non_originating.len())?;
+        self.uniquely_originating
+            .reserve(more.uniquely_originating.len())?;
+        let _ = self.non_originating.append(&mut more.non_originating);
+        let _ = self
+            .penetrator_non_originating
+            .append(&mut more.penetrator_non_originating);
+        let _ = self
+            .uniquely_originating
+            .append(&mut more.uniquely_originating);
+        Ok(())
+    }
+}

@@ -1,0 +1,99 @@
+// The way from a problem to a skeleton.
+ghost use Rattle.std.specs.Prelude.{◌≡◌, map, IfOk};
+ghost use Rattle.cp_skel.specs.View.{pair_view};
+
+use crate::assumptions::Assumptions;
+use crate::copying::copy_terms;
+use crate::skeleton::OrderPair;
+use cp_term::Term;
+use std::alloc::{AllocError, Global};
+use std::marker::Model;
+
+/// The way from a problem: a strand for each strand of the problem, and a term for each of its variables; and the
+/// images of the assumptions and the pairs that the problem itself states.
+#[derive(Drop)]
+pub struct FromProblem {
+    strands: Vec<usize>,
+    values: Vec<Term>,
+    assumptions: Assumptions,
+    pairs: Vec<OrderPair>,
+}
+
+impl Model for FromProblem {
+    ghost use Rattle.cp_model.specs.Skeleton.{FromProblem as Plain};
+    ghost use Rattle.cp_skel.specs.Data.{coded_from_problem};
+
+    ghost Value = { Plain };
+
+    ghost coded = { coded_from_problem };
+
+    ghost use Rattle.std.specs.Prelude.{map};
+    ghost use Rattle.cp_skel.specs.View.{pair_view};
+
+    ghost view = { λ p. record {
+      strands = p.strands.items;
+      values = p.values.items;
+      assumptions = p.assumptions;
+      pairs = map pair_view p.pairs.items;
+    } };
+}
+
+impl FromProblem {
+    /// The way on which the problem's strands go to these and its variables to these values, and what the problem states
+    /// itself to these assumptions and pairs.
+    pub fn new(
+        strands: Vec<usize>,
+        values: Vec<Term>,
+        assumptions: Assumptions,
+        pairs: Vec<OrderPair>,
+    ) -> FromProblem
+        ensures { result ≡ record { strands = strands.items; values = values.items; assumptions = assumptions; pairs = map pair_view pairs.items } }
+    {
+        FromProblem {
+            strands,
+            values,
+            assumptions,
+            pairs,
+        }
+    }
+
+    /// A strand for each strand of the problem.
+    pub fn strands(&self) -> &[usize]
+        ensures { result.now ≡ self.now.strands }
+    {
+        &self.strands
+    }
+
+    /// A term for each variable of the problem.
+    pub fn values(&self) -> &[Term]
+        ensures { result.now ≡ self.now.values }
+    {
+        &self.values
+    }
+
+    /// The images of the assumptions that the problem itself states.
+    pub fn assumptions(&self) -> &Assumptions
+        ensures { result.now ≡ self.now.assumptions }
+    {
+        &self.assumptions
+    }
+
+    /// The images of the pairs that the problem itself states.
+    pub fn pairs(&self) -> &[OrderPair]
+        ensures { map pair_view result.now ≡ self.now.pairs }
+    {
+        &self.pairs
+    }
+
+    /// The same way from a problem again. The error is that memory ran out.
+    pub fn copy(&self, alloc: Global) -> Result<FromProblem, AllocError>
+        ensures { IfOk result (λ p. p ≡ self.now) }
+    {
+        Ok(FromProblem {
+            strands: Vec::from_slice(alloc, &self.strands)?,
+            values: copy_terms(alloc, &self.values)?,
+            assumptions: self.assumptions.copy(alloc)?,
+            pairs: Vec::from_slice(alloc, &self.pairs)?,
+        })
+    }
+}

@@ -1,0 +1,113 @@
+-- A skeleton is sound whatever is said to come from its problem, and with its assumptions in another order, or twice.
+use Rattle.std.proofs.Common.{◌≡◌, ◌⊎◌, inl, inr, ⊎_elim, List, [], ◌∷◌, ◌++◌, reverse, refl, sym, ap, ◌∙◌, subst}
+use Rattle.std.proofs.lemmas.List.{reverse-append}
+use Rattle.cp_model.specs.Lists.{IsIn, here, there, one_step, more_steps}
+use Rattle.cp_model.specs.Bundle.{Node}
+use Rattle.cp_model.specs.Term.{AtomTerm}
+use Rattle.cp_model.specs.Skeleton.{UniqueAt, OrderPair, Skeleton, FromProblem, Assumptions, OrderStep, along_strand_of, along_pair, Before}
+use Rattle.cp_model.proofs.LawLists.{in_append, in_append_right}
+use Rattle.cp_skel.specs.Joining.{joined}
+use Rattle.cp_skel.proofs.Once.{only}
+use Rattle.cp_skel.specs.Data.{StrandData, SkeletonData, skeleton_of}
+use Rattle.cp_skel.specs.Ordered.{ordered_by}
+use Rattle.cp_skel.specs.Sound.{IsSound}
+use Rattle.cp_skel.specs.View.{skeleton_view}
+use Rattle.cp_skel.proofs.SoundSkeletons.{parts_sound}
+use Rattle.cp_term.specs.Table.{Declared}
+use Rattle.cp_tests.specs.Rebuilt.{HasSame}
+
+abbrev with_other : Skeleton → Assumptions → FromProblem → Skeleton
+with_other k a f = record k { assumptions = a; from_problem = f }
+
+module _ (k : Skeleton) (a : Assumptions) (f : FromProblem) where
+  step_stays : (x y : Node) → OrderStep (with_other k a f) x y → OrderStep k x y
+  step_stays x y (along_strand_of e) = along_strand_of e
+  step_stays x y (along_pair m) = along_pair m
+
+  path_stays : (x y : Node) → Before (with_other k a f) x y → Before k x y
+  path_stays x y (one_step s) = one_step (step_stays x y s)
+  path_stays x z (more_steps {y} s r) = more_steps (step_stays x y s) (path_stays y z r)
+
+  pub rebuilt_sound : HasSame k.assumptions a → IsSound k → IsSound (with_other k a f)
+  rebuilt_sound same s =
+      let is = s.skeleton in
+      record {
+        protocol = s.protocol;
+        declared = s.declared;
+        skeleton = record {
+          of_role = is.of_role;
+          heights = is.heights;
+          order_pairs = λ p m. let o = is.order_pairs p m in record {
+            sent = o.sent;
+            received = o.received;
+            transmission = o.transmission;
+            reception = o.reception;
+            between_strands = o.between_strands;
+          };
+          no_cycle = λ n b. is.no_cycle n (path_stays n n b);
+          origins = λ u i. let o = is.origins u (same.no_others u i) in record {
+            role = o.role;
+            height = o.height;
+            terms = o.terms;
+            on_instance = o.on_instance;
+            sent = o.sent;
+            transmission = o.transmission;
+            carried = o.carried;
+          };
+          given = λ n role height terms at. let g = is.given n role height terms at in record {
+            non = λ v i j. same.non _ (g.non v i j);
+            penetrator_non = λ v i j. same.penetrator_non _ (g.penetrator_non v i j);
+            unique = λ v m i j. same.unique _ (g.unique v m i j);
+          };
+        };
+      }
+
+-- assumptions that are the same have the same members
+pub same_has : (old new : Assumptions) → new ≡ old → HasSame old new
+same_has old new e = subst (HasSame old) (sym e) (record { non = λ v i. i; penetrator_non = λ v i. i; unique = λ u i. i; no_others = λ u i. i })
+
+-- assumptions backwards, and then once more
+back_again : {A : Type 0} (x : A) (xs : List A) → IsIn x (reverse xs) → IsIn x xs
+back_again x [] i = i
+back_again x (y ∷ ys) i = by (in_append (reverse ys) (y ∷ []) (subst (IsIn x) (reverse-append (y ∷ []) ys) i)) (back_again x ys)
+  where
+    by : IsIn x (reverse ys) ⊎ IsIn x (y ∷ []) → (IsIn x (reverse ys) → IsIn x ys) → IsIn x (y ∷ ys)
+    by (inl j) back = there (back j)
+    by (inr j) back = subst (λ z. IsIn z (y ∷ ys)) (sym (only x y j)) here
+
+in_either_half : {A : Type 0} (x : A) (xs : List A) → IsIn x (reverse xs ++ xs) → IsIn x xs
+in_either_half x xs i = ⊎_elim (back_again x xs) (λ j. j) (in_append (reverse xs) xs i)
+
+abbrev mixed : Assumptions → Assumptions
+mixed a = record {
+  non_originating = reverse a.non_originating ++ a.non_originating;
+  penetrator_non_originating = reverse a.penetrator_non_originating ++ a.penetrator_non_originating;
+  uniquely_originating = reverse a.uniquely_originating ++ a.uniquely_originating;
+}
+
+mixed_has : (a : Assumptions) → HasSame a (mixed a)
+mixed_has a = record {
+  non = λ v i. in_append_right (reverse a.non_originating) i;
+  penetrator_non = λ v i. in_append_right (reverse a.penetrator_non_originating) i;
+  unique = λ u i. in_append_right (reverse a.uniquely_originating) i;
+  no_others = λ u i. in_either_half u a.uniquely_originating i;
+}
+
+pub joined_has : (own back again new : Assumptions) (non penetrator_non : List AtomTerm) (unique : List UniqueAt)
+    → non ≡ own.non_originating → penetrator_non ≡ own.penetrator_non_originating → unique ≡ own.uniquely_originating
+    → back.non_originating ≡ reverse non → back.penetrator_non_originating ≡ reverse penetrator_non → back.uniquely_originating ≡ reverse unique
+    → again ≡ own → new ≡ joined back again → HasSame own new
+joined_has own back again new non penetrator_non unique n p u bn bp bu a j =
+    let same : new ≡ mixed own = j ∙ ap (joined back) a
+    ∙ (λ i. joined (record { non_originating = (bn ∙ ap reverse n) i; penetrator_non_originating = (bp ∙ ap reverse p) i; uniquely_originating = (bu ∙ ap reverse u) i }) own) in
+    subst (HasSame own) (sym same) (mixed_has own)
+
+-- the skeleton of copies of its parts, but for these
+pub parts_again : (k : SkeletonData) (variables : List Declared) (strands : List StrandData) (order : List OrderPair) (a : Assumptions) (f : FromProblem)
+    → variables ≡ k.variables → strands ≡ k.strands → order ≡ k.order → HasSame k.assumptions a → IsSound (skeleton_view k) → IsSound (skeleton_view (skeleton_of variables strands order a f))
+parts_again k variables strands order a f v s o has is =
+    parts_sound (record k { assumptions = a; from_problem = f }) variables strands order a f v s o refl refl (rebuilt_sound (skeleton_view k) a f has is)
+
+-- the skeleton with its own pairs
+pub same_pairs : (k : Skeleton) (pairs : List OrderPair) → pairs ≡ k.pairs → IsSound k → IsSound (ordered_by k pairs)
+same_pairs k pairs e is = subst (λ ps. IsSound (ordered_by k ps)) (sym e) is
