@@ -1,12 +1,12 @@
 -- What the end of a command that reads says of its input and its output.
-use Rattle.std.proofs.Common.{◌≡◌, ℕ, ◌+◌, ◌<◌, ◌≤◌, List, [], ◌∷◌, length, drop, Bool, true, false, Option, Some, None, Result, Ok, Err, ◌⊎◌, inl, inr, refl, sym, ap, ◌∙◌, arith}
+use Rattle.std.proofs.Common.{◌≡◌, ℕ, ◌+◌, ◌<◌, ◌≤◌, List, [], ◌∷◌, length, drop, Bool, true, false, Option, Some, None, Result, Ok, Err, ◌⊎◌, inl, inr, refl, sym, ap, ◌∙◌, arith, subst}
 use Rattle.std.proofs.Math.Seq.{drop-append_seam}
 use Rattle.std.specs.List.{filter_map}
 use Rattle.std.specs.Result.{IfErr, IsErrAnd}
 use Rattle.cp_base.specs.declared.place.Refusal.{Refusal}
 use Rattle.cp_base.specs.declared.status.Status.{Status}
 use Rattle.cp_base.specs.declared.status.Status.TheVariants.{Done, Limit, Usage, Refused, ReadFault, WriteFault, Memory, TooLong}
-use Rattle.cp_model.specs.Lists.{IsIn}
+use Rattle.cp_lists.specs.Lists.{IsIn}
 use Rattle.cp_model.specs.Tree.{Limits, Label, Tree, IsTrueOf}
 use Rattle.cp_sexpr.specs.Syntax.{Forms}
 use Rattle.cp_sexpr.specs.Reading.{IsReading}
@@ -14,7 +14,7 @@ use Rattle.cp_sexpr.proofs.Unique.{one_reading_of}
 use Rattle.cp_language.proofs.OneAnswer.{one_first}
 use Rattle.cp_app.specs.Headline.{most_bytes, IsAccepted, IsRefusedFor, HaveTrees, SaysOutcomes, IsAnalysed, HasRefused, WasTooLong, TookAtMost}
 use Rattle.cp_app.specs.Searched.{HasReportedSearch, HasBrokenOffSearch}
-use Rattle.cp_app.specs.Steps.{IsCauseFor, HasStopped, outcomes_status, cause_of_load, IsWholeReport, HasWritten, HasEnded, HasExecuted}
+use Rattle.cp_app.specs.Steps.{IsCauseFor, HasStopped, outcomes_status, cause_of_load, IsWholeReport, HasWritten, HasWrittenPart, HasEnded, HasExecuted}
 use Rattle.cp_app.specs.Analysis.{IsAnalysisOf}
 use Rattle.cp_app.proofs.Trees.{zip_onto}
 use Rattle.cp_language.specs.Input.{Entry, faults_of, input_of, IsInput}
@@ -22,7 +22,6 @@ use Rattle.cp_language.specs.Report.{report_text, HasItsVariables}
 use Rattle.cp_load.specs.declared.error.LoadError.{LoadError}
 use Rattle.cp_load.specs.declared.error.LoadError.TheVariants as loading
 use Rattle.cp_search.specs.Unexpanded.{IsUnexpanded}
-use Rattle.std.proofs.Common.{subst}
 use Rattle.cp_app.specs.declared.stopped.Stopped.{Stopped}
 use Rattle.cp_app.specs.declared.stopped.Stopped.TheVariants as stopped
 use Rattle.cp_app.proofs.Putting.{append-empty}
@@ -71,69 +70,44 @@ module _ (limits : Limits) (input : List ℕ) (left_new held_old held_new : Opti
   ended_took_at_most Memory ended = ended
   ended_took_at_most TooLong ended = (most_bytes + 1, omega arith, ended.left)
 
+  -- What is left by a run that ended so.
+  abbrev Ended : Status → Type 0
+  Ended status = HasEnded limits input left_new held_old held_new status
+
   pub ended_searched : (before : List ℕ) (status : Status) → held_old ≡ Some before → IsAnalysed status → HasEnded limits input left_new held_old held_new status → HasReportedSearch limits input before left_new held_new status
-  ended_searched before Done is analysed ended = record {
-    reported = record { text = ended.text; trees = ended.report.trees; at_end = ended.at_end; held = ended.put before is; report = ended.report.report; outcomes = ended.report.outcomes };
-    searched = ended.report.searched;
-  }
-  ended_searched before Limit is analysed ended = record {
-    reported = record { text = ended.text; trees = ended.report.trees; at_end = ended.at_end; held = ended.put before is; report = ended.report.report; outcomes = ended.report.outcomes };
-    searched = ended.report.searched;
-  }
-  ended_searched before Usage is analysed ended = absurd ended
-  ended_searched before (Refused r) is (inl e) ended = absurd (cc)
-  ended_searched before (Refused r) is (inr e) ended = absurd (cc)
-  ended_searched before ReadFault is (inl e) ended = absurd (cc)
-  ended_searched before ReadFault is (inr e) ended = absurd (cc)
-  ended_searched before WriteFault is (inl e) ended = absurd (cc)
-  ended_searched before WriteFault is (inr e) ended = absurd (cc)
-  ended_searched before Memory is (inl e) ended = absurd (cc)
-  ended_searched before Memory is (inr e) ended = absurd (cc)
-  ended_searched before TooLong is (inl e) ended = absurd (cc)
-  ended_searched before TooLong is (inr e) ended = absurd (cc)
+  ended_searched before status is (inl e) ended =
+      let done : HasWritten limits input left_new held_old held_new true (Ok tt) = subst Ended e ended in
+      subst (HasReportedSearch limits input before left_new held_new) (sym e) (record {
+        reported = record { text = done.text; trees = done.report.trees; at_end = done.at_end; held = done.put before is; report = done.report.report; outcomes = done.report.outcomes };
+        searched = done.report.searched;
+      })
+  ended_searched before status is (inr e) ended =
+      let at_limit : HasWritten limits input left_new held_old held_new false (Ok tt) = subst Ended e ended in
+      subst (HasReportedSearch limits input before left_new held_new) (sym e) (record {
+        reported = record { text = at_limit.text; trees = at_limit.report.trees; at_end = at_limit.at_end; held = at_limit.put before is; report = at_limit.report.report; outcomes = at_limit.report.outcomes };
+        searched = at_limit.report.searched;
+      })
 
   pub ended_broken_off : (before : List ℕ) (status : Status) → held_old ≡ Some before → status ≡ WriteFault → HasEnded limits input left_new held_old held_new status → HasBrokenOffSearch limits input before left_new held_new
-  ended_broken_off before WriteFault is broken (complete, ended) =
-      let put = ended.put before is in
+  ended_broken_off before status is broken ended =
+      let whole : HasWrittenPart limits input left_new held_old held_new = subst Ended broken ended in
+      let part = whole.1 in
+      let put = part.put before is in
       record {
-        broken_off = record { text = ended.text; trees = ended.report.trees; put = put.0; shorter = put.1; at_end = ended.at_end; held = put.2; report = ended.report.report };
-        searched = ended.report.searched;
+        broken_off = record { text = part.text; trees = part.report.trees; put = put.0; shorter = put.1; at_end = part.at_end; held = put.2; report = part.report.report };
+        searched = part.report.searched;
       }
-  ended_broken_off before Done is broken ended = absurd (cc)
-  ended_broken_off before Limit is broken ended = absurd (cc)
-  ended_broken_off before Usage is broken ended = absurd (cc)
-  ended_broken_off before (Refused r) is broken ended = absurd (cc)
-  ended_broken_off before ReadFault is broken ended = absurd (cc)
-  ended_broken_off before Memory is broken ended = absurd (cc)
-  ended_broken_off before TooLong is broken ended = absurd (cc)
 
   pub ended_accepted : (status : Status) → HasEnded limits input left_new held_old held_new status → (IsAnalysed status ⊎ (status ≡ WriteFault)) → (left_new ≡ Some []) × ((fs : Forms) × IsAccepted input fs)
-  ended_accepted Done ended is = (ended.at_end, (ended.report.report.forms, ended.report.report.accepted))
-  ended_accepted Limit ended is = (ended.at_end, (ended.report.report.forms, ended.report.report.accepted))
-  ended_accepted WriteFault (complete, ended) is = (ended.at_end, (ended.report.report.forms, ended.report.report.accepted))
-  ended_accepted Usage ended is = absurd ended
-  ended_accepted (Refused r) ended (inl (inl e)) = absurd (cc)
-  ended_accepted (Refused r) ended (inl (inr e)) = absurd (cc)
-  ended_accepted (Refused r) ended (inr e) = absurd (cc)
-  ended_accepted ReadFault ended (inl (inl e)) = absurd (cc)
-  ended_accepted ReadFault ended (inl (inr e)) = absurd (cc)
-  ended_accepted ReadFault ended (inr e) = absurd (cc)
-  ended_accepted Memory ended (inl (inl e)) = absurd (cc)
-  ended_accepted Memory ended (inl (inr e)) = absurd (cc)
-  ended_accepted Memory ended (inr e) = absurd (cc)
-  ended_accepted TooLong ended (inl (inl e)) = absurd (cc)
-  ended_accepted TooLong ended (inl (inr e)) = absurd (cc)
-  ended_accepted TooLong ended (inr e) = absurd (cc)
+  ended_accepted status ended (inl (inl e)) = let done : HasWritten limits input left_new held_old held_new true (Ok tt) = subst Ended e ended in (done.at_end, (done.report.report.forms, done.report.report.accepted))
+  ended_accepted status ended (inl (inr e)) = let at_limit : HasWritten limits input left_new held_old held_new false (Ok tt) = subst Ended e ended in (at_limit.at_end, (at_limit.report.report.forms, at_limit.report.report.accepted))
+  ended_accepted status ended (inr e) =
+      let whole : HasWrittenPart limits input left_new held_old held_new = subst Ended e ended in
+      let part = whole.1 in
+      (part.at_end, (part.report.report.forms, part.report.report.accepted))
 
   pub ended_refused : (status : Status) (r : Refusal) → HasEnded limits input left_new held_old held_new status → status ≡ Refused r → HasRefused input left_new r
-  ended_refused (Refused s) r ended is = let e : s ≡ r = cc in rw e at ended
-  ended_refused Done r ended is = absurd (cc)
-  ended_refused Limit r ended is = absurd (cc)
-  ended_refused Usage r ended is = absurd (cc)
-  ended_refused ReadFault r ended is = absurd (cc)
-  ended_refused WriteFault r ended is = absurd (cc)
-  ended_refused Memory r ended is = absurd (cc)
-  ended_refused TooLong r ended is = absurd (cc)
+  ended_refused status r ended is = subst Ended is ended
 
   pub ended_only_refused : (status : Status) (r : Refusal) → HasEnded limits input left_new held_old held_new status → length input ≤ most_bytes → IsRefusedFor input r
       → (status ≡ Refused r) ⊎ ((status ≡ ReadFault) ⊎ (status ≡ Memory))
@@ -147,14 +121,7 @@ module _ (limits : Limits) (input : List ℕ) (left_new held_old held_new : Opti
   ended_only_refused TooLong r ended short refused = let long = ended.long in absurd (omega arith)
 
   pub ended_too_long : (status : Status) → HasEnded limits input left_new held_old held_new status → status ≡ TooLong → WasTooLong input left_new
-  ended_too_long TooLong ended is = ended
-  ended_too_long Done ended is = absurd (cc)
-  ended_too_long Limit ended is = absurd (cc)
-  ended_too_long Usage ended is = absurd (cc)
-  ended_too_long (Refused r) ended is = absurd (cc)
-  ended_too_long ReadFault ended is = absurd (cc)
-  ended_too_long WriteFault ended is = absurd (cc)
-  ended_too_long Memory ended is = absurd (cc)
+  ended_too_long status ended is = subst Ended is ended
 
   pub ended_only_too_long : (status : Status) → HasEnded limits input left_new held_old held_new status → most_bytes < length input → (status ≡ TooLong) ⊎ ((status ≡ ReadFault) ⊎ (status ≡ Memory))
   ended_only_too_long Done ended long = let short = ended.report.report.accepted.short in absurd (omega arith)

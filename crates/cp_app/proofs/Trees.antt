@@ -1,22 +1,20 @@
 -- The trees of the problems of an input.
-use Rattle.std.proofs.Common.{◌≡◌, ℕ, zero, suc, ◌+◌, ◌<◌, ◌≤◌, List, [], ◌∷◌, ◌++◌, length, get_or, take, map, Option, Some, None, ◌⊎◌, inl, inr, refl, sym, ap, ◌∙◌, subst, arith, ⊎_elim}
+use Rattle.std.proofs.Common.{◌≡◌, ℕ, zero, suc, ◌+◌, ◌<◌, ◌≤◌, List, [], ◌∷◌, ◌++◌, length, get_or, take, map, Option, Some, None, ◌⊎◌, inl, inr, refl, sym, ap, ◌∙◌, subst, arith, ⊎_elim, Result, Ok, Err, add-one, Bool, true, false}
 use Rattle.std.specs.Prelude.{option_map}
 use Rattle.std.specs.List.{AllZip, cons_option, filter_map}
 use Rattle.std.proofs.lemmas.List.{append-nil, take_all}
 use Rattle.std.proofs.lemmas.List.Elements.{filter_map-append}
 use Rattle.std.proofs.Math.Seq.{take-suc}
-use Rattle.std.proofs.Common.{Result, Ok, Err}
 use Rattle.std.specs.Result.{IfOk}
 use Rattle.cp_skel.specs.Trees.{outcome_view, tree_view}
 use Rattle.cp_skel.specs.declared.tree.Tree.{Tree as ProgramTree}
-use Rattle.std.proofs.Common.{add-one, Bool, true, false}
 use Rattle.cp_app.specs.Steps.{is_complete}
-use Rattle.cp_model.specs.Lists.{item_at, IsIn, here, there}
-use Rattle.cp_model.proofs.LawLists.{in_append, in_append_left, in_append_right}
+use Rattle.cp_lists.specs.Lists.{item_at, IsIn, here, there}
+use Rattle.cp_lists.proofs.Members.{in_append, in_append_left, in_append_right}
 use Rattle.cp_model.specs.Term.{Sort, text_sort, datum_sort, name_sort, skey_sort, akey_sort, Variable, atom_of_variable, Term, atom_term, variables_of}
 use Rattle.cp_model.specs.Strand.{Declaration}
-use Rattle.cp_model.specs.Bundle.{Node}
-use Rattle.cp_model.specs.Problem.{variable_terms, declared_sort, IsDeclared, IsPointOfView, variables_of_skeleton}
+use Rattle.cp_model.specs.declared.node.Node.{Node}
+use Rattle.cp_model.specs.Problem.{variable_terms, declared_sort, IsDeclared, IsPointOfView, variables_of_skeleton, HasDeclaredVariables}
 use Rattle.cp_model.specs.Tree.{Mark, Outcome, complete, at_step_limit, at_strand_limit, Label, Tree, Limits, IsTrueOf}
 use Rattle.cp_sexpr.specs.Syntax as syntax
 use Rattle.cp_sexpr.specs.Syntax.{Forms}
@@ -30,7 +28,6 @@ use Rattle.cp_load.specs.declared.input.Input.{Input}
 use Rattle.cp_sexpr.specs.declared.form.Form as form
 use Rattle.cp_roots.specs.Roots.{Root}
 use Rattle.cp_search.specs.Unexpanded.{label_of, IsUnexpanded}
-use Rattle.cp_model.specs.Problem.{HasDeclaredVariables}
 use Rattle.cp_roots.proofs.VariablesOfRoots.{roots_declared}
 use Rattle.cp_wellformed.proofs.Problems as wellformed
 use Rattle.cp_app.specs.Headline.{HaveTrees}

@@ -1,5 +1,5 @@
 -- How a problem is analysed.
-use Rattle.cp_model.specs.Lists.{IsIn}
+use Rattle.cp_lists.specs.Lists.{IsIn}
 use Rattle.cp_model.specs.Skeleton.{IsSkeleton}
 use Rattle.cp_model.specs.Problem.{IsPointOfView}
 use Rattle.cp_model.specs.Tree.{Limits, Label, Tree, IsTrueOf}

@@ -3,7 +3,7 @@ ghost use Rattle.std.specs.Prelude.{◌≡◌, [], ◌∷◌, ◌++◌, map, opt
 ghost use Rattle.std.specs.List.{AllZip, filter_map};
 ghost use Rattle.cp_load.specs.Inputs.{problem_view};
 ghost use Rattle.cp_language.specs.Problems.{Problem as PlainProblem};
-ghost use Rattle.cp_model.specs.Lists.{IsIn};
+ghost use Rattle.cp_lists.specs.Lists.{IsIn};
 ghost use Rattle.cp_model.specs.Tree.{Tree as PlainTree};
 ghost use Rattle.cp_skel.specs.Trees.{limits_view, outcome_view, tree_view};
 ghost use Rattle.cp_app.specs.Analysis.{IsAnalysable, IsAnalysisOf};

@@ -12,8 +12,8 @@ mod text;
 
 pub use memory::{MemSink, MemSource};
 pub use place::{Code, Place, Refusal};
-pub use real::{StdSink, StdSource};
+pub use real::{Counted as StdSink, Counted as StdSource};
 pub use sink::Sink;
 pub use source::Source;
 pub use status::{Failed, Status};
-pub use text::Text;
+pub use text::{Text, copy_if_any, same_if_any};

@@ -28,14 +28,21 @@ impl Calls {
         }
     }
 
-    // Goes on to the next call, and answers whether this one is named to fail.
-    fn begin(&mut self) -> bool
-        ensures named { IsTrue result ↔ IsNamed self.old.next self.old.failing.items }
-        ensures next { self.new ≡ record self.old { next = call_after self.old.next } }
+    // Goes on to the next call. The error is that this one is named to fail, which is counted.
+    fn begin(&mut self) -> Result<(), Failed>
+        ensures named { IsErr result ↔ IsNamed self.old.next self.old.failing.items }
+        ensures next { OnOk result (self.new ≡ record self.old { next = call_after self.old.next }) }
+        ensures counted { OnErr result (self.new
+            ≡ record self.old { next = call_after self.old.next; faults = one_more self.old.faults }) }
+        ensures rose { OnErr result (Rose self.old.faults self.new.faults) }
+        ensures never_falls { self.old.faults ≤ self.new.faults }
     {
         let named = is_named(&self.failing, self.next);
         self.next = number_after(self.next);
-        named
+        if named {
+            return Err(self.fail());
+        }
+        Ok(())
     }
 
     // Counts a fault.
@@ -142,9 +149,7 @@ impl Source for MemSource {
         ensures no_fault { OnOk result (self.new.faults ≡ self.old.faults) }
         ensures fault { OnErr result (self.new.faults ≡ one_more self.old.faults) }
     {
-        if self.calls.begin() {
-            return Err(self.calls.fail());
-        }
+        self.calls.begin()?;
         let count = copy_front(&self.bytes[self.at..], buf);
         self.at += count;
         Ok(count)
@@ -155,9 +160,9 @@ impl Source for MemSource {
 /// given, from 0, and where its room is full and the piece is not empty; every other call takes all that fits.
 #[derive(Drop)]
 pub struct MemSink {
-    bytes: Vec<u8>,
     room: usize,
     calls: Calls,
+    bytes: Vec<u8>,
 }
 
 impl Model for MemSink {
@@ -191,9 +196,9 @@ impl MemSink {
     {
         let bytes = Vec::with_capacity(alloc, room)?;
         Ok(MemSink {
-            bytes,
             room,
             calls: Calls::new(failing),
+            bytes,
         })
     }
 
@@ -230,9 +235,7 @@ impl Sink for MemSink {
         ensures no_fault { OnOk result (self.new.faults ≡ self.old.faults) }
         ensures fault { OnErr result (self.new.faults ≡ one_more self.old.faults) }
     {
-        if self.calls.begin() {
-            return Err(self.calls.fail());
-        }
+        self.calls.begin()?;
         let count = bytes.len().min(self.room - self.bytes.len());
         if count == 0 && !bytes.is_empty() {
             return Err(self.calls.fail());

@@ -11,31 +11,31 @@ use crate::status::Failed;
 use std::io::{Read, Write};
 use std::marker::Model;
 
-/// A source over a reader.
+/// A stream with a count of its faults: a source over a reader, or a sink over a writer.
 #[derive(Drop)]
-pub struct StdSource<R> {
-    reader: R,
+pub struct Counted<S> {
+    stream: S,
     faults: u64,
 }
 
-impl<R> Model for StdSource<R> {
+impl<S> Model for Counted<S> {
     ghost use Rattle.cp_base.specs.Streams.{StreamState};
 
-    ghost Value = { StreamState R };
+    ghost Value = { StreamState S };
 
-    ghost view = { λ s. record { stream = s.reader; faults = s.faults } };
+    ghost view = { λ s. record { stream = s.stream; faults = s.faults } };
 }
 
-impl<R> StdSource<R> {
-    /// A source over this reader, such as `rt.stdin()`, with no fault counted yet.
-    pub fn new(reader: R) -> StdSource<R>
-        ensures { result ≡ record { stream = reader; faults = 0 } }
+impl<S> Counted<S> {
+    /// The source or the sink over this stream, such as `rt.stdin()` or `rt.stdout()`, with no fault counted yet.
+    pub fn new(stream: S) -> Counted<S>
+        ensures { result ≡ record { stream = stream; faults = 0 } }
     {
-        StdSource { reader, faults: 0 }
+        Counted { stream, faults: 0 }
     }
 }
 
-impl<R: Read> Source for StdSource<R> {
+impl<R: Read> Source for Counted<R> {
     ghost left = { λ _. None };
 
     ghost faults = { λ source. source.faults };
@@ -54,37 +54,13 @@ impl<R: Read> Source for StdSource<R> {
         ensures no_fault { OnOk result (self.new.faults ≡ self.old.faults) }
         ensures fault { OnErr result (self.new.faults ≡ one_more self.old.faults) }
     {
-        match self.reader.read(buf) {
+        match self.stream.read(buf) {
             Ok(count) => Ok(count),
             Err(_) => {
                 self.faults = self.faults.saturating_add(1);
                 Err(Failed)
             }
         }
-    }
-}
-
-/// A sink over a writer.
-#[derive(Drop)]
-pub struct StdSink<W> {
-    writer: W,
-    faults: u64,
-}
-
-impl<W> Model for StdSink<W> {
-    ghost use Rattle.cp_base.specs.Streams.{StreamState};
-
-    ghost Value = { StreamState W };
-
-    ghost view = { λ s. record { stream = s.writer; faults = s.faults } };
-}
-
-impl<W> StdSink<W> {
-    /// A sink over this writer, such as `rt.stdout()`, with no fault counted yet.
-    pub fn new(writer: W) -> StdSink<W>
-        ensures { result ≡ record { stream = writer; faults = 0 } }
-    {
-        StdSink { writer, faults: 0 }
     }
 }
 
@@ -107,10 +83,10 @@ fn write_through<W: Write>(writer: &mut W, bytes: &[u8]) -> Result<usize, Failed
     }
 }
 
-impl<W: Write> Sink for StdSink<W> {
-    ghost held = { λ _. None };
-
+impl<W: Write> Sink for Counted<W> {
     ghost faults = { λ sink. sink.faults };
+
+    ghost held = { λ _. None };
 
     /// Writes, and flushes what it wrote. A flush that fails is a fault, though the bytes may have gone.
     fn put(&mut self, bytes: &[u8]) -> Result<usize, Failed>
@@ -128,7 +104,7 @@ impl<W: Write> Sink for StdSink<W> {
         ensures no_fault { OnOk result (self.new.faults ≡ self.old.faults) }
         ensures fault { OnErr result (self.new.faults ≡ one_more self.old.faults) }
     {
-        let result = write_through(&mut self.writer, bytes);
+        let result = write_through(&mut self.stream, bytes);
         if result.is_err() {
             self.faults = self.faults.saturating_add(1);
         }

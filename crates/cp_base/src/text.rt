@@ -1,5 +1,5 @@
 // A text: what a symbol, a string, a tag, a name or a variable's root holds.
-ghost use Rattle.std.specs.Prelude.{◌≡◌, ℕ, List, IfOk};
+ghost use Rattle.std.specs.Prelude.{◌≡◌, ◌↔◌, ℕ, List, IfOk, IsTrue};
 ghost use Rattle.std.specs.String.{string_bytes};
 
 use std::alloc::{AllocError, Global};
@@ -46,5 +46,35 @@ impl Text {
         ensures { result.now ≡ self.now }
     {
         self.text.as_bytes()
+    }
+    /// Whether this is the same text as the other.
+    pub fn same(&self, other: &Text) -> bool
+        ensures { IsTrue result ↔ (self.now ≡ other.now) }
+    {
+        self.as_str() == other.as_str()
+    }
+}
+
+/// Whether of two texts that may be absent both are, or both are the same text.
+pub fn same_if_any(one: &Option<Text>, other: &Option<Text>) -> bool
+    ensures { IsTrue result ↔ (one.now ≡ other.now) }
+{
+    match (one, other) {
+        (None, None) => true,
+        (Some(a), Some(b)) => a.same(b),
+        _ => false,
+    }
+}
+
+/// A copy of a text that may be absent. The error is that memory ran out.
+pub fn copy_if_any(text: &Option<Text>) -> Result<Option<Text>, AllocError>
+    ensures { IfOk result (λ t. t ≡ text.now) }
+{
+    match text {
+        None => Ok(None),
+        Some(text) => {
+            let text = text.copy()?;
+            Ok(Some(text))
+        }
     }
 }

@@ -1,19 +1,21 @@
 -- A unique value that originates elsewhere on a strand was heard there first.
 use Rattle.std.proofs.Common.{◌≡◌, ◌≢◌, ℕ, zero, suc, ◌<◌, List, Option, Some, None, refl, sym, ap, ◌∙◌, subst, ◌⊎◌, inl, inr, arith, eq-or-lt_of_le, le_of_suc-le-suc}
-use Rattle.cp_model.specs.Lists.{item_at, IsIn}
+use Rattle.cp_lists.specs.Lists.{item_at, IsIn}
 use Rattle.cp_model.specs.Message.{Message, atom, IsCarriedBy}
 use Rattle.cp_model.specs.Term.{Term, value_of, value_of_atom}
 use Rattle.cp_model.specs.Strand.{Event, send, recv, payload, event_map, Protocol}
-use Rattle.cp_model.specs.Bundle.{Node, node_at, trace_or_none, event_at, OriginatesAt, Bundle}
+use Rattle.cp_model.specs.Bundle.{node_at, trace_or_none, event_at, OriginatesAt, Bundle}
+use Rattle.cp_model.specs.declared.node.Node.{Node}
 use Rattle.cp_model.specs.Skeleton.{instance, skeleton_trace_or_none, term_event_at, UniqueAt, Skeleton, IsSkeleton}
 use Rattle.cp_model.specs.Standing.{Standing, StandsIn, StandsApart}
 use Rattle.cp_model.specs.Derivable.{IsOnInstance}
 use Rattle.cp_model.specs.Realising.{OriginatesAtTerm}
 use Rattle.cp_model.proofs.LawMessages.{dec_carried}
-use Rattle.cp_model.proofs.LawLists.{item_before}
+use Rattle.cp_lists.proofs.Items.{item_before}
 use Rattle.cp_completeness.specs.Normal.{IsHeardBefore}
 use Rattle.cp_completeness.proofs.Values.{CarriesValue, carried_atom}
-use Rattle.cp_completeness.proofs.Images.{carried_value, image_event, event_on}
+use Rattle.cp_model.proofs.CarriedValues.{carried_value}
+use Rattle.cp_completeness.proofs.Images.{image_event, event_on}
 use Rattle.cp_completeness.proofs.Origins.{same_origin}
 
 -- The first event of a trace, before place n, that carries the message.

@@ -1,31 +1,18 @@
 -- What stands at the image of a node of a skeleton.
-use Rattle.std.proofs.Common.{◌≡◌, ℕ, zero, suc, ◌<◌, ◌≤◌, Option, Some, refl, sym, ap, ◌∙◌, subst, arith}
-use Rattle.cp_model.specs.Lists.{item_at}
-use Rattle.cp_model.specs.Message.{Message, atom, IsCarriedBy, itself, in_left, in_right, in_plaintext}
-use Rattle.cp_model.specs.Term.{AtomTerm, Term, atom_term, IsCarriedByTerm, itself_term, in_left_term, in_right_term, in_plaintext_term, Assignment, value_of, value_of_atom, Substitution, apply_to, after}
+use Rattle.std.proofs.Common.{◌≡◌, ℕ, zero, suc, ◌<◌, ◌≤◌, Option, Some, sym, ap, ◌∙◌, subst, arith}
+use Rattle.cp_lists.specs.Lists.{item_at}
+use Rattle.cp_model.specs.Message.{Message}
+use Rattle.cp_model.specs.Term.{Term, Assignment, value_of, Substitution, apply_to, after}
 use Rattle.cp_model.specs.Strand.{Event, send, recv, payload, event_map, Role, prefix_of}
-use Rattle.cp_model.specs.Bundle.{Node, node_at, event_at, Bundle}
+use Rattle.cp_model.specs.Bundle.{node_at, event_at, Bundle}
+use Rattle.cp_model.specs.declared.node.Node.{Node}
 use Rattle.cp_model.specs.Skeleton.{SkeletonStrand, instance, listener, skeleton_trace, skeleton_trace_or_none, term_event_at, Skeleton}
 use Rattle.cp_model.specs.Standing.{Standing, image_on, image_of, StandsOnRegular, StandsIn}
-use Rattle.cp_model.proofs.LawLists.{item_of_map, item_of_take}
-use Rattle.cp_model.proofs.LawTerms.{value_after}
+use Rattle.cp_lists.proofs.Items.{item_of_map, item_of_take}
+use Rattle.cp_model.proofs.LawEvents.{event_after, payload_map}
 use Rattle.cp_model.proofs.LawStandings.{strand_of_event, event_of_regular}
-use Rattle.cp_completeness.proofs.Values.{agree_event, in_trace}
-
-event_after : (g : Assignment) (s : Substitution) (e : Event Term) → event_map (value_of (after g s)) e ≡ event_map (value_of g) (event_map (apply_to s) e)
-event_after g s (send t) = ap send (value_after g s t)
-event_after g s (recv t) = ap recv (value_after g s t)
-
-pub payload_map : {A B : Type 0} (f : A → B) (e : Event A) → payload (event_map f e) ≡ f (payload e)
-payload_map f (send t) = refl
-payload_map f (recv t) = refl
-
--- The value of what a term carries is carried by the term's value.
-pub carried_value : (g : Assignment) {v : AtomTerm} {t : Term} → IsCarriedByTerm (atom_term v) t → IsCarriedBy (atom (value_of_atom g v)) (value_of g t)
-carried_value g itself_term = itself
-carried_value g (in_left_term h) = in_left (carried_value g h)
-carried_value g (in_right_term h) = in_right (carried_value g h)
-carried_value g (in_plaintext_term h) = in_plaintext (carried_value g h)
+use Rattle.cp_model.proofs.LawPrefixes.{in_trace}
+use Rattle.cp_model.proofs.LawAgreement.{agree_event_values}
 
 -- At the image of an event of an instance is its value.
 pub image_event : (b : Bundle) (h : Standing) (s : ℕ) (role : Role) (height : ℕ) (terms : Substitution) (i : ℕ) (e : Event Term) → StandsOnRegular b h s role height terms →
@@ -38,7 +25,7 @@ image_event b h s role height terms i e st at =
     let on : event_at b.strands (node_at (h.nodes s).strand i) ≡ Some (event_map (value_of st.to_values) m.0) =
     event_of_regular b.strands (h.nodes s).strand i role st.to_height st.to_values m.0 st.on_regular (omega arith) t.1 in
     let same : event_map (value_of (after h.values terms)) m.0 ≡ event_map (value_of st.to_values) m.0 =
-    agree_event (after h.values terms) st.to_values m.0 (λ x p. st.equal_values x (in_trace (prefix_of role height) i m.0 x m.1 p)) in
+    agree_event_values (after h.values terms) st.to_values m.0 (λ x p. st.equal_values x (in_trace (prefix_of role height) i m.0 x m.1 p)) in
     on ∙ ap Some (sym same ∙ event_after h.values terms m.0 ∙ ap (event_map (value_of h.values)) m.2)
 
 pub image_at : (k : Skeleton) (h : Standing) (n : Node) (st : SkeletonStrand) → item_at k.strands n.strand ≡ Some st → image_of k h n ≡ image_on (Some st) (h.nodes n.strand) n.index

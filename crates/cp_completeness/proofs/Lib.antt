@@ -9,6 +9,7 @@ pub mod Weaker
 pub mod Skeletons
 pub mod Mapped
 pub mod StatedSteps
+pub mod Numbered
 pub mod Spoken
 pub mod Embedded
 pub mod Sources

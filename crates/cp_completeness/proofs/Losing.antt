@@ -1,10 +1,12 @@
 -- The steps of normalising lose no standing.
 use Rattle.std.proofs.Common.{◌≡◌, ◌≢◌, ℕ, ◌<◌, List, [], ◌∷◌, refl}
-use Rattle.cp_model.specs.Lists.{IsIn, here}
+use Rattle.cp_lists.specs.Lists.{IsIn, here}
 use Rattle.cp_model.specs.Term.{AtomTerm}
 use Rattle.cp_model.specs.Strand.{Protocol}
-use Rattle.cp_model.specs.Bundle.{Node, node_at, Bundle, IsBundle}
-use Rattle.cp_model.specs.Skeleton.{UniqueAt, OrderPair, Skeleton, Before, IsSkeleton}
+use Rattle.cp_model.specs.Bundle.{node_at, Bundle, IsBundle}
+use Rattle.cp_model.specs.declared.node.Node.{Node}
+use Rattle.cp_model.specs.Skeleton.{UniqueAt, Skeleton, Before, IsSkeleton}
+use Rattle.cp_model.specs.declared.node.OrderPair.{OrderPair}
 use Rattle.cp_model.specs.Standing.{Standing, StandsIn, StandsApart}
 use Rattle.cp_model.specs.Homomorphism.{FactorsThrough, Covers}
 use Rattle.cp_model.specs.Realising.{OriginatesAtTerm}

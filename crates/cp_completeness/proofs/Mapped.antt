@@ -1,52 +1,24 @@
 -- A skeleton that carries a homomorphism from its problem carries one under a substitution, and with more pairs.
-use Rattle.std.proofs.Common.{◌≡◌, ℕ, zero, suc, ◌+◌, Bool, List, [], ◌∷◌, ◌++◌, Option, Some, map, refl, sym, ap, ap₂, ◌∙◌, subst, arith, le_refl}
-use Rattle.cp_model.specs.Lists.{item_at, IsIn, here, there, one_step, more_steps}
-use Rattle.cp_model.specs.Term.{Sort, text_sort, datum_sort, name_sort, skey_sort, akey_sort, Variable, SymmetricTerm, skey_variable, ltk_term, PairTerm, akey_variable, pubk_term, KeyTerm, symmetric_term, asymmetric_term, AtomTerm, text_variable, datum_variable, name_variable, key_term, atom_of_variable, Term, tag_term, atom_term, pair_term, enc_term, variables_of_symmetric, variables_of_pair, variables_of_key, variables_of_atom, variables_of, Substitution, apply_to_symmetric, apply_to_half, apply_to_key, apply_to_atom, apply_to, composed, AgreeOnTerms}
+use Rattle.std.proofs.Common.{◌≡◌, ℕ, zero, suc, ◌+◌, List, [], ◌∷◌, ◌++◌, Option, Some, map, refl, sym, ap, ap₂, ◌∙◌, subst, arith, le_refl}
+use Rattle.cp_lists.specs.Lists.{item_at, IsIn, here, there, one_step, more_steps}
+use Rattle.cp_model.specs.Term.{Sort, text_sort, datum_sort, name_sort, skey_sort, akey_sort, Variable, symmetric_term, asymmetric_term, AtomTerm, text_variable, datum_variable, name_variable, key_term, atom_of_variable, Term, atom_term, variables_of, Substitution, apply_to_atom, apply_to, composed, AgreeOnTerms}
 use Rattle.cp_model.specs.Strand.{Role, Declaration, prefix_of}
-use Rattle.cp_model.specs.Bundle.{Node, node_at}
-use Rattle.cp_model.specs.Skeleton.{instance, listener, OrderPair, Skeleton, OrderStep, along_strand_of, along_pair, Before}
+use Rattle.cp_model.specs.Bundle.{node_at}
+use Rattle.cp_model.specs.declared.node.Node.{Node}
+use Rattle.cp_model.specs.Skeleton.{instance, listener, Skeleton, OrderStep, along_strand_of, along_pair, Before}
+use Rattle.cp_model.specs.declared.node.OrderPair.{OrderPair}
 use Rattle.cp_model.specs.Homomorphism.{SkeletonMap, GoesToInstance, IsHomomorphism, substitution_by, text_in, datum_in, name_in, skey_in, akey_in, map_from_problem, CarriesHomomorphism}
 use Rattle.cp_model.specs.Problem.{variables_of_strands, variables_of_atoms, variables_of_uniques, variables_of_assumptions, variables_of_skeleton, variable_terms, declared_sort, IsDeclared, IsPointOfView}
-use Rattle.cp_model.proofs.LawLists.{in_append_left, in_append_right, map_of_item}
+use Rattle.cp_lists.proofs.Members.{in_append_left, in_append_right, into_map}
+use Rattle.cp_lists.proofs.Items.{map_of_item}
 use Rattle.cp_model.proofs.LawTerms.{atom_composed}
+use Rattle.cp_model.proofs.LawAgreement.{agree_atom, agree_term}
+use Rattle.cp_model.proofs.LawOrder.{before_wider}
+use Rattle.cp_model.proofs.DeclaredVariables.{declared_at}
 use Rattle.cp_model.proofs.LawEmbeddings.{then_homomorphism}
 use Rattle.cp_completeness.specs.Normal.{with_pairs, strand_under, unique_under, skeleton_under}
 use Rattle.cp_completeness.proofs.Under.{in_trace_under, in_strands, in_atoms, in_uniques}
-use Rattle.cp_completeness.proofs.Skeletons.{into_map, event_under}
-
--- Substitutions that agree on the variables of a term give it one term.
-agree_symmetric : (s t : Substitution) (k : SymmetricTerm) → AgreeOnTerms (variables_of_symmetric k) s t → apply_to_symmetric s k ≡ apply_to_symmetric t k
-agree_symmetric s t (skey_variable n) a = let e : key_term (symmetric_term (s.skeys n)) ≡ key_term (symmetric_term (t.skeys n)) = a (record { sort = skey_sort; number = n }) here in cc
-agree_symmetric s t (ltk_term m n) a =
-    let e : name_variable (s.names m) ≡ name_variable (t.names m) = a (record { sort = name_sort; number = m }) here in
-    let f : name_variable (s.names n) ≡ name_variable (t.names n) = a (record { sort = name_sort; number = n }) (there here) in
-    cc
-
-agree_half : (s t : Substitution) (flag : Bool) (k : PairTerm) → AgreeOnTerms (variables_of_pair k) s t → apply_to_half s flag k ≡ apply_to_half t flag k
-agree_half s t flag (akey_variable n) a =
-    let e : key_term (asymmetric_term (s.akeys n).0 (s.akeys n).1) ≡ key_term (asymmetric_term (t.akeys n).0 (t.akeys n).1) = a (record { sort = akey_sort; number = n }) here in
-    let p : (s.akeys n).0 ≡ (t.akeys n).0 = cc in
-    let q : (s.akeys n).1 ≡ (t.akeys n).1 = cc in
-    ap₂ (λ x y. apply_to_half (record s { akeys = λ m. (x, y) }) flag (akey_variable n)) p q
-agree_half s t flag (pubk_term purpose n) a = let e : name_variable (s.names n) ≡ name_variable (t.names n) = a (record { sort = name_sort; number = n }) here in cc
-
-agree_key : (s t : Substitution) (k : KeyTerm) → AgreeOnTerms (variables_of_key k) s t → apply_to_key s k ≡ apply_to_key t k
-agree_key s t (symmetric_term k) a = ap symmetric_term (agree_symmetric s t k a)
-agree_key s t (asymmetric_term flag k) a = ap (λ (p : Bool × PairTerm). asymmetric_term p.0 p.1) (agree_half s t flag k a)
-
-pub agree_atom : (s t : Substitution) (v : AtomTerm) → AgreeOnTerms (variables_of_atom v) s t → apply_to_atom s v ≡ apply_to_atom t v
-agree_atom s t (text_variable n) a = a (record { sort = text_sort; number = n }) here
-agree_atom s t (datum_variable n) a = a (record { sort = datum_sort; number = n }) here
-agree_atom s t (name_variable n) a = a (record { sort = name_sort; number = n }) here
-agree_atom s t (key_term k) a = ap key_term (agree_key s t k a)
-
-pub agree_term : (s t : Substitution) (u : Term) → AgreeOnTerms (variables_of u) s t → apply_to s u ≡ apply_to t u
-agree_term s t (tag_term bytes) a = refl
-agree_term s t (atom_term v) a = ap atom_term (agree_atom s t v a)
-agree_term s t (pair_term u w) a =
-    ap₂ pair_term (agree_term s t u (λ x p. a x (in_append_left (variables_of w) p))) (agree_term s t w (λ x p. a x (in_append_right (variables_of u) p)))
-agree_term s t (enc_term u k) a =
-    ap₂ enc_term (agree_term s t u (λ x p. a x (in_append_left (variables_of_key k) p))) (agree_key s t k (λ x p. a x (in_append_right (variables_of u) p)))
+use Rattle.cp_completeness.proofs.Skeletons.{event_under}
 
 -- A homomorphism whose substitution is changed where no variable of the skeleton is.
 module _ (a b : Skeleton) (strands : ℕ → ℕ) (s t : Substitution) (agree : AgreeOnTerms (variables_of_skeleton a) s t) (hom : IsHomomorphism a b (record { strands = strands; terms = s })) where
@@ -123,22 +95,6 @@ by_item r ts name_sort n e = ap (λ (o : Option Term). name_variable (name_in n 
 by_item r ts skey_sort n e = ap (λ (o : Option Term). key_term (symmetric_term (skey_in n o))) e
 by_item r ts akey_sort n e = ap (λ (o : Option Term). key_term (asymmetric_term (akey_in n o).0 (akey_in n o).1)) e
 
--- What stands at the numbers of declared variables.
-variable_at : (n : ℕ) (ds : List Declaration) (i : ℕ) (sort : Sort) → declared_sort (item_at ds i) ≡ Some sort → item_at (variable_terms n ds) i ≡ Some (atom_term (atom_of_variable (record { sort = sort; number = n + i })))
-variable_at n [] i sort e = absurd (cc)
-variable_at n (d ∷ ds) zero sort e =
-    let p : d.sort ≡ sort = cc in
-    let q : n ≡ n + zero = omega arith in
-    ap₂ (λ (s : Sort) (m : ℕ). Some (atom_term (atom_of_variable (record { sort = s; number = m })))) p q
-variable_at n (d ∷ ds) (suc i) sort e =
-    let q : suc n + i ≡ n + suc i = omega arith in
-    subst (λ (m : ℕ). item_at (variable_terms (suc n) ds) i ≡ Some (atom_term (atom_of_variable (record { sort = sort; number = m })))) q (variable_at (suc n) ds i sort e)
-
-declared_at : (ds : List Declaration) (x : Variable) → IsDeclared ds x → item_at (variable_terms 0 ds) x.number ≡ Some (atom_term (atom_of_variable x))
-declared_at ds x is =
-    let q : 0 + x.number ≡ x.number = omega arith in
-    subst (λ (m : ℕ). item_at (variable_terms 0 ds) x.number ≡ Some (atom_term (atom_of_variable (record { sort = x.sort; number = m })))) q (variable_at 0 ds x.number x.sort is)
-
 -- Each term of declared variables is one of them.
 record IsOneOf (ds : List Declaration) (n : ℕ) (t : Term) : Type 0 where
   place : ℕ
@@ -198,13 +154,8 @@ module _ (variables : List Declaration) (problem k : Skeleton) (s : Substitution
 
 -- With more pairs.
 module _ (problem k : Skeleton) (pairs : List OrderPair) (all : (p : OrderPair) → IsIn p k.pairs → IsIn p pairs) where
-  step_more : {x y : Node} → OrderStep k x y → OrderStep (with_pairs k pairs) x y
-  step_more (along_strand_of ev) = along_strand_of ev
-  step_more (along_pair {p = p} inp) = along_pair (all p inp)
-
   pub before_more : {x y : Node} → Before k x y → Before (with_pairs k pairs) x y
-  before_more (one_step p) = one_step (step_more p)
-  before_more (more_steps p q) = more_steps (step_more p) (before_more q)
+  before_more b = before_wider k (with_pairs k pairs) refl all b
 
   homomorphism_more : (f : SkeletonMap) → IsHomomorphism problem k f → IsHomomorphism problem (with_pairs k pairs) f
   homomorphism_more f hom = record {

@@ -1,30 +1,24 @@
 -- The example of the authentication test meets its premises, and its outcomes.
-use Rattle.std.proofs.Common.{◌≡◌, ◌≢◌, ℕ, zero, suc, ◌+◌, ◌<◌, List, [], Some, refl, sym, ap, ◌∙◌, subst, le_refl, arith}
-use Rattle.cp_model.specs.Lists.{item_at, IsIn, here, there, one_step, more_steps}
+use Rattle.std.proofs.Common.{◌≡◌, ◌≢◌, ℕ, zero, suc, ◌+◌, ◌<◌, List, Some, refl, sym, ap, ◌∙◌, le_refl, arith}
+use Rattle.cp_lists.specs.Lists.{item_at, IsIn, here, there, one_step}
 use Rattle.cp_model.specs.Message.{Atom, key, Message, atom}
 use Rattle.cp_model.specs.Term.{Assignment}
-use Rattle.cp_model.specs.Strand.{Event, send, recv, payload, Role, IsHeight, create_tag, create_atom, key_message, regular, penetrator}
-use Rattle.cp_model.specs.Bundle.{Node, node_at, event_at, KeepsRole, BundleStep, along_strand, along_link, IsBundle}
+use Rattle.cp_model.specs.Strand.{Event, send, recv, payload, Role, create_tag, create_atom, key_message, regular, penetrator}
+use Rattle.cp_model.specs.Bundle.{node_at, event_at, KeepsRole, AreOfProtocol, along_link, IsBundle}
+use Rattle.cp_model.specs.declared.node.Node.{Node}
 use Rattle.cp_completeness.specs.Example.{zeros}
 use Rattle.cp_completeness.specs.Testing.{IsOutside, is_whole, outside_plaintext, IsNoPair, IsNotCreated, IsReleased, IsEncrypted, IsDecrypted}
 use Rattle.cp_completeness.specs.Opened.{locker, opener, protocol, shared, secret, locked, opened, every, heard_from_opener, heard_from_decryption, heard_from_encryption}
-
-no_item : {A : Type 0} {x : A} → IsIn x [] → ⊥
-no_item h = elim h [ ]
+use Rattle.cp_lists.proofs.Members.{not_in_none}
+use Rattle.cp_model.proofs.StrandParts.{same_regular}
+use Rattle.cp_completeness.proofs.Numbered.{IsOfRole, of_roles, is_numbered}
+use Rattle.cp_completeness.proofs.Tested.{encrypted_there, decrypted_there}
 
 -- The two regular strands.
 each_regular : (P : ℕ → Role → ℕ → Assignment → Type 0) → P 0 locker 1 zeros → P 1 opener 2 zeros →
     (s : ℕ) (role : Role) (height : ℕ) (g : Assignment) → item_at opened.strands s ≡ Some (regular role height g) → P s role height g
-each_regular P p q zero role height g e =
-    let a : locker ≡ role = cc in
-    let b : 1 ≡ height = cc in
-    let c : zeros ≡ g = cc in
-    subst (λ x. P 0 x height g) a (subst (λ x. P 0 locker x g) b (subst (λ x. P 0 locker 1 x) c p))
-each_regular P p q (suc zero) role height g e =
-    let a : opener ≡ role = cc in
-    let b : 2 ≡ height = cc in
-    let c : zeros ≡ g = cc in
-    subst (λ x. P 1 x height g) a (subst (λ x. P 1 opener x g) b (subst (λ x. P 1 opener 2 x) c q))
+each_regular P p q zero role height g e = same_regular (P 0) e p
+each_regular P p q (suc zero) role height g e = same_regular (P 1) e q
 each_regular P p q (suc (suc zero)) role height g e = absurd (cc)
 each_regular P p q (suc (suc (suc zero))) role height g e = absurd (cc)
 each_regular P p q (suc (suc (suc (suc zero)))) role height g e = absurd (cc)
@@ -34,10 +28,10 @@ each_regular P p q (suc (suc (suc (suc (suc (suc (suc zero))))))) role height g 
 each_regular P p q (suc (suc (suc (suc (suc (suc (suc (suc s)))))))) role height g e = absurd (cc)
 
 kept_locker : KeepsRole opened.strands 0 locker 1 zeros
-kept_locker = record { non = λ v h a. absurd (no_item h); penetrator_non = λ v h a. absurd (no_item h); unique = λ v i h a. absurd (no_item h) }
+kept_locker = record { non = λ v h a. absurd (not_in_none h); penetrator_non = λ v h a. absurd (not_in_none h); unique = λ v i h a. absurd (not_in_none h) }
 
 kept_opener : KeepsRole opened.strands 1 opener 2 zeros
-kept_opener = record { non = λ v h a. absurd (no_item h); penetrator_non = λ v h a. absurd (no_item h); unique = λ v i h a. absurd (no_item h) }
+kept_opener = record { non = λ v h a. absurd (not_in_none h); penetrator_non = λ v h a. absurd (not_in_none h); unique = λ v i h a. absurd (not_in_none h) }
 
 -- The place of the first node of a strand in the numbering.
 abbrev start : ℕ → ℕ
@@ -134,29 +128,11 @@ there_is n (there (there (there (there (there (there (there (there (there (there
 there_is n (there (there (there (there (there (there (there (there (there (there (there (there here)))))))))))) = (recv locked, refl)
 there_is n (there (there (there (there (there (there (there (there (there (there (there (there (there h))))))))))))) = elim h [ ]
 
-step_rises : {x y : Node} → BundleStep opened x y → place x < place y
-step_rises (along_strand {s = s} {i = i} e) = omega arith
-step_rises (along_link {n = n} {m = m} e) = (linked_on n.strand n.index m e).1
+of_protocol : AreOfProtocol protocol opened.strands
+of_protocol = of_roles protocol opened.strands (each_regular (IsOfRole protocol opened.strands) (here, (le_refl 1, le_refl 1), kept_locker) (there here, (omega arith, le_refl 2), kept_opener))
 
 pub is_bundle : IsBundle protocol opened
-is_bundle = record {
-  of_protocol = record {
-    of_role = each_regular (λ s role height g. IsIn role protocol.roles) here (there here);
-    heights = each_regular (λ s role height g. IsHeight role height) (le_refl 1, le_refl 1) (omega arith, le_refl 2);
-    kept = each_regular (λ s role height g. KeepsRole opened.strands s role height g) kept_locker kept_opener;
-  };
-  linked = λ n m e. (linked_on n.strand n.index m e).0;
-  listing = record {
-    each = λ n e at. listed_on n.strand n.index e at;
-    only = there_is;
-    once = λ i j n a b. place_is i n a ∙ sym (place_is j n b);
-  };
-  rises = λ x y i j st a b.
-      let l = step_rises st in
-      let p = place_is i x a in
-      let q = place_is j y b in
-      omega (arith, l, p, q);
-}
+is_bundle = is_numbered protocol opened place of_protocol (λ s i. omega arith) linked_on listed_on there_is place_is
 
 -- The premises.
 pub text_is_no_pair : IsNoPair secret
@@ -228,29 +204,7 @@ released = record {
 }
 
 pub decrypted : IsDecrypted opened every secret heard_from_decryption
-decrypted = record {
-  plaintext = secret;
-  key = shared;
-  protected = refl;
-  outside = is_whole;
-  not_outside = text_not_outside;
-  strand = 4;
-  on_penetrator = refl;
-  key_received = refl;
-  key_earlier = more_steps (along_strand {s = 4} {i = 0} {e = recv locked} refl) (more_steps (along_strand {s = 4} {i = 1} {e = send secret} refl) (one_step (along_link {n = heard_from_decryption} {m = secret} refl)));
-  encryption_received = refl;
-  encryption_earlier = more_steps (along_strand {s = 4} {i = 1} {e = send secret} refl) (one_step (along_link {n = heard_from_decryption} {m = secret} refl));
-}
+decrypted = decrypted_there opened every secret heard_from_decryption 4 secret shared refl (refl, is_whole, text_not_outside) (one_step (along_link {n = heard_from_decryption} {m = secret} refl))
 
 pub encrypted : IsEncrypted opened locked heard_from_encryption
-encrypted = record {
-  plaintext = secret;
-  key = shared;
-  is_encryption = refl;
-  strand = 6;
-  on_penetrator = refl;
-  key_received = refl;
-  key_earlier = more_steps (along_strand {s = 6} {i = 0} {e = recv secret} refl) (more_steps (along_strand {s = 6} {i = 1} {e = send locked} refl) (one_step (along_link {n = heard_from_encryption} {m = locked} refl)));
-  plaintext_received = refl;
-  plaintext_earlier = more_steps (along_strand {s = 6} {i = 1} {e = send locked} refl) (one_step (along_link {n = heard_from_encryption} {m = locked} refl));
-}
+encrypted = encrypted_there opened locked heard_from_encryption 6 secret shared refl refl (one_step (along_link {n = heard_from_encryption} {m = locked} refl))

@@ -1,18 +1,22 @@
 -- Non-originating values are carried nowhere, unique values originate at their recorded origins, and those precede all
 -- receptions of their values.
 use Rattle.std.proofs.Common.{◌≡◌, ◌≢◌, ℕ, ◌<◌, Some, refl, sym, ap, ◌∙◌, subst, inl, inr}
-use Rattle.cp_model.specs.Lists.{item_at, IsIn}
+use Rattle.cp_lists.specs.Lists.{item_at, IsIn}
 use Rattle.cp_model.specs.Message.{Message, atom, IsCarriedBy}
 use Rattle.cp_model.specs.Term.{AtomTerm, Term, atom_term, IsCarriedByTerm, value_of, value_of_atom}
 use Rattle.cp_model.specs.Strand.{Event, send, recv, payload, event_map, Protocol}
-use Rattle.cp_model.specs.Bundle.{Node, node_at, event_at, OriginatesAt, Bundle, Precedes, IsBundle}
-use Rattle.cp_model.specs.Skeleton.{instance, UniqueAt, OrderPair, Skeleton, IsOrigin, IsSkeleton}
+use Rattle.cp_model.specs.Bundle.{node_at, event_at, OriginatesAt, Bundle, Precedes, IsBundle}
+use Rattle.cp_model.specs.declared.node.Node.{Node}
+use Rattle.cp_model.specs.Skeleton.{instance, UniqueAt, Skeleton, IsOrigin, IsSkeleton}
+use Rattle.cp_model.specs.declared.node.OrderPair.{OrderPair}
 use Rattle.cp_model.specs.Standing.{Standing, image_of, StandsIn, StandsApart}
 use Rattle.cp_model.specs.Derivable.{IsOnInstance}
 use Rattle.cp_model.specs.Realising.{OriginatesAtTerm}
 use Rattle.cp_model.proofs.LawOrigins.{origin_of, AtOrBefore, HasOrigin}
 use Rattle.cp_completeness.specs.Normal.{IsCarriedAt, IsOriginPair}
-use Rattle.cp_completeness.proofs.Images.{payload_map, carried_value, image_event, image_at, event_on, IsImageOf, image_event_at}
+use Rattle.cp_model.proofs.LawEvents.{payload_map}
+use Rattle.cp_model.proofs.CarriedValues.{carried_value}
+use Rattle.cp_completeness.proofs.Images.{image_event, image_at, event_on, IsImageOf, image_event_at}
 
 -- What a node carries, its image carries.
 pub image_carries : (k : Skeleton) (b : Bundle) (h : Standing) (n : Node) (e : Event Term) (v : AtomTerm) (m : IsImageOf b h.values e (image_of k h n)) → IsCarriedByTerm (atom_term v) (payload e) →
@@ -65,18 +69,21 @@ lost_origin protocol k b h u j sk inu l c stands =
     subst (IsCarriedBy (atom (value_of_atom h.values u.value))) (sym (payload_map (value_of h.values) c.event)) (carried_value h.values c.carried) in
     whole.first j (event_map (value_of h.values) c.event) l there carried
 
+-- A recorded origin that no earlier event on its strand spoils: the value originates there.
+pub originates_at : (k : Skeleton) (u : UniqueAt) → IsOrigin k u → ((j : ℕ) → j < u.origin.index → IsCarriedAt k u.value (node_at u.origin.strand j) → ⊥) → OriginatesAtTerm k u.value u.origin
+originates_at k u o unspoiled = (
+  record { role = o.role; height = o.height; terms = o.terms; on_instance = o.on_instance },
+  record {
+    sent = o.sent;
+    transmission = o.transmission;
+    carried = o.carried;
+    first = λ j e l at c. unspoiled j l (record { event = e; there = at; carried = c });
+  },
+)
+
 pub unique_value_originates : (protocol : Protocol) (k : Skeleton) (b : Bundle) (h : Standing) (u : UniqueAt) → IsSkeleton protocol k → IsIn u k.assumptions.uniquely_originating → StandsIn k b h →
     OriginatesAtTerm k u.value u.origin
-unique_value_originates protocol k b h u sk inu stands =
-    let o = sk.origins u inu in (
-      record { role = o.role; height = o.height; terms = o.terms; on_instance = o.on_instance },
-      record {
-        sent = o.sent;
-        transmission = o.transmission;
-        carried = o.carried;
-        first = λ j e l at c. lost_origin protocol k b h u j sk inu l (record { event = e; there = at; carried = c }) stands;
-      },
-    )
+unique_value_originates protocol k b h u sk inu stands = originates_at k u (sk.origins u inu) (λ j l c. lost_origin protocol k b h u j sk inu l c stands)
 
 -- The recorded origin of a unique value precedes each reception that carries the value.
 origin_not_reception : (protocol : Protocol) (b : Bundle) (v : Message) (o n : Node) (m : Message) → OriginatesAt b.strands v o → event_at b.strands n ≡ Some (recv m) → AtOrBefore b o n → Precedes b o n

@@ -1,34 +1,20 @@
 -- A skeleton still stands with pairs from recorded origins, and its order then has no cycle.
 use Rattle.std.proofs.Common.{◌≡◌, ◌≢◌, ℕ, suc, ◌<◌, ◌≤◌, List, Option, Some, None, refl, sym, ◌∙◌, subst, ◌⊎◌, inl, inr, arith}
-use Rattle.cp_model.specs.Lists.{item_at, IsIn, one_step, more_steps}
-use Rattle.cp_model.specs.Message.{Message}
+use Rattle.cp_lists.specs.Lists.{item_at, IsIn, one_step, more_steps}
 use Rattle.cp_model.specs.Term.{Term, Substitution}
-use Rattle.cp_model.specs.Strand.{Event, recv, Role, Protocol}
-use Rattle.cp_model.specs.Bundle.{Node, node_at, event_at, Bundle, Precedes, BundleStep, along_strand, along_link, IsBundle}
-use Rattle.cp_model.specs.Skeleton.{SkeletonStrand, instance, listener, skeleton_trace_or_none, OrderPair, Skeleton, OrderStep, along_strand_of, along_pair, Before, IsSkeleton}
+use Rattle.cp_model.specs.Strand.{Event, Role, Protocol}
+use Rattle.cp_model.specs.Bundle.{node_at, Bundle, Precedes, along_strand, IsBundle}
+use Rattle.cp_model.specs.declared.node.Node.{Node}
+use Rattle.cp_model.specs.Skeleton.{SkeletonStrand, instance, listener, skeleton_trace_or_none, Skeleton, OrderStep, along_strand_of, along_pair, Before, IsSkeleton}
+use Rattle.cp_model.specs.declared.node.OrderPair.{OrderPair}
 use Rattle.cp_model.specs.Standing.{Standing, image_on, image_of, StandsOnRegular, StandsIn}
-use Rattle.cp_model.proofs.LawLists.{steps_append}
+use Rattle.cp_lists.proofs.Reached.{steps_append}
 use Rattle.cp_model.proofs.LawStandings.{event_of_instance, event_of_regular}
-use Rattle.cp_model.proofs.LawOrigins.{place_of, path_rises}
+use Rattle.cp_model.proofs.LawOrigins.{never_before_itself}
 use Rattle.cp_completeness.specs.Normal.{IsOriginPair, with_pairs, AddOnlyOriginPairs}
 use Rattle.cp_completeness.proofs.Origins.{origin_precedes}
 
 -- Nothing in a bundle precedes itself.
-event_after : (b : Bundle) {x y : Node} → BundleStep b x y → (e : Event Message) × (event_at b.strands y ≡ Some e)
-event_after b (along_strand {e = e} ev) = (e, ev)
-event_after b (along_link {m = m} ev) = (recv m, ev)
-
-last_event : (b : Bundle) {x y : Node} → Precedes b x y → (e : Event Message) × (event_at b.strands y ≡ Some e)
-last_event b (one_step s) = event_after b s
-last_event b (more_steps s p) = last_event b p
-
-no_circle : (protocol : Protocol) (b : Bundle) (n : Node) → IsBundle protocol b → Precedes b n n → ⊥
-no_circle protocol b n is p =
-    let e = last_event b p in
-    let place = place_of (is.listing.each n e.0 e.1) in
-    let l : place.0 < place.0 = path_rises protocol b is p place.0 place.0 place.1 place.1 in
-    omega arith
-
 module _ (k : Skeleton) (b : Bundle) (h : Standing)
     (on : (s : ℕ) (role : Role) (height : ℕ) (terms : Substitution) → item_at k.strands s ≡ Some (instance role height terms) → StandsOnRegular b h s role height terms)
     (pairs : (p : OrderPair) → IsIn p k.pairs → Precedes b (image_of k h p.earlier) (image_of k h p.later)) where
@@ -76,7 +62,7 @@ module _ (k : Skeleton) (b : Bundle) (h : Standing)
   ordered x y before ne = apart_precedes x y ne (climbs before)
 
   same_climbs : (protocol : Protocol) (n : Node) → IsBundle protocol b → Climbs n n → ⊥
-  same_climbs protocol n is (inl p) = no_circle protocol b (image_of k h n) is p
+  same_climbs protocol n is (inl p) = never_before_itself protocol b (image_of k h n) is p
   same_climbs protocol n is (inr p) = let l : n.index < n.index = p.2 in omega arith
 
   pub no_cycle : (protocol : Protocol) (n : Node) → IsBundle protocol b → Before k n n → ⊥

@@ -1,24 +1,17 @@
 -- A skeleton over a protocol is one under a substitution, and with pairs from recorded origins that close no cycle.
 use Rattle.std.proofs.Common.{◌≡◌, ◌≢◌, ℕ, List, Some, map, sym, subst, ◌⊎◌, inl, inr}
-use Rattle.cp_model.specs.Lists.{item_at, IsIn, here, there}
+use Rattle.cp_lists.specs.Lists.{item_at, IsIn}
 use Rattle.cp_model.specs.Term.{AtomTerm, Term, atom_term, IsCarriedByTerm, itself_term, in_left_term, in_right_term, in_plaintext_term, Substitution, apply_to, apply_to_atom, composed}
 use Rattle.cp_model.specs.Strand.{Event, send, recv, event_map, Role, Protocol}
-use Rattle.cp_model.specs.Bundle.{Node, node_at}
-use Rattle.cp_model.specs.Skeleton.{instance, skeleton_trace_or_none, term_event_at, UniqueAt, OrderPair, Skeleton, Before, IsOrderPair, IsOrigin, GivesAssumptions, IsSkeleton}
-use Rattle.cp_model.proofs.LawLists.{map_of_item}
-use Rattle.cp_model.proofs.LawTerms.{atom_composed}
+use Rattle.cp_model.specs.Bundle.{node_at}
+use Rattle.cp_model.specs.declared.node.Node.{Node}
+use Rattle.cp_model.specs.Skeleton.{instance, skeleton_trace_or_none, term_event_at, UniqueAt, Skeleton, Before, IsOrderPair, IsOrigin, GivesAssumptions, IsSkeleton}
+use Rattle.cp_model.specs.declared.node.OrderPair.{OrderPair}
+use Rattle.cp_lists.proofs.Members.{into_map, from_map}
+use Rattle.cp_lists.proofs.Items.{map_of_item}
+use Rattle.cp_model.proofs.LawTerms.{carried_under, atom_composed}
 use Rattle.cp_completeness.specs.Normal.{IsOriginPair, with_pairs, AddOnlyOriginPairs, strand_under, unique_under, skeleton_under}
-use Rattle.cp_completeness.proofs.Under.{in_map, trace_under, before_of_under, instance_of_under}
-
-pub into_map : {A B : Type 0} (f : A → B) {x : A} {xs : List A} → IsIn x xs → IsIn (f x) (map f xs)
-into_map f here = here
-into_map f (there p) = there (into_map f p)
-
-pub carried_under : (s : Substitution) {v : AtomTerm} {t : Term} → IsCarriedByTerm (atom_term v) t → IsCarriedByTerm (atom_term (apply_to_atom s v)) (apply_to s t)
-carried_under s itself_term = itself_term
-carried_under s (in_left_term p) = in_left_term (carried_under s p)
-carried_under s (in_right_term p) = in_right_term (carried_under s p)
-carried_under s (in_plaintext_term p) = in_plaintext_term (carried_under s p)
+use Rattle.cp_completeness.proofs.Under.{trace_under, before_of_under, instance_of_under}
 
 pub event_under : (s : Substitution) (k : Skeleton) (n : Node) (e : Event Term) → term_event_at k.strands n ≡ Some e → term_event_at (skeleton_under s k).strands n ≡ Some (event_map (apply_to s) e)
 event_under s k n e ev =
@@ -57,7 +50,7 @@ skeleton_under_is_skeleton protocol s k sk = record {
   heights = λ a role height terms at. let i = instance_of_under s k a role height terms at in sk.heights a role height i.0 i.1;
   order_pairs = λ p inp. pair_under s k p (sk.order_pairs p inp);
   no_cycle = λ n before. sk.no_cycle n (before_of_under s k before);
-  origins = λ u inu. let m = in_map (unique_under s) k.assumptions.uniquely_originating u inu in subst (IsOrigin (skeleton_under s k)) m.2 (origin_under s k m.0 (sk.origins m.0 m.1));
+  origins = λ u inu. let m = from_map (unique_under s) k.assumptions.uniquely_originating inu in subst (IsOrigin (skeleton_under s k)) m.2 (origin_under s k m.0 (sk.origins m.0 m.1));
   given = λ a role height terms at.
       let i = instance_of_under s k a role height terms at in
       subst (GivesAssumptions (skeleton_under s k) a role height) i.2 (given_under s k a role height i.0 (sk.given a role height i.0 i.1));

@@ -1,33 +1,16 @@
 -- Going back from an event whose message has a decidable property to a transmission whose message has it, while no earlier
 -- event of its strand does.
-use Rattle.std.proofs.Common.{◌≡◌, ℕ, zero, suc, ◌<◌, Option, Some, None, refl, sym, ◌∙◌, subst, ◌⊎◌, inl, inr, arith, eq-or-lt_of_le, le_of_suc-le-suc}
-use Rattle.cp_model.specs.Lists.{item_at, one_step}
+use Rattle.std.proofs.Common.{◌≡◌, ℕ, zero, suc, ◌<◌, Option, Some, None, refl, sym, ◌∙◌, subst, ◌⊎◌, inl, inr, arith}
+use Rattle.cp_lists.specs.Lists.{item_at, one_step}
 use Rattle.cp_model.specs.Message.{Message}
 use Rattle.cp_model.specs.Strand.{Event, send, recv, payload, Protocol}
-use Rattle.cp_model.specs.Bundle.{Node, node_at, event_at, Bundle, along_link, Precedes, IsBundle}
+use Rattle.cp_model.specs.Bundle.{node_at, event_at, Bundle, along_link, Precedes, IsBundle}
+use Rattle.cp_model.specs.declared.node.Node.{Node}
 use Rattle.cp_model.proofs.LawStandings.{bundle_climb}
-use Rattle.cp_model.proofs.LawOrigins.{place_of, path_rises, AtOrBefore}
-use Rattle.cp_model.proofs.LawLists.{steps_append}
-
--- Whether some number below a bound has a decidable property.
-abbrev SomeBelow : (ℕ → Type 0) → ℕ → Type 0
-SomeBelow Q n = (k : ℕ) × (k < n) × Q k
-
-abbrev NoneBelow : (ℕ → Type 0) → ℕ → Type 0
-NoneBelow Q n = (k : ℕ) → k < n → Q k → ⊥
-
-none_more : (Q : ℕ → Type 0) (n : ℕ) → NoneBelow Q n → (Q n → ⊥) → (k : ℕ) → (k ≡ n) ⊎ (k < n) → Q k → ⊥
-none_more Q n none last k (inl e) q = last (subst Q e q)
-none_more Q n none last k (inr l) q = none k l q
-
-scan_more : (Q : ℕ → Type 0) (n : ℕ) → Dec (Q n) → SomeBelow Q n ⊎ NoneBelow Q n → SomeBelow Q (suc n) ⊎ NoneBelow Q (suc n)
-scan_more Q n d (inl r) = let l : r.0 < n = r.1 in inl (r.0, omega arith, r.2)
-scan_more Q n (yes q) (inr none) = inl (n, omega arith, q)
-scan_more Q n (no q) (inr none) = inr (λ k l. none_more Q n none q k (eq-or-lt_of_le (le_of_suc-le-suc l)))
-
-scan_below : (Q : ℕ → Type 0) → ((k : ℕ) → Dec (Q k)) → (n : ℕ) → SomeBelow Q n ⊎ NoneBelow Q n
-scan_below Q d zero = inr (λ k l. absurd (omega arith))
-scan_below Q d (suc n) = scan_more Q n (d n) (scan_below Q d n)
+use Rattle.cp_lists.proofs.Items.{place_of}
+use Rattle.cp_model.proofs.LawOrigins.{path_rises, AtOrBefore}
+use Rattle.cp_lists.proofs.Reached.{steps_append}
+use Rattle.cp_lists.proofs.Least.{NoneBelow, LeastBelow, least_or_none}
 
 -- There is an event, and its message has the property.
 abbrev HasEvent : (Message → Type 0) → Option (Event Message) → Type 0
@@ -63,7 +46,7 @@ from_first protocol b is P n (send t) ev p none back = (n, record { sent = t; tr
 from_first protocol b is P n (recv t) ev p none back = back (b.sender n) (send t) (one_step (along_link ev)) (is.linked n t ev) p
 
 from_scan : (protocol : Protocol) (b : Bundle) → IsBundle protocol b → (P : Message → Type 0) (n : Node) (e : Event Message) → event_at b.strands n ≡ Some e → P (payload e) →
-    SomeBelow (λ k. HasEvent P (event_at b.strands (node_at n.strand k))) n.index ⊎ NoneBelow (λ k. HasEvent P (event_at b.strands (node_at n.strand k))) n.index →
+    LeastBelow (λ k. HasEvent P (event_at b.strands (node_at n.strand k))) n.index ⊎ NoneBelow (λ k. HasEvent P (event_at b.strands (node_at n.strand k))) n.index →
     ((x : Node) (f : Event Message) → Precedes b x n → event_at b.strands x ≡ Some f → P (payload f) → HasSource b P n) → HasSource b P n
 from_scan protocol b is P n e ev p (inl r) back = back (node_at n.strand r.0) r.2.0 (bundle_climb b n.strand r.0 n.index e ev r.1) r.2.1 r.2.2
 from_scan protocol b is P n e ev p (inr none) back = from_first protocol b is P n e ev p none back
@@ -72,7 +55,7 @@ source_within : (protocol : Protocol) (b : Bundle) → IsBundle protocol b → (
     event_at b.strands n ≡ Some e → P (payload e) → HasSource b P n
 source_within protocol b is P d zero n j e l at ev p = absurd (omega arith)
 source_within protocol b is P d (suc fuel) n j e l at ev p =
-    from_scan protocol b is P n e ev p (scan_below (λ k. HasEvent P (event_at b.strands (node_at n.strand k))) (λ k. dec_has_event P d (event_at b.strands (node_at n.strand k))) n.index)
+    from_scan protocol b is P n e ev p (least_or_none (λ k. HasEvent P (event_at b.strands (node_at n.strand k))) (λ k. dec_has_event P d (event_at b.strands (node_at n.strand k))) n.index)
     (λ x f before there q.
     let place = place_of (is.listing.each x f there) in
     let less : place.0 < j = path_rises protocol b is before place.0 j place.1 at in

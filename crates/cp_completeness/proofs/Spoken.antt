@@ -1,63 +1,35 @@
 -- The example meets the premises of the laws.
 use Rattle.std.proofs.Common.{◌≡◌, ◌≢◌, ℕ, zero, suc, ◌+◌, ◌<◌, List, [], ◌∷◌, Some, refl, sym, ap, ◌∙◌, subst, le_refl, lt_trans, lt_irrefl, arith}
-use Rattle.cp_model.specs.Lists.{item_at, IsIn, here, there, one_step, more_steps}
+use Rattle.cp_lists.specs.Lists.{item_at, IsIn, here, there, one_step, more_steps}
 use Rattle.cp_model.specs.Message.{text, Message, atom, itself}
 use Rattle.cp_model.specs.Term.{Variable, AtomTerm, text_variable, atom_of_variable, Term, atom_term, IsCarriedByTerm, itself_term, Assignment, value_of_atom, Substitution, apply_to_atom, unchanged, after, AgreeOn}
 use Rattle.cp_model.specs.Strand.{Event, send, recv, payload, Role, IsHeight, regular}
-use Rattle.cp_model.specs.Bundle.{Node, node_at, event_at, OriginatesAt, KeepsUnique, KeepsRole, BundleStep, along_strand, along_link, IsBundle}
-use Rattle.cp_model.specs.Skeleton.{instance, listener, term_event_at, UniqueAt, OrderStep, along_strand_of, along_pair, Before, IsOrigin, GivesAssumptions, IsSkeleton}
+use Rattle.cp_model.specs.Bundle.{node_at, event_at, OriginatesAt, KeepsUnique, KeepsRole, AreOfProtocol, IsBundle}
+use Rattle.cp_model.specs.declared.node.Node.{Node}
+use Rattle.cp_model.specs.Skeleton.{instance, term_event_at, UniqueAt, OrderStep, along_strand_of, along_pair, Before, IsOrigin, GivesAssumptions, IsSkeleton}
 use Rattle.cp_model.specs.Standing.{image_of, StandsOnRegular, StandsIn, StandsApart}
 use Rattle.cp_model.specs.Realising.{OriginatesAtTerm}
 use Rattle.cp_model.specs.Problem.{variables_of_skeleton}
 use Rattle.cp_model.proofs.LawTerms.{atom_after, atom_unchanged}
+use Rattle.cp_lists.proofs.Members.{only_item, not_in_none}
+use Rattle.cp_model.proofs.StrandParts.{two_instances, two_regulars, no_listener}
+use Rattle.cp_completeness.proofs.Numbered.{IsOfRole, of_roles, is_numbered}
 use Rattle.cp_completeness.specs.Normal.{IsOriginPair, skeleton_under, variables_of_terms, AreBranches}
 use Rattle.cp_completeness.specs.Example.{speaker, repeater, protocol, unique_text, two_say_it, repeated, zeros, heard_and_said, standing, merging, from_speaker}
-
-only_item : {A : Type 0} {x y : A} → IsIn x (y ∷ []) → x ≡ y
-only_item here = refl
-only_item (there h) = elim h [ ]
-
-no_item : {A : Type 0} {x : A} → IsIn x [] → ⊥
-no_item h = elim h [ ]
 
 -- The two instances, and the two strands.
 each_instance : (P : ℕ → Role → ℕ → Substitution → Type 0) → P 0 speaker 1 unchanged → P 1 repeater 2 unchanged →
     (s : ℕ) (role : Role) (height : ℕ) (terms : Substitution) → item_at two_say_it.strands s ≡ Some (instance role height terms) → P s role height terms
-each_instance P p q zero role height terms e =
-    let a : speaker ≡ role = cc in
-    let b : 1 ≡ height = cc in
-    let c : unchanged ≡ terms = cc in
-    subst (λ x. P 0 x height terms) a (subst (λ x. P 0 speaker x terms) b (subst (λ x. P 0 speaker 1 x) c p))
-each_instance P p q (suc zero) role height terms e =
-    let a : repeater ≡ role = cc in
-    let b : 2 ≡ height = cc in
-    let c : unchanged ≡ terms = cc in
-    subst (λ x. P 1 x height terms) a (subst (λ x. P 1 repeater x terms) b (subst (λ x. P 1 repeater 2 x) c q))
-each_instance P p q (suc (suc s)) role height terms e = absurd (cc)
-
-no_listener : (s : ℕ) (t : Term) → item_at two_say_it.strands s ≡ Some (listener t) → ⊥
-no_listener zero t e = absurd (cc)
-no_listener (suc zero) t e = absurd (cc)
-no_listener (suc (suc s)) t e = absurd (cc)
+each_instance P p q s role height terms e = two_instances P p q s role height terms e
 
 each_regular : (P : ℕ → Role → ℕ → Assignment → Type 0) → P 0 speaker 1 zeros → P 1 repeater 2 zeros →
     (s : ℕ) (role : Role) (height : ℕ) (g : Assignment) → item_at heard_and_said.strands s ≡ Some (regular role height g) → P s role height g
-each_regular P p q zero role height g e =
-    let a : speaker ≡ role = cc in
-    let b : 1 ≡ height = cc in
-    let c : zeros ≡ g = cc in
-    subst (λ x. P 0 x height g) a (subst (λ x. P 0 speaker x g) b (subst (λ x. P 0 speaker 1 x) c p))
-each_regular P p q (suc zero) role height g e =
-    let a : repeater ≡ role = cc in
-    let b : 2 ≡ height = cc in
-    let c : zeros ≡ g = cc in
-    subst (λ x. P 1 x height g) a (subst (λ x. P 1 repeater x g) b (subst (λ x. P 1 repeater 2 x) c q))
-each_regular P p q (suc (suc s)) role height g e = absurd (cc)
+each_regular P p q s role height g e = two_regulars P p q s role height g e
 
 -- The skeleton.
 same_strand_step : {x y : Node} → OrderStep two_say_it x y → (x.strand ≡ y.strand) × (x.index < y.index)
 same_strand_step (along_strand_of {s = s} {i = i} e) = (refl, omega arith)
-same_strand_step (along_pair h) = absurd (no_item h)
+same_strand_step (along_pair h) = absurd (not_in_none h)
 
 same_strand : {x y : Node} → Before two_say_it x y → (x.strand ≡ y.strand) × (x.index < y.index)
 same_strand (one_step s) = same_strand_step s
@@ -68,8 +40,8 @@ same_strand (more_steps s p) =
 
 given_speaker : GivesAssumptions two_say_it 0 speaker 1 unchanged
 given_speaker = record {
-  non = λ v h a. absurd (no_item h);
-  penetrator_non = λ v h a. absurd (no_item h);
+  non = λ v h a. absurd (not_in_none h);
+  penetrator_non = λ v h a. absurd (not_in_none h);
   unique = λ v i h a.
       let e : i ≡ 0 = omega (arith, a.1) in
       subst (λ x. IsIn (record { value = apply_to_atom unchanged x; origin = node_at 0 i }) (unique_text ∷ [])) (sym (only_item h))
@@ -77,13 +49,13 @@ given_speaker = record {
 }
 
 given_repeater : GivesAssumptions two_say_it 1 repeater 2 unchanged
-given_repeater = record { non = λ v h a. absurd (no_item h); penetrator_non = λ v h a. absurd (no_item h); unique = λ v i h a. absurd (no_item h) }
+given_repeater = record { non = λ v h a. absurd (not_in_none h); penetrator_non = λ v h a. absurd (not_in_none h); unique = λ v i h a. absurd (not_in_none h) }
 
 pub is_skeleton : IsSkeleton protocol two_say_it
 is_skeleton = record {
   of_role = each_instance (λ s role height terms. IsIn role protocol.roles) here (there here);
   heights = each_instance (λ s role height terms. IsHeight role height) (le_refl 1, le_refl 1) (omega arith, le_refl 2);
-  order_pairs = λ p h. absurd (no_item h);
+  order_pairs = λ p h. absurd (not_in_none h);
   no_cycle = λ n h. lt_irrefl n.index (same_strand h).1;
   origins = λ u h. subst (IsOrigin two_say_it) (sym (only_item h)) (record {
     role = speaker;
@@ -120,8 +92,8 @@ keeps_unique = record {
 
 kept_speaker : KeepsRole heard_and_said.strands 0 speaker 1 zeros
 kept_speaker = record {
-  non = λ v h a. absurd (no_item h);
-  penetrator_non = λ v h a. absurd (no_item h);
+  non = λ v h a. absurd (not_in_none h);
+  penetrator_non = λ v h a. absurd (not_in_none h);
   unique = λ v i h a.
       let e : i ≡ 0 = omega (arith, a.1) in
       subst (λ x. KeepsUnique heard_and_said.strands (atom (value_of_atom zeros x)) (node_at 0 i)) (sym (only_item h))
@@ -129,23 +101,19 @@ kept_speaker = record {
 }
 
 kept_repeater : KeepsRole heard_and_said.strands 1 repeater 2 zeros
-kept_repeater = record { non = λ v h a. absurd (no_item h); penetrator_non = λ v h a. absurd (no_item h); unique = λ v i h a. absurd (no_item h) }
+kept_repeater = record { non = λ v h a. absurd (not_in_none h); penetrator_non = λ v h a. absurd (not_in_none h); unique = λ v i h a. absurd (not_in_none h) }
 
 linked_on : (s i : ℕ) (m : Message) → event_at heard_and_said.strands (node_at s i) ≡ Some (recv m) → (event_at heard_and_said.strands (node_at 0 0) ≡ Some (send m)) × (0 < s + i)
 linked_on zero zero m e = absurd (cc)
-linked_on zero (suc i) m e = absurd (cc)
 linked_on (suc zero) zero m e = let q : spoken ≡ m = cc in (ap (λ (x : Message). Some (send x)) q, omega arith)
 linked_on (suc zero) (suc zero) m e = absurd (cc)
-linked_on (suc zero) (suc (suc i)) m e = absurd (cc)
-linked_on (suc (suc s)) i m e = absurd (cc)
+linked_on _ _ m e = absurd (cc)
 
 listed_on : (s i : ℕ) (e : Event Message) → event_at heard_and_said.strands (node_at s i) ≡ Some e → IsIn (node_at s i) heard_and_said.order
 listed_on zero zero e at = here
-listed_on zero (suc i) e at = absurd (cc)
 listed_on (suc zero) zero e at = there here
 listed_on (suc zero) (suc zero) e at = there (there here)
-listed_on (suc zero) (suc (suc i)) e at = absurd (cc)
-listed_on (suc (suc s)) i e at = absurd (cc)
+listed_on _ _ e at = absurd (cc)
 
 place_is : (i : ℕ) (n : Node) → item_at heard_and_said.order i ≡ Some n → i ≡ n.strand + n.index
 place_is zero n e = let q : node_at 0 0 ≡ n = cc in ap (λ (x : Node). x.strand + x.index) q
@@ -159,29 +127,11 @@ there_is n (there here) = (recv spoken, refl)
 there_is n (there (there here)) = (send spoken, refl)
 there_is n (there (there (there h))) = elim h [ ]
 
-step_rises : {x y : Node} → BundleStep heard_and_said x y → x.strand + x.index < y.strand + y.index
-step_rises (along_strand {s = s} {i = i} e) = omega arith
-step_rises (along_link {n = n} {m = m} e) = (linked_on n.strand n.index m e).1
+of_protocol : AreOfProtocol protocol heard_and_said.strands
+of_protocol = of_roles protocol heard_and_said.strands (each_regular (IsOfRole protocol heard_and_said.strands) (here, (le_refl 1, le_refl 1), kept_speaker) (there here, (omega arith, le_refl 2), kept_repeater))
 
 pub is_bundle : IsBundle protocol heard_and_said
-is_bundle = record {
-  of_protocol = record {
-    of_role = each_regular (λ s role height g. IsIn role protocol.roles) here (there here);
-    heights = each_regular (λ s role height g. IsHeight role height) (le_refl 1, le_refl 1) (omega arith, le_refl 2);
-    kept = each_regular (λ s role height g. KeepsRole heard_and_said.strands s role height g) kept_speaker kept_repeater;
-  };
-  linked = λ n m e. (linked_on n.strand n.index m e).0;
-  listing = record {
-    each = λ n e at. listed_on n.strand n.index e at;
-    only = there_is;
-    once = λ i j n a b. place_is i n a ∙ sym (place_is j n b);
-  };
-  rises = λ x y i j st a b.
-      let l = step_rises st in
-      let p = place_is i x a in
-      let q = place_is j y b in
-      omega (arith, l, p, q);
-}
+is_bundle = is_numbered protocol heard_and_said (λ n. n.strand + n.index) of_protocol (λ s i. omega arith) linked_on listed_on there_is place_is
 
 -- The standing.
 equal_values : (xs : List Variable) → AgreeOn xs (after zeros unchanged) zeros
@@ -192,10 +142,10 @@ stands = record {
   instances = each_instance (λ s role height terms. StandsOnRegular heard_and_said standing s role height terms)
       (record { at_start = refl; to_height = 1; to_values = zeros; on_regular = refl; at_least = le_refl 1; equal_values = equal_values _ })
       (record { at_start = refl; to_height = 2; to_values = zeros; on_regular = refl; at_least = le_refl 2; equal_values = equal_values _ });
-  listeners = λ s t e. absurd (no_listener s t e);
+  listeners = λ s t e. absurd (no_listener speaker repeater 1 2 unchanged unchanged s t e);
   ordered = λ x y before ne. absurd (ne (same_strand before).0);
-  non = λ v h. absurd (no_item h);
-  penetrator_non = λ v h. absurd (no_item h);
+  non = λ v h. absurd (not_in_none h);
+  penetrator_non = λ v h. absurd (not_in_none h);
   unique = λ u h. subst (λ (x : UniqueAt). KeepsUnique heard_and_said.strands (atom (value_of_atom zeros x.value)) (image_of two_say_it standing x.origin)) (sym (only_item h)) keeps_unique;
 }
 

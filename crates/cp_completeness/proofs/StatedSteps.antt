@@ -1,20 +1,22 @@
 -- A skeleton that keeps what its problem states keeps it under a substitution, and with more pairs.
 use Rattle.std.proofs.Common.{◌≡◌, ◌<◌, ◌++◌, ℕ, List, length, map, refl, sym, ◌∙◌, subst, le_refl}
 use Rattle.std.proofs.lemmas.List.{length-map}
-use Rattle.cp_model.specs.Lists.{IsIn}
+use Rattle.cp_lists.specs.Lists.{IsIn}
 use Rattle.cp_model.specs.Term.{Variable, AtomTerm, variables_of_atom, Substitution, apply_to_atom, composed}
 use Rattle.cp_model.specs.Strand.{Declaration}
-use Rattle.cp_model.specs.Skeleton.{UniqueAt, OrderPair, Skeleton}
+use Rattle.cp_model.specs.Skeleton.{UniqueAt, Skeleton}
+use Rattle.cp_model.specs.declared.node.OrderPair.{OrderPair}
 use Rattle.cp_model.specs.Problem.{variables_of_strands, variables_of_atoms, variables_of_uniques, IsDeclared, IsPointOfView}
 use Rattle.cp_model.specs.Homomorphism.{mapped, substitution_by, map_from_problem, CarriesHomomorphism}
-use Rattle.cp_model.specs.Stated.{unique_image, KeepsStated}
-use Rattle.cp_model.proofs.LawLists.{in_append_left, in_append_right}
+use Rattle.cp_model.specs.Stated.{unique_image, HasOwnAssumptions, KeepsStated}
+use Rattle.cp_lists.proofs.Members.{in_append_left, in_append_right}
 use Rattle.cp_model.proofs.LawTerms.{atom_composed}
 use Rattle.cp_model.proofs.Images.{images_then, mapped_images, images_within}
 use Rattle.cp_model.proofs.StatedStays.{stated_stays}
 use Rattle.cp_completeness.specs.Normal.{with_pairs, strand_under, unique_under, skeleton_under}
 use Rattle.cp_completeness.proofs.Under.{in_atoms, in_uniques}
-use Rattle.cp_completeness.proofs.Mapped.{agree_atom, agree_declared, before_under, before_more}
+use Rattle.cp_model.proofs.LawAgreement.{agree_atom}
+use Rattle.cp_completeness.proofs.Mapped.{agree_declared, before_under, before_more}
 
 -- The variables of what a problem states itself are declared.
 module _ (variables : List Declaration) (problem : Skeleton) (own : IsPointOfView variables problem) where
@@ -32,6 +34,19 @@ module _ (variables : List Declaration) (problem : Skeleton) (own : IsPointOfVie
   unique_declared u i x j =
       own.closed x (in_append_right (variables_of_strands problem.strands) (in_append_right (variables_of_atoms problem.assumptions.non_originating ++ variables_of_atoms problem.assumptions.penetrator_non_originating)
       (in_uniques problem.assumptions.uniquely_originating u x (own.assumed.unique u i) j)))
+
+-- The assumptions that the problem states itself are among the skeleton's under a substitution too.
+pub assumed_under : (s : Substitution) (k : Skeleton) → HasOwnAssumptions k → HasOwnAssumptions (skeleton_under s k)
+assumed_under s k own =
+    let had = k.from_problem.assumptions in
+    record {
+      non = images_within (apply_to_atom s) had.non_originating k.assumptions.non_originating (map (apply_to_atom s) had.non_originating) (map (apply_to_atom s) k.assumptions.non_originating)
+          (mapped_images (apply_to_atom s) had.non_originating) (mapped_images (apply_to_atom s) k.assumptions.non_originating) own.non;
+      penetrator_non = images_within (apply_to_atom s) had.penetrator_non_originating k.assumptions.penetrator_non_originating (map (apply_to_atom s) had.penetrator_non_originating) (map (apply_to_atom s) k.assumptions.penetrator_non_originating)
+          (mapped_images (apply_to_atom s) had.penetrator_non_originating) (mapped_images (apply_to_atom s) k.assumptions.penetrator_non_originating) own.penetrator_non;
+      unique = images_within (unique_under s) had.uniquely_originating k.assumptions.uniquely_originating (map (unique_under s) had.uniquely_originating) (map (unique_under s) k.assumptions.uniquely_originating)
+          (mapped_images (unique_under s) had.uniquely_originating) (mapped_images (unique_under s) k.assumptions.uniquely_originating) own.unique;
+    }
 
 module _ (variables : List Declaration) (problem k : Skeleton) (s : Substitution) (own : IsPointOfView variables problem) (carries : CarriesHomomorphism problem k) where
   abbrev before : Substitution
@@ -59,14 +74,7 @@ module _ (variables : List Declaration) (problem k : Skeleton) (s : Substitution
             keeps.penetrator_non (mapped_images (apply_to_atom s) had.penetrator_non_originating) (λ v i. value_under v (penetrator_non_declared variables problem own v i));
         unique = images_then (unique_image (map_from_problem k)) (unique_under s) (unique_image (map_from_problem (skeleton_under s k))) stated.uniquely_originating had.uniquely_originating (map (unique_under s) had.uniquely_originating)
             keeps.unique (mapped_images (unique_under s) had.uniquely_originating) (λ u i. unique_goes u (unique_declared variables problem own u i));
-        assumed = record {
-          non = images_within (apply_to_atom s) had.non_originating k.assumptions.non_originating (map (apply_to_atom s) had.non_originating) (map (apply_to_atom s) k.assumptions.non_originating)
-              (mapped_images (apply_to_atom s) had.non_originating) (mapped_images (apply_to_atom s) k.assumptions.non_originating) keeps.assumed.non;
-          penetrator_non = images_within (apply_to_atom s) had.penetrator_non_originating k.assumptions.penetrator_non_originating (map (apply_to_atom s) had.penetrator_non_originating) (map (apply_to_atom s) k.assumptions.penetrator_non_originating)
-              (mapped_images (apply_to_atom s) had.penetrator_non_originating) (mapped_images (apply_to_atom s) k.assumptions.penetrator_non_originating) keeps.assumed.penetrator_non;
-          unique = images_within (unique_under s) had.uniquely_originating k.assumptions.uniquely_originating (map (unique_under s) had.uniquely_originating) (map (unique_under s) k.assumptions.uniquely_originating)
-              (mapped_images (unique_under s) had.uniquely_originating) (mapped_images (unique_under s) k.assumptions.uniquely_originating) keeps.assumed.unique;
-        };
+        assumed = assumed_under s k keeps.assumed;
         pairs = keeps.pairs;
         ordered = λ p i. before_under s k (keeps.ordered p i);
       }

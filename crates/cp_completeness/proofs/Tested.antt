@@ -1,12 +1,13 @@
 -- The authentication test: where the first transmission of a message outside can be.
 use Rattle.std.proofs.Common.{◌≡◌, ℕ, zero, suc, ◌<◌, List, [], ◌∷◌, Option, Some, None, Bool, true, false, refl, sym, ap, ◌∙◌, subst, ◌⊎◌, inl, inr, ⊎_elim, arith}
-use Rattle.cp_model.specs.Lists.{item_at}
+use Rattle.cp_lists.specs.Lists.{item_at}
 use Rattle.cp_model.specs.Message.{Key, inverse, Atom, Message, tag, atom, pair, enc}
 use Rattle.cp_model.specs.Strand.{Event, send, recv, payload, Protocol, Penetrator, create_tag, create_atom, pairing, splitting, encryption, decryption, hearing, key_message, penetrator_trace, Strand, regular, penetrator}
-use Rattle.cp_model.specs.Bundle.{Node, node_at, trace_or_none, event_at, Bundle, Precedes, IsBundle}
-use Rattle.cp_model.proofs.LawMessages.{dec_message}
+use Rattle.cp_model.specs.Bundle.{node_at, trace_or_none, event_at, Bundle, Precedes, IsBundle}
+use Rattle.cp_model.specs.declared.node.Node.{Node}
+use Rattle.cp_model.proofs.LawMessages.{dec_message, dec_or}
 use Rattle.cp_model.proofs.LawStandings.{bundle_climb}
-use Rattle.cp_model.proofs.LawLists.{steps_append}
+use Rattle.cp_lists.proofs.Reached.{steps_append}
 use Rattle.cp_completeness.specs.Testing.{IsOutside, is_whole, outside_left, outside_right, outside_plaintext, IsNoPair, IsNotCreated, IsEncrypted, IsDecrypted, IsAnswered}
 use Rattle.cp_completeness.proofs.Sources.{IsSource, source_before_reception}
 
@@ -27,11 +28,6 @@ dec_parts : (protects : Message → Key → Bool) (c m : Message) → (InParts p
 dec_parts protects c m back (yes e) d = yes (subst (IsOutside protects c) e is_whole)
 dec_parts protects c m back (no n) (yes p) = yes (back p)
 dec_parts protects c m back (no n) (no q) = no (λ o. ⊎_elim n q (outside_cases o))
-
-dec_or : {A B : Type 0} → Dec A → Dec B → Dec (A ⊎ B)
-dec_or (yes a) d = yes (inl a)
-dec_or (no n) (yes b) = yes (inr b)
-dec_or (no n) (no m) = no (⊎_elim n m)
 
 dec_and : {A B : Type 0} → Dec A → Dec B → Dec (A × B)
 dec_and (yes a) (yes b) = yes (a, b)
@@ -129,39 +125,47 @@ on_trace b s i e = ap (λ (o : Option Strand). item_at (trace_or_none o) i) e
 earlier_on : (b : Bundle) (x n : Node) (e : Event Message) → event_at b.strands x ≡ Some e → Precedes b x n → (i : ℕ) → i < x.index → Precedes b (node_at x.strand i) n
 earlier_on b x n e ev before i l = steps_append (bundle_climb b x.strand i x.index e ev l) before
 
+-- A strand of the penetrator that encrypts or decrypts, and whose transmission precedes n.
+pub encrypted_there : (b : Bundle) (c : Message) (n : Node) (s : ℕ) (a : Message) (k : Key) → item_at b.strands s ≡ Some (penetrator (encryption a k)) → c ≡ enc a k → Precedes b (node_at s 2) n → IsEncrypted b c n
+encrypted_there b c n s a k on e before = record {
+  plaintext = a;
+  key = k;
+  is_encryption = e;
+  strand = s;
+  on_penetrator = on;
+  key_received = on_trace b s 0 on;
+  key_earlier = earlier_on b (node_at s 2) n (send (enc a k)) (on_trace b s 2 on) before 0 (omega arith);
+  plaintext_received = on_trace b s 1 on;
+  plaintext_earlier = earlier_on b (node_at s 2) n (send (enc a k)) (on_trace b s 2 on) before 1 (omega arith);
+}
+
+pub decrypted_there : (b : Bundle) (protects : Message → Key → Bool) (c : Message) (n : Node) (s : ℕ) (a : Message) (k : Key) →
+    item_at b.strands s ≡ Some (penetrator (decryption a k)) → Makes protects c (decryption a k) → Precedes b (node_at s 2) n → IsDecrypted b protects c n
+decrypted_there b protects c n s a k on m before = record {
+  plaintext = a;
+  key = k;
+  protected = m.0;
+  outside = m.1;
+  not_outside = m.2;
+  strand = s;
+  on_penetrator = on;
+  key_received = on_trace b s 0 on;
+  key_earlier = earlier_on b (node_at s 2) n (send a) (on_trace b s 2 on) before 0 (omega arith);
+  encryption_received = on_trace b s 1 on;
+  encryption_earlier = earlier_on b (node_at s 2) n (send a) (on_trace b s 2 on) before 1 (omega arith);
+}
+
 encrypted : (b : Bundle) (protects : Message → Key → Bool) (c : Message) (n x : Node) (source : IsSource b (IsOutside protects c) x) → Precedes b x n → (a : Message) (k : Key) →
     item_at b.strands x.strand ≡ Some (penetrator (encryption a k)) → c ≡ enc a k → IsEncrypted b c n
 encrypted b protects c n x source before a k on e =
     let at : x.index ≡ 2 = third (key_message k) a (enc a k) source.sent x.index (sym (on_trace b x.strand x.index on) ∙ source.transmission) in
-    record {
-      plaintext = a;
-      key = k;
-      is_encryption = e;
-      strand = x.strand;
-      on_penetrator = on;
-      key_received = on_trace b x.strand 0 on;
-      key_earlier = earlier_on b x n (send source.sent) source.transmission before 0 (omega (arith, at));
-      plaintext_received = on_trace b x.strand 1 on;
-      plaintext_earlier = earlier_on b x n (send source.sent) source.transmission before 1 (omega (arith, at));
-    }
+    encrypted_there b c n x.strand a k on e (subst (λ i. Precedes b (node_at x.strand i) n) at before)
 
 decrypted : (b : Bundle) (protects : Message → Key → Bool) (c : Message) (n x : Node) (source : IsSource b (IsOutside protects c) x) → Precedes b x n → (a : Message) (k : Key) →
     item_at b.strands x.strand ≡ Some (penetrator (decryption a k)) → Makes protects c (decryption a k) → IsDecrypted b protects c n
 decrypted b protects c n x source before a k on m =
     let at : x.index ≡ 2 = third (key_message (inverse k)) (enc a k) a source.sent x.index (sym (on_trace b x.strand x.index on) ∙ source.transmission) in
-    record {
-      plaintext = a;
-      key = k;
-      protected = m.0;
-      outside = m.1;
-      not_outside = m.2;
-      strand = x.strand;
-      on_penetrator = on;
-      key_received = on_trace b x.strand 0 on;
-      key_earlier = earlier_on b x n (send source.sent) source.transmission before 0 (omega (arith, at));
-      encryption_received = on_trace b x.strand 1 on;
-      encryption_earlier = earlier_on b x n (send source.sent) source.transmission before 1 (omega (arith, at));
-    }
+    decrypted_there b protects c n x.strand a k on m (subst (λ i. Precedes b (node_at x.strand i) n) at before)
 
 by_penetrator : (b : Bundle) (protects : Message → Key → Bool) (c : Message) (n x : Node) → IsNotCreated b c → (source : IsSource b (IsOutside protects c) x) → Precedes b x n → (p : Penetrator) →
     item_at b.strands x.strand ≡ Some (penetrator p) → Makes protects c p → IsAnswered b protects c n

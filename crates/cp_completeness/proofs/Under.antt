@@ -1,18 +1,20 @@
 -- A skeleton under a substitution stands where the skeleton does, under an assignment that solves it.
 use Rattle.std.proofs.Common.{◌≡◌, ◌≢◌, ℕ, zero, suc, Bool, List, [], ◌∷◌, ◌++◌, Some, map, refl, sym, ap, ap₂, ◌∙◌, subst, subst₂, ⊎_elim}
-use Rattle.cp_model.specs.Lists.{item_at, IsIn, here, there, one_step, more_steps}
+use Rattle.cp_lists.specs.Lists.{item_at, IsIn, here, there, one_step, more_steps}
 use Rattle.cp_model.specs.Message.{Atom, Message, atom}
 use Rattle.cp_model.specs.Term.{Variable, SymmetricTerm, skey_variable, ltk_term, PairTerm, akey_variable, pubk_term, KeyTerm, symmetric_term, asymmetric_term, AtomTerm, text_variable, datum_variable, name_variable, key_term, atom_of_variable, Term, tag_term, atom_term, pair_term, enc_term, name_sort, variables_of_symmetric, variables_of_pair, variables_of_key, variables_of_atom, variables_of, Assignment, value_of, value_of_atom, Substitution, apply_to_key, apply_to_atom, apply_to, after, composed, AgreeOn}
-use Rattle.cp_model.specs.Strand.{Event, send, recv, payload, event_map, Role, prefix_of, variables_of_trace}
-use Rattle.cp_model.specs.Bundle.{Node, node_at, event_at, KeepsNon, KeepsPenetratorNon, KeepsUnique, Bundle, Precedes}
+use Rattle.cp_model.specs.Strand.{Event, send, recv, payload, event_map, Role, prefix_of, variables_of_trace, variables_of_prefix}
+use Rattle.cp_model.specs.Bundle.{node_at, event_at, KeepsNon, KeepsPenetratorNon, KeepsUnique, Bundle, Precedes}
+use Rattle.cp_model.specs.declared.node.Node.{Node}
 use Rattle.cp_model.specs.Skeleton.{SkeletonStrand, instance, listener, skeleton_trace, skeleton_trace_or_none, term_event_at, UniqueAt, Skeleton, OrderStep, along_strand_of, along_pair, Before}
 use Rattle.cp_model.specs.Standing.{Standing, image_on, image_of, StandsOnRegular, StandsIn, StandsApart}
 use Rattle.cp_model.specs.Homomorphism.{FactorsThrough}
 use Rattle.cp_model.specs.Problem.{variables_of_strands, variables_of_atoms, variables_of_uniques, variables_of_assumptions}
-use Rattle.cp_model.proofs.LawLists.{in_append, in_append_left, in_append_right, item_of_map}
+use Rattle.cp_lists.proofs.Members.{in_append, in_append_left, in_append_right, from_map}
+use Rattle.cp_lists.proofs.Items.{item_of_map}
 use Rattle.cp_model.proofs.LawTerms.{atom_after, value_after, atom_composed, term_composed}
 use Rattle.cp_completeness.specs.Normal.{strand_under, unique_under, skeleton_under, variables_of_terms, IsSolution}
-use Rattle.cp_completeness.proofs.Values.{agree_atom, agree_term}
+use Rattle.cp_model.proofs.LawAgreement.{agree_atom_value, agree_value}
 
 -- The variables of the terms of a term's variables occur in the term under the substitution.
 in_symmetric : (s : Substitution) (k : SymmetricTerm) (x y : Variable) → IsIn x (variables_of_symmetric k) → IsIn y (variables_of_atom (apply_to_atom s (atom_of_variable x))) → IsIn y (variables_of_key (apply_to_key s (symmetric_term k)))
@@ -75,11 +77,6 @@ in_uniques (w ∷ us) u x here p = in_append_left (variables_of_uniques us) p
 in_uniques (w ∷ us) u x (there q) p = in_append_right (variables_of_atom w.value) (in_uniques us u x q p)
 in_uniques [] u x q p = elim q [ ]
 
-pub in_map : {A B : Type 0} (f : A → B) (xs : List A) (y : B) → IsIn y (map f xs) → (x : A) × IsIn x xs × (f x ≡ y)
-in_map f [] y p = elim p [ ]
-in_map f (x ∷ xs) y here = (x, here, refl)
-in_map f (x ∷ xs) y (there p) = let r = in_map f xs y p in (r.0, there r.1, r.2)
-
 -- Traces and images under a substitution.
 event_under : (s t : Substitution) (e : Event Term) → event_map (apply_to (composed t s)) e ≡ event_map (apply_to s) (event_map (apply_to t) e)
 event_under s t (send u) = ap send (term_composed t s u)
@@ -123,6 +120,18 @@ pub before_of_under : (s : Substitution) (k : Skeleton) {x y : Node} → Before 
 before_of_under s k (one_step p) = one_step (step_of_under s k p)
 before_of_under s k (more_steps p q) = more_steps (step_of_under s k p) (before_of_under s k q)
 
+-- A role strand stands where one of its role and height does whose values are the same.
+pub stands_on_equal : (b : Bundle) (h : Standing) (a : ℕ) (role : Role) (height : ℕ) (s t : Substitution) → StandsOnRegular b h a role height s →
+    AgreeOn (variables_of_prefix role height) (after h.values t) (after h.values s) → StandsOnRegular b h a role height t
+stands_on_equal b h a role height s t st agree = record {
+  at_start = st.at_start;
+  to_height = st.to_height;
+  to_values = st.to_values;
+  on_regular = st.on_regular;
+  at_least = st.at_least;
+  equal_values = λ x i. agree x i ∙ st.equal_values x i;
+}
+
 module _ (s : Substitution) (k : Skeleton) (b : Bundle) (h : Standing) (solution : IsSolution h.values s k) where
   abbrev g : Assignment
   g = h.values
@@ -135,10 +144,10 @@ module _ (s : Substitution) (k : Skeleton) (b : Bundle) (h : Standing) (solution
   agree_assumptions x p = solution.inside x (in_append_right (variables_of_strands k.strands) p)
 
   same_atom : (v : AtomTerm) → AgreeOn (variables_of_atom v) (after g s) g → value_of_atom g (apply_to_atom s v) ≡ value_of_atom g v
-  same_atom v a = sym (atom_after g s v) ∙ agree_atom (after g s) g v a
+  same_atom v a = sym (atom_after g s v) ∙ agree_atom_value (after g s) g v a
 
   same_term : (t : Term) → AgreeOn (variables_of t) (after g s) g → value_of g (apply_to s t) ≡ value_of g t
-  same_term t a = sym (value_after g s t) ∙ agree_term (after g s) g t a
+  same_term t a = sym (value_after g s t) ∙ agree_value (after g s) g t a
 
   -- Strands.
   abbrev StrandStands : ℕ → SkeletonStrand → Type 0
@@ -146,19 +155,11 @@ module _ (s : Substitution) (k : Skeleton) (b : Bundle) (h : Standing) (solution
   StrandStands a (listener t) = event_at b.strands (h.nodes a) ≡ Some (recv (value_of g t))
 
   instance_under : (a : ℕ) (role : Role) (height : ℕ) (terms : Substitution) → item_at k.strands a ≡ Some (instance role height terms) → StandsOnRegular b h a role height terms → StandsOnRegular b h a role height (composed terms s)
-  instance_under a role height terms at st = record {
-    at_start = st.at_start;
-    to_height = st.to_height;
-    to_values = st.to_values;
-    on_regular = st.on_regular;
-    at_least = st.at_least;
-    equal_values = λ x inx.
-        atom_after g (composed terms s) (atom_of_variable x)
-        ∙ ap (value_of_atom g) (atom_composed terms s (atom_of_variable x))
-        ∙ same_atom (apply_to_atom terms (atom_of_variable x)) (λ y iny. agree_strands y (in_strands k.strands a (instance role height terms) y at (in_trace_under terms (prefix_of role height) x y inx iny)))
-        ∙ sym (atom_after g terms (atom_of_variable x))
-        ∙ st.equal_values x inx;
-  }
+  instance_under a role height terms at st = stands_on_equal b h a role height terms (composed terms s) st (λ x inx.
+      atom_after g (composed terms s) (atom_of_variable x)
+      ∙ ap (value_of_atom g) (atom_composed terms s (atom_of_variable x))
+      ∙ same_atom (apply_to_atom terms (atom_of_variable x)) (λ y iny. agree_strands y (in_strands k.strands a (instance role height terms) y at (in_trace_under terms (prefix_of role height) x y inx iny)))
+      ∙ sym (atom_after g terms (atom_of_variable x)))
 
   strand_stands : StandsIn k b h → (a : ℕ) (st : SkeletonStrand) → item_at k.strands a ≡ Some st → StrandStands a (strand_under s st)
   strand_stands stands a (instance role height terms) at = instance_under a role height terms at (stands.instances a role height terms at)
@@ -173,21 +174,21 @@ module _ (s : Substitution) (k : Skeleton) (b : Bundle) (h : Standing) (solution
   ordered_under : StandsIn k b h → (x y : Node) → Before (skeleton_under s k) x y → x.strand ≢ y.strand → Precedes b (image_of (skeleton_under s k) h x) (image_of (skeleton_under s k) h y)
   ordered_under stands x y before ne = subst₂ (Precedes b) (sym (same_image s k h x)) (sym (same_image s k h y)) (stands.ordered x y (before_of_under s k before) ne)
 
+  -- What the substitution makes of an assumed atom has the atom's value.
+  value_kept : (vs : List AtomTerm) → ((x : Variable) → IsIn x (variables_of_atoms vs) → IsIn x (variables_of_assumptions k.assumptions)) → (v : AtomTerm) → IsIn v (map (apply_to_atom s) vs) → (w : AtomTerm) × IsIn w vs × (value_of_atom g w ≡ value_of_atom g v)
+  value_kept vs among v inv =
+      let m = from_map (apply_to_atom s) vs inv in
+      (m.0, m.1, sym (same_atom m.0 (λ x p. agree_assumptions x (among x (in_atoms vs m.0 x m.1 p)))) ∙ ap (value_of_atom g) m.2)
+
   non_under : StandsIn k b h → (v : AtomTerm) → IsIn v (skeleton_under s k).assumptions.non_originating → KeepsNon b.strands (atom (value_of_atom g v))
   non_under stands v inv =
-      let m = in_map (apply_to_atom s) k.assumptions.non_originating v inv in
-      let same : value_of_atom g m.0 ≡ value_of_atom g v =
-      sym (same_atom m.0 (λ x p. agree_assumptions x (in_append_left (variables_of_uniques k.assumptions.uniquely_originating) (in_append_left (variables_of_atoms k.assumptions.penetrator_non_originating) (in_atoms k.assumptions.non_originating m.0 x m.1 p)))))
-      ∙ ap (value_of_atom g) m.2 in
-      subst (λ (w : Atom). KeepsNon b.strands (atom w)) same (stands.non m.0 m.1)
+      let m = value_kept k.assumptions.non_originating (λ x p. in_append_left (variables_of_uniques k.assumptions.uniquely_originating) (in_append_left (variables_of_atoms k.assumptions.penetrator_non_originating) p)) v inv in
+      subst (λ (w : Atom). KeepsNon b.strands (atom w)) m.2 (stands.non m.0 m.1)
 
   penetrator_non_under : StandsIn k b h → (v : AtomTerm) → IsIn v (skeleton_under s k).assumptions.penetrator_non_originating → KeepsPenetratorNon b.strands (atom (value_of_atom g v))
   penetrator_non_under stands v inv =
-      let m = in_map (apply_to_atom s) k.assumptions.penetrator_non_originating v inv in
-      let same : value_of_atom g m.0 ≡ value_of_atom g v =
-      sym (same_atom m.0 (λ x p. agree_assumptions x (in_append_left (variables_of_uniques k.assumptions.uniquely_originating) (in_append_right (variables_of_atoms k.assumptions.non_originating) (in_atoms k.assumptions.penetrator_non_originating m.0 x m.1 p)))))
-      ∙ ap (value_of_atom g) m.2 in
-      subst (λ (w : Atom). KeepsPenetratorNon b.strands (atom w)) same (stands.penetrator_non m.0 m.1)
+      let m = value_kept k.assumptions.penetrator_non_originating (λ x p. in_append_left (variables_of_uniques k.assumptions.uniquely_originating) (in_append_right (variables_of_atoms k.assumptions.non_originating) p)) v inv in
+      subst (λ (w : Atom). KeepsPenetratorNon b.strands (atom w)) m.2 (stands.penetrator_non m.0 m.1)
 
   unique_value_under : StandsIn k b h → (u : UniqueAt) → IsIn u k.assumptions.uniquely_originating → KeepsUnique b.strands (atom (value_of_atom g (apply_to_atom s u.value))) (image_of (skeleton_under s k) h u.origin)
   unique_value_under stands u inu =
@@ -197,7 +198,7 @@ module _ (s : Substitution) (k : Skeleton) (b : Bundle) (h : Standing) (solution
 
   unique_stands_under : StandsIn k b h → (u : UniqueAt) → IsIn u (skeleton_under s k).assumptions.uniquely_originating → KeepsUnique b.strands (atom (value_of_atom g u.value)) (image_of (skeleton_under s k) h u.origin)
   unique_stands_under stands u inu =
-      let m = in_map (unique_under s) k.assumptions.uniquely_originating u inu in
+      let m = from_map (unique_under s) k.assumptions.uniquely_originating inu in
       subst (λ (w : UniqueAt). KeepsUnique b.strands (atom (value_of_atom g w.value)) (image_of (skeleton_under s k) h w.origin)) m.2 (unique_value_under stands m.0 m.1)
 
   pub stands_under : StandsIn k b h → StandsIn (skeleton_under s k) b h
@@ -230,7 +231,7 @@ apart_under s k h apart x y role height terms role' height' terms' at au e =
 values_under : (s : Substitution) (g : Assignment) (ts : List Term) → AgreeOn (variables_of_terms ts) (after g s) g → map (value_of g) ts ≡ map (value_of g) (map (apply_to s) ts)
 values_under s g [] a = refl
 values_under s g (t ∷ ts) a =
-    ap₂ ◌∷◌ (sym (agree_term (after g s) g t (λ x p. a x (in_append_left (variables_of_terms ts) p))) ∙ value_after g s t)
+    ap₂ ◌∷◌ (sym (agree_value (after g s) g t (λ x p. a x (in_append_left (variables_of_terms ts) p))) ∙ value_after g s t)
     (values_under s g ts (λ x p. a x (in_append_right (variables_of t) p)))
 
 pub factors_under : (s : Substitution) (k : Skeleton) (h : Standing) → IsSolution h.values s k → FactorsThrough k h (skeleton_under s k) h

@@ -1,14 +1,15 @@
 -- A skeleton that says no more stands where the other does.
 use Rattle.std.proofs.Common.{◌≡◌, ℕ, suc, List, [], ◌∷◌, Some, map, sym, ap, subst, subst₂}
-use Rattle.cp_model.specs.Lists.{item_at, here, one_step, more_steps}
+use Rattle.cp_lists.specs.Lists.{item_at, here, one_step, more_steps}
 use Rattle.cp_model.specs.Message.{atom}
 use Rattle.cp_model.specs.Term.{value_of, value_of_atom}
 use Rattle.cp_model.specs.Strand.{Protocol}
-use Rattle.cp_model.specs.Bundle.{Node, KeepsUnique, Bundle, Precedes}
+use Rattle.cp_model.specs.Bundle.{KeepsUnique, Bundle, Precedes}
+use Rattle.cp_model.specs.declared.node.Node.{Node}
 use Rattle.cp_model.specs.Skeleton.{SkeletonStrand, instance, listener, skeleton_trace_or_none, Skeleton, OrderStep, along_strand_of, along_pair, Before}
 use Rattle.cp_model.specs.Standing.{Standing, image_on, image_of, StandsIn, StandsApart}
 use Rattle.cp_model.specs.Homomorphism.{FactorsThrough}
-use Rattle.cp_model.proofs.LawLists.{steps_append}
+use Rattle.cp_lists.proofs.Reached.{steps_append}
 use Rattle.cp_completeness.specs.Normal.{SaysNoMore, LosesNoStanding}
 
 module _ (l k : Skeleton) (no_more : SaysNoMore l k) where

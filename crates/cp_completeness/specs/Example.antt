@@ -4,8 +4,10 @@ use Rattle.std.specs.Prelude.{[], ◌∷◌, false}
 use Rattle.cp_model.specs.Message.{skey, akey}
 use Rattle.cp_model.specs.Term.{text_sort, text_variable, atom_term, Assignment, Substitution, unchanged}
 use Rattle.cp_model.specs.Strand.{send, recv, Declaration, Role, Protocol, regular}
-use Rattle.cp_model.specs.Bundle.{Node, node_at, Bundle}
-use Rattle.cp_model.specs.Skeleton.{instance, UniqueAt, Assumptions, OrderPair, Skeleton}
+use Rattle.cp_model.specs.Bundle.{node_at, Bundle}
+use Rattle.cp_model.specs.declared.node.Node.{Node}
+use Rattle.cp_model.specs.Skeleton.{instance, UniqueAt, Assumptions, Skeleton}
+use Rattle.cp_model.specs.declared.node.OrderPair.{OrderPair}
 use Rattle.cp_model.specs.Standing.{Standing}
 use Rattle.cp_model.specs.Problem.{variable_terms}
 

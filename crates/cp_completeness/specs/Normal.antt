@@ -1,11 +1,13 @@
 -- What normalising does to a skeleton, and what it looks for: values that nodes carry, pairs from recorded origins,
 -- values that were heard, and skeletons under substitutions.
 use Rattle.std.specs.Prelude.{◌≡◌, ◌⊎◌, ℕ, ◌<◌, List, [], ◌∷◌, ◌++◌, Some, map}
-use Rattle.cp_model.specs.Lists.{IsIn}
+use Rattle.cp_lists.specs.Lists.{IsIn}
 use Rattle.cp_model.specs.Term.{Variable, AtomTerm, Term, atom_term, IsCarriedByTerm, variables_of, Assignment, value_of_atom, after, AgreeOn, Substitution, apply_to, apply_to_atom, composed}
 use Rattle.cp_model.specs.Strand.{Event, recv, payload, Protocol}
-use Rattle.cp_model.specs.Bundle.{Node, node_at, Bundle, IsBundle}
-use Rattle.cp_model.specs.Skeleton.{SkeletonStrand, instance, listener, term_event_at, UniqueAt, Assumptions, OrderPair, FromProblem, Skeleton, Before}
+use Rattle.cp_model.specs.Bundle.{node_at, Bundle, IsBundle}
+use Rattle.cp_model.specs.declared.node.Node.{Node}
+use Rattle.cp_model.specs.Skeleton.{SkeletonStrand, instance, listener, term_event_at, UniqueAt, Assumptions, FromProblem, Skeleton, Before}
+use Rattle.cp_model.specs.declared.node.OrderPair.{OrderPair}
 use Rattle.cp_model.specs.Standing.{Standing, StandsIn, StandsApart}
 use Rattle.cp_model.specs.Homomorphism.{FactorsThrough}
 use Rattle.cp_model.specs.Problem.{variables_of_skeleton}

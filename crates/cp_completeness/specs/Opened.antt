@@ -1,11 +1,12 @@
 -- An example of the authentication test: a text that is sent under a key, and received with no key by way of a regular
 -- strand and by way of the penetrator, who has the key and makes the encryption too.
 use Rattle.std.specs.Prelude.{ℕ, List, [], ◌∷◌, Option, Some, None, Bool, true}
-use Rattle.cp_model.specs.Lists.{item_at}
+use Rattle.cp_lists.specs.Lists.{item_at}
 use Rattle.cp_model.specs.Message.{skey, Key, symmetric, text, key, Message, atom, enc}
 use Rattle.cp_model.specs.Term.{text_sort, skey_sort, skey_variable, symmetric_term, text_variable, Term, atom_term, enc_term}
 use Rattle.cp_model.specs.Strand.{Event, send, recv, Role, Protocol, create_atom, encryption, decryption, hearing, regular, penetrator}
-use Rattle.cp_model.specs.Bundle.{Node, node_at, Bundle}
+use Rattle.cp_model.specs.Bundle.{node_at, Bundle}
+use Rattle.cp_model.specs.declared.node.Node.{Node}
 use Rattle.cp_completeness.specs.Example.{zeros}
 
 abbrev pub role_of : List ℕ → List (Event Term) → Role

@@ -1,10 +1,11 @@
 -- The authentication test on ground messages: how a message comes to be received outside the encryptions that protect it.
 use Rattle.std.specs.Prelude.{◌≡◌, ◌≢◌, ◌⊎◌, ℕ, ◌<◌, List, Some, Bool, true, false}
-use Rattle.cp_model.specs.Lists.{item_at}
+use Rattle.cp_lists.specs.Lists.{item_at}
 use Rattle.cp_model.specs.Message.{Key, inverse, Atom, Message, tag, atom, pair, enc}
 use Rattle.cp_model.specs.Term.{Assignment}
 use Rattle.cp_model.specs.Strand.{Event, send, recv, payload, Role, create_tag, create_atom, encryption, decryption, key_message, regular, penetrator}
-use Rattle.cp_model.specs.Bundle.{Node, node_at, event_at, Bundle, Precedes}
+use Rattle.cp_model.specs.Bundle.{node_at, event_at, Bundle, Precedes}
+use Rattle.cp_model.specs.declared.node.Node.{Node}
 
 -- The message c stands in a message at a carried position that no protecting encryption encloses: it is the message, or
 -- stands so in a part of the pair, or in the plaintext of the encryption, which does not protect. The test says which

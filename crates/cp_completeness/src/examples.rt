@@ -1,6 +1,6 @@
 //! An example that meets the premises of the laws.
 ghost use Rattle.std.specs.Prelude.{◌≢◌, [], ◌∷◌};
-ghost use Rattle.cp_model.specs.Lists.{IsIn};
+ghost use Rattle.cp_lists.specs.Lists.{IsIn};
 ghost use Rattle.cp_model.specs.Bundle.{IsBundle};
 ghost use Rattle.cp_model.specs.Skeleton.{IsSkeleton};
 ghost use Rattle.cp_model.specs.Standing.{StandsIn, StandsApart};

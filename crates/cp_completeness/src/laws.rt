@@ -1,10 +1,12 @@
 //! What standing in a bundle asks of a skeleton, and what keeps it standing there.
 ghost use Rattle.std.specs.Prelude.{◌≡◌, ◌≢◌, ℕ, ◌<◌, List};
-ghost use Rattle.cp_model.specs.Lists.{IsIn};
+ghost use Rattle.cp_lists.specs.Lists.{IsIn};
 ghost use Rattle.cp_model.specs.Term.{AtomTerm, Substitution};
 ghost use Rattle.cp_model.specs.Strand.{Protocol};
-ghost use Rattle.cp_model.specs.Bundle.{Node, node_at, Bundle, Precedes, IsBundle};
-ghost use Rattle.cp_model.specs.Skeleton.{UniqueAt, OrderPair, Skeleton, Before, IsSkeleton};
+ghost use Rattle.cp_model.specs.Bundle.{node_at, Bundle, Precedes, IsBundle};
+ghost use Rattle.cp_model.specs.declared.node.Node.{Node};
+ghost use Rattle.cp_model.specs.Skeleton.{UniqueAt, Skeleton, Before, IsSkeleton};
+ghost use Rattle.cp_model.specs.declared.node.OrderPair.{OrderPair};
 ghost use Rattle.cp_model.specs.Standing.{Standing, image_of, StandsIn, StandsApart};
 ghost use Rattle.cp_model.specs.Homomorphism.{FactorsThrough};
 ghost use Rattle.cp_model.specs.Realising.{OriginatesAtTerm};

@@ -1,10 +1,12 @@
 //! The steps of normalising: each loses no standing, and so do all of them one after another.
 ghost use Rattle.std.specs.Prelude.{◌≡◌, ◌≢◌, ℕ, ◌<◌, List, [], ◌∷◌};
-ghost use Rattle.cp_model.specs.Lists.{IsIn};
+ghost use Rattle.cp_lists.specs.Lists.{IsIn};
 ghost use Rattle.cp_model.specs.Term.{AtomTerm, Substitution};
 ghost use Rattle.cp_model.specs.Strand.{Declaration, Protocol};
-ghost use Rattle.cp_model.specs.Bundle.{Node, node_at, Bundle, IsBundle};
-ghost use Rattle.cp_model.specs.Skeleton.{UniqueAt, OrderPair, Skeleton, Before, IsSkeleton};
+ghost use Rattle.cp_model.specs.Bundle.{node_at, Bundle, IsBundle};
+ghost use Rattle.cp_model.specs.declared.node.Node.{Node};
+ghost use Rattle.cp_model.specs.Skeleton.{UniqueAt, Skeleton, Before, IsSkeleton};
+ghost use Rattle.cp_model.specs.declared.node.OrderPair.{OrderPair};
 ghost use Rattle.cp_model.specs.Standing.{Standing, StandsIn, StandsApart};
 ghost use Rattle.cp_model.specs.Homomorphism.{CarriesHomomorphism, FactorsThrough, Covers};
 ghost use Rattle.cp_model.specs.Problem.{IsPointOfView};

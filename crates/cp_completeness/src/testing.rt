@@ -2,7 +2,8 @@
 ghost use Rattle.std.specs.Prelude.{◌≡◌, ◌⊎◌, Some, Bool, true, false};
 ghost use Rattle.cp_model.specs.Message.{Key, Message, IsCarriedBy};
 ghost use Rattle.cp_model.specs.Strand.{recv, Protocol};
-ghost use Rattle.cp_model.specs.Bundle.{Node, event_at, Bundle, IsBundle};
+ghost use Rattle.cp_model.specs.Bundle.{event_at, Bundle, IsBundle};
+ghost use Rattle.cp_model.specs.declared.node.Node.{Node};
 ghost use Rattle.cp_completeness.specs.Testing.{IsOutside, IsNoPair, IsNotCreated, IsReleased, IsEncrypted, IsDecrypted};
 ghost use Rattle.cp_completeness.specs.Opened.{protocol, secret, locked, opened, every, heard_from_opener, heard_from_decryption, heard_from_encryption};
 

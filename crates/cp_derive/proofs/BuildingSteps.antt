@@ -1,6 +1,6 @@
 -- The steps by which it is decided whether a term can be built: what is left to decide is as good as the whole.
 use Rattle.std.proofs.Common.{List, ◌≡◌, inl, inr, sym, subst}
-use Rattle.cp_model.specs.Lists.{IsIn}
+use Rattle.cp_lists.specs.Lists.{IsIn}
 use Rattle.cp_model.specs.Term.{AtomTerm, KeyTerm, Term, atom_term, enc_term}
 use Rattle.cp_term.specs.Keys.{key_as_term}
 use Rattle.cp_derive.specs.Building.{IsAtHand, Builds}

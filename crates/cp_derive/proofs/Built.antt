@@ -1,6 +1,6 @@
 -- Where what is held is closed, a term can be built from it exactly where it can be derived.
 use Rattle.std.proofs.Common.{List, inl, inr}
-use Rattle.cp_model.specs.Lists.{IsIn}
+use Rattle.cp_lists.specs.Lists.{IsIn}
 use Rattle.cp_model.specs.Term.{AtomTerm, key_term, KeyTerm, inverse_term, Term, tag_term, atom_term, pair_term, enc_term}
 use Rattle.cp_derive.specs.From.{a_tag, an_atom, was_sent, paired, left_of, right_of, encrypted, decrypted}
 use Rattle.cp_derive.specs.Given.{Given, IsDerivable}

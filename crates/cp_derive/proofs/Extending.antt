@@ -1,18 +1,14 @@
 -- What was sent, opened piece by piece.
-use Rattle.std.proofs.Common.{ℕ, ◌+◌, ◌<◌, ◌≤◌, List, [], ◌∷◌, ◌++◌, ◌≡◌, ◌⊎◌, inl, inr, length, get_or, drop, refl, sym, subst}
-use Rattle.cp_model.specs.Lists.{IsIn, there}
+use Rattle.std.proofs.Common.{ℕ, ◌+◌, ◌<◌, ◌≤◌, List, [], ◌++◌, ◌≡◌, ◌⊎◌, inl, inr, length, get_or, drop, sym, subst}
+use Rattle.cp_lists.proofs.Members.{item_is_in, none_left, in_append, in_append_left, in_append_right, not_in_none}
+use Rattle.cp_lists.specs.Lists.{IsIn}
 use Rattle.cp_model.specs.Term.{Term, enc_term}
 use Rattle.cp_derive.specs.From.{was_sent}
 use Rattle.cp_derive.specs.Given.{Given}
 use Rattle.cp_derive.specs.Building.{Builds, IsClosed}
 use Rattle.cp_derive.specs.Opening.{locked_of, IsSound, AreOpenOrLocked, Takes, Advances, IsCovered, IsOpened}
 use Rattle.cp_derive.specs.declared.opening.Opening.{Opening}
-use Rattle.cp_derive.proofs.Listed.{item_is_in, none_left, in_either, in_first, not_in_none}
 use Rattle.cp_derive.proofs.Taking.{builds_more, taken_open, covers_next}
-
-in_second : {A : Type 0} {x : A} (xs ys : List A) → IsIn x ys → IsIn x (xs ++ ys)
-in_second [] ys h = h
-in_second (y ∷ xs) ys h = there (in_second xs ys h)
 
 -- What was sent before is covered, and so is as much of what was sent too as was taken.
 pub record IsOpening (sent more secrets : List Term) (i : ℕ) (o : Opening) : Type 0 where
@@ -22,15 +18,15 @@ pub record IsOpening (sent more secrets : List Term) (i : ℕ) (o : Opening) : T
 
 pub begun : (sent more secrets : List Term) (o : Opening) → IsOpened sent secrets o → IsOpening sent more secrets 0 o
 begun sent more secrets o h = record {
-  sound = λ whole all. h.covered.sound whole (λ t i. all t (in_first sent more i));
+  sound = λ whole all. h.covered.sound whole (λ t i. all t (in_append_left more i));
   opened = h.covered.opened;
-  builds = λ t i. elim (in_either sent more i) [ inl j ↦ inr (h.covered.builds t j) | inr j ↦ inl j ];
+  builds = λ t i. elim (in_append sent more i) [ inl j ↦ inr (h.covered.builds t j) | inr j ↦ inl j ];
 }
 
 pub one_taken : (sent more secrets : List Term) (i : ℕ) (x : Term) (o n : Opening) → i < length more → x ≡ get_or more i x → Takes secrets x o n → IsOpening sent more secrets i o →
     IsOpening sent more secrets (i + 1) n
 one_taken sent more secrets i x o n within is takes h = record {
-  sound = λ whole all. takes.sound whole (h.sound whole all) (was_sent (all x (in_second sent more (item_is_in more i x x within is refl))));
+  sound = λ whole all. takes.sound whole (h.sound whole all) (was_sent (all x (in_append_right sent (item_is_in more i x within is))));
   opened = taken_open secrets x o n takes h.opened;
   builds = λ t j. covers_next secrets more i x o n within is takes t (h.builds t j);
 }

@@ -1,8 +1,8 @@
 -- The terms derivable at a node of a skeleton are those derivable from what was sent before it.
 use Rattle.std.proofs.Common.{◌↔◌}
 use Rattle.cp_model.specs.Term.{AtomTerm, Term, atom_term}
-use Rattle.cp_model.specs.Lists.{IsIn}
-use Rattle.cp_model.specs.Bundle.{Node}
+use Rattle.cp_lists.specs.Lists.{IsIn}
+use Rattle.cp_model.specs.declared.node.Node.{Node}
 use Rattle.cp_model.specs.Skeleton.{Skeleton}
 use Rattle.cp_model.specs.Derivable.{IsSecret, DerivableAt, a_tag as tag_at, an_atom as atom_at, sent_before as sent_at, paired as paired_at, left_of as left_at, right_of as right_at, encrypted as encrypted_at, decrypted as decrypted_at}
 use Rattle.cp_derive.specs.From.{DerivableFrom, a_tag, an_atom, was_sent, paired, left_of, right_of, encrypted, decrypted, IsSentBefore}

@@ -1,21 +1,20 @@
 -- What is given at a node of a skeleton by the transmissions that lead there.
-use Rattle.std.proofs.Common.{ℕ, zero, suc, ◌+◌, ◌<◌, ◌≤◌, ◌++◌, length, get_or, drop, append_assoc, arith, List, [], ◌∷◌, map, Option, Some, None, ◌≡◌, refl, sym, subst, ap, ◌∙◌}
+use Rattle.std.proofs.Common.{ℕ, suc, ◌+◌, ◌<◌, ◌≤◌, ◌++◌, length, get_or, drop, append_assoc, arith, List, [], ◌∷◌, map, Option, Some, None, ◌≡◌, refl, sym, subst, ap, ◌∙◌}
 use Rattle.std.specs.Prelude.{◌↔◌, option_map}
 use Rattle.std.proofs.Math.Seq.{drop-cons}
-use Rattle.std.proofs.lemmas.List.{append-nil, drop_all, map-append}
+use Rattle.std.proofs.lemmas.List.{append-nil, drop_all}
 use Rattle.cp_skel.specs.Ordered.{IsOrdered}
 use Rattle.cp_skel.specs.Sound.{IsSound}
-use Rattle.cp_model.specs.RunView.{node_view}
-use Rattle.cp_skel.specs.View.{event_view}
-use Rattle.cp_model.specs.declared.strand.Node.{Node as ProgramNode}
-use Rattle.cp_skel.specs.declared.protocol.Event.{Event as ProgramEvent}
-use Rattle.cp_skel.specs.declared.protocol.Event.TheVariants.{Send, Receive}
+use Rattle.cp_strand.specs.View.{event_view}
+use Rattle.cp_strand.specs.declared.protocol.Event.{Event as ProgramEvent}
+use Rattle.cp_strand.specs.declared.protocol.Event.TheVariants.{Send, Receive}
 use Rattle.cp_skel.specs.declared.events.Occurrence as program
 use Rattle.cp_derive.specs.Assumed.{assumed_values}
-use Rattle.cp_model.specs.Lists.{item_at, IsIn, here, there}
+use Rattle.cp_lists.proofs.Items.{place_of, at_place, map_of_read}
+use Rattle.cp_lists.specs.Lists.{IsIn}
 use Rattle.cp_model.specs.Term.{Term}
 use Rattle.cp_model.specs.Strand.{Event, send, recv, payload}
-use Rattle.cp_model.specs.Bundle.{Node}
+use Rattle.cp_model.specs.declared.node.Node.{Node}
 use Rattle.cp_model.specs.Skeleton.{term_event_at, IsNodeOf, Skeleton, Before}
 use Rattle.cp_model.specs.Derivable.{DerivableAt}
 use Rattle.cp_model.proofs.LawOrder.{before_by_pairs}
@@ -28,24 +27,13 @@ use Rattle.cp_derive.specs.Unrealised.{IsUnrealisedAt, IsRealisedAt, ListsUnreal
 use Rattle.cp_derive.proofs.FromLaw.{given_at}
 use Rattle.cp_skel.proofs.EventLists.{listed_event}
 use Rattle.cp_derive.proofs.Sending.{transmission_listed, listed_on_role, listed_transmission}
-use Rattle.cp_derive.proofs.Placing.{IsMessageAt, message_at, at_message, item_viewed}
+use Rattle.cp_derive.proofs.Placing.{IsMessageAt, message_at, at_message}
 use Rattle.cp_derive.proofs.Picking.{Picks, no_more, picks, passes, lists_unrealised}
 use Rattle.cp_derive.proofs.Secrets.{secret_values}
 
 -- The order of a sound skeleton is one.
 pub ordered_of : (k : Skeleton) → IsSound k → IsOrdered k
 ordered_of k sound = record { order_pairs = sound.skeleton.order_pairs; no_cycle = sound.skeleton.no_cycle }
-
--- An item of a list is at some place, and what is at a place is an item.
-place_of : {A : Type 0} (xs : List A) (x : A) → IsIn x xs → (p : ℕ) × (item_at xs p ≡ Some x)
-place_of (x ∷ xs) _ here = (0, refl)
-place_of (y ∷ xs) x (there h) = let more = place_of xs x h in (suc more.0, more.1)
-place_of [] x h = elim h [ ]
-
-item_of : {A : Type 0} (xs : List A) (p : ℕ) (x : A) → item_at xs p ≡ Some x → IsIn x xs
-item_of [] p x e = absurd (cc)
-item_of (y ∷ xs) zero x e = let same : y ≡ x = cc in subst (λ z. IsIn z (y ∷ xs)) same here
-item_of (y ∷ xs) (suc p) x e = there (item_of xs p x e)
 
 module _ (k : Skeleton) (n : Node) (places : List ℕ) (ordered : IsOrdered k) (there_is : IsNodeOf k.strands n)
     (before : ArePlacesBefore k.pairs n (transmissions_of k) places) where
@@ -55,16 +43,16 @@ module _ (k : Skeleton) (n : Node) (places : List ℕ) (ordered : IsOrdered k) (
   sent_at : (t : Term) → IsMessageAt places (transmissions_of k) t → IsSentBefore k n t
   sent_at t h = record {
     from = h.transmission.node;
-    on_instance = listed_on_role k h.transmission (item_of (transmissions_of k) h.place h.transmission h.at);
+    on_instance = listed_on_role k h.transmission (at_place (transmissions_of k) h.place h.transmission h.at);
     transmission =
-        listed_transmission k h.transmission (item_of (transmissions_of k) h.place h.transmission h.at) ∙ ap (λ m. Some (send m)) h.message;
+        listed_transmission k h.transmission (at_place (transmissions_of k) h.place h.transmission h.at) ∙ ap (λ m. Some (send m)) h.message;
     before = (order h.transmission.node).1 (before.only h.place h.transmission h.at h.listed);
   }
 
   at_sent : (t : Term) → IsSentBefore k n t → IsIn t (messages_at places (transmissions_of k))
   at_sent t s =
       let x : Transmission = record { node = s.from; message = t } in
-      let at = place_of (transmissions_of k) x (transmission_listed k s.from t s.on_instance s.transmission) in
+      let at = place_of (transmission_listed k s.from t s.on_instance s.transmission) in
       at_message places (transmissions_of k) at.0 x (before.each at.0 x at.1 ((order s.from).0 s.before)) at.1
 
   pub given_at_node : IsGivenAt k n (given_by k places)
@@ -101,38 +89,38 @@ given_from k places lent ts sent secrets g l t s a e =
     ∙ ap (λ xs. let g : Given = record { sent = messages_at places (transmissions_of k); secrets = xs } in g) a
 
 -- The events from a place on, where the next is passed or picked.
-module _ (k : Skeleton) (os : List program.Occurrence) (i : ℕ) (o : program.Occurrence) (nodes : List ProgramNode) (h : i < length os) (is : o ≡ get_or os i o)
-    (so_far : (ns : List Node) → Picks k (map occurrence_view (drop i os)) ns → Picks k (map occurrence_view os) (map node_view nodes ++ ns)) where
+module _ (k : Skeleton) (os : List program.Occurrence) (i : ℕ) (o : program.Occurrence) (nodes : List Node) (h : i < length os) (is : o ≡ get_or os i o)
+    (so_far : (ns : List Node) → Picks k (map occurrence_view (drop i os)) ns → Picks k (map occurrence_view os) (nodes ++ ns)) where
   next_occurrence : map occurrence_view (drop i os) ≡ occurrence_view o ∷ map occurrence_view (drop (suc i) os)
   next_occurrence = ap (map occurrence_view) (drop-cons os i o h) ∙ ap (λ (x : program.Occurrence). occurrence_view x ∷ map occurrence_view (drop (suc i) os)) (sym is)
 
-  pub passed : IsRealisedAt k (node_view o.node) → (ns : List Node) → Picks k (map occurrence_view (drop (i + 1) os)) ns → Picks k (map occurrence_view os) (map node_view nodes ++ ns)
+  pub passed : IsRealisedAt k o.node → (ns : List Node) → Picks k (map occurrence_view (drop (i + 1) os)) ns → Picks k (map occurrence_view os) (nodes ++ ns)
   passed none ns more =
       let plus_one : i + 1 ≡ suc i = omega arith in
       so_far ns (subst (λ xs. Picks k xs ns) (sym next_occurrence) (passes {o = occurrence_view o} none (subst (λ j. Picks k (map occurrence_view (drop j os)) ns) plus_one more)))
 
-  pub taken : (new : List ProgramNode) → new ≡ nodes ++ (o.node ∷ []) → IsUnrealisedAt k (node_view o.node) → (ns : List Node) → Picks k (map occurrence_view (drop (i + 1) os)) ns →
-      Picks k (map occurrence_view os) (map node_view new ++ ns)
+  pub taken : (new : List Node) → new ≡ nodes ++ (o.node ∷ []) → IsUnrealisedAt k o.node → (ns : List Node) → Picks k (map occurrence_view (drop (i + 1) os)) ns →
+      Picks k (map occurrence_view os) (new ++ ns)
   taken new n u ns more =
       let plus_one : i + 1 ≡ suc i = omega arith in
-      let behind : map node_view new ++ ns ≡ map node_view nodes ++ (node_view o.node ∷ ns) =
-      ap (λ xs. map node_view xs ++ ns) n ∙ ap (λ xs. xs ++ ns) (map-append node_view nodes (o.node ∷ [])) ∙ append_assoc (map node_view nodes) (node_view o.node ∷ []) ns in
+      let behind : new ++ ns ≡ nodes ++ (o.node ∷ ns) =
+      ap (λ xs. xs ++ ns) n ∙ append_assoc nodes (o.node ∷ []) ns in
       subst (Picks k (map occurrence_view os)) (sym behind)
-      (so_far (node_view o.node ∷ ns)
-      (subst (λ xs. Picks k xs (node_view o.node ∷ ns)) (sym next_occurrence)
+      (so_far (o.node ∷ ns)
+      (subst (λ xs. Picks k xs (o.node ∷ ns)) (sym next_occurrence)
       (picks {o = occurrence_view o} u (subst (λ j. Picks k (map occurrence_view (drop j os)) ns) plus_one more))))
 
-  pub event_at : map occurrence_view os ≡ events_of k → term_event_at k.strands (node_view o.node) ≡ Some (event_view o.event)
+  pub event_at : map occurrence_view os ≡ events_of k → term_event_at k.strands o.node ≡ Some (event_view o.event)
   event_at all =
       listed_event k (occurrence_view o)
-      (subst (IsIn (occurrence_view o)) all (item_of (map occurrence_view os) i (occurrence_view o) (item_viewed occurrence_view os i o h is)))
+      (subst (IsIn (occurrence_view o)) all (at_place (map occurrence_view os) i (occurrence_view o) (map_of_read occurrence_view os i o h is)))
 
-pub all_passed : (k : Skeleton) (os : List program.Occurrence) (i : ℕ) (nodes : List ProgramNode) → length os ≤ i → map occurrence_view os ≡ events_of k →
-    ((ns : List Node) → Picks k (map occurrence_view (drop i os)) ns → Picks k (map occurrence_view os) (map node_view nodes ++ ns)) → ListsUnrealised k (map node_view nodes)
+pub all_passed : (k : Skeleton) (os : List program.Occurrence) (i : ℕ) (nodes : List Node) → length os ≤ i → map occurrence_view os ≡ events_of k →
+    ((ns : List Node) → Picks k (map occurrence_view (drop i os)) ns → Picks k (map occurrence_view os) (nodes ++ ns)) → ListsUnrealised k nodes
 all_passed k os i nodes past all so_far =
-    lists_unrealised k (map node_view nodes)
-    (subst (λ xs. Picks k xs (map node_view nodes)) all
-    (subst (Picks k (map occurrence_view os)) (append-nil (map node_view nodes)) (so_far [] (subst (λ xs. Picks k (map occurrence_view xs) []) (sym (drop_all i os past)) no_more))))
+    lists_unrealised k nodes
+    (subst (λ xs. Picks k xs nodes) all
+    (subst (Picks k (map occurrence_view os)) (append-nil nodes) (so_far [] (subst (λ xs. Picks k (map occurrence_view xs) []) (sym (drop_all i os past)) no_more))))
 
 -- An event that is no reception is realised.
 pub other_realised : (k : Skeleton) (n : Node) (e : ProgramEvent) → term_event_at k.strands n ≡ Some (event_view e) → ((m : Term) → e ≡ Receive m → ⊥) → IsRealisedAt k n

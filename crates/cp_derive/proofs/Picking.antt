@@ -1,14 +1,14 @@
 -- The unrealised receptions picked out of the list of events.
 use Rattle.std.proofs.Common.{ℕ, suc, ◌+◌, ◌<◌, ◌≤◌, Bool, List, [], ◌∷◌, ◌++◌, map, ◌≡◌, ◌⊎◌, inl, inr, sym, subst, ap, ◌∙◌, arith}
 use Rattle.std.proofs.lemmas.List.{map-append}
-use Rattle.cp_model.specs.Lists.{IsIn, here, there}
+use Rattle.cp_lists.proofs.Members.{in_cases, in_append}
+use Rattle.cp_lists.specs.Lists.{IsIn, here, there}
 use Rattle.cp_model.specs.Term.{Term}
 use Rattle.cp_model.specs.Strand.{Event, recv}
-use Rattle.cp_model.specs.Bundle.{Node}
+use Rattle.cp_model.specs.declared.node.Node.{Node}
 use Rattle.cp_model.specs.Skeleton.{SkeletonStrand, skeleton_trace, Skeleton}
 use Rattle.cp_skel.specs.Events.{Occurrence, is_role_strand, occurrences_on, occurrences_from, events_of}
 use Rattle.cp_derive.specs.Unrealised.{IsUnrealisedAt, IsRealisedAt, IsListedBefore, AreRising, ListsUnrealised}
-use Rattle.cp_derive.proofs.Listed.{in_cases, in_either}
 use Rattle.cp_skel.proofs.EventLists.{stands_on, stands_among, event_listed}
 
 -- The nodes are those of the events that are unrealised receptions, in their order.
@@ -66,7 +66,7 @@ picked_rise k _ _ (passes {o} {os} {ns} h more) r = picked_rise k os ns more r.1
 rise_both : (xs ys : List Node) → AreRising xs → AreRising ys → ((x y : Node) → IsIn x xs → IsIn y ys → IsListedBefore x y) → AreRising (xs ++ ys)
 rise_both [] ys first second apart = second
 rise_both (x ∷ xs) ys first second apart = (
-  λ m i. elim (in_either xs ys i) [ inl j ↦ first.0 m j | inr j ↦ apart x m here j ],
+  λ m i. elim (in_append xs ys i) [ inl j ↦ first.0 m j | inr j ↦ apart x m here j ],
   rise_both xs ys first.1 second (λ y z i j. apart y z (there i) j),
 )
 

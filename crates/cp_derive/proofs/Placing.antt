@@ -1,16 +1,18 @@
 -- Places of transmissions, gathered one by one, and the messages there.
-use Rattle.std.proofs.Common.{ℕ, zero, suc, ◌+◌, ◌<◌, ◌≤◌, List, [], ◌∷◌, ◌++◌, map, Option, Some, None, ◌≡◌, ◌⊎◌, inl, inr, length, get_or, drop, refl, sym, subst, ap, ◌∙◌, arith, add-one}
+use Rattle.std.proofs.Common.{ℕ, suc, ◌+◌, ◌<◌, ◌≤◌, List, [], ◌∷◌, ◌++◌, Option, Some, None, ◌≡◌, ◌⊎◌, inl, inr, length, get_or, drop, refl, sym, subst, ap, ◌∙◌, arith, add-one}
 use Rattle.std.specs.Prelude.{option_map, Result, Ok, Err, IfOk}
 use Rattle.std.specs.Borrow.{Bor}
 use Rattle.std.proofs.Math.Seq.{drop-cons}
-use Rattle.cp_model.specs.Lists.{item_at, IsIn, here, there}
+use Rattle.cp_lists.proofs.Items.{item_below}
+use Rattle.cp_lists.proofs.Members.{in_cases}
+use Rattle.cp_lists.specs.Lists.{item_at, IsIn, here, there}
 use Rattle.cp_model.specs.Term.{Term}
-use Rattle.cp_model.specs.Bundle.{Node}
-use Rattle.cp_model.specs.Skeleton.{OrderPair}
+use Rattle.cp_model.specs.declared.node.Node.{Node}
+use Rattle.cp_model.specs.declared.node.OrderPair.{OrderPair}
 use Rattle.cp_derive.specs.Given.{Given}
 use Rattle.cp_derive.specs.Transmissions.{Transmission}
 use Rattle.cp_derive.specs.Before.{LeadsToOther, ArePlacesBefore, message_onto, messages_at}
-use Rattle.cp_derive.proofs.Listed.{IsPushed, pushed, in_cases}
+use Rattle.cp_derive.proofs.Listed.{IsPushed, pushed}
 use Rattle.cp_skel.proofs.EventLists.{moved}
 
 -- These are the places below a bound.
@@ -49,22 +51,11 @@ not_placed pairs n ts b t places at none h = record {
   only = h.only;
 }
 
-within : {A : Type 0} (xs : List A) (p : ℕ) (x : A) → item_at xs p ≡ Some x → p < length xs
-within [] p x h = absurd (cc)
-within (y ∷ xs) zero x h = omega arith
-within (y ∷ xs) (suc p) x h = let less = within xs p x h in omega arith
-
 pub all_placed : (pairs : List OrderPair) (n : Node) (ts : List Transmission) (b : ℕ) (places : List ℕ) → length ts ≤ b → ArePlacesBelow pairs n ts b places → ArePlacesBefore pairs n ts places
 all_placed pairs n ts b places past h = record {
-  each = λ p t i l. let less : p < length ts = within ts p t i in let below : p < b = omega arith in h.each p t below i l;
+  each = λ p t i l. let less : p < length ts = item_below ts p t i in let below : p < b = omega arith in h.each p t below i l;
   only = h.only;
 }
-
--- An item of a list that is viewed.
-pub item_viewed : {A B : Type 0} (f : A → B) (xs : List A) (i : ℕ) (x : A) → i < length xs → x ≡ get_or xs i x → item_at (map f xs) i ≡ Some (f x)
-item_viewed f [] i x h e = absurd (omega arith)
-item_viewed f (y ∷ xs) zero x h e = ap (λ z. Some (f z)) (sym e)
-item_viewed f (y ∷ xs) (suc i) x h e = item_viewed f xs i x (omega arith) e
 
 -- ---- the messages at places
 
@@ -147,10 +138,6 @@ module _ (ps : List ℕ) (i : ℕ) (ts : List Transmission) (old new whole : Lis
   message_skipped none n =
       let rest : List Term = messages_at (drop (suc i) ps) ts in
       rw add-one (ap (λ ys. ys ++ rest) n ∙ sym (ap (λ ys. old ++ ys) (next ∙ no_message o (item_at ts (get_or ps i 0)) rest at none)) ∙ all)
-
-pub viewed_length : {A B : Type 0} (f : A → B) (xs : List A) → length (map f xs) ≡ length xs
-viewed_length f [] = refl
-viewed_length f (x ∷ xs) = let more = viewed_length f xs in omega arith
 
 -- What holds of each value in an Ok.
 pub ok_then : {A E : Type 0} (P Q : A → Type 0) (r : Result A E) → ((x : A) → P x → Q x) → IfOk r P → IfOk r Q

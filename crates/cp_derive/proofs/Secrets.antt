@@ -1,16 +1,12 @@
 -- The values of the three lists of assumptions are the secrets.
 use Rattle.std.proofs.Common.{List, [], ◌∷◌, ◌++◌, map, ◌≡◌, inl, inr, subst}
 use Rattle.std.specs.Prelude.{◌↔◌}
-use Rattle.cp_model.specs.Lists.{IsIn, here, there}
+use Rattle.cp_lists.proofs.Members.{in_append, in_append_left, in_append_right, in_cases}
+use Rattle.cp_lists.specs.Lists.{IsIn, here, there}
 use Rattle.cp_model.specs.Term.{AtomTerm, Term, atom_term}
 use Rattle.cp_model.specs.Skeleton.{UniqueAt, Skeleton}
 use Rattle.cp_model.specs.Derivable.{IsSecret}
 use Rattle.cp_derive.specs.Assumed.{assumed_values}
-use Rattle.cp_derive.proofs.Listed.{in_first, in_either, in_cases}
-
-in_second : {A : Type 0} {x : A} (xs ys : List A) → IsIn x ys → IsIn x (xs ++ ys)
-in_second [] ys h = h
-in_second (y ∷ xs) ys h = there (in_second xs ys h)
 
 same_atom : (a b : AtomTerm) → atom_term a ≡ atom_term b → a ≡ b
 same_atom a b e = cc
@@ -48,18 +44,18 @@ secret_values k v =
     let first : List Term = map atom_term k.assumptions.non_originating in
     let second : List Term = map atom_term k.assumptions.penetrator_non_originating in
     let third : List Term = map (λ (u : UniqueAt). atom_term u.value) k.assumptions.uniquely_originating in (
-      λ h. elim (in_either (first ++ second) third h) [
-        | inl i ↦ elim (in_either first second i) [
+      λ h. elim (in_append (first ++ second) third h) [
+        | inl i ↦ elim (in_append first second i) [
           | inl j ↦ inl (of_atom k.assumptions.non_originating v j)
           | inr j ↦ inr (inl (of_atom k.assumptions.penetrator_non_originating v j))
         ]
         | inr i ↦ let u = of_unique k.assumptions.uniquely_originating v i in inr (inr (record { entry = u.entry; listed = u.listed; same = u.same }))
       ],
       λ s. elim s [
-        | inl i ↦ in_first (first ++ second) third (in_first first second (to_atom k.assumptions.non_originating v i))
+        | inl i ↦ in_append_left third (in_append_left second (to_atom k.assumptions.non_originating v i))
         | inr r ↦ elim r [
-          | inl i ↦ in_first (first ++ second) third (in_second first second (to_atom k.assumptions.penetrator_non_originating v i))
-          | inr u ↦ in_second (first ++ second) third
+          | inl i ↦ in_append_left third (in_append_right first (to_atom k.assumptions.penetrator_non_originating v i))
+          | inr u ↦ in_append_right (first ++ second)
               (subst (λ x. IsIn (atom_term x) third) u.same (to_unique k.assumptions.uniquely_originating u.entry u.listed))
         ]
       ],

@@ -2,7 +2,8 @@
 use Rattle.std.proofs.Common.{ℕ, ◌+◌, ◌<◌, List, [], ◌∷◌, ◌++◌, length, get_or, drop, ◌≡◌, ◌⊎◌, inl, inr, sym, subst, ap, ◌∙◌, arith}
 use Rattle.std.specs.List.{sum_by}
 use Rattle.std.proofs.lemmas.List.Sums.{sum_by_push}
-use Rattle.cp_model.specs.Lists.{IsIn}
+use Rattle.cp_lists.proofs.Members.{next_or_rest}
+use Rattle.cp_lists.specs.Lists.{IsIn}
 use Rattle.cp_model.specs.Term.{AtomTerm, KeyTerm, Term, tag_term, atom_term, pair_term, enc_term}
 use Rattle.cp_term.specs.Keys.{key_as_term}
 use Rattle.cp_term.specs.Size.{term_size}
@@ -12,7 +13,7 @@ use Rattle.cp_derive.specs.Building.{IsAtHand, Builds}
 use Rattle.cp_derive.specs.Opening.{weight_of, weight, locked_of, IsOpenOrLocked, AreOpenOrLocked, Takes}
 use Rattle.cp_derive.specs.declared.opening.Locked.{Locked}
 use Rattle.cp_derive.specs.declared.opening.Opening.{Opening}
-use Rattle.cp_derive.proofs.Listed.{IsPushed, next_or_rest}
+use Rattle.cp_derive.proofs.Listed.{IsPushed}
 
 -- What is held more builds no less.
 hand_more : (secrets h m : List Term) → ((x : Term) → IsIn x h → IsIn x m) → (t : Term) → IsAtHand secrets h t → IsAtHand secrets m t

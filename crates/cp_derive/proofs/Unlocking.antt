@@ -1,10 +1,12 @@
 -- Opening what is locked.
-use Rattle.std.proofs.Common.{ℕ, suc, ◌<◌, ◌≤◌, List, [], ◌∷◌, length, get_or, ◌≡◌, ◌⊎◌, inl, inr, sym, subst, arith}
-use Rattle.std.specs.List.{All, sum_by, swap_remove}
+use Rattle.std.proofs.Common.{ℕ, ◌<◌, ◌≤◌, List, [], ◌∷◌, length, get_or, ◌≡◌, ◌⊎◌, inl, inr, sym, subst, arith}
+use Rattle.std.specs.List.{sum_by, swap_remove}
 use Rattle.std.specs.List.Sorted.{IsPermutation}
 use Rattle.std.proofs.lemmas.List.Sums.{sum_by-cons}
-use Rattle.std.proofs.lemmas.List.Sorted.{IsPermutation-swap_remove, IsPermutation-sym, All-permutation}
-use Rattle.cp_model.specs.Lists.{IsIn, here, there}
+use Rattle.std.proofs.lemmas.List.Sorted.{IsPermutation-swap_remove, IsPermutation-sym}
+use Rattle.cp_lists.proofs.Permuted.{in_permuted}
+use Rattle.cp_lists.proofs.Members.{in_cases}
+use Rattle.cp_lists.specs.Lists.{IsIn, here, there}
 use Rattle.cp_model.specs.Term.{KeyTerm, Term, enc_term}
 use Rattle.cp_derive.specs.Given.{Given}
 use Rattle.cp_derive.specs.Building.{Builds}
@@ -12,17 +14,7 @@ use Rattle.cp_derive.specs.Opening.{weight_of, locked_of, IsOpenOrLocked, Takes,
 use Rattle.cp_derive.specs.declared.opening.Locked.{Locked}
 use Rattle.cp_derive.specs.declared.opening.Opening.{Opening}
 use Rattle.cp_derive.proofs.Built.{built_derivable}
-use Rattle.cp_derive.proofs.Listed.{item_in, in_cases}
 use Rattle.cp_derive.proofs.Taking.{builds_more}
-
-of_all : {A : Type 0} (P : A → Type 0) (xs : List A) (x : A) → All P xs → IsIn x xs → P x
-of_all P (x ∷ xs) _ all here = all 0 x (omega arith)
-of_all P (y ∷ xs) x all (there h) = of_all P xs x (λ k d i. all (suc k) d (omega arith)) h
-of_all P [] x all h = elim h [ ]
-
-in_permuted : {A : Type 0} (xs ys : List A) (x : A) → IsPermutation xs ys → IsIn x xs → IsIn x ys
-in_permuted xs ys x p h =
-    of_all (λ z. IsIn z ys) xs x (All-permutation (λ z. IsIn z ys) ys xs (IsPermutation-sym xs ys p) (λ k d i. item_in ys k d i)) h
 
 -- What is in a list after an item was taken out.
 pub record IsTakenOut {A : Type 0} (xs : List A) (x : A) (ys : List A) : Type 0 where

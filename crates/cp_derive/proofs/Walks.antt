@@ -1,8 +1,8 @@
 -- The walk to the first component that cannot be derived.
-use Rattle.std.proofs.Common.{ℕ, ◌≤◌, length, take, arith, length-take, List, [], ◌∷◌, ◌++◌, Option, Some, None, ◌≡◌, inl, inr, refl, sym, subst, ap, ◌∙◌, append_assoc}
-use Rattle.std.proofs.lemmas.List.{append-nil, map-append, take-append-le}
-use Rattle.std.proofs.Math.Seq.{take-append_seam}
-use Rattle.cp_model.specs.Lists.{IsIn, here, there}
+use Rattle.std.proofs.Common.{List, [], ◌∷◌, ◌++◌, Option, Some, None, ◌≡◌, inl, inr, refl, sym, subst, ap, ◌∙◌, append_assoc}
+use Rattle.std.proofs.lemmas.List.{append-nil, map-append}
+use Rattle.cp_lists.proofs.Members.{in_append}
+use Rattle.cp_lists.specs.Lists.{IsIn, here, there}
 use Rattle.cp_model.specs.Term.{Term, tag_term, atom_term, pair_term, enc_term}
 use Rattle.cp_term.specs.Positions.{term_at}
 use Rattle.cp_term.specs.declared.path.Step.{Step}
@@ -15,7 +15,6 @@ use Rattle.std.specs.Borrow.{Bor}
 use Rattle.cp_derive.specs.Forms.{IsFormOf}
 use Rattle.cp_derive.specs.declared.form.Form.{Form}
 use Rattle.cp_derive.specs.declared.form.Form.TheVariants.{Tag, Atom, Pair, Encryption}
-use Rattle.cp_derive.proofs.Listed.{in_either}
 
 -- Where a component cannot be derived, the whole cannot.
 pub first_underivable : (g : Given) (c t : Term) (path : List Step) → LeadsToFirst g c t path → IsDerivable g t → ⊥
@@ -43,7 +42,7 @@ in_below g s [] all d h = elim h [ ]
 
 in_both : (g : Given) (xs ys : List Component) → ((d : Component) → IsIn d xs → IsDerivable g d.term) → ((d : Component) → IsIn d ys → IsDerivable g d.term) →
     (d : Component) → IsIn d (xs ++ ys) → IsDerivable g d.term
-in_both g xs ys first second d h = elim (in_either xs ys h) [ inl i ↦ first d i | inr i ↦ second d i ]
+in_both g xs ys first second d h = elim (in_append xs ys h) [ inl i ↦ first d i | inr i ↦ second d i ]
 
 in_one : (g : Given) (c : Component) → IsDerivable g c.term → (d : Component) → IsIn d (c ∷ []) → IsDerivable g d.term
 in_one g c h _ here = h
@@ -86,19 +85,6 @@ first_listed g c _ _ (to_right {a} {b} {path} h l) =
       underivable = f.underivable;
       derivable = in_both g (below Left (components_of a)) (below Right f.before) (in_below g Left (components_of a) (components_derivable g a h)) (in_below g Right f.before f.derivable);
     }
-
--- Steps added behind the first ones keep these.
-pub first_kept : (start : ℕ) (first h more : List Step) → start ≡ length first → take start h ≡ first → take start (h ++ more) ≡ first
-first_kept start first h more n e =
-    let within : start ≤ length h = omega (arith, length-take start h, ap length e) in
-    take-append-le start h more within ∙ e
-
--- The last step taken back and another made.
-pub turned : (h left back kept right : List Step) (level : ℕ) → left ≡ h ++ (Left ∷ []) → back ≡ left → level ≡ length h → kept ≡ take level back →
-    right ≡ kept ++ (Right ∷ []) → right ≡ h ++ (Right ∷ [])
-turned h left back kept right level l b n k r =
-    let whole : take level back ≡ h = ap (λ p. take level p) (b ∙ l) ∙ ap (λ m. take m (h ++ (Left ∷ []))) n ∙ take-append_seam h (Left ∷ []) in
-    r ∙ ap (λ p. p ++ (Right ∷ [])) (k ∙ whole)
 
 -- What leads on from the rest leads on from the whole.
 abbrev pub LeadsUp : Given → Term → List Step → Term → List Step → Type 0

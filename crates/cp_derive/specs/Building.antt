@@ -1,6 +1,6 @@
 -- What can be built from terms that are held, without taking any apart.
 use Rattle.std.specs.Prelude.{◌⊎◌, List}
-use Rattle.cp_model.specs.Lists.{IsIn}
+use Rattle.cp_lists.specs.Lists.{IsIn}
 use Rattle.cp_model.specs.Term.{AtomTerm, key_term, KeyTerm, inverse_term, Term, tag_term, atom_term, pair_term, enc_term}
 use Rattle.cp_derive.specs.Given.{Given, IsDerivable}
 

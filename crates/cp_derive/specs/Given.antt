@@ -1,9 +1,9 @@
 -- What is given: the terms that were sent, and those that the penetrator cannot make.
 use Rattle.std.specs.Prelude.{◌↔◌, List, refl}
 use Rattle.std.specs.Coded.{Coded, code_by, coded_list, coded×}
-use Rattle.cp_model.specs.Lists.{IsIn}
+use Rattle.cp_lists.specs.Lists.{IsIn}
 use Rattle.cp_model.specs.Term.{AtomTerm, Term, atom_term}
-use Rattle.cp_model.specs.Bundle.{Node}
+use Rattle.cp_model.specs.declared.node.Node.{Node}
 use Rattle.cp_model.specs.Skeleton.{Skeleton}
 use Rattle.cp_model.specs.Derivable.{IsSecret}
 use Rattle.cp_term.specs.Code.{coded_term}

@@ -1,7 +1,7 @@
 -- Opening what was sent, step by step: what each step keeps.
 use Rattle.std.specs.Prelude.{◌⊎◌, ℕ, ◌+◌, ◌≤◌, List}
 use Rattle.std.specs.List.{sum_by}
-use Rattle.cp_model.specs.Lists.{IsIn}
+use Rattle.cp_lists.specs.Lists.{IsIn}
 use Rattle.cp_model.specs.Term.{KeyTerm, inverse_term, Term, enc_term}
 use Rattle.cp_term.specs.Keys.{key_as_term}
 use Rattle.cp_term.specs.Size.{term_size}

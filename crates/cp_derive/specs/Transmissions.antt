@@ -2,8 +2,7 @@
 use Rattle.std.specs.Prelude.{Bool, true, false, List, [], ◌∷◌}
 use Rattle.cp_model.specs.Term.{Term}
 use Rattle.cp_model.specs.Strand.{Event, send, recv}
-use Rattle.cp_model.specs.Bundle.{Node}
-use Rattle.cp_model.specs.RunView.{node_view}
+use Rattle.cp_model.specs.declared.node.Node.{Node}
 use Rattle.cp_skel.specs.Events.{Occurrence}
 use Rattle.cp_derive.specs.declared.transmission.Transmission as sending
 
@@ -13,7 +12,7 @@ pub record Transmission : Type 0 where
   pub message : Term
 
 abbrev pub transmission_view : sending.Transmission → Transmission
-transmission_view t = record { node = node_view t.node; message = t.message }
+transmission_view t = record { node = t.node; message = t.message }
 
 -- What role strands send, among these events.
 abbrev pub if_sent : Node → Event Term → Bool → List Transmission → List Transmission

@@ -4,7 +4,6 @@ ghost use Rattle.cp_model.specs.Derivable.{DerivableAt};
 ghost use Rattle.cp_model.specs.Skeleton.{IsNodeOf, term_event_at};
 ghost use Rattle.cp_model.specs.Strand.{Event as PlainEvent, payload};
 ghost use Rattle.cp_model.specs.Term.{Term as Plain};
-ghost use Rattle.cp_model.specs.RunView.{node_view};
 ghost use Rattle.cp_skel.specs.View.{skeleton_view};
 ghost use Rattle.cp_term.specs.Positions.{term_at};
 ghost use Rattle.cp_derive.specs.Before.{transmissions_of};
@@ -33,8 +32,8 @@ fn transmissions_of(alloc: Global, k: &Skeleton) -> Result<Vec<Transmission>, Al
 /// What can be derived at a node: from all that role strands send strictly before it, all tags, and all atoms that no
 /// assumption names. The node has to be there. The error is that memory ran out.
 pub fn known(alloc: Global, k: &Skeleton, node: Node) -> Result<Known, AllocError>
-    requires there { IsNodeOf (skeleton_view k.now).strands (node_view node) }
-    ensures given { IfOk result (λ known. (t : Plain) → IsDerivable known t ↔ DerivableAt (skeleton_view k.now) (node_view node) t) }
+    requires there { IsNodeOf (skeleton_view k.now).strands node }
+    ensures given { IfOk result (λ known. (t : Plain) → IsDerivable known t ↔ DerivableAt (skeleton_view k.now) node t) }
 {
     k.is_sound();
     let transmissions = transmissions_of(alloc, k)?;
@@ -46,7 +45,7 @@ pub fn known(alloc: Global, k: &Skeleton, node: Node) -> Result<Known, AllocErro
 
 /// The message of the event at a node, if there is one.
 fn message_at(alloc: Global, k: &Skeleton, node: Node) -> Result<Option<Term>, AllocError>
-    ensures { IfOk result (λ m. m ≡ option_map payload (term_event_at (skeleton_view k.now).strands (node_view node))) }
+    ensures { IfOk result (λ m. m ≡ option_map payload (term_event_at (skeleton_view k.now).strands node)) }
 {
     match k.strands().get(node.strand) {
         Some(strand) => match strand.event(alloc, node.index)? {
@@ -64,10 +63,10 @@ fn message_at(alloc: Global, k: &Skeleton, node: Node) -> Result<Option<Term>, A
 /// with its path. There is none exactly where the message can be derived. The node has to be there. The
 /// error is that memory ran out.
 pub fn critical(alloc: Global, k: &Skeleton, node: Node) -> Result<Option<Critical>, AllocError>
-    requires there { IsNodeOf (skeleton_view k.now).strands (node_view node) }
-    ensures none { IfOk result (λ found. (e : PlainEvent Plain) → term_event_at (skeleton_view k.now).strands (node_view node) ≡ Some e → IsNone found ↔ DerivableAt (skeleton_view k.now) (node_view node) (payload e)) }
-    ensures first { IfOk result (λ found. IfSome found (λ c. (e : PlainEvent Plain) → term_event_at (skeleton_view k.now).strands (node_view node) ≡ Some e → IsFirstUnderivable (DerivableAt (skeleton_view k.now) (node_view node)) (payload e) c.path c.term)) }
-    ensures place { IfOk result (λ found. IfSome found (λ c. (e : PlainEvent Plain) → term_event_at (skeleton_view k.now).strands (node_view node) ≡ Some e → term_at (payload e) c.path ≡ Some c.term)) }
+    requires there { IsNodeOf (skeleton_view k.now).strands node }
+    ensures none { IfOk result (λ found. (e : PlainEvent Plain) → term_event_at (skeleton_view k.now).strands node ≡ Some e → IsNone found ↔ DerivableAt (skeleton_view k.now) node (payload e)) }
+    ensures first { IfOk result (λ found. IfSome found (λ c. (e : PlainEvent Plain) → term_event_at (skeleton_view k.now).strands node ≡ Some e → IsFirstUnderivable (DerivableAt (skeleton_view k.now) node) (payload e) c.path c.term)) }
+    ensures place { IfOk result (λ found. IfSome found (λ c. (e : PlainEvent Plain) → term_event_at (skeleton_view k.now).strands node ≡ Some e → term_at (payload e) c.path ≡ Some c.term)) }
 {
     let known = known(alloc, k, node)?;
     match message_at(alloc, k, node)? {

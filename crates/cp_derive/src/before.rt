@@ -1,8 +1,6 @@
 // What was sent before a node.
 ghost use Rattle.std.specs.Prelude.{◌≡◌, map, option_map, IfOk};
-ghost use Rattle.cp_model.specs.Lists.{item_at};
-ghost use Rattle.cp_model.specs.RunView.{node_view};
-ghost use Rattle.cp_skel.specs.View.{pair_view};
+ghost use Rattle.cp_lists.specs.Lists.{item_at};
 ghost use Rattle.cp_derive.specs.Transmissions.{transmission_view};
 ghost use Rattle.cp_derive.specs.Before.{ArePlacesBefore, messages_at};
 
@@ -18,7 +16,7 @@ pub(crate) fn places_before(
     transmissions: &[Transmission],
     node: Node,
 ) -> Result<Vec<usize>, AllocError>
-    ensures { IfOk result (λ ps. ArePlacesBefore (map pair_view pairs.now) (node_view node) (map transmission_view transmissions.now) ps.items) }
+    ensures { IfOk result (λ ps. ArePlacesBefore pairs.now node (map transmission_view transmissions.now) ps.items) }
 {
     let leading = Leading::new(alloc, pairs, node)?;
     let mut places = Vec::new(alloc);

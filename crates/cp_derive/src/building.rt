@@ -1,6 +1,6 @@
 // What can be built from terms that are held.
 ghost use Rattle.std.specs.Prelude.{◌↔◌, IsTrue};
-ghost use Rattle.cp_model.specs.Lists.{IsIn};
+ghost use Rattle.cp_lists.specs.Lists.{IsIn};
 ghost use Rattle.cp_derive.specs.Building.{Builds, IsAtHand};
 
 use crate::form::{Form, form_of};

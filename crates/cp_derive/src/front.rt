@@ -4,7 +4,6 @@ ghost use Rattle.cp_model.specs.Derivable.{DerivableAt};
 ghost use Rattle.cp_model.specs.Skeleton.{IsNodeOf};
 ghost use Rattle.cp_model.specs.Term.{Term as Plain};
 ghost use Rattle.cp_skel.specs.Ordered.{IsOrdered};
-ghost use Rattle.cp_model.specs.RunView.{node_view};
 ghost use Rattle.cp_skel.specs.View.{skeleton_view};
 ghost use Rattle.cp_derive.specs.Before.{messages_at, transmissions_of, given_by};
 ghost use Rattle.cp_derive.specs.Given.{IsDerivable};
@@ -56,11 +55,11 @@ pub(crate) fn front_at(
     front: Front,
 ) -> Result<Front, AllocError>
     requires ordered { IsOrdered (skeleton_view k.now) }
-    requires there { IsNodeOf (skeleton_view k.now).strands (node_view node) }
+    requires there { IsNodeOf (skeleton_view k.now).strands node }
     requires all { map transmission_view transmissions.now ≡ transmissions_of (skeleton_view k.now) }
     requires given { front.known ≡ given_by (skeleton_view k.now) front.places.items }
     ensures given { IfOk result (λ f. f.known ≡ given_by (skeleton_view k.now) f.places.items) }
-    ensures at_node { IfOk result (λ f. (t : Plain) → DerivableAt (skeleton_view k.now) (node_view node) t ↔ IsDerivable f.known t) }
+    ensures at_node { IfOk result (λ f. (t : Plain) → DerivableAt (skeleton_view k.now) node t ↔ IsDerivable f.known t) }
 {
     let places = places_before(alloc, k.order().pairs(), transmissions, node)?;
     let Front {

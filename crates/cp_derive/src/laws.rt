@@ -1,6 +1,6 @@
 //! Laws of the definitions: each stands as the contract of a function that does nothing.
 ghost use Rattle.std.specs.Prelude.{◌↔◌};
-ghost use Rattle.cp_model.specs.Bundle.{Node};
+ghost use Rattle.cp_model.specs.declared.node.Node.{Node};
 ghost use Rattle.cp_model.specs.Derivable.{DerivableAt, IsSecret};
 ghost use Rattle.cp_model.specs.Skeleton.{Skeleton};
 ghost use Rattle.cp_model.specs.Term.{Term};

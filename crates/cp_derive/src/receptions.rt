@@ -1,7 +1,6 @@
 // The receptions whose messages cannot be derived.
 ghost use Rattle.std.specs.Prelude.{◌≡◌, map, IfOk};
 ghost use Rattle.cp_skel.specs.Ordered.{IsOrdered};
-ghost use Rattle.cp_model.specs.RunView.{node_view};
 ghost use Rattle.cp_skel.specs.View.{skeleton_view};
 ghost use Rattle.cp_derive.specs.Before.{transmissions_of, given_by};
 ghost use Rattle.cp_skel.specs.Events.{occurrence_view, events_of};
@@ -27,7 +26,7 @@ fn unrealised_among(
     requires all { map transmission_view transmissions.now ≡ transmissions_of (skeleton_view k.now) }
     requires listed { map occurrence_view occurrences.now ≡ events_of (skeleton_view k.now) }
     requires given { front.known ≡ given_by (skeleton_view k.now) front.places.items }
-    ensures { IfOk result (λ nodes. ListsUnrealised (skeleton_view k.now) (map node_view nodes.items)) }
+    ensures { IfOk result (λ nodes. ListsUnrealised (skeleton_view k.now) nodes.items) }
 {
     let mut nodes = Vec::new(alloc);
     for occurrence in occurrences {
@@ -46,7 +45,7 @@ fn unrealised_among(
 /// The receptions, those of listeners too, whose message cannot be derived there, by strand and then by index. The error
 /// is that memory ran out.
 pub fn unrealised(alloc: Global, k: &Skeleton) -> Result<Vec<Node>, AllocError>
-    ensures listed { IfOk result (λ nodes. ListsUnrealised (skeleton_view k.now) (map node_view nodes.items)) }
+    ensures listed { IfOk result (λ nodes. ListsUnrealised (skeleton_view k.now) nodes.items) }
 {
     k.is_sound();
     let occurrences = k.events(alloc)?;

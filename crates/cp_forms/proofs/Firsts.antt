@@ -2,10 +2,11 @@
 use Rattle.std.proofs.Common.{◌≡◌, ℕ, ◌⊎◌, inl, inr, List, [], ◌∷◌, ◌++◌, Bool, true, false, refl, sym, ap, ◌∙◌, subst, arith}
 use Rattle.std.specs.Prelude.{Option, Some, None, nat_lt, ◌==◌, ◌||◌, ◌&&◌, if◌then◌else◌}
 use Rattle.std.proofs.lemmas.Bool.Decides.{nat_tests}
+use Rattle.cp_lists.proofs.Members.{in_append, in_append_left, in_append_right}
 use Rattle.cp_base.specs.declared.place.Refusal.{Refusal}
-use Rattle.cp_model.specs.Lists.{IsIn, here, there}
+use Rattle.cp_lists.specs.Lists.{IsIn, here, there}
 use Rattle.cp_language.specs.Faults.{rank_of, comes_before, IsFirstFault}
-use Rattle.cp_language.proofs.OneAnswer.{one_first}
+use Rattle.cp_language.proofs.OneAnswer.{not_before, not_before_self, not_both, one_first}
 use Rattle.cp_language.specs.Roles.{unless_faulty}
 use Rattle.cp_forms.specs.FirstFault.{earlier_of, first_onto, merged, onto_none}
 
@@ -22,20 +23,6 @@ some_stays s (q ∷ qs) g = some_stays (earlier_of (Some s) q) qs g
 none_before : (o : Option Refusal) (rs : List Refusal) → first_onto o rs ≡ None → rs ≡ []
 none_before o [] e = refl
 none_before o (r ∷ rs) e = absurd (some_stays (earlier_of o r) rs e)
-
-not_before : (l m n c d e a b f : ℕ) →
-    (nat_lt m l || ((m == l) && (nat_lt d c || ((d == c) && nat_lt b a)))) ≡ false →
-    (nat_lt n m || ((n == m) && (nat_lt e d || ((e == d) && nat_lt f b)))) ≡ false →
-    (nat_lt n l || ((n == l) && (nat_lt e c || ((e == c) && nat_lt f a)))) ≡ false
-not_before l m n c d e a b f g h = grind (arith, nat_tests)
-
-not_before_self : (l c a : ℕ) → (nat_lt l l || ((l == l) && (nat_lt c c || ((c == c) && nat_lt a a)))) ≡ false
-not_before_self l c a = grind (arith, nat_tests)
-
-not_both : (l m c d a b : ℕ) →
-    (nat_lt l m || ((l == m) && (nat_lt c d || ((c == d) && nat_lt a b)))) ≡ true →
-    (nat_lt m l || ((m == l) && (nat_lt d c || ((d == c) && nat_lt b a)))) ≡ false
-not_both l m c d a b g = grind (arith, nat_tests)
 
 pub behind_itself : (r : Refusal) → comes_before r r ≡ false
 behind_itself r = not_before_self r.place.line r.place.col (rank_of r.code)
@@ -113,22 +100,8 @@ same_members xs ys f g = by_found (first_onto None xs) (first_onto None ys) refl
     by_found (Some r) None e h = absurd (none_in r ys (none_found ys h) (f r (first_found xs r e).listed))
     by_found (Some r) (Some s) e h = ap Some (one_first xs r s (first_found xs r e) (record { listed = g s (first_found ys s h).listed; first = λ t m. (first_found ys s h).first t (f t m) }))
 
-pub in_append : (xs ys : List Refusal) (t : Refusal) → IsIn t (xs ++ ys) → IsIn t xs ⊎ IsIn t ys
-in_append [] ys t m = inr m
-in_append (x ∷ xs) ys t here = inl here
-in_append (x ∷ xs) ys t (there m) = elim (in_append xs ys t m) as (λ _. IsIn t (x ∷ xs) ⊎ IsIn t ys) [ inl n ↦ inl (there n) | inr n ↦ inr n ]
-
-pub in_front : (xs ys : List Refusal) (t : Refusal) → IsIn t xs → IsIn t (xs ++ ys)
-in_front [] ys t m = elim m [ ]
-in_front (x ∷ xs) ys t here = here
-in_front (x ∷ xs) ys t (there m) = there (in_front xs ys t m)
-
-pub in_back : (xs ys : List Refusal) (t : Refusal) → IsIn t ys → IsIn t (xs ++ ys)
-in_back [] ys t m = m
-in_back (x ∷ xs) ys t m = there (in_back xs ys t m)
-
 swapped : (xs ys : List Refusal) (t : Refusal) → IsIn t (xs ++ ys) → IsIn t (ys ++ xs)
-swapped xs ys t m = elim (in_append xs ys t m) as (λ _. IsIn t (ys ++ xs)) [ inl n ↦ in_back ys xs t n | inr n ↦ in_front ys xs t n ]
+swapped xs ys t m = elim (in_append xs ys m) as (λ _. IsIn t (ys ++ xs)) [ inl n ↦ in_append_right ys n | inr n ↦ in_append_left xs n ]
 
 under : (s : Refusal) (xs ys : List Refusal) → ((t : Refusal) → IsIn t xs → IsIn t ys) → (t : Refusal) → IsIn t (s ∷ xs) → IsIn t (s ∷ ys)
 under s xs ys f t here = here

@@ -1,12 +1,13 @@
 -- Items of lists, and what they lack or have too many.
 use Rattle.std.proofs.Common.{◌≡◌, ℕ, zero, suc, ◌+◌, ◌<◌, ◌≤◌, List, [], ◌∷◌, ◌++◌, length, get_or, map, take, drop, refl, sym, ap, ◌∙◌, add-one, arith}
 use Rattle.std.specs.Prelude.{Option, Some, None}
-use Rattle.std.proofs.lemmas.List.{take_all, drop_all}
+use Rattle.std.proofs.lemmas.List.{take_all, drop_all, length-map}
 use Rattle.std.proofs.Math.Seq.{drop-cons}
+use Rattle.cp_lists.proofs.Members.{drop_read}
 use Rattle.cp_base.specs.declared.place.Place.{Place}
 use Rattle.cp_base.specs.declared.place.Code.TheVariants.{BadShape}
 use Rattle.cp_base.specs.declared.place.Refusal.{Refusal}
-use Rattle.cp_model.specs.Lists.{item_at}
+use Rattle.cp_lists.specs.Lists.{item_at}
 use Rattle.cp_model.specs.Strand.{Declaration}
 use Rattle.cp_sexpr.specs.Syntax.{Form}
 use Rattle.cp_sexpr.specs.View.{view}
@@ -16,10 +17,6 @@ use Rattle.cp_language.specs.Terms.{lacks, exceeds, key_faults, last_key_faults}
 use Rattle.cp_language.specs.Roles.{last_form, front_of, each_faults}
 use Rattle.cp_forms.specs.FirstFault.{first_onto}
 use Rattle.cp_forms.proofs.Firsts.{first_onto-append}
-
-pub map-length : (fs : List program.Form) → length (map view fs) ≡ length fs
-map-length [] = refl
-map-length (f ∷ fs) = ap suc (map-length fs)
 
 pub map-take : (n : ℕ) (fs : List program.Form) → map view (take n fs) ≡ take n (map view fs)
 map-take zero fs = refl
@@ -32,10 +29,10 @@ map-drop (suc n) [] = refl
 map-drop (suc n) (f ∷ fs) = map-drop n fs
 
 pub short-take : (n : ℕ) (fs : List program.Form) → length fs < n → map view fs ≡ take n (map view fs)
-short-take n fs h = sym (take_all n (map view fs) (omega (arith, map-length fs)))
+short-take n fs h = sym (take_all n (map view fs) (omega (arith, length-map fs view)))
 
 pub short-drop : (n : ℕ) (fs : List program.Form) → length fs < n → [] ≡ drop n (map view fs)
-short-drop n fs h = sym (drop_all n (map view fs) (omega (arith, map-length fs)))
+short-drop n fs h = sym (drop_all n (map view fs) (omega (arith, length-map fs view)))
 
 -- ---- the last item
 
@@ -89,15 +86,12 @@ last_key-none ds (g ∷ h ∷ fs) e = last_key-none ds (h ∷ fs) e
 
 -- ---- a list item by item
 
-pub item-drop : {A : Type 0} (xs : List A) (k : ℕ) (x : A) → k < length xs → x ≡ get_or xs k x → drop k xs ≡ x ∷ drop (k + 1) xs
-item-drop xs k x h e = drop-cons xs k x h ∙ rw (← e) (ap (λ ys. x ∷ ys) (rw add-one))
-
 module _ (faults : Form → List Refusal) (fs : List program.Form) (k : ℕ) where
   -- the faults of what is left, after those of the item that comes next
   pub each-step : (f : program.Form) → k < length fs → f ≡ get_or fs k f → (o : Option Refusal)
       → first_onto o (each_faults faults (map view (drop k fs))) ≡ first_onto (first_onto o (faults (view f))) (each_faults faults (map view (drop (k + 1) fs)))
   each-step f h e o =
-      ap (λ gs. first_onto o (each_faults faults (map view gs))) (item-drop fs k f h e)
+      ap (λ gs. first_onto o (each_faults faults (map view gs))) (drop_read fs k f h e)
       ∙ first_onto-append o (faults (view f)) (each_faults faults (map view (drop (k + 1) fs)))
 
   pub each-end : length fs ≤ k → (o : Option Refusal) → first_onto o (each_faults faults (map view (drop k fs))) ≡ o

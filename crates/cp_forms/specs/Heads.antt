@@ -1,6 +1,6 @@
 -- What the program's words for heads and sorts stand for.
 use Rattle.cp_language.specs.Words as language
-use Rattle.cp_skel.specs.View.{sort_view}
+use Rattle.cp_strand.specs.View.{sort_view}
 use Rattle.cp_forms.specs.declared.words.SortWord.{SortWord}
 use Rattle.cp_forms.specs.declared.words.SortWord.TheVariants as sorts
 use Rattle.cp_forms.specs.declared.words.TermHead.{TermHead}

@@ -1,6 +1,6 @@
 // Forms, one level deep.
 ghost use Rattle.std.specs.Prelude.{◌≡◌, map, option_map, take, drop};
-ghost use Rattle.cp_model.specs.Lists.{item_at};
+ghost use Rattle.cp_lists.specs.Lists.{item_at};
 ghost use Rattle.cp_sexpr.specs.View.{view};
 ghost use Rattle.cp_language.specs.Faults.{place_of};
 ghost use Rattle.cp_language.specs.Roles.{headed, items_behind, list_items, text_of_symbol, last_form, front_of};

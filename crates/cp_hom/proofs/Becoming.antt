@@ -3,20 +3,21 @@ use Rattle.std.proofs.Common.{◌≡◌, ◌≢◌, ℕ, ◌<◌, ◌≤◌, ◌
 use Rattle.std.specs.Prelude.{Option, Some, None, Bool, true, false, nat_lt, ◌==◌}
 use Rattle.std.proofs.lemmas.Bool.Decides.{nat_tests}
 use Rattle.std.proofs.lemmas.List.{drop_all}
-use Rattle.cp_model.specs.Lists.{item_at}
+use Rattle.cp_lists.proofs.Members.{drop_read}
+use Rattle.cp_lists.specs.Lists.{item_at}
 use Rattle.cp_model.specs.Term.{AtomTerm, Term, atom_term, Substitution, apply_to_atom, apply_to}
 use Rattle.cp_model.specs.Strand.{Event, payload}
-use Rattle.cp_model.specs.Skeleton.{SkeletonStrand, instance, UniqueAt, Skeleton, OrderPair}
-use Rattle.cp_model.specs.Bundle.{Node}
+use Rattle.cp_model.specs.Skeleton.{SkeletonStrand, instance, UniqueAt, Skeleton}
+use Rattle.cp_model.specs.declared.node.OrderPair.{OrderPair}
+use Rattle.cp_model.specs.declared.node.Node.{Node}
 use Rattle.cp_model.specs.Order.{LeadsTo}
 use Rattle.cp_model.specs.Homomorphism.{SkeletonMap, mapped}
 use Rattle.cp_hom.proofs.Ordering.{both_nodes}
-use Rattle.cp_model.proofs.LawLists.{item_below, item_of_map, map_of_item}
+use Rattle.cp_lists.proofs.Items.{item_below}
 use Rattle.cp_hom.specs.Following.{PartialMap, IsExtended, IsNever, Finds}
 use Rattle.cp_hom.specs.Taking.{MakesEvents, MakesPart, GoesToStrand, BecomesAtom, BecomesUnique, KeepsProblem, IsKeptBy, IsRoleStrand, MeetsEarlier, KeepsApart}
 use Rattle.cp_hom.proofs.Extended.{IsSoFar, finds_like, finds_both, never_before, so_far_next, so_far_never, so_far_all}
 use Rattle.cp_hom.specs.declared.partials.Partial.{Partial}
-use Rattle.cp_skel.proofs.Items.{item-drop}
 
 -- ---- strands
 
@@ -130,8 +131,8 @@ module _ {A B : Type 0} (g : SkeletonMap → A → B) where
       IsSoFar (λ f. map (g f) xs ≡ ys) (λ f. map (g f) (drop i xs) ≡ drop i ys) given found → IsExtended (λ f. g f x ≡ y) found next →
       IsSoFar (λ f. map (g f) xs ≡ ys) (λ f. map (g f) (drop (i + 1) xs) ≡ drop (i + 1) ys) given next
   lists_next xs ys i x y given found next l same is_x is_y h k =
-      let dx = item-drop xs i x l is_x in
-      let dy = item-drop ys i y (omega (arith, l, same)) is_y in
+      let dx = drop_read xs i x l is_x in
+      let dy = drop_read ys i y (omega (arith, l, same)) is_y in
       so_far_next (λ f. map (g f) xs ≡ ys) (λ f. map (g f) (drop i xs) ≡ drop i ys) (λ f. g f x ≡ y) (λ f. map (g f) (drop (i + 1) xs) ≡ drop (i + 1) ys) given found next
       (λ f d e. ap (map (g f)) dx ∙ ap₂ ◌∷◌ d e ∙ sym dy)
       (λ f e. heads f x y (drop (i + 1) xs) (drop (i + 1) ys) (sym (ap (map (g f)) dx) ∙ e ∙ dy))
@@ -141,8 +142,8 @@ module _ {A B : Type 0} (g : SkeletonMap → A → B) where
   pub lists_never : (xs : List A) (ys : List B) (i : ℕ) (x : A) (y : B) (given found : PartialMap) → i < length xs → length xs ≡ length ys → x ≡ get_or xs i x → y ≡ get_or ys i y →
       IsSoFar (λ f. map (g f) xs ≡ ys) (λ f. map (g f) (drop i xs) ≡ drop i ys) given found → IsNever (λ f. g f x ≡ y) found → IsNever (λ f. map (g f) xs ≡ ys) given
   lists_never xs ys i x y given found l same is_x is_y h k =
-      let dx = item-drop xs i x l is_x in
-      let dy = item-drop ys i y (omega (arith, l, same)) is_y in
+      let dx = drop_read xs i x l is_x in
+      let dy = drop_read ys i y (omega (arith, l, same)) is_y in
       so_far_never (λ f. map (g f) xs ≡ ys) (λ f. map (g f) (drop i xs) ≡ drop i ys) (λ f. g f x ≡ y) given found
       (λ f e. heads f x y (drop (i + 1) xs) (drop (i + 1) ys) (sym (ap (map (g f)) dx) ∙ e ∙ dy))
       h k
@@ -173,7 +174,7 @@ module _ {E : Type 0} (view : E → Event Term) (s t : Substitution) where
       IsExtended (λ f. apply_to f.terms (apply_to s (payload (view e))) ≡ apply_to t (payload (view e))) found next →
       IsSoFar (λ f. MakesEvents f.terms (map view es) s t) (λ f. MakesEvents f.terms (map view (drop (i + 1) es)) s t) given next
   events_next es i e given found next l is_e h k =
-      let d = item-drop es i e l is_e in
+      let d = drop_read es i e l is_e in
       so_far_next (λ f. MakesEvents f.terms (map view es) s t) (λ f. MakesEvents f.terms (map view (drop i es)) s t)
       (λ f. apply_to f.terms (apply_to s (payload (view e))) ≡ apply_to t (payload (view e))) (λ f. MakesEvents f.terms (map view (drop (i + 1) es)) s t) given found next
       (λ f p q. subst (λ (ds : List E). MakesEvents f.terms (map view ds) s t) (sym d) (p, q))
@@ -189,7 +190,7 @@ module _ {E : Type 0} (view : E → Event Term) (s t : Substitution) where
       IsSoFar (λ f. MakesEvents f.terms (map view es) s t) (λ f. MakesEvents f.terms (map view (drop i es)) s t) given found →
       IsNever (λ f. apply_to f.terms (apply_to s (payload (view e))) ≡ apply_to t (payload (view e))) found → IsNever (λ f. MakesEvents f.terms (map view es) s t) given
   events_never es i e given found l is_e h k =
-      let d = item-drop es i e l is_e in
+      let d = drop_read es i e l is_e in
       so_far_never (λ f. MakesEvents f.terms (map view es) s t) (λ f. MakesEvents f.terms (map view (drop i es)) s t)
       (λ f. apply_to f.terms (apply_to s (payload (view e))) ≡ apply_to t (payload (view e))) given found
       (λ f p. first f e (drop (i + 1) es) (subst (λ (ds : List E). MakesEvents f.terms (map view ds) s t) d p))

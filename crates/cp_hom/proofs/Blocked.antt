@@ -2,9 +2,9 @@
 use Rattle.std.proofs.Common.{◌≡◌, ℕ, zero, suc, ◌<◌, ◌≤◌, ◌+◌, List, [], ◌∷◌, length, drop, get_or, sym, ◌∙◌, subst, arith, inl, inr}
 use Rattle.std.specs.Prelude.{Option, Some, None}
 use Rattle.std.proofs.lemmas.List.{drop_all}
+use Rattle.cp_lists.proofs.Members.{drop_read}
 use Rattle.cp_model.specs.Skeleton.{SkeletonStrand, Skeleton}
 use Rattle.cp_model.specs.Homomorphism.{SkeletonMap}
-use Rattle.cp_skel.proofs.Items.{item-drop}
 use Rattle.cp_hom.specs.Following.{PartialMap, Places, IsNever, Finds, FindsAmong}
 use Rattle.cp_hom.specs.Taking.{TakesAs, Takes, IsRoleStrand, KeepsApart, HoldsImage, IsTaken, IsBlocked}
 use Rattle.cp_hom.specs.declared.items.Kind.{Kind}
@@ -25,7 +25,7 @@ one_less strands s image ps p other (inr h) = h
 pub taken_later : (strands : List SkeletonStrand) (s image : ℕ) (ps : List Placement) (i : ℕ) (p : Placement) → i < length ps → p ≡ get_or ps i p → (HoldsImage strands s image p → ⊥) →
     (IsTaken strands s image ps → IsTaken strands s image (drop i ps)) → IsTaken strands s image ps → IsTaken strands s image (drop (i + 1) ps)
 taken_later strands s image ps i p l is other so_far h =
-    one_less strands s image (drop (i + 1) ps) p other (subst (IsTaken strands s image) (item-drop ps i p l is) (so_far h))
+    one_less strands s image (drop (i + 1) ps) p other (subst (IsTaken strands s image) (drop_read ps i p l is) (so_far h))
 
 pub taken_nowhere : (strands : List SkeletonStrand) (s image : ℕ) (ps : List Placement) (i : ℕ) → length ps ≤ i →
     (IsTaken strands s image ps → IsTaken strands s image (drop i ps)) → IsTaken strands s image ps → ⊥

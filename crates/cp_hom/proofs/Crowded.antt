@@ -2,12 +2,12 @@
 use Rattle.std.proofs.Common.{◌≡◌, ◌≢◌, ℕ, zero, suc, ◌+◌, ◌<◌, ◌≤◌, List, [], ◌∷◌, length, map, drop, get_or, refl, sym, ap, ◌∙◌, subst, arith, inl, inr}
 use Rattle.std.specs.Prelude.{Some}
 use Rattle.std.proofs.lemmas.List.{drop_all, length-map}
-use Rattle.cp_model.specs.Lists.{item_at, IsIn, here, there}
+use Rattle.cp_lists.proofs.Members.{drop_read}
+use Rattle.cp_lists.specs.Lists.{item_at, IsIn, here, there}
 use Rattle.cp_model.specs.Term.{Substitution}
 use Rattle.cp_model.specs.Strand.{Role}
 use Rattle.cp_model.specs.Skeleton.{SkeletonStrand, instance, listener, Skeleton}
 use Rattle.cp_model.specs.Homomorphism.{SkeletonMap, IsEmbedding}
-use Rattle.cp_skel.proofs.Items.{item-drop}
 use Rattle.cp_hom.specs.Counting.{IsCount, IsOfRole, HasRoom, HaveRoom}
 
 -- ---- counts
@@ -30,7 +30,7 @@ counted_first view fact xs n h = let e : n ≡ 0 + n = omega arith in subst (IsC
 
 module _ {A B : Type 0} (view : A → B) (fact : B → Type 0) (xs : List A) (i : ℕ) (x : A) (l : i < length xs) (is_x : x ≡ get_or xs i x) (count : ℕ) (so_far : IsCountedTo view fact xs i count) where
   rest_is : drop i xs ≡ x ∷ drop (i + 1) xs
-  rest_is = item-drop xs i x l is_x
+  rest_is = drop_read xs i x l is_x
 
   pub counted_one : fact (view x) → IsCountedTo view fact xs (i + 1) (count + 1)
   counted_one h n k =

@@ -1,20 +1,20 @@
 -- Embeddings, and what they do with the items of a skeleton.
 use Rattle.std.proofs.Common.{◌≡◌, ℕ, ◌<◌, List, length, refl, sym, ap, ◌∙◌, subst}
 use Rattle.std.specs.Prelude.{Some}
-use Rattle.cp_model.specs.Lists.{item_at, IsIn}
+use Rattle.cp_lists.specs.Lists.{item_at, IsIn}
 use Rattle.cp_model.specs.Term.{AtomTerm, Term, Substitution, apply_to, apply_to_atom}
 use Rattle.cp_model.specs.Strand.{Role, prefix_of}
-use Rattle.cp_model.specs.Bundle.{Node, node_at}
+use Rattle.cp_model.specs.Bundle.{node_at}
+use Rattle.cp_model.specs.declared.node.Node.{Node}
 use Rattle.cp_model.specs.Skeleton.{SkeletonStrand, instance, listener, UniqueAt, Skeleton, IsOrderPair}
 use Rattle.cp_model.specs.Homomorphism.{SkeletonMap, mapped, GoesToInstance, IsHomomorphism, IsEmbedding}
-use Rattle.cp_model.proofs.LawLists.{item_below, item_there}
+use Rattle.cp_lists.proofs.Items.{item_below, item_there, at_place, place_of}
 use Rattle.cp_model.proofs.LawStandings.{strand_of_event}
 use Rattle.cp_skel.specs.Ordered.{IsOrdered}
 use Rattle.cp_hom.specs.Following.{PartialMap, Follows, map_of}
 use Rattle.cp_hom.specs.Taking.{MakesPart, GoesToStrand, BecomesAtom, BecomesUnique, TakesAs, Takes, count_of, IsItemOf, KeepsProblem, KeepsApart, IsKeptBy, KeepsPairs}
 use Rattle.cp_hom.specs.Opening.{IsWhole, NeverEmbeds}
 use Rattle.cp_hom.proofs.Agreed.{events_agreed, events_made}
-use Rattle.cp_hom.proofs.Listed.{item_in, in_item}
 use Rattle.cp_hom.proofs.Ordering.{both_nodes, StrandsGo, order_kept, pairs_kept}
 use Rattle.cp_hom.specs.declared.items.Kind.{Kind}
 use Rattle.cp_hom.specs.declared.items.Kind.TheVariants.{Strands, NonOriginating, PenetratorNonOriginating, Uniques}
@@ -47,7 +47,7 @@ strand_taken a b f h s (listener t) at =
 atom_taken : (f : SkeletonMap) (xs ys : List AtomTerm) → ((v : AtomTerm) → IsIn v xs → IsIn (apply_to_atom f.terms v) ys) → (i : ℕ) (v : AtomTerm) → item_at xs i ≡ Some v →
     (image : ℕ) × (image < length ys) × BecomesAtom xs ys i image f
 atom_taken f xs ys h i v at =
-    let k = in_item (h v (item_in xs i v at)) in (
+    let k = place_of (h v (at_place xs i v at)) in (
       k.0,
       item_below ys k.0 (apply_to_atom f.terms v) k.1,
       record { from = v; to = apply_to_atom f.terms v; is_from = at; is_to = k.1; becomes = refl },
@@ -58,7 +58,7 @@ unique_taken : (f : SkeletonMap) (xs ys : List UniqueAt) →
     (image : ℕ) × (image < length ys) × BecomesUnique xs ys i image f
 unique_taken f xs ys h i u at =
     let v : UniqueAt = record { value = apply_to_atom f.terms u.value; origin = mapped f u.origin } in
-    let k = in_item (h u (item_in xs i u at)) in (
+    let k = place_of (h u (at_place xs i u at)) in (
       k.0,
       item_below ys k.0 v k.1,
       record { from = u; to = v; is_from = at; is_to = k.1; becomes = refl; origin = refl; index = refl },
@@ -128,7 +128,7 @@ atom_listed f xs ys i image v at h =
     let e : Some h.from ≡ Some v = sym h.is_from ∙ at in
     let same : h.from ≡ v = cc in
     let g : apply_to_atom f.terms v ≡ h.to = ap (apply_to_atom f.terms) (sym same) ∙ h.becomes in
-    item_in ys image (apply_to_atom f.terms v) (h.is_to ∙ ap (λ (w : AtomTerm). Some w) (sym g))
+    at_place ys image (apply_to_atom f.terms v) (h.is_to ∙ ap (λ (w : AtomTerm). Some w) (sym g))
 
 unique_listed : (f : SkeletonMap) (xs ys : List UniqueAt) (i image : ℕ) (u : UniqueAt) → item_at xs i ≡ Some u → BecomesUnique xs ys i image f →
     IsIn (record { value = apply_to_atom f.terms u.value; origin = mapped f u.origin }) ys
@@ -138,18 +138,18 @@ unique_listed f xs ys i image u at h =
     let v : UniqueAt = record { value = apply_to_atom f.terms h.from.value; origin = mapped f h.from.origin } in
     let g : v ≡ h.to = λ j. record { value = h.becomes j; origin = record { strand = h.origin j; index = h.index j } } in
     subst (λ (w : UniqueAt). IsIn {A = UniqueAt} (record { value = apply_to_atom f.terms w.value; origin = mapped f w.origin }) ys) same
-    (item_in ys image v (h.is_to ∙ ap (λ (w : UniqueAt). Some w) (sym g)))
+    (at_place ys image v (h.is_to ∙ ap (λ (w : UniqueAt). Some w) (sym g)))
 
 atoms_listed : (f : SkeletonMap) (xs ys : List AtomTerm) → ((i : ℕ) → i < length xs → (image : ℕ) × BecomesAtom xs ys i image f) → (v : AtomTerm) → IsIn v xs → IsIn (apply_to_atom f.terms v) ys
 atoms_listed f xs ys all v p =
-    let k = in_item p in
+    let k = place_of p in
     let h = all k.0 (item_below xs k.0 v k.1) in
     atom_listed f xs ys k.0 h.0 v k.1 h.1
 
 uniques_listed : (f : SkeletonMap) (xs ys : List UniqueAt) → ((i : ℕ) → i < length xs → (image : ℕ) × BecomesUnique xs ys i image f) → (u : UniqueAt) → IsIn u xs →
     IsIn (record { value = apply_to_atom f.terms u.value; origin = mapped f u.origin }) ys
 uniques_listed f xs ys all u p =
-    let k = in_item p in
+    let k = place_of p in
     let h = all k.0 (item_below xs k.0 u k.1) in
     unique_listed f xs ys k.0 h.0 u k.1 h.1
 

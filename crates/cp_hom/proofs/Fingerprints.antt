@@ -1,11 +1,18 @@
 -- A skeleton that embeds in another has its partition.
-use Rattle.std.proofs.Common.{◌≡◌, ◌⊎◌, inl, inr, ℕ, suc, Bool, true, false, nat_eq, if◌then◌else◌, List, [], ◌∷◌, Option, Some, None, map, refl, sym, ap, ap₂, ◌∙◌, eq-eqb, eqb-true}
-use Rattle.cp_model.specs.Lists.{item_at, IsIn, here, there}
+use Rattle.std.proofs.Common.{◌≡◌, ◌↔◌, ◌⊎◌, inl, inr, ℕ, suc, Bool, true, false, nat_eq, if◌then◌else◌, List, [], ◌∷◌, Option, Some, None, map, refl, sym, ap, ap₂, ◌∙◌, eq-eqb, eqb-true}
+use Rattle.std.specs.Option.{option_eq}
+use Rattle.std.specs.Cmp.Lexicographic.{pointwise}
+use Rattle.std.specs.Prelude.{Decides}
+use Rattle.std.proofs.lemmas.Slice.Eq.{slice_eq-Decides}
+use Rattle.cp_lists.proofs.Items.{there_or_none}
+use Rattle.cp_lists.specs.Lists.{item_at, IsIn, here, there}
 use Rattle.cp_model.specs.Term.{Substitution}
 use Rattle.cp_model.specs.Strand.{Role}
 use Rattle.cp_model.specs.Skeleton.{SkeletonStrand, instance, listener, Skeleton}
 use Rattle.cp_model.specs.Homomorphism.{SkeletonMap, IsEmbedding, Embeds}
-use Rattle.cp_hom.specs.Partition.{first_place, entry_by, entry_of, entries_from, partition_of, mixed, number_of, fingerprint_of}
+use Rattle.cp_hom.specs.FirstPlaces.{first_of}
+use Rattle.cp_hom.specs.Partition.{entry_by, entry_of, entries_from, partition_of, is_whole}
+use Rattle.cp_hom.specs.Mixing.{number_of}
 
 -- ---- entries past the end
 
@@ -16,19 +23,15 @@ IsThere k p = (x : SkeletonStrand) × (item_at k.strands p ≡ Some x)
 none_entry : (k : Skeleton) (s p : ℕ) → item_at k.strands p ≡ None → entry_of k s p ≡ None
 none_entry k s p e = ap (entry_by k.from_problem.strands s p) e
 
-there_or_none : {A : Type 0} (o : Option A) → ((x : A) × (o ≡ Some x)) ⊎ (o ≡ None)
-there_or_none None = inr refl
-there_or_none (Some x) = inl (x, refl)
-
 some_entry : (k : Skeleton) (s p : ℕ) (x : SkeletonStrand) → item_at k.strands p ≡ Some x → (e : ℕ) × (entry_of k s p ≡ Some e)
-some_entry k s p (instance role height terms) at = (first_place p k.from_problem.strands, ap (entry_by k.from_problem.strands s p) at)
+some_entry k s p (instance role height terms) at = (first_of p k.from_problem.strands, ap (entry_by k.from_problem.strands s p) at)
 some_entry k s p (listener t) at = (s, ap (entry_by k.from_problem.strands s p) at)
 
-number_past : (n : ℕ) (o : Option ℕ) (es : List (Option ℕ)) → o ≡ None → number_of n (o ∷ es) ≡ 0
-number_past n o es e = ap (λ (x : Option ℕ). number_of n (x ∷ es)) e
+whole_past : (o : Option ℕ) (es : List (Option ℕ)) → o ≡ None → is_whole (o ∷ es) ≡ false
+whole_past o es e = ap (λ (x : Option ℕ). is_whole (x ∷ es)) e
 
-number_on : (n : ℕ) (o : Option ℕ) (e : ℕ) (es : List (Option ℕ)) → o ≡ Some e → number_of n (o ∷ es) ≡ number_of (mixed n e) es
-number_on n o e es q = ap (λ (x : Option ℕ). number_of n (x ∷ es)) q
+whole_on : (o : Option ℕ) (e : ℕ) (es : List (Option ℕ)) → o ≡ Some e → is_whole (o ∷ es) ≡ is_whole es
+whole_on o e es q = ap (λ (x : Option ℕ). is_whole (x ∷ es)) q
 
 abbrev AllThere : Skeleton → List ℕ → Type 0
 AllThere k ps = (p : ℕ) → IsIn p ps → IsThere k p
@@ -37,17 +40,17 @@ all_there : (k : Skeleton) (p : ℕ) (ps : List ℕ) → IsThere k p → AllTher
 all_there k p ps first rest q here = first
 all_there k p ps first rest q (there i) = rest q i
 
-there_or_zero : (k : Skeleton) (n s : ℕ) (ps : List ℕ) → AllThere k ps ⊎ (number_of n (entries_from k s ps) ≡ 0)
-there_or_zero k n s [] = inl (λ p i. elim i [ ])
-there_or_zero k n s (p ∷ ps) = by (there_or_none (item_at k.strands p)) (λ m. there_or_zero k m (suc s) ps)
+there_or_not_whole : (k : Skeleton) (s : ℕ) (ps : List ℕ) → AllThere k ps ⊎ (is_whole (entries_from k s ps) ≡ false)
+there_or_not_whole k s [] = inl (λ p i. elim i [ ])
+there_or_not_whole k s (p ∷ ps) = by (there_or_none (item_at k.strands p)) (there_or_not_whole k (suc s) ps)
   where
-    onto : (e : ℕ) → entry_of k s p ≡ Some e → IsThere k p → AllThere k ps ⊎ (number_of (mixed n e) (entries_from k (suc s) ps) ≡ 0) → AllThere k (p ∷ ps) ⊎ (number_of n (entries_from k s (p ∷ ps)) ≡ 0)
+    onto : (e : ℕ) → entry_of k s p ≡ Some e → IsThere k p → AllThere k ps ⊎ (is_whole (entries_from k (suc s) ps) ≡ false) → AllThere k (p ∷ ps) ⊎ (is_whole (entries_from k s (p ∷ ps)) ≡ false)
     onto e q first (inl rest) = inl (all_there k p ps first rest)
-    onto e q first (inr h) = inr (number_on n (entry_of k s p) e (entries_from k (suc s) ps) q ∙ h)
+    onto e q first (inr h) = inr (whole_on (entry_of k s p) e (entries_from k (suc s) ps) q ∙ h)
 
-    by : IsThere k p ⊎ (item_at k.strands p ≡ None) → ((m : ℕ) → AllThere k ps ⊎ (number_of m (entries_from k (suc s) ps) ≡ 0)) → AllThere k (p ∷ ps) ⊎ (number_of n (entries_from k s (p ∷ ps)) ≡ 0)
-    by (inr e) rest = inr (number_past n (entry_of k s p) (entries_from k (suc s) ps) (none_entry k s p e))
-    by (inl h) rest = let q = some_entry k s p h.0 h.1 in onto q.0 q.1 h (rest (mixed n q.0))
+    by : IsThere k p ⊎ (item_at k.strands p ≡ None) → AllThere k ps ⊎ (is_whole (entries_from k (suc s) ps) ≡ false) → AllThere k (p ∷ ps) ⊎ (is_whole (entries_from k s (p ∷ ps)) ≡ false)
+    by (inr e) rest = inr (whole_past (entry_of k s p) (entries_from k (suc s) ps) (none_entry k s p e))
+    by (inl h) rest = let q = some_entry k s p h.0 h.1 in onto q.0 q.1 h rest
 
 -- ---- entries that stay
 
@@ -57,7 +60,7 @@ eq_same a b c d f g false false p q = p ∙ sym q
 eq_same a b c d f g true false p q = absurd (let h : nat_eq c d ≡ true = eq-eqb c d (f (eqb-true a b p)) in cc)
 eq_same a b c d f g false true p q = absurd (let h : nat_eq a b ≡ true = eq-eqb a b (g (eqb-true c d q)) in cc)
 
-first_next : (n m : ℕ) (ms : List ℕ) (b : Bool) → nat_eq m n ≡ b → first_place n (m ∷ ms) ≡ (if b then 0 else suc (first_place n ms))
+first_next : (n m : ℕ) (ms : List ℕ) (b : Bool) → nat_eq m n ≡ b → first_of n (m ∷ ms) ≡ (if b then 0 else suc (first_of n ms))
 first_next n m ms true e = rw e refl
 first_next n m ms false e = rw e refl
 
@@ -72,7 +75,7 @@ module _ (a b : Skeleton) (f : SkeletonMap) (emb : IsEmbedding a b f) where
         let moved = ap (item_at b.strands) e in
         absurd (cc)
 
-    first_kept : (qs : List ℕ) → AllThere a qs → first_place p qs ≡ first_place (f.strands p) (map f.strands qs)
+    first_kept : (qs : List ℕ) → AllThere a qs → first_of p qs ≡ first_of (f.strands p) (map f.strands qs)
     first_kept [] all = refl
     first_kept (q ∷ qs) all =
         let x = all q here in
@@ -89,7 +92,7 @@ module _ (a b : Skeleton) (f : SkeletonMap) (emb : IsEmbedding a b f) where
     entry_kept : (s p : ℕ) (x : SkeletonStrand) → item_at a.strands p ≡ Some x → entry_of a s p ≡ entry_of b s (f.strands p)
     entry_kept s p (instance role height terms) at =
         ap (entry_by a.from_problem.strands s p) at
-        ∙ (ap Some (first_kept p role height terms at a.from_problem.strands all ∙ ap (first_place (f.strands p)) places_of_b)
+        ∙ (ap Some (first_kept p role height terms at a.from_problem.strands all ∙ ap (first_of (f.strands p)) places_of_b)
         ∙ sym (ap (entry_by b.from_problem.strands s (f.strands p)) (emb.homomorphism.instances p role height terms at).on_instance))
     entry_kept s p (listener t) at =
         ap (entry_by a.from_problem.strands s p) at ∙ sym (ap (entry_by b.from_problem.strands s (f.strands p)) (emb.homomorphism.listeners p t at))
@@ -101,18 +104,55 @@ module _ (a b : Skeleton) (f : SkeletonMap) (emb : IsEmbedding a b f) where
     pub partition_kept : partition_of a ≡ partition_of b
     partition_kept = entries_kept 0 a.from_problem.strands all ∙ ap (entries_from b 0) places_of_b
 
--- A skeleton that embeds in another has its fingerprint, unless that says nothing.
-pub fingerprint_kept : (a b : Skeleton) → Embeds a b → (fingerprint_of a ≡ 0) ⊎ (fingerprint_of a ≡ fingerprint_of b)
-fingerprint_kept a b h = by (there_or_zero a 1 0 a.from_problem.strands)
+-- A skeleton that embeds in another has its partition, where that is whole.
+pub same_partition : (a b : Skeleton) → Embeds a b → (is_whole (partition_of a) ≡ false) ⊎ (partition_of a ≡ partition_of b)
+same_partition a b h = by (there_or_not_whole a 0 a.from_problem.strands)
   where
-    by : AllThere a a.from_problem.strands ⊎ (fingerprint_of a ≡ 0) → (fingerprint_of a ≡ 0) ⊎ (fingerprint_of a ≡ fingerprint_of b)
-    by (inl all) = inr (ap (number_of 1) (partition_kept a b h.0 h.1 all))
-    by (inr h) = inl h
+    by : AllThere a a.from_problem.strands ⊎ (is_whole (partition_of a) ≡ false) → (is_whole (partition_of a) ≡ false) ⊎ (partition_of a ≡ partition_of b)
+    by (inl all) = inr (partition_kept a b h.0 h.1 all)
+    by (inr broken) = inl broken
 
--- What is not let through does not embed.
-pub is_let_through : (first second : ℕ) (a b : Skeleton) → fingerprint_of a ≡ first → fingerprint_of b ≡ second → (first ≡ 0 → ⊥) → Embeds a b → first ≡ second
-is_let_through first second a b p q some h = by (fingerprint_kept a b h)
+-- ---- what is let through
+
+entries_told : (x y : Option ℕ) → Decides (option_eq nat_eq x y) (x ≡ y)
+entries_told None None = (λ _. refl, λ _. refl)
+entries_told None (Some y) = (λ e. absurd (cc), λ e. absurd (cc))
+entries_told (Some x) None = (λ e. absurd (cc), λ e. absurd (cc))
+entries_told (Some x) (Some y) = (λ e. ap Some (eqb-true x y e), λ e. eq-eqb x y (cc))
+
+-- What fingerprints with these entries let through: those that are not whole, and equal ones.
+abbrev IsLetThrough : List (Option ℕ) → List (Option ℕ) → Type 0
+IsLetThrough xs ys = (is_whole xs ≡ false) ⊎ (xs ≡ ys)
+
+module _ (xs ys : List (Option ℕ)) (flag : Bool) where
+  module _ (whole : is_whole xs ≡ true) where
+    whole_through : Decides flag (xs ≡ ys) → (flag ≡ true) ↔ IsLetThrough xs ys
+    whole_through told = (λ e. inr (told.0 e), back)
+      where
+        back : IsLetThrough xs ys → flag ≡ true
+        back (inl broken) = absurd (let both : true ≡ false = sym whole ∙ broken in cc)
+        back (inr e) = told.1 e
+
+    -- Of whole entries those are let through that are found equal.
+    pub found_equal : flag ≡ pointwise (option_eq nat_eq) xs ys → (flag ≡ true) ↔ IsLetThrough xs ys
+    found_equal is = whole_through (slice_eq-Decides entries_told xs ys flag is)
+
+    -- Of whole entries none are let through whose numbers differ.
+    pub numbers_differ : (first second : ℕ) → first ≡ number_of 1 xs → second ≡ number_of 1 ys → (first ≡ second → ⊥) → flag ≡ nat_eq first second → (flag ≡ true) ↔ IsLetThrough xs ys
+    numbers_differ first second first_is second_is differ is = whole_through (λ e. absurd (differ (eqb-true first second (sym is ∙ e))), λ e. absurd (differ (first_is ∙ (ap (number_of 1) e ∙ sym second_is))))
+
+-- What holds of entries holds of what is seen of them.
+pub seen_through : (xs ys vs ws : List (Option ℕ)) (flag : Bool) → xs ≡ vs → ys ≡ ws → (flag ≡ true) ↔ IsLetThrough xs ys → (flag ≡ true) ↔ IsLetThrough vs ws
+seen_through xs ys vs ws flag v w exact = (λ e. onward (exact.0 e), λ h. exact.1 (back h))
   where
-    by : (fingerprint_of a ≡ 0) ⊎ (fingerprint_of a ≡ fingerprint_of b) → first ≡ second
-    by (inl e) = absurd (some (sym p ∙ e))
-    by (inr e) = sym p ∙ (e ∙ q)
+    onward : IsLetThrough xs ys → IsLetThrough vs ws
+    onward (inl broken) = inl (ap is_whole (sym v) ∙ broken)
+    onward (inr e) = inr (sym v ∙ (e ∙ w))
+
+    back : IsLetThrough vs ws → IsLetThrough xs ys
+    back (inl broken) = inl (ap is_whole v ∙ broken)
+    back (inr e) = inr (v ∙ (e ∙ sym w))
+
+-- A skeleton that embeds in another is let through.
+pub embedding_through : (vs ws : List (Option ℕ)) (flag : Bool) → (flag ≡ true) ↔ IsLetThrough vs ws → (a b : Skeleton) → partition_of a ≡ vs → partition_of b ≡ ws → Embeds a b → flag ≡ true
+embedding_through vs ws flag exact a b v w h = (seen_through vs ws (partition_of a) (partition_of b) flag (sym v) (sym w) exact).1 (same_partition a b h)

@@ -1,8 +1,9 @@
 -- Images of strands, in lists of placements and in lists of numbers.
-use Rattle.std.proofs.Common.{◌≡◌, ◌≢◌, ℕ, zero, suc, ◌<◌, ◌≤◌, Bool, true, false, if◌then◌else◌, ◌==◌, List, [], ◌∷◌, ◌++◌, length, set, refl, sym, ap, ◌∙◌, subst, arith}
+use Rattle.std.proofs.Common.{◌≡◌, ◌≢◌, ℕ, ◌<◌, Bool, true, false, if◌then◌else◌, ◌==◌, List, [], ◌∷◌, ◌++◌, length, set, refl, sym, ap, ◌∙◌, subst, arith}
 use Rattle.std.specs.Prelude.{Option, Some, None}
 use Rattle.std.proofs.lemmas.Bool.Decides.{Decides-eqb}
-use Rattle.cp_model.specs.Lists.{item_at, IsIn, here, there}
+use Rattle.cp_lists.proofs.Items.{item_last, item_apart, item_past, set_here, set_elsewhere}
+use Rattle.cp_lists.specs.Lists.{item_at, IsIn, here, there}
 use Rattle.cp_model.specs.Homomorphism.{number_or, strand_in}
 use Rattle.cp_model.specs.Term.{Term, apply_to}
 use Rattle.cp_unify.specs.Bindings.{Binding}
@@ -130,33 +131,7 @@ term_never ps t u r h = λ f follows w. h f.terms follows.1 w
 -- ---- lists of images
 
 item_end : {A : Type 0} (xs : List A) (y : A) (s : ℕ) → length xs ≡ s → item_at (xs ++ (y ∷ [])) s ≡ Some y
-item_end [] y zero e = refl
-item_end [] y (suc s) e = absurd (omega (arith, e))
-item_end (x ∷ xs) y zero e = absurd (omega (arith, e))
-item_end (x ∷ xs) y (suc s) e = item_end xs y s (omega (arith, e))
-
-item_apart : {A : Type 0} (xs : List A) (y : A) (s : ℕ) → length xs ≢ s → item_at (xs ++ (y ∷ [])) s ≡ item_at xs s
-item_apart [] y zero ne = absurd (ne refl)
-item_apart [] y (suc s) ne = refl
-item_apart (x ∷ xs) y zero ne = refl
-item_apart (x ∷ xs) y (suc s) ne = item_apart xs y s (λ e. ne (ap suc e))
-
-item_past : {A : Type 0} (xs : List A) (s : ℕ) → length xs ≤ s → item_at xs s ≡ None
-item_past [] s l = refl
-item_past (x ∷ xs) zero l = absurd (omega (arith, l))
-item_past (x ∷ xs) (suc s) l = item_past xs s (omega (arith, l))
-
-set_here : {A : Type 0} (xs : List A) (i : ℕ) (y : A) → i < length xs → item_at (set xs i y) i ≡ Some y
-set_here [] i y l = absurd (omega (arith, l))
-set_here (x ∷ xs) zero y l = refl
-set_here (x ∷ xs) (suc i) y l = set_here xs i y (omega (arith, l))
-
-set_elsewhere : {A : Type 0} (xs : List A) (i : ℕ) (y : A) (s : ℕ) → i ≢ s → item_at (set xs i y) s ≡ item_at xs s
-set_elsewhere [] i y s ne = refl
-set_elsewhere (x ∷ xs) zero y zero ne = absurd (ne refl)
-set_elsewhere (x ∷ xs) zero y (suc s) ne = refl
-set_elsewhere (x ∷ xs) (suc i) y zero ne = refl
-set_elsewhere (x ∷ xs) (suc i) y (suc s) ne = set_elsewhere xs i y s (λ e. ne (ap suc e))
+item_end xs y s e = ap (item_at (xs ++ (y ∷ []))) (sym e) ∙ item_last xs y
 
 by_number : (m n : ℕ) (P : Type 0) → (m ≡ n → P) → (m ≢ n → P) → P
 by_number m n P same other = choose (m == n) (Decides-eqb m n).0 (Decides-eqb m n).1

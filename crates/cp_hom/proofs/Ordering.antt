@@ -1,14 +1,16 @@
 -- Of the order of a skeleton only the pairs need checking, where its strands become parts of others.
 use Rattle.std.proofs.Common.{◌≡◌, ◌≢◌, ℕ, zero, suc, ◌<◌, ◌≤◌, List, refl, subst₂, arith}
 use Rattle.std.specs.Prelude.{Some}
-use Rattle.cp_model.specs.Lists.{item_at, IsIn, one_step, more_steps}
+use Rattle.cp_lists.specs.Lists.{item_at, IsIn, one_step, more_steps}
 use Rattle.cp_model.specs.Term.{Term, Substitution, apply_to}
 use Rattle.cp_model.specs.Strand.{Event, send, recv, event_map, Role}
-use Rattle.cp_model.specs.Bundle.{Node, node_at}
-use Rattle.cp_model.specs.Skeleton.{SkeletonStrand, instance, listener, skeleton_trace, term_event_at, IsNodeOf, OrderPair, Skeleton, OrderStep, along_strand_of, along_pair, Before, IsOrderPair}
+use Rattle.cp_model.specs.Bundle.{node_at}
+use Rattle.cp_model.specs.declared.node.Node.{Node}
+use Rattle.cp_model.specs.Skeleton.{SkeletonStrand, instance, listener, skeleton_trace, term_event_at, IsNodeOf, Skeleton, OrderStep, along_strand_of, along_pair, Before, IsOrderPair}
+use Rattle.cp_model.specs.declared.node.OrderPair.{OrderPair}
 use Rattle.cp_model.specs.Order.{LeadsTo}
 use Rattle.cp_model.specs.Homomorphism.{SkeletonMap, mapped, GoesToInstance}
-use Rattle.cp_model.proofs.LawLists.{steps_append}
+use Rattle.cp_lists.proofs.Reached.{steps_append}
 use Rattle.cp_model.proofs.LawOrder.{before_by_pairs}
 use Rattle.cp_model.proofs.LawStandings.{strand_of_event, event_on_instance, event_of_higher}
 use Rattle.cp_skel.specs.Ordered.{IsOrdered}

@@ -1,6 +1,6 @@
 -- The search for an embedding: partial maps that are still open.
 use Rattle.std.specs.Prelude.{◌<◌, ◌≤◌, ◌+◌, ◌-◌, ◌*◌, ℕ, suc, List, [], ◌∷◌, ◌++◌, take, drop, length, map, Option, Some, None}
-use Rattle.cp_model.specs.Lists.{IsIn}
+use Rattle.cp_lists.specs.Lists.{IsIn}
 use Rattle.cp_model.specs.Skeleton.{Skeleton}
 use Rattle.cp_model.specs.Homomorphism.{SkeletonMap, IsEmbedding}
 use Rattle.cp_hom.specs.Following.{PartialMap, partial_view, Follows, IsConsistent}

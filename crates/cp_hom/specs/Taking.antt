@@ -1,9 +1,10 @@
 -- What strands and assumptions of a skeleton may become in another: one of its strands or assumptions.
 use Rattle.std.specs.Prelude.{◌⊎◌, ◌≡◌, ◌≢◌, ◌<◌, ◌≤◌, ℕ, List, [], ◌∷◌, Some, length, map}
-use Rattle.cp_model.specs.Lists.{item_at, IsIn}
+use Rattle.cp_lists.specs.Lists.{item_at, IsIn}
 use Rattle.cp_model.specs.Term.{AtomTerm, Term, Substitution, apply_to_atom, apply_to}
 use Rattle.cp_model.specs.Strand.{Event, payload, Role, prefix_of}
-use Rattle.cp_model.specs.Skeleton.{SkeletonStrand, instance, listener, UniqueAt, OrderPair, Skeleton}
+use Rattle.cp_model.specs.Skeleton.{SkeletonStrand, instance, listener, UniqueAt, Skeleton}
+use Rattle.cp_model.specs.declared.node.OrderPair.{OrderPair}
 use Rattle.cp_model.specs.Order.{LeadsTo}
 use Rattle.cp_model.specs.Homomorphism.{SkeletonMap, mapped}
 use Rattle.cp_hom.specs.declared.partials.Placement.{Placement}

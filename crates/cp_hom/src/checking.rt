@@ -1,8 +1,7 @@
 // Whether maps keep role strands apart, and the order.
 ghost use Rattle.std.specs.Prelude.{◌≡◌, ◌≢◌, ◌↔◌, map, IsTrue, IfOk};
 ghost use Rattle.cp_model.specs.Order.{LeadsTo};
-ghost use Rattle.cp_model.specs.RunView.{node_view};
-ghost use Rattle.cp_skel.specs.View.{pair_view, strand_view};
+ghost use Rattle.cp_strand.specs.View.{strand_view};
 ghost use Rattle.cp_hom.specs.Maps.{map_view};
 ghost use Rattle.cp_hom.specs.Taking.{IsRoleStrand, HoldsImage, IsTaken, IsBlocked, MeetsEarlier, KeepsApart, KeepsPairs};
 
@@ -95,7 +94,7 @@ pub(crate) fn keeps_apart(strands: &[Strand], mapping: &Map) -> bool
 
 /// Whether the nodes are the same.
 fn is_same_node(x: Node, y: Node) -> bool
-    ensures { IsTrue result ↔ (node_view x ≡ node_view y) }
+    ensures { IsTrue result ↔ (x ≡ y) }
 {
     x.strand == y.strand && x.index == y.index
 }
@@ -108,7 +107,7 @@ fn leads_to_another(
     y: Node,
 ) -> Result<bool, AllocError>
     ensures { IfOk result (λ leads. IsTrue leads
-        ↔ (LeadsTo (map pair_view pairs.now) (node_view x) (node_view y) × (node_view x ≢ node_view y))) }
+        ↔ (LeadsTo pairs.now x y × (x ≢ y))) }
 {
     if is_same_node(x, y) {
         return Ok(false);
@@ -126,7 +125,7 @@ pub(crate) fn keeps_pairs(
     mapping: &Map,
 ) -> Result<bool, AllocError>
     ensures { IfOk result (λ kept. IsTrue kept
-        ↔ KeepsPairs (map pair_view pairs.now) (map pair_view others.now) (map_view mapping.now)) }
+        ↔ KeepsPairs pairs.now others.now (map_view mapping.now)) }
 {
     for pair in pairs {
         let x = mapping.node(pair.earlier);

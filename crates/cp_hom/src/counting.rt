@@ -1,6 +1,6 @@
 // How many strands there are of a role.
 ghost use Rattle.std.specs.Prelude.{◌↔◌, map, IsTrue};
-ghost use Rattle.cp_skel.specs.View.{strand_view};
+ghost use Rattle.cp_strand.specs.View.{strand_view};
 ghost use Rattle.cp_hom.specs.Counting.{IsCount, IsOfRole, HasRoom, HasRoomFor, HaveRoom};
 
 use cp_skel::{Role, Strand, StrandShape, is_same_role};

@@ -4,6 +4,7 @@
 mod checking;
 mod counting;
 mod embedding;
+mod first_places;
 mod items;
 mod looking;
 mod mapping;
@@ -15,5 +16,6 @@ mod searching;
 mod starting;
 
 pub use embedding::{embed, isomorphic};
+pub use first_places::first_of;
 pub use mapping::Map;
-pub use partition::{fingerprint, may_embed};
+pub use partition::Fingerprint;

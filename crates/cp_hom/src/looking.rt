@@ -1,7 +1,7 @@
 // Strands, assumptions and items by their numbers.
 ghost use Rattle.std.specs.Prelude.{◌≡◌, map, option_map};
-ghost use Rattle.cp_model.specs.Lists.{item_at};
-ghost use Rattle.cp_skel.specs.View.{strand_view};
+ghost use Rattle.cp_lists.specs.Lists.{item_at};
+ghost use Rattle.cp_strand.specs.View.{strand_view};
 
 use crate::items::Item;
 use cp_skel::{Atom, Strand, UniqueAt};

@@ -1,7 +1,6 @@
 // Maps between skeletons.
 ghost use Rattle.std.specs.Prelude.{◌≡◌};
 ghost use Rattle.cp_model.specs.Homomorphism.{mapped, strand_in};
-ghost use Rattle.cp_model.specs.RunView.{node_view};
 ghost use Rattle.cp_hom.specs.Maps.{map_view};
 
 use cp_skel::Node;
@@ -35,7 +34,7 @@ impl Map {
 
     /// The node that a node goes to: the one with its index on the strand that its strand goes to.
     pub fn node(&self, node: Node) -> Node
-        ensures { node_view result ≡ mapped (map_view self.now) (node_view node) }
+        ensures { result ≡ mapped (map_view self.now) node }
     {
         Node {
             strand: self.strand(node.strand),

@@ -2,7 +2,7 @@
 ghost use Rattle.std.specs.Prelude.{◌≡◌, map, IfOk};
 ghost use Rattle.cp_model.specs.Homomorphism.{substitution_by};
 ghost use Rattle.cp_model.specs.Term.{apply_to};
-ghost use Rattle.cp_skel.specs.View.{event_view, instance_view, strand_view};
+ghost use Rattle.cp_strand.specs.View.{event_view, instance_view, strand_view};
 ghost use Rattle.cp_hom.specs.Following.{partial_view, Finds};
 ghost use Rattle.cp_hom.specs.Taking.{MakesEvents, MakesPart};
 

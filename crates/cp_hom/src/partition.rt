@@ -1,22 +1,36 @@
-// Numbers that tell skeletons apart which cannot embed in each other.
-ghost use Rattle.std.specs.Prelude.{◌≡◌, ◌==◌, ◌||◌, IsTrue, option_map};
+// The partition of a problem's strands, by which skeletons are told apart that cannot embed in each other.
+ghost use Rattle.std.specs.Prelude.{◌≡◌, ◌↔◌, ◌⊎◌, false, IsTrue, IfOk};
 ghost use Rattle.cp_model.specs.Homomorphism.{Embeds};
 ghost use Rattle.cp_model.specs.Skeleton as model;
-ghost use Rattle.cp_skel.specs.View.{strand_view, skeleton_view};
-ghost use Rattle.cp_hom.specs.Partition.{first_place, entry_by, entry_of, fingerprint_of};
+ghost use Rattle.cp_skel.specs.View.{skeleton_view};
+ghost use Rattle.cp_hom.specs.Partition.{entry_of, partition_of, is_whole};
+ghost use Rattle.cp_hom.specs.Mixing.{number_of};
 
+use crate::first_places::first_of;
 use cp_skel::{Skeleton, StrandShape};
+use std::alloc::{AllocError, Global};
+use std::marker::Model;
 
-/// How many places stand before the first that is this one; where there is none, how many there are.
-fn first_place(places: &[usize], place: usize) -> usize
-    ensures { result ≡ first_place place places.now }
-{
-    for (number, other) in places.iter().enumerate() {
-        if *other == place {
-            return number;
-        }
-    }
-    places.len()
+/// How a skeleton's map identifies the strands of its problem: which of them go to one role strand. A skeleton that embeds
+/// in another identifies the same, where it is whole: no entry is none. The number, made of the entries, tells most that
+/// differ apart at once.
+#[derive(Drop)]
+pub struct Fingerprint {
+    number: usize,
+    whole: bool,
+    entries: Vec<Option<usize>>,
+}
+
+impl Model for Fingerprint {
+    ghost use Rattle.std.specs.Prelude.{◌≡◌, ℕ, List, Option};
+    ghost use Rattle.cp_hom.specs.Partition.{is_whole};
+    ghost use Rattle.cp_hom.specs.Mixing.{number_of};
+
+    ghost Value = { List (Option ℕ) };
+
+    ghost view = { λ f. f.entries.items };
+
+    ghost invariant = { λ f. (f.number ≡ number_of 1 f.entries.items) × (f.whole ≡ is_whole f.entries.items) };
 }
 
 /// For a strand of the problem, which goes to this place: where that is an instance, the first strand of the problem that
@@ -25,19 +39,18 @@ fn entry(k: &Skeleton, strand: usize, place: usize) -> Option<usize>
     ensures { result ≡ entry_of (skeleton_view k.now) strand place }
 {
     match k.strands().get(place)?.shape() {
-        StrandShape::Instance(_) => Some(first_place(k.from_problem().strands(), place)),
+        StrandShape::Instance(_) => Some(first_of(k.from_problem().strands(), place)),
         StrandShape::Listener(_) => Some(strand),
     }
 }
 
-/// A number made of the partition of the problem's strands by the role strand to which they go. It is 0 where the way from
-/// the problem goes past the skeleton's strands.
-pub fn fingerprint(k: &Skeleton) -> usize
-    ensures { result ≡ fingerprint_of (skeleton_view k.now) }
+/// The number made of entries, by mixing one after the other; 0 where one is none.
+fn number_of(entries: &[Option<usize>]) -> usize
+    ensures { result ≡ number_of 1 entries.now }
 {
     let mut number: usize = 1;
-    for (strand, place) in k.from_problem().strands().iter().enumerate() {
-        let Some(entry) = entry(k, strand, *place) else {
+    for entry in entries {
+        let Some(entry) = *entry else {
             return 0;
         };
         number = number.wrapping_mul(1_000_003).wrapping_add(entry);
@@ -45,10 +58,42 @@ pub fn fingerprint(k: &Skeleton) -> usize
     number
 }
 
-/// Whether a skeleton with the first fingerprint may embed in one with the second. False only where it does not.
-pub fn may_embed(first: usize, second: usize) -> bool
-    ensures exact { result ≡ (first == 0 || first == second) }
-    ensures kept { (a b : model.Skeleton) → fingerprint_of a ≡ first → fingerprint_of b ≡ second → Embeds a b → IsTrue result }
+/// Whether no entry is none.
+fn is_whole(entries: &[Option<usize>]) -> bool
+    ensures { result ≡ is_whole entries.now }
 {
-    first == 0 || first == second
+    for entry in entries {
+        if entry.is_none() {
+            return false;
+        }
+    }
+    true
+}
+
+impl Fingerprint {
+    /// The fingerprint of a skeleton. The error is that memory ran out.
+    pub fn of(alloc: Global, k: &Skeleton) -> Result<Fingerprint, AllocError>
+        ensures exact { IfOk result (λ f. f ≡ partition_of (skeleton_view k.now)) }
+    {
+        let mut entries = Vec::new(alloc);
+        for (strand, place) in k.from_problem().strands().iter().enumerate() {
+            entries.push(entry(k, strand, *place))?;
+        }
+        let number = number_of(&entries);
+        let whole = is_whole(&entries);
+        Ok(Fingerprint {
+            number,
+            whole,
+            entries,
+        })
+    }
+
+    /// Whether a skeleton with this fingerprint may embed in one with the other: where this is whole, whether both are the
+    /// same. False only where it does not.
+    pub fn may_embed(&self, other: &Fingerprint) -> bool
+        ensures exact { IsTrue result ↔ ((is_whole self.now ≡ false) ⊎ (self.now ≡ other.now)) }
+        ensures kept { (a b : model.Skeleton) → partition_of a ≡ self.now → partition_of b ≡ other.now → Embeds a b → IsTrue result }
+    {
+        !self.whole || (self.number == other.number && self.entries == other.entries)
+    }
 }

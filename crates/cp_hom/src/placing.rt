@@ -1,6 +1,7 @@
 // Items of a skeleton that become items of another.
 ghost use Rattle.std.specs.Prelude.{map, IfOk};
-ghost use Rattle.cp_skel.specs.View.{strand_view, skeleton_view};
+ghost use Rattle.cp_strand.specs.View.{strand_view};
+ghost use Rattle.cp_skel.specs.View.{skeleton_view};
 ghost use Rattle.cp_hom.specs.Following.{partial_view, Finds};
 ghost use Rattle.cp_hom.specs.Taking.{GoesToStrand, BecomesAtom, BecomesUnique, Takes};
 

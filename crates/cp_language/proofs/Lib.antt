@@ -1,3 +1,4 @@
+pub mod FirstFault
 mod RefusalExamplesOne
 mod RefusalExamplesTwo
 pub mod OneAnswer

@@ -5,7 +5,7 @@ use Rattle.std.proofs.lemmas.Bool.Decides.{nat_tests}
 use Rattle.cp_base.specs.declared.place.Code.{Code}
 use Rattle.cp_base.specs.declared.place.Code.TheVariants.{BadByte, OpenString, Unbalanced, TooDeep, BadNumber, Unclosed, UnknownForm, OutOfProfile, BadShape, DuplicateProtocol, DuplicateRole, UnknownProtocol, UnknownRole, UnknownSort, MesgVar, DuplicateVar, BadHeight, UnknownVar, NotInPrefix, IllSorted, KeySort, NotAtom, RoleUniqNoOrigin, UniqNowhere, BadNode, CyclicOrder}
 use Rattle.cp_base.specs.declared.place.Refusal.{Refusal}
-use Rattle.cp_model.specs.Lists.{item_at, IsIn, here, there}
+use Rattle.cp_lists.specs.Lists.{item_at, IsIn, here, there}
 use Rattle.cp_sexpr.specs.Syntax.{Forms}
 use Rattle.cp_language.specs.Faults.{rank_of, comes_before, IsFirstFault}
 use Rattle.cp_language.specs.Input.{Entry, faults_of, input_of, IsInput}
@@ -64,16 +64,16 @@ same_numbers : (l m c d a b : ℕ) →
 same_numbers l m c d a b g h = grind (arith, nat_tests)
 
 -- of three, what the first comes before, and the second does not come before the third
-not_before : (l m n c d e a b f : ℕ) →
+pub not_before : (l m n c d e a b f : ℕ) →
     (nat_lt m l || ((m == l) && (nat_lt d c || ((d == c) && nat_lt b a)))) ≡ false →
     (nat_lt n m || ((n == m) && (nat_lt e d || ((e == d) && nat_lt f b)))) ≡ false →
     (nat_lt n l || ((n == l) && (nat_lt e c || ((e == c) && nat_lt f a)))) ≡ false
 not_before l m n c d e a b f g h = grind (arith, nat_tests)
 
-not_before_self : (l c a : ℕ) → (nat_lt l l || ((l == l) && (nat_lt c c || ((c == c) && nat_lt a a)))) ≡ false
+pub not_before_self : (l c a : ℕ) → (nat_lt l l || ((l == l) && (nat_lt c c || ((c == c) && nat_lt a a)))) ≡ false
 not_before_self l c a = grind (arith, nat_tests)
 
-not_both : (l m c d a b : ℕ) →
+pub not_both : (l m c d a b : ℕ) →
     (nat_lt l m || ((l == m) && (nat_lt c d || ((c == d) && nat_lt a b)))) ≡ true →
     (nat_lt m l || ((m == l) && (nat_lt d c || ((d == c) && nat_lt b a)))) ≡ false
 not_both l m c d a b g = grind (arith, nat_tests)

@@ -1,23 +1,10 @@
 -- Examples of faults: texts whose first fault was worked out by hand, as forms with their places. Each holds by
 -- computing the definitions.
-use Rattle.std.specs.Prelude.{◌≡◌, ℕ, List, [], ◌∷◌, codes, refl, Option, Some, None, if◌then◌else◌}
-use Rattle.cp_base.specs.declared.place.Place.{Place}
+use Rattle.std.specs.Prelude.{◌≡◌, [], ◌∷◌, codes, refl, Some, None}
 use Rattle.cp_base.specs.declared.place.Code.TheVariants.{UnknownForm, OutOfProfile, BadShape, MesgVar, DuplicateVar, BadHeight, UnknownVar, IllSorted, KeySort, NotAtom, RoleUniqNoOrigin, UniqNowhere}
-use Rattle.cp_base.specs.declared.place.Refusal.{Refusal}
 use Rattle.cp_sexpr.specs.Syntax.{symbol, string, number, list, none, more}
-use Rattle.cp_language.specs.Faults.{comes_before}
+use Rattle.cp_language.proofs.FirstFault.{p, first}
 use Rattle.cp_language.specs.Input.{faults_of}
-
-abbrev p : ℕ → ℕ → Place
-p l c = record { line = l; col = c }
-
-abbrev best : Refusal → List Refusal → Refusal
-best r [] = r
-best r (s ∷ ss) = best (if comes_before s r then s else r) ss
-
-abbrev first : List Refusal → Option Refusal
-first [] = None
-first (r ∷ rs) = Some (best r rs)
 
 -- (defprotocol p basic (defrole r (vars (a b name) (n text) (k skey) (e akey) (d data)) (trace (send (cat a b n d (enc n d k)))) (uniq-orig n (enc n k))))
 atom_enc : first (faults_of (more (list (p 1 1) (more (symbol (p 1 2) (codes "defprotocol")) (more (symbol (p 1 14) (codes "p")) (more (symbol (p 1 16) (codes "basic")) (more (list (p 1 22) (more (symbol (p 1 23) (codes "defrole")) (more (symbol (p 1 31) (codes "r")) (more (list (p 1 33) (more (symbol (p 1 34) (codes "vars")) (more (list (p 1 39) (more (symbol (p 1 40) (codes "a")) (more (symbol (p 1 42) (codes "b")) (more (symbol (p 1 44) (codes "name")) none)))) (more (list (p 1 50) (more (symbol (p 1 51) (codes "n")) (more (symbol (p 1 53) (codes "text")) none))) (more (list (p 1 59) (more (symbol (p 1 60) (codes "k")) (more (symbol (p 1 62) (codes "skey")) none))) (more (list (p 1 68) (more (symbol (p 1 69) (codes "e")) (more (symbol (p 1 71) (codes "akey")) none))) (more (list (p 1 77) (more (symbol (p 1 78) (codes "d")) (more (symbol (p 1 80) (codes "data")) none))) none))))))) (more (list (p 1 87) (more (symbol (p 1 88) (codes "trace")) (more (list (p 1 94) (more (symbol (p 1 95) (codes "send")) (more (list (p 1 100) (more (symbol (p 1 101) (codes "cat")) (more (symbol (p 1 105) (codes "a")) (more (symbol (p 1 107) (codes "b")) (more (symbol (p 1 109) (codes "n")) (more (symbol (p 1 111) (codes "d")) (more (list (p 1 113) (more (symbol (p 1 114) (codes "enc")) (more (symbol (p 1 118) (codes "n")) (more (symbol (p 1 120) (codes "d")) (more (symbol (p 1 122) (codes "k")) none))))) none))))))) none))) none))) (more (list (p 1 128) (more (symbol (p 1 129) (codes "uniq-orig")) (more (symbol (p 1 139) (codes "n")) (more (list (p 1 141) (more (symbol (p 1 142) (codes "enc")) (more (symbol (p 1 146) (codes "n")) (more (symbol (p 1 148) (codes "k")) none)))) none)))) none)))))) none))))) none)) ≡ Some (record { place = p 1 141; code = NotAtom })

@@ -1,23 +1,10 @@
 -- Examples of faults: texts whose first fault was worked out by hand, as forms with their places. Each holds by
 -- computing the definitions.
-use Rattle.std.specs.Prelude.{◌≡◌, ℕ, List, [], ◌∷◌, codes, refl, Option, Some, None, if◌then◌else◌}
-use Rattle.cp_base.specs.declared.place.Place.{Place}
+use Rattle.std.specs.Prelude.{◌≡◌, codes, refl, Some, None}
 use Rattle.cp_base.specs.declared.place.Code.TheVariants.{UnknownForm, OutOfProfile, BadShape, DuplicateProtocol, DuplicateRole, UnknownProtocol, UnknownRole, UnknownSort, MesgVar, DuplicateVar, BadHeight, UnknownVar, NotInPrefix, IllSorted, KeySort, RoleUniqNoOrigin, UniqNowhere, BadNode, CyclicOrder}
-use Rattle.cp_base.specs.declared.place.Refusal.{Refusal}
 use Rattle.cp_sexpr.specs.Syntax.{symbol, string, number, list, none, more}
-use Rattle.cp_language.specs.Faults.{comes_before}
+use Rattle.cp_language.proofs.FirstFault.{p, first}
 use Rattle.cp_language.specs.Input.{faults_of}
-
-abbrev p : ℕ → ℕ → Place
-p l c = record { line = l; col = c }
-
-abbrev best : Refusal → List Refusal → Refusal
-best r [] = r
-best r (s ∷ ss) = best (if comes_before s r then s else r) ss
-
-abbrev first : List Refusal → Option Refusal
-first [] = None
-first (r ∷ rs) = Some (best r rs)
 
 -- (defprotocol p basic (defrole r (vars (a name)) (trace (send))))
 shape_send_empty : first (faults_of (more (list (p 1 1) (more (symbol (p 1 2) (codes "defprotocol")) (more (symbol (p 1 14) (codes "p")) (more (symbol (p 1 16) (codes "basic")) (more (list (p 1 22) (more (symbol (p 1 23) (codes "defrole")) (more (symbol (p 1 31) (codes "r")) (more (list (p 1 33) (more (symbol (p 1 34) (codes "vars")) (more (list (p 1 39) (more (symbol (p 1 40) (codes "a")) (more (symbol (p 1 42) (codes "name")) none))) none))) (more (list (p 1 49) (more (symbol (p 1 50) (codes "trace")) (more (list (p 1 56) (more (symbol (p 1 57) (codes "send")) none)) none))) none))))) none))))) none)) ≡ Some (record { place = p 1 56; code = BadShape })

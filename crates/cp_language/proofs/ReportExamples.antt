@@ -4,9 +4,11 @@ use Rattle.std.specs.Prelude.{◌≡◌, ℕ, List, [], ◌∷◌, ◌++◌, tru
 use Rattle.std.specs.Fmt.{digits}
 use Rattle.cp_base.specs.declared.place.Place.{Place}
 use Rattle.cp_model.specs.Term.{Sort, text_sort, datum_sort, name_sort, skey_sort, akey_sort, Variable, AtomTerm, text_variable, datum_variable, name_variable, key_term, KeyTerm, symmetric_term, asymmetric_term, skey_variable, ltk_term, pubk_term, akey_variable, Term, tag_term, atom_term, pair_term, enc_term}
-use Rattle.cp_model.specs.Strand.{send, recv, Declaration, Role}
-use Rattle.cp_model.specs.Bundle.{Node, node_at}
-use Rattle.cp_model.specs.Skeleton.{SkeletonStrand, instance, listener, Assumptions, OrderPair, Skeleton}
+use Rattle.cp_model.specs.Strand.{Event, send, recv, Declaration, Role}
+use Rattle.cp_model.specs.Bundle.{node_at}
+use Rattle.cp_model.specs.declared.node.Node.{Node}
+use Rattle.cp_model.specs.Skeleton.{SkeletonStrand, instance, listener, Assumptions, Skeleton}
+use Rattle.cp_model.specs.declared.node.OrderPair.{OrderPair}
 use Rattle.cp_model.specs.Homomorphism.{substitution_by}
 use Rattle.cp_model.specs.Tree.{Operation, by_problem, by_collapse, by_contraction, by_displacement, by_added_strand, by_added_listener, by_generalising, Mark, shape, dead, seen, instance_of, limit_steps, limit_strands, complete, at_step_limit, at_strand_limit, Pattern, Test, Label, Tree}
 use Rattle.cp_sexpr.specs.Syntax.{symbol, string, number, list, Forms, none, more}
@@ -81,25 +83,14 @@ second_message = enc_term (pair_term (text_of 2) (text_of 3)) (public_of 0)
 abbrev third_message : Term
 third_message = enc_term (text_of 3) (public_of 1)
 
+abbrev role_of_trace : List ℕ → List (Event Term) → Role
+role_of_trace name trace = record { name = name; variables = role_variables; trace = trace; non_originating = []; penetrator_non_originating = []; uniquely_originating = [] }
+
 abbrev init : Role
-init = record {
-  name = codes "init";
-  variables = role_variables;
-  trace = send first_message ∷ recv second_message ∷ send third_message ∷ [];
-  non_originating = [];
-  penetrator_non_originating = [];
-  uniquely_originating = [];
-}
+init = role_of_trace (codes "init") (send first_message ∷ recv second_message ∷ send third_message ∷ [])
 
 abbrev resp : Role
-resp = record {
-  name = codes "resp";
-  variables = role_variables;
-  trace = recv first_message ∷ send second_message ∷ recv third_message ∷ [];
-  non_originating = [];
-  penetrator_non_originating = [];
-  uniquely_originating = [];
-}
+resp = role_of_trace (codes "resp") (recv first_message ∷ send second_message ∷ recv third_message ∷ [])
 
 abbrev label_with : Option ℕ → Operation → List Declaration → Skeleton → List Node → Option Test → List Pattern → List ℕ → Option Mark → Label
 label_with parent operation variables skeleton unrealised test escape children mark = record { parent = parent; operation = operation; variables = variables; skeleton = skeleton; unrealised = unrealised; test = test; escape = escape; children = children; mark = mark }

@@ -1,7 +1,7 @@
 -- The test whether a text is one of several is exact.
 use Rattle.std.proofs.Common.{◌≡◌, ℕ, List, [], ◌∷◌, true, subst, ⊎_elim}
 use Rattle.std.proofs.lemmas.Bool.{or_cases, or_left, or_right}
-use Rattle.cp_model.specs.Lists.{IsIn, here, there}
+use Rattle.cp_lists.specs.Lists.{IsIn, here, there}
 use Rattle.cp_model.specs.Same.{same_text}
 use Rattle.cp_model.proofs.SameTests.{text_is, same_text_itself}
 use Rattle.cp_language.specs.Words.{is_one_of}

@@ -5,8 +5,11 @@ use Rattle.cp_base.specs.declared.place.Code.TheVariants.{UnknownForm, OutOfProf
 use Rattle.cp_base.specs.declared.place.Refusal.{Refusal}
 use Rattle.cp_model.specs.Term.{Sort, Variable, atom_of_variable, AtomTerm, Term, tag_term, atom_term}
 use Rattle.cp_model.specs.Strand.{Event, send, recv, Declaration, Role, Protocol, variables_of_prefix}
-use Rattle.cp_model.specs.Bundle.{Node, node_at}
-use Rattle.cp_model.specs.Skeleton.{SkeletonStrand, instance, listener, skeleton_trace, term_event_at, UniqueAt, Assumptions, OrderPair, Skeleton}
+use Rattle.cp_model.specs.Bundle.{node_at}
+use Rattle.cp_model.specs.declared.node.Node.{Node}
+use Rattle.cp_model.specs.Skeleton.{SkeletonStrand, instance, listener, skeleton_trace, term_event_at, UniqueAt, Assumptions, Skeleton}
+use Rattle.cp_model.specs.declared.node.OrderPair.{OrderPair}
+pub use Rattle.cp_model.specs.Order.{at_or_after, any_pair, reaches}
 use Rattle.cp_model.specs.Homomorphism.{substitution_by}
 use Rattle.cp_model.specs.Problem.{numbers_from, variable_terms}
 use Rattle.cp_sexpr.specs.Syntax.{Form, symbol, number, list}
@@ -220,19 +223,6 @@ node_faults strands f = fault (place_of f) BadShape
 
 abbrev pub on_one_strand : OrderPair → Bool
 on_one_strand p = p.earlier.strand == p.later.strand
-
--- y is x, or comes after it on its strand.
-abbrev pub at_or_after : Node → Node → Bool
-at_or_after x y = (x.strand == y.strand) && nat_le x.index y.index
-
--- y can be reached from x along strands and at most so many of the pairs.
-abbrev pub any_pair : (OrderPair → Bool) → List OrderPair → Bool
-any_pair test [] = false
-any_pair test (p ∷ ps) = test p || any_pair test ps
-
-abbrev pub reaches : ℕ → List OrderPair → Node → Node → Bool
-reaches zero pairs x y = at_or_after x y
-reaches (suc n) pairs x y = at_or_after x y || any_pair (λ p. at_or_after x p.earlier && reaches n pairs p.later y) pairs
 
 -- The pair goes back or stays on one strand, or closes a cycle with strand order and the pairs before it.
 abbrev pub closes_cycle : List OrderPair → OrderPair → Bool

@@ -1,10 +1,12 @@
 -- The report: the forms of the input in order, each problem followed by the labels of its tree and its status.
 use Rattle.std.specs.Prelude.{◌≡◌, ℕ, suc, ◌+◌, ◌==◌, ◌&&◌, ◌||◌, List, [], ◌∷◌, ◌++◌, length, map, Bool, false, not, codes, if◌then◌else◌, Option, Some, None}
-use Rattle.cp_model.specs.Lists.{item_at, IsIn}
+use Rattle.cp_lists.specs.Lists.{item_at, IsIn}
 use Rattle.cp_model.specs.Term.{Variable, atom_of_variable, Term, variables_of, Substitution, apply_to_atom}
 use Rattle.cp_model.specs.Strand.{Event, Declaration, variables_of_prefix}
-use Rattle.cp_model.specs.Bundle.{Node, node_at}
-use Rattle.cp_model.specs.Skeleton.{SkeletonStrand, instance, listener, skeleton_trace, UniqueAt, OrderPair, Skeleton}
+use Rattle.cp_model.specs.Bundle.{node_at}
+use Rattle.cp_model.specs.declared.node.Node.{Node}
+use Rattle.cp_model.specs.Skeleton.{SkeletonStrand, instance, listener, skeleton_trace, UniqueAt, Skeleton}
+use Rattle.cp_model.specs.declared.node.OrderPair.{OrderPair}
 use Rattle.cp_model.specs.Problem.{IsDeclared, variables_of_skeleton}
 use Rattle.cp_model.specs.Given.{listed}
 use Rattle.cp_model.specs.Tree.{Operation, by_problem, by_collapse, by_contraction, by_displacement, by_added_strand, by_added_listener, by_generalising, Mark, shape, dead, seen, instance_of, limit_steps, limit_strands, Outcome, complete, at_step_limit, at_strand_limit, Pattern, Test, Label, Tree, expanded_count}

@@ -6,9 +6,9 @@ ghost use Rattle.std.specs.Prelude.{◌≡◌, ◌↔◌, List, length, Result, 
 ghost use Rattle.cp_base.specs.declared.place.Refusal.{Refusal};
 ghost use Rattle.cp_language.specs.Input.{Entry, IsInput};
 ghost use Rattle.cp_language.specs.Problems.{reaches};
-ghost use Rattle.cp_model.specs.Bundle.{Node};
+ghost use Rattle.cp_model.specs.declared.node.Node.{Node};
 ghost use Rattle.cp_model.specs.Order.{LeadsTo};
-ghost use Rattle.cp_model.specs.Skeleton.{OrderPair};
+ghost use Rattle.cp_model.specs.declared.node.OrderPair.{OrderPair};
 ghost use Rattle.cp_sexpr.specs.Syntax.{Forms};
 
 /// Forms have exactly one answer: what they state where they are well formed, or else the first of their faults.

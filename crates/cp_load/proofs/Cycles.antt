@@ -3,13 +3,15 @@ use Rattle.std.proofs.Common.{◌≡◌, ℕ, ◌+◌, ◌-◌, ◌<◌, ◌≤�
 use Rattle.std.specs.Prelude.{◌↔◌, ◌==◌, Option, Some, None, is_none, nat_le}
 use Rattle.std.proofs.lemmas.Bool.{cond-false}
 use Rattle.std.proofs.lemmas.Bool.Decides.{nat_tests}
-use Rattle.std.proofs.lemmas.List.{take_all}
+use Rattle.std.proofs.lemmas.List.{take_all, append_assoc}
+use Rattle.cp_lists.proofs.Members.{drop_read}
 use Rattle.cp_base.specs.declared.place.Place.{Place}
 use Rattle.cp_base.specs.declared.place.Code.TheVariants.{BadShape}
 use Rattle.cp_base.specs.declared.place.Refusal.{Refusal}
-use Rattle.cp_model.specs.Skeleton.{SkeletonStrand, OrderPair}
-use Rattle.cp_model.specs.Lists.{IsIn, here, there}
-use Rattle.cp_model.specs.Bundle.{Node}
+use Rattle.cp_model.specs.Skeleton.{SkeletonStrand}
+use Rattle.cp_model.specs.declared.node.OrderPair.{OrderPair}
+use Rattle.cp_lists.specs.Lists.{IsIn, here, there}
+use Rattle.cp_model.specs.declared.node.Node.{Node}
 use Rattle.cp_model.specs.Order.{IsAtOrAfter, LeadsTo, on_strand, over_pair}
 use Rattle.cp_sexpr.specs.Syntax.{Form}
 use Rattle.cp_sexpr.specs.View.{view}
@@ -19,10 +21,9 @@ use Rattle.cp_language.specs.Roles.{unless_faulty, list_items}
 use Rattle.cp_language.specs.Terms.{exceeds}
 use Rattle.cp_language.specs.Problems.{on_one_strand, at_or_after, any_pair, reaches, closes_cycle, node_of, node_faults, pair_of_nodes, order_faults, pair_items_faults, pair_faults, pair_of, pairs_in, pairs_faults}
 use Rattle.cp_language.proofs.Reaching.{reaches_all}
-use Rattle.cp_skel.specs.Leading.{Target}
+use Rattle.cp_order.specs.Leading.{Target}
 use Rattle.cp_forms.specs.FirstFault.{first_onto, merged, onto_none}
 use Rattle.cp_forms.proofs.Firsts.{first_onto-append, first_then_four, merged-unless}
-use Rattle.cp_forms.proofs.Items.{item-drop}
 
 -- ---- cycles
 
@@ -127,15 +128,11 @@ module _ (strands : List SkeletonStrand) (before : List OrderPair) (at : Place) 
 
 -- ---- pair after pair
 
-pub append_assoc : {A : Type 0} (xs ys zs : List A) → (xs ++ ys) ++ zs ≡ xs ++ (ys ++ zs)
-append_assoc [] ys zs = refl
-append_assoc (x ∷ xs) ys zs = ap (λ bs. x ∷ bs) (append_assoc xs ys zs)
-
 module _ (strands : List SkeletonStrand) (items : List program.Form) (k : ℕ) (f : program.Form) (lt : k < length items) (is : f ≡ get_or items k f) (before after : List OrderPair) (added : after ≡ before ++ pair_of (view f)) where
   pub pairs-taken : (whole : List OrderPair) → before ++ pairs_in (map view (drop k items)) ≡ whole → after ++ pairs_in (map view (drop (k + 1) items)) ≡ whole
   pairs-taken whole h =
       let rest = pairs_in (map view (drop (k + 1) items)) in
-      ap (λ ps. ps ++ rest) added ∙ append_assoc before (pair_of (view f)) rest ∙ sym (ap (λ gs. before ++ pairs_in (map view gs)) (item-drop items k f lt is)) ∙ h
+      ap (λ ps. ps ++ rest) added ∙ append_assoc before (pair_of (view f)) rest ∙ sym (ap (λ gs. before ++ pairs_in (map view gs)) (drop_read items k f lt is)) ∙ h
 
   pub pairs-judged : (o p all : Option Refusal) → p ≡ first_onto o (pair_faults strands before (view f)) → first_onto o (pairs_faults strands before (map view (drop k items))) ≡ all
       → first_onto p (pairs_faults strands after (map view (drop (k + 1) items))) ≡ all
@@ -143,4 +140,4 @@ module _ (strands : List SkeletonStrand) (items : List program.Form) (k : ℕ) (
       let rest = map view (drop (k + 1) items) in
       ap (λ q. first_onto q (pairs_faults strands after rest)) e ∙ ap (λ ps. first_onto (first_onto o (pair_faults strands before (view f))) (pairs_faults strands ps rest)) added
       ∙ sym (first_onto-append o (pair_faults strands before (view f)) (pairs_faults strands (before ++ pair_of (view f)) rest))
-      ∙ sym (ap (λ gs. first_onto o (pairs_faults strands before (map view gs))) (item-drop items k f lt is)) ∙ h
+      ∙ sym (ap (λ gs. first_onto o (pairs_faults strands before (map view gs))) (drop_read items k f lt is)) ∙ h

@@ -1,18 +1,6 @@
 pub mod Cycles
-pub mod Sizes
-pub mod TermSorts
-pub mod Judged
-pub mod Pairing
-pub mod Meanings
-pub mod Naming
 pub mod Origins
-pub mod Gathered
-pub mod RoleNames
-pub mod Standing
-pub mod Maplets
-pub mod Mapping
-pub mod Instantiation
-pub mod Strandwise
+pub mod BeforeItems
 pub mod NodeFaults
 pub mod ItemByItem
 pub mod ProblemParts
@@ -21,4 +9,3 @@ pub mod UniqueOrigins
 pub mod OwnParts
 pub mod SoundDrafts
 pub mod NoCycles
-pub mod NamesInUse

@@ -3,20 +3,20 @@ use Rattle.std.proofs.Common.{◌≡◌, ◌⊎◌, inl, inr, ℕ, zero, suc, �
 use Rattle.std.specs.Prelude.{Some, nat_le}
 use Rattle.std.specs.List.Sorted.{IsPermutation}
 use Rattle.std.proofs.lemmas.Bool.{cond-false}
-use Rattle.std.proofs.lemmas.List.{append-nil, drop_all}
-use Rattle.std.proofs.lemmas.List.Sorted.{All-permutation, IsPermutation-sym}
-use Rattle.cp_model.specs.Lists.{IsIn, here, there}
-use Rattle.cp_model.specs.Bundle.{Node}
-use Rattle.cp_model.specs.Skeleton.{OrderPair}
+use Rattle.std.proofs.lemmas.List.{append-nil, drop_all, append_assoc}
+use Rattle.cp_lists.proofs.Permuted.{in_permuted}
+use Rattle.cp_lists.proofs.Members.{drop_read, in_append_left, in_append_right, from_map, into_map}
+use Rattle.cp_lists.specs.Lists.{IsIn, here, there}
+use Rattle.cp_model.specs.declared.node.Node.{Node}
+use Rattle.cp_model.specs.declared.node.OrderPair.{OrderPair}
 use Rattle.cp_model.specs.Order.{IsAtOrAfter, LeadsTo, on_strand, over_pair}
 use Rattle.cp_sexpr.specs.View.{view}
 use Rattle.cp_sexpr.specs.declared.form.Form as program
 use Rattle.cp_language.specs.Problems.{on_one_strand, at_or_after, any_pair, reaches, closes_cycle, node_of, pair_of_nodes, pair_of, pairs_in, between_strands}
 use Rattle.cp_language.proofs.Reaching.{reaches_all}
-use Rattle.cp_skel.specs.Leading.{Tops, is_below, is_at_or_before}
-use Rattle.cp_forms.proofs.Items.{item-drop}
+use Rattle.cp_order.specs.Leading.{Tops, is_below}
 use Rattle.cp_load.specs.Acyclic.{IsAcyclic, IsAcyclicIf, IsSwept, pair_in, pairs_under, pairs_stated}
-use Rattle.cp_load.proofs.Cycles.{same_bool, none_in, not_after, stays_behind, append_assoc}
+use Rattle.cp_load.proofs.Cycles.{same_bool, none_in, not_after, stays_behind}
 
 -- ---- some of the pairs
 
@@ -30,27 +30,18 @@ some_acyclic ps qs f h p m l = h p (f p m) (leads_within ps qs p.later p.earlier
 pub acyclic-within : (b : Bool) (ps qs : List OrderPair) → ((p : OrderPair) → IsIn p ps → IsIn p qs) → IsAcyclicIf b qs → IsAcyclicIf b ps
 acyclic-within b ps qs f h e = some_acyclic ps qs f (h e)
 
-in_front : {A : Type 0} {x : A} (xs ys : List A) → IsIn x xs → IsIn x (xs ++ ys)
-in_front [] ys m = elim m [ ]
-in_front (y ∷ xs) ys here = here
-in_front (y ∷ xs) ys (there m) = there (in_front xs ys m)
-
-in_back : {A : Type 0} {x : A} (xs ys : List A) → IsIn x ys → IsIn x (xs ++ ys)
-in_back [] ys m = m
-in_back (y ∷ xs) ys m = there (in_back xs ys m)
-
 -- the first of the pairs that are left, behind those before
 front_acyclic : (b : Bool) (ps qs rs whole : List OrderPair) → (ps ++ qs) ++ rs ≡ whole → IsAcyclicIf b whole → IsAcyclicIf b (ps ++ qs)
-front_acyclic b ps qs rs whole e = acyclic-within b (ps ++ qs) whole (λ p m. subst (IsIn p) e (in_front (ps ++ qs) rs m))
+front_acyclic b ps qs rs whole e = acyclic-within b (ps ++ qs) whole (λ p m. subst (IsIn p) e (in_append_left rs m))
 
 module _ (items : List program.Form) (k : ℕ) (f : program.Form) (lt : k < length items) (is : f ≡ get_or items k f) (before whole : List OrderPair) where
   pub first-pair : (b : Bool) → before ++ pairs_in (map view (drop k items)) ≡ whole → IsAcyclicIf b whole → IsAcyclicIf b (before ++ pair_of (view f))
   first-pair b h =
       let rest = pairs_in (map view (drop (k + 1) items)) in
-      front_acyclic b before (pair_of (view f)) rest whole (append_assoc before (pair_of (view f)) rest ∙ sym (ap (λ gs. before ++ pairs_in (map view gs)) (item-drop items k f lt is)) ∙ h)
+      front_acyclic b before (pair_of (view f)) rest whole (append_assoc before (pair_of (view f)) rest ∙ sym (ap (λ gs. before ++ pairs_in (map view gs)) (drop_read items k f lt is)) ∙ h)
 
   split : before ++ pairs_stated (map view (drop k items)) ≡ whole → (before ++ pairs_under (view f)) ++ pairs_stated (map view (drop (k + 1) items)) ≡ whole
-  split h = append_assoc before (pairs_under (view f)) (pairs_stated (map view (drop (k + 1) items))) ∙ sym (ap (λ gs. before ++ pairs_stated (map view gs)) (item-drop items k f lt is)) ∙ h
+  split h = append_assoc before (pairs_under (view f)) (pairs_stated (map view (drop (k + 1) items))) ∙ sym (ap (λ gs. before ++ pairs_stated (map view gs)) (drop_read items k f lt is)) ∙ h
 
   pub first-item : (b : Bool) → before ++ pairs_stated (map view (drop k items)) ≡ whole → IsAcyclicIf b whole → IsAcyclicIf b (before ++ pairs_under (view f))
   first-item b h = front_acyclic b before (pairs_under (view f)) (pairs_stated (map view (drop (k + 1) items))) whole (split h)
@@ -61,8 +52,8 @@ module _ (items : List program.Form) (k : ℕ) (f : program.Form) (lt : k < leng
 pub stated-all : (items : List program.Form) (k : ℕ) → length items ≤ k → (ps whole : List OrderPair) → ps ++ pairs_stated (map view (drop k items)) ≡ whole → ps ≡ whole
 stated-all items k h ps whole e = sym (append-nil ps) ∙ sym (ap (λ gs. ps ++ pairs_stated (map view gs)) (drop_all k items h)) ∙ e
 
-pub all-listed : {A : Type 0} (f : A → OrderPair) (xs : List A) (k : ℕ) → length xs ≤ k → (ps whole : List OrderPair) → ps ++ map f (drop k xs) ≡ whole → ps ≡ whole
-all-listed f xs k h ps whole e = sym (append-nil ps) ∙ sym (ap (λ ys. ps ++ map f ys) (drop_all k xs h)) ∙ e
+pub all-listed : {A : Type 0} (xs : List A) (k : ℕ) → length xs ≤ k → (done whole : List A) → done ++ drop k xs ≡ whole → done ≡ whole
+all-listed xs k h done whole e = sym (append-nil done) ∙ sym (ap (λ ys. done ++ ys) (drop_all k xs h)) ∙ e
 
 -- ---- a pair that closes no cycle
 
@@ -70,7 +61,7 @@ pub known-acyclic : (before : List OrderPair) (p : OrderPair) (b : Bool) → on_
 known-acyclic before p b other e h =
     let all : IsAcyclicIf b (before ++ p ∷ []) = subst (λ c. IsAcyclicIf b (before ++ (if c then [] else p ∷ []))) other h in
     same_bool false (reaches (length before) before p.later p.earlier) (λ e. absurd (cc))
-    (λ r. absurd (all e p (in_back before (p ∷ []) here) (leads_within before (before ++ p ∷ []) p.later p.earlier (λ q m. in_front before (p ∷ []) m) ((reaches_all before p.later p.earlier).0 r))))
+    (λ r. absurd (all e p (in_append_right before here) (leads_within before (before ++ p ∷ []) p.later p.earlier (λ q m. in_append_left (p ∷ []) m) ((reaches_all before p.later p.earlier).0 r))))
     ∙ sym (cond-false (on_one_strand p) (nat_le p.later.index p.earlier.index) (reaches (length before) before p.later p.earlier) other)
 
 -- the pair of the first two items
@@ -118,7 +109,7 @@ swept-first all tops none = record {
 }
 
 module _ (all rest more done : List OrderPair) (old new : Tops) (p : OrderPair) (left : rest ≡ p ∷ more) (s : IsSwept all rest done old)
-    (raised : (x : Node) → is_below new x ≡ (is_below old x || is_at_or_before x p.earlier)) where
+    (raised : (x : Node) → is_below new x ≡ (is_below old x || at_or_after x p.earlier)) where
   raised_tops : (x : Node) → is_below new x ≡ any_pair (λ q. at_or_after x q.earlier) (p ∷ done)
   raised_tops x = or_swap (any_pair (λ q. at_or_after x q.earlier) done) (at_or_after x p.earlier) (is_below new x) (raised x ∙ ap (λ b. b || at_or_after x p.earlier) (s.tops_are x))
 
@@ -142,11 +133,11 @@ same_item (x ∷ xs) zero d e h = refl
 same_item (x ∷ xs) (suc k) d e h = same_item xs k d e (omega (arith, h))
 
 pub swept-step : {A : Type 0} (f : A → OrderPair) (xs : List A) (k : ℕ) (d : A) (old new : Tops) → k < length xs → (done : List OrderPair) × IsSwept (map f xs) (map f (drop k xs)) done old
-    → ((x : Node) → is_below new x ≡ (is_below old x || is_at_or_before x (f (get_or xs k d)).earlier)) → is_below new (f (get_or xs k d)).later ≡ false
+    → ((x : Node) → is_below new x ≡ (is_below old x || at_or_after x (f (get_or xs k d)).earlier)) → is_below new (f (get_or xs k d)).later ≡ false
     → (done : List OrderPair) × IsSwept (map f xs) (map f (drop (k + 1) xs)) done new
 swept-step f xs k d old new h s raised e =
     let x = get_or xs k d in
-    (f x ∷ s.0, swept-next (map f xs) (map f (drop k xs)) (map f (drop (k + 1) xs)) s.0 old new (f x) (ap (map f) (item-drop xs k x h (same_item xs k d x h))) s.1 raised e)
+    (f x ∷ s.0, swept-next (map f xs) (map f (drop k xs)) (map f (drop (k + 1) xs)) s.0 old new (f x) (ap (map f) (drop_read xs k x h (same_item xs k d x h))) s.1 raised e)
 
 done_or_none : {A : Type 0} {x : A} (done : List A) → IsIn x done ⊎ IsIn x [] → IsIn x done
 done_or_none done (inl m) = m
@@ -157,28 +148,7 @@ swept-all all rest done tops e s = some_acyclic all done (λ p m. done_or_none d
 
 -- ---- the pairs in another order
 
-item_in : {A : Type 0} (xs : List A) (i : ℕ) (d : A) → i < length xs → IsIn (get_or xs i d) xs
-item_in [] i d h = absurd (omega arith)
-item_in (x ∷ xs) zero d h = here
-item_in (x ∷ xs) (suc i) d h = there (item_in xs i d (omega (arith, h)))
-
-each_in : {A : Type 0} (xs ys : List A) (y : A) → ((i : ℕ) (d : A) → i < length ys → IsIn (get_or ys i d) xs) → IsIn y ys → IsIn y xs
-each_in xs [] y h m = elim m [ ]
-each_in xs (z ∷ ys) y h here = h 0 y (omega arith)
-each_in xs (z ∷ ys) y h (there m) = each_in xs ys y (λ i d l. h (suc i) d (omega (arith, l))) m
-
-in_permuted : {A : Type 0} (xs ys : List A) (y : A) → IsPermutation xs ys → IsIn y xs → IsIn y ys
-in_permuted xs ys y h m = each_in ys xs y (All-permutation (λ x. IsIn x ys) ys xs (IsPermutation-sym xs ys h) (λ i d l. item_in ys i d l)) m
-
-in_map : {A B : Type 0} (f : A → B) (xs : List A) (x : A) → IsIn x xs → IsIn (f x) (map f xs)
-in_map f [] x m = elim m [ ]
-in_map f (y ∷ xs) x here = here
-in_map f (y ∷ xs) x (there m) = there (in_map f xs x m)
-
-map_in : {A B : Type 0} (f : A → B) (xs ys : List A) → ((x : A) → IsIn x xs → IsIn x ys) → (y : B) → IsIn y (map f xs) → IsIn y (map f ys)
-map_in f [] ys h y m = elim m [ ]
-map_in f (x ∷ xs) ys h y here = in_map f ys x (h x here)
-map_in f (x ∷ xs) ys h y (there m) = map_in f xs ys (λ z i. h z (there i)) y m
-
 pub each-permuted : {A : Type 0} (f : A → OrderPair) (xs ys : List A) (ps : List OrderPair) → IsPermutation xs ys → map f xs ≡ ps → (p : OrderPair) → IsIn p ps → IsIn p (map f ys)
-each-permuted f xs ys ps h e p m = map_in f xs ys (λ x i. in_permuted xs ys x h i) p (subst (IsIn p) (sym e) m)
+each-permuted f xs ys ps h e p m =
+    let found = from_map f xs (subst (IsIn p) (sym e) m) in
+    subst (λ q. IsIn q (map f ys)) found.2 (into_map f (in_permuted xs ys found.0 h found.1))

@@ -1,10 +1,11 @@
 -- The faults of nodes, part by part.
 use Rattle.std.proofs.Common.{◌≡◌, List, [], ◌∷◌, ◌++◌, map, Vec, Global, refl, sym, ap, ◌∙◌}
 use Rattle.std.specs.Prelude.{Option}
+use Rattle.std.proofs.lemmas.List.{append-nil}
 use Rattle.cp_base.specs.declared.place.Place.{Place}
 use Rattle.cp_base.specs.declared.place.Refusal.{Refusal}
-use Rattle.cp_model.specs.Lists.{item_at}
-use Rattle.cp_model.specs.Bundle.{Node}
+use Rattle.cp_lists.specs.Lists.{item_at}
+use Rattle.cp_model.specs.declared.node.Node.{Node}
 use Rattle.cp_model.specs.Skeleton.{SkeletonStrand}
 use Rattle.cp_sexpr.specs.Syntax.{Form, list}
 use Rattle.cp_sexpr.specs.View.{view, views}
@@ -15,10 +16,6 @@ use Rattle.cp_forms.specs.FirstFault.{first_onto}
 use Rattle.cp_load.specs.Directions.{number_faults_if}
 use Rattle.cp_forms.proofs.Firsts.{first_then, first_then_three}
 use Rattle.cp_forms.proofs.Views.{view-List, items_of-forms_of}
-
-append-nil : {A : Type 0} (xs : List A) → xs ++ [] ≡ xs
-append-nil [] = refl
-append-nil (x ∷ xs) = ap (λ ys. x ∷ ys) (append-nil xs)
 
 two-numbers : (fs : List Form) → number_faults_if (item_at fs 0) ++ number_faults_if (item_at fs 1) ≡ two_number_faults fs
 two-numbers [] = refl

@@ -14,6 +14,7 @@ use Rattle.cp_model.specs.Same.{carries, origin_in, one_later}
 use Rattle.cp_language.specs.Terms.{term_faults}
 use Rattle.cp_language.specs.Roles.{message_faults, event_faults, events_faults, each_faults}
 use Rattle.cp_model.proofs.SameTests.{carried, is_carried, origin_found, finds_origin}
+use Rattle.cp_load.specs.Originations.{place_if_sent}
 
 exact : (r t : Bool) (P : Type 0) → (r ≡ true → P) → (P → r ≡ true) → (t ≡ true → P) → (P → t ≡ true) → r ≡ t
 exact true true P f g h i = refl
@@ -24,19 +25,7 @@ exact false false P f g h i = refl
 pub exact-carries : (r : Bool) (whole part : Term) → (r ≡ true → IsCarriedByTerm part whole) → (IsCarriedByTerm part whole → r ≡ true) → r ≡ carries whole part
 exact-carries r whole part f g = exact r (carries whole part) (IsCarriedByTerm part whole) f g (carried whole part) (is_carried part whole)
 
-nowhere : (es : List (strand.Event Term)) (v : Term) (o : Option ℕ) → origin_in es v ≡ o → ((i : ℕ) → OriginatesInTerms es v i → ⊥) → None ≡ o
-nowhere es v None e none = refl
-nowhere es v (Some i) e none = absurd (none i (origin_found es v i e))
-
-pub exact-origin : (es : List (strand.Event Term)) (v : Term) (o : Option ℕ) → IfSome o (λ i. OriginatesInTerms es v i) → IfNone o ((i : ℕ) → OriginatesInTerms es v i → ⊥) → o ≡ origin_in es v
-exact-origin es v (Some i) at none = sym (finds_origin es v i at)
-exact-origin es v None at none = nowhere es v (origin_in es v) refl none
-
 -- ---- origins
-
-abbrev pub place_if_sent : strand.Event Term → ℕ → Option ℕ
-place_if_sent (send m) n = Some n
-place_if_sent (recv m) n = None
 
 -- the origin of a value, the first of the events having number n
 abbrev pub origin_from : Term → ℕ → List (strand.Event Term) → Option ℕ
@@ -74,19 +63,3 @@ origin_plus v n (recv m ∷ es) =
 
 pub origin-first : (v : Term) (es : List (strand.Event Term)) → origin_in es v ≡ origin_from v 0 es
 origin-first v es = plus_zero (origin_in es v) ∙ sym (origin_plus v 0 es)
-
--- ---- events
-
-pub three_messages : (ds : List Declaration) (at : Place) (fs : List program.Form) (a b c : program.Form) → 3 ≤ length fs → a ≡ get_or fs 0 a → b ≡ get_or fs 1 b → c ≡ get_or fs 2 c
-    → term_faults ds (view a) ++ term_faults ds (view b) ++ fault (place_of (view c)) BadShape ≡ message_faults ds at (map view fs)
-three_messages ds at [] a b c l e f g = absurd (omega arith)
-three_messages ds at (x ∷ []) a b c l e f g = absurd (omega arith)
-three_messages ds at (x ∷ y ∷ []) a b c l e f g = absurd (omega arith)
-three_messages ds at (x ∷ y ∷ z ∷ fs) a b c l e f g =
-    ap (λ h. term_faults ds (view h) ++ term_faults ds (view b) ++ fault (place_of (view c)) BadShape) e
-    ∙ ap (λ h. term_faults ds (view x) ++ term_faults ds (view h) ++ fault (place_of (view c)) BadShape) f
-    ∙ ap (λ h. term_faults ds (view x) ++ term_faults ds (view y) ++ fault (place_of (view h)) BadShape) g
-
-pub each-event : (ds : List Declaration) (fs : List Form) → each_faults (event_faults ds) fs ≡ events_faults ds fs
-each-event ds [] = refl
-each-event ds (f ∷ fs) = ap (λ rs. event_faults ds f ++ rs) (each-event ds fs)

@@ -1,19 +1,16 @@
 -- The parts of a problem's own skeleton, one after another.
 use Rattle.std.proofs.Common.{◌≡◌, ℕ, zero, suc, ◌+◌, ◌<◌, List, [], ◌∷◌, ◌++◌, length, get_or, drop, map, refl, sym, ap, ◌∙◌, add-one, arith, Bool, true, false, if◌then◌else◌}
-use Rattle.cp_model.specs.Skeleton.{OrderPair}
+use Rattle.std.proofs.lemmas.List.{append_assoc}
+use Rattle.cp_lists.proofs.Members.{drop_read}
+use Rattle.cp_model.specs.declared.node.OrderPair.{OrderPair}
 use Rattle.cp_model.specs.Problem.{numbers_from}
 use Rattle.cp_sexpr.specs.Syntax.{Form}
 use Rattle.cp_sexpr.specs.View.{view}
 use Rattle.cp_sexpr.specs.declared.form.Form as program
 use Rattle.cp_language.specs.Roles.{headed, forms_under, item_or_none, items_behind}
 use Rattle.cp_language.specs.Problems.{pair_of, pairs_in, is_precedes_item}
-use Rattle.cp_skel.specs.Data.{StrandData}
-use Rattle.cp_skel.specs.View.{strand_view}
-use Rattle.cp_forms.proofs.Items.{item-drop}
-
-append_assoc : {A : Type 0} (xs ys zs : List A) → (xs ++ ys) ++ zs ≡ xs ++ (ys ++ zs)
-append_assoc [] ys zs = refl
-append_assoc (x ∷ xs) ys zs = ap (λ bs. x ∷ bs) (append_assoc xs ys zs)
+use Rattle.cp_strand.specs.Data.{StrandData}
+use Rattle.cp_strand.specs.View.{strand_view}
 
 -- ---- numbers of strands
 
@@ -38,7 +35,7 @@ module _ (fs : List program.Form) (k : ℕ) (f : program.Form) (lt : k < length 
     (h : ps ++ pairs_in (forms_under is_precedes_item (map view (drop k fs))) ≡ all) where
   under : (b : Bool) → b ≡ is_precedes_item (item_or_none (headed (view f))) → forms_under is_precedes_item (map view (drop k fs))
       ≡ (if b then items_behind (headed (view f)) ++ forms_under is_precedes_item (map view (drop (k + 1) fs)) else forms_under is_precedes_item (map view (drop (k + 1) fs)))
-  under b e = ap (λ gs. forms_under is_precedes_item (map view gs)) (item-drop fs k f lt is)
+  under b e = ap (λ gs. forms_under is_precedes_item (map view gs)) (drop_read fs k f lt is)
       ∙ ap (λ c. if c then items_behind (headed (view f)) ++ forms_under is_precedes_item (map view (drop (k + 1) fs)) else forms_under is_precedes_item (map view (drop (k + 1) fs))) (sym e)
 
   pub pairs-taken : true ≡ is_precedes_item (item_or_none (headed (view f))) → qs ≡ ps ++ pairs_in (items_behind (headed (view f)))

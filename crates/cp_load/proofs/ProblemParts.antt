@@ -14,7 +14,7 @@ use Rattle.cp_language.specs.Faults.{fault, fault_unless}
 use Rattle.cp_language.specs.Roles.{text_of_symbol, vars_faults, declarations_of}
 use Rattle.cp_language.specs.Problems.{has_strand, roles_of, protocol_or_none, protocol_named, protocol_name_faults, problem_strands, body_faults, problem_faults, Problem, own_skeleton, problem_with, problem_of}
 use Rattle.cp_forms.specs.FirstFault.{first_onto}
-use Rattle.cp_load.specs.Making.{AreMade}
+use Rattle.cp_instances.specs.Making.{AreMade}
 use Rattle.cp_load.specs.Stages.{no_stage}
 use Rattle.cp_forms.proofs.Firsts.{first_then_four}
 
@@ -65,23 +65,24 @@ module _ (above : List Protocol) (at : Place) where
   abbrev pub all_by : Form → Form → List Form → List Refusal
   all_by n v body = faults_by n v body (roles_named n) (declarations_of v) (problem_strands (roles_named n) (declarations_of v) body).strands
 
+  -- what the first two items and the others make, where they are there
+  two-items : {A : Type 0} (parts : Form → Form → List Form → A) (whole : List Form → A) → ((a b : Form) (gs : List Form) → parts a b gs ≡ whole (a ∷ b ∷ gs))
+      → (fs : List program.Form) (n v : program.Form) → 2 ≤ length fs → n ≡ get_or fs 0 n → v ≡ get_or fs 1 v
+      → parts (view n) (view v) (map view (take (length fs - 2) (drop 2 fs))) ≡ whole (map view fs)
+  two-items parts whole same [] n v l e f = absurd (omega arith)
+  two-items parts whole same (x ∷ []) n v l e f = absurd (omega arith)
+  two-items parts whole same (x ∷ y ∷ fs) n v l e f =
+      let rest = take (length (x ∷ y ∷ fs) - 2) fs in
+      ap (λ k. parts (view k) (view v) (map view rest)) e ∙ ap (λ w. parts (view x) (view w) (map view rest)) f
+      ∙ ap (λ gs. parts (view x) (view y) (map view gs)) (take_all (length (x ∷ y ∷ fs) - 2) fs (omega arith)) ∙ same (view x) (view y) (map view fs)
+
   faults-whole : (fs : List program.Form) (n v : program.Form) → 2 ≤ length fs → n ≡ get_or fs 0 n → v ≡ get_or fs 1 v
       → all_by (view n) (view v) (map view (take (length fs - 2) (drop 2 fs))) ≡ problem_faults above at (map view fs)
-  faults-whole [] n v l e f = absurd (omega arith)
-  faults-whole (x ∷ []) n v l e f = absurd (omega arith)
-  faults-whole (x ∷ y ∷ fs) n v l e f =
-      let rest = take (length (x ∷ y ∷ fs) - 2) fs in
-      ap (λ k. all_by (view k) (view v) (map view rest)) e ∙ ap (λ w. all_by (view x) (view w) (map view rest)) f
-      ∙ ap (λ gs. all_by (view x) (view y) (map view gs)) (take_all (length (x ∷ y ∷ fs) - 2) fs (omega arith))
+  faults-whole = two-items all_by (problem_faults above at) (λ a b gs. refl)
 
   stated-whole : (fs : List program.Form) (n v : program.Form) → 2 ≤ length fs → n ≡ get_or fs 0 n → v ≡ get_or fs 1 v
       → stated_by (view n) (view v) (map view (take (length fs - 2) (drop 2 fs))) ≡ problem_of above (map view fs)
-  stated-whole [] n v l e f = absurd (omega arith)
-  stated-whole (x ∷ []) n v l e f = absurd (omega arith)
-  stated-whole (x ∷ y ∷ fs) n v l e f =
-      let rest = take (length (x ∷ y ∷ fs) - 2) fs in
-      ap (λ k. stated_by (view k) (view v) (map view rest)) e ∙ ap (λ w. stated_by (view x) (view w) (map view rest)) f
-      ∙ ap (λ gs. stated_by (view x) (view y) (map view gs)) (take_all (length (x ∷ y ∷ fs) - 2) fs (omega arith))
+  stated-whole = two-items stated_by (problem_of above) (λ a b gs. refl)
 
   behind-first : (fs : List program.Form) (v : program.Form) → 2 ≤ length fs → v ≡ get_or fs 1 v
       → drop 1 (map view fs) ≡ view v ∷ map view (take (length fs - 2) (drop 2 fs))

@@ -1,7 +1,8 @@
 -- The forms of the input, one after another.
 use Rattle.std.proofs.Common.{◌≡◌, ℕ, suc, ◌+◌, ◌<◌, ◌≤◌, ◌||◌, List, [], ◌∷◌, ◌++◌, length, get_or, map, drop, refl, sym, ap, ◌∙◌}
 use Rattle.std.specs.Prelude.{Option, Some, None, option_map, Ok, Err}
-use Rattle.std.proofs.lemmas.List.{drop_all}
+use Rattle.std.proofs.lemmas.List.{drop_all, append_assoc, append-nil}
+use Rattle.cp_lists.proofs.Members.{drop_read}
 use Rattle.cp_base.specs.declared.place.Place.{Place}
 use Rattle.cp_base.specs.declared.place.Code.TheVariants.{DuplicateProtocol}
 use Rattle.cp_base.specs.declared.place.Refusal.{Refusal}
@@ -15,26 +16,17 @@ use Rattle.cp_language.specs.Faults.{fault, place_of}
 use Rattle.cp_language.specs.Roles.{Headed, headed, algebra_faults, roles_faults, protocol_faults, protocol_of}
 use Rattle.cp_language.specs.Problems.{Problem}
 use Rattle.cp_language.specs.Input.{protocol_names, headed_top_faults, protocols_onto, protocols_behind, faults_from, stated_problem, Entry, entries_from, protocols_in, protocols_of, faults_of, IsInput}
-use Rattle.cp_load.specs.Above.{names_of_protocols, turned}
+use Rattle.cp_roles.specs.Above.{names_of_protocols, turned}
 use Rattle.cp_forms.specs.FirstFault.{first_onto}
 use Rattle.cp_load.specs.Drafts.{draft_view}
 use Rattle.cp_load.specs.Inputs.{problem_view, entries_view}
 use Rattle.cp_load.specs.declared.drafts.Draft.{Draft}
 use Rattle.cp_load.specs.declared.input.Problem as loaded
 use Rattle.cp_forms.proofs.Firsts.{first_onto-append, first_found, none_found}
-use Rattle.cp_forms.proofs.Items.{item-drop}
-use Rattle.cp_load.proofs.Naming.{AreSameNames, names-swap}
-use Rattle.cp_load.proofs.RoleNames.{name-names}
-use Rattle.cp_load.proofs.Standing.{turned-push}
+use Rattle.cp_scope.proofs.Naming.{AreSameNames, names-swap}
+use Rattle.cp_roles.proofs.RoleNames.{name-names}
+use Rattle.cp_roles.proofs.Standing.{turned-push}
 use Rattle.cp_forms.proofs.Views.{items_of-forms_of}
-
-append-nil : {A : Type 0} (xs : List A) → xs ++ [] ≡ xs
-append-nil [] = refl
-append-nil (x ∷ xs) = ap (λ ys. x ∷ ys) (append-nil xs)
-
-append_assoc : {A : Type 0} (xs ys zs : List A) → (xs ++ ys) ++ zs ≡ xs ++ (ys ++ zs)
-append_assoc [] ys zs = refl
-append_assoc (x ∷ xs) ys zs = ap (λ bs. x ∷ bs) (append_assoc xs ys zs)
 
 -- ---- the names of protocols
 
@@ -106,7 +98,7 @@ module _ (fs : List program.Form) (k : ℕ) where
         let after = protocols_behind (headed (view f)) (turned ps []) in
         ap (λ x. first_onto p (faults_from x rest)) above-same ∙ ap (λ x. first_onto x (faults_from after rest)) e
         ∙ sym (first_onto-append o (headed_top_faults (turned ps []) (place_of (view f)) (headed (view f))) (faults_from after rest))
-        ∙ sym (ap (λ gs. first_onto o (faults_from (turned ps []) (map view gs))) (item-drop fs k f lt is)) ∙ i
+        ∙ sym (ap (λ gs. first_onto o (faults_from (turned ps []) (map view gs))) (drop_read fs k f lt is)) ∙ i
 
     pub problems-taken : (xs ys all : List (Option Problem)) (x : Option Problem) → x ≡ stated_problem (turned ps []) (headed (view f)) → ys ≡ xs ++ x ∷ []
         → xs ++ problems_from (turned ps []) (map view (drop k fs)) ≡ all → ys ++ problems_from (turned qs []) (map view (drop (k + 1) fs)) ≡ all
@@ -115,13 +107,13 @@ module _ (fs : List program.Form) (k : ℕ) where
         let after = protocols_behind (headed (view f)) (turned ps []) in
         ap (λ y. ys ++ problems_from y rest) above-same ∙ ap (λ zs. zs ++ problems_from after rest) g ∙ append_assoc xs (x ∷ []) (problems_from after rest)
         ∙ ap (λ y. xs ++ y ∷ problems_from after rest) e
-        ∙ sym (ap (λ gs. xs ++ problems_from (turned ps []) (map view gs)) (item-drop fs k f lt is)) ∙ i
+        ∙ sym (ap (λ gs. xs ++ problems_from (turned ps []) (map view gs)) (drop_read fs k f lt is)) ∙ i
 
     pub protocols-taken : (all : List Protocol) → ps ++ protocols_in (map view (drop k fs)) ≡ all → qs ++ protocols_in (map view (drop (k + 1) fs)) ≡ all
     protocols-taken all i =
         let rest = protocols_in (map view (drop (k + 1) fs)) in
         ap (λ xs. xs ++ rest) behind ∙ append_assoc ps (protocols_behind (headed (view f)) []) rest
-        ∙ sym (ap (λ gs. ps ++ protocols_in (map view gs)) (item-drop fs k f lt is)) ∙ i
+        ∙ sym (ap (λ gs. ps ++ protocols_in (map view gs)) (drop_read fs k f lt is)) ∙ i
 
   pub faults-done : length fs ≤ k → (above : List Protocol) (o all : Option Refusal) → first_onto o (faults_from above (map view (drop k fs))) ≡ all → o ≡ all
   faults-done h above o all i = sym (ap (λ gs. first_onto o (faults_from above (map view gs))) (drop_all k fs h)) ∙ i

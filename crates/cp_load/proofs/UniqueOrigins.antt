@@ -1,22 +1,26 @@
 -- The origins of unique values, strand by strand.
 use Rattle.std.proofs.Common.{◌≡◌, ℕ, suc, ◌+◌, ◌<◌, ◌≤◌, List, [], ◌∷◌, ◌++◌, length, get_or, drop, map, ◌||◌, refl, sym, ap, ◌∙◌, add-one, Bool, true, false, Option, Some, None, if◌then◌else◌}
 use Rattle.std.proofs.lemmas.List.{at_drop_all}
-use Rattle.cp_model.specs.Term.{Term, AtomTerm, atom_term}
+use Rattle.cp_lists.proofs.Members.{drop_read}
+use Rattle.cp_model.specs.Term.{Term, AtomTerm, atom_term, apply_to}
+use Rattle.cp_model.specs.Homomorphism.{substitution_by}
 use Rattle.cp_model.specs.Strand as strand
-use Rattle.cp_model.specs.Strand.{payload, send, recv, event_map}
+use Rattle.cp_model.specs.Strand.{payload, send, recv, event_map, prefix_of}
 use Rattle.cp_model.specs.Skeleton.{SkeletonStrand, instance, listener, skeleton_trace, UniqueAt}
 use Rattle.cp_model.specs.Same.{carries, origin_in}
 use Rattle.cp_language.specs.Roles.{is_somewhere}
 use Rattle.cp_model.specs.Given.{uniques_onto}
 use Rattle.cp_language.specs.Problems.{origins_on, origins_from, is_not_empty, own_uniques}
-use Rattle.cp_skel.specs.View.{event_view}
-use Rattle.cp_skel.specs.declared.protocol.Event.{Event}
-use Rattle.cp_load.specs.Originations.{origin_on, originates, unique_at}
-use Rattle.cp_skel.proofs.EachOnce.{uniques, onto-append}
-use Rattle.cp_forms.proofs.Items.{item-drop}
-use Rattle.cp_load.proofs.Origins.{place_if_sent, origin_from, origin-first}
+use Rattle.cp_strand.specs.View.{event_view}
+use Rattle.cp_strand.specs.declared.protocol.Event.{Event}
+use Rattle.cp_load.specs.Originations.{origin_on, originates, unique_at, place_if_sent}
+use Rattle.cp_model.proofs.Gathered.{onto-append, uniques}
+use Rattle.cp_load.proofs.Origins.{origin_from, origin-first}
 
 -- ---- along an instance
+
+pub same_prefix : (es : List Event) (r role : strand.Role) (h height : ℕ) → map event_view es ≡ prefix_of r h → r ≡ role → h ≡ height → map event_view es ≡ prefix_of role height
+same_prefix es r role h height e f g = e ∙ ap (λ x. prefix_of x h) f ∙ ap (prefix_of role) g
 
 payload_mapped : (f : Term → Term) (e : strand.Event Term) → payload (event_map f e) ≡ f (payload e)
 payload_mapped f (send m) = refl
@@ -31,7 +35,7 @@ module _ (f : Term → Term) (v : Term) (es : List Event) (i : ℕ) where
       → origin_from v i (map (event_map f) (map event_view (drop i es))) ≡ (if b then place_if_sent (event_view e) i else origin_from v (i + 1) (map (event_map f) (map event_view (drop (i + 1) es))))
   mapped-origin-at e b lt is g =
       let rest = map (event_map f) (map event_view (drop (i + 1) es)) in
-      ap (λ us. origin_from v i (map (event_map f) (map event_view us))) (item-drop es i e lt is)
+      ap (λ us. origin_from v i (map (event_map f) (map event_view us))) (drop_read es i e lt is)
       ∙ ap (λ t. if carries t v then place_if_sent (event_map f (event_view e)) i else origin_from v (suc i) rest) (payload_mapped f (event_view e))
       ∙ ap (λ c. if c then place_if_sent (event_map f (event_view e)) i else origin_from v (suc i) rest) (sym g)
       ∙ ap (λ p. if b then p else origin_from v (suc i) rest) (sent_mapped f (event_view e) i)
@@ -45,6 +49,17 @@ pub origin-found : (f : Term → Term) (v : Term) (es : List Event) (trace : Lis
     → (o : Option ℕ) → origin_from v i (map (event_map f) (map event_view (drop i es))) ≡ o → o ≡ origin_in (map (event_map f) trace) v
 origin-found f v es trace e i h o g =
     sym (origin-first v (map (event_map f) trace) ∙ ap (λ us. origin_from v 0 (map (event_map f) us)) (sym e) ∙ h ∙ g)
+
+-- an event that becomes one that carries the value
+pub carried-here : (values : List Term) (v : Term) (es : List Event) (trace : List (strand.Event Term)) → map event_view es ≡ trace → (i : ℕ)
+    → origin_from v 0 (map (event_map (apply_to (substitution_by values))) (map event_view es)) ≡ origin_from v i (map (event_map (apply_to (substitution_by values))) (map event_view (drop i es)))
+    → (e : Event) → i < length es → e ≡ get_or es i e → (ts : List Term) → ts ≡ values → (m : Term) → m ≡ payload (event_view e)
+    → (b : Bool) → b ≡ true → b ≡ carries (apply_to (substitution_by ts) m) v
+    → place_if_sent (event_view e) i ≡ origin_in (map (event_map (apply_to (substitution_by values))) trace) v
+carried-here values v es trace prefix i h e lt is ts same m message b holds test =
+    let f = apply_to (substitution_by values) in
+    let carried : true ≡ carries (f (payload (event_view e))) v = sym holds ∙ test ∙ ap (λ us. carries (apply_to (substitution_by us) m) v) same ∙ ap (λ x. carries (f x) v) message in
+    origin-found f v es trace prefix i h (place_if_sent (event_view e) i) (mapped-origin-at f v es i e true lt is carried)
 
 -- ---- strand by strand
 
@@ -78,4 +93,4 @@ module _ (ks : List SkeletonStrand) (vs : List AtomTerm) (n : ℕ) (us ws all : 
   own-taken v lt is g h =
       let rest = drop (n + 1) vs in
       ap (λ xs. uniques_onto xs (own_uniques ks rest)) g ∙ sym (onto-append uniques us (origins_from 0 ks v) (own_uniques ks rest))
-      ∙ sym (ap (λ ls. uniques_onto us (own_uniques ks ls)) (item-drop vs n v lt is)) ∙ h
+      ∙ sym (ap (λ ls. uniques_onto us (own_uniques ks ls)) (drop_read vs n v lt is)) ∙ h

@@ -1,13 +1,13 @@
 -- Pairs without a cycle.
 use Rattle.std.specs.Prelude.{◌≡◌, ◌⊎◌, List, [], ◌∷◌, ◌++◌, Bool, true}
-use Rattle.cp_model.specs.Lists.{IsIn}
-use Rattle.cp_model.specs.Bundle.{Node}
-use Rattle.cp_model.specs.Skeleton.{OrderPair}
+use Rattle.cp_lists.specs.Lists.{IsIn}
+use Rattle.cp_model.specs.declared.node.Node.{Node}
+use Rattle.cp_model.specs.declared.node.OrderPair.{OrderPair}
 use Rattle.cp_model.specs.Order.{LeadsTo}
 use Rattle.cp_sexpr.specs.Syntax.{Form}
 use Rattle.cp_language.specs.Roles.{headed, item_or_none, items_behind}
 use Rattle.cp_language.specs.Problems.{first_form, second_form, option_node, pair_of_nodes, between_strands, at_or_after, any_pair, is_precedes_item, pairs_if}
-use Rattle.cp_skel.specs.Leading.{Tops, is_below}
+use Rattle.cp_order.specs.Leading.{Tops, is_below}
 
 -- No pair's later node leads to its earlier one.
 abbrev pub IsAcyclic : List OrderPair → Type 0

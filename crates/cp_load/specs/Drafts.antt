@@ -1,6 +1,6 @@
 -- Problems while forms are read. Where the forms have faults, a draft may be no problem: its skeleton may be none.
 use Rattle.std.specs.Prelude.{◌≡◌, List, Option, Some}
-use Rattle.cp_model.specs.Lists.{IsIn}
+use Rattle.cp_lists.specs.Lists.{IsIn}
 use Rattle.cp_language.specs.Problems.{Problem}
 use Rattle.cp_skel.specs.Data.{SkeletonData, skeleton_of}
 use Rattle.cp_skel.specs.Sound.{IsSound}
@@ -27,5 +27,5 @@ abbrev pub IsSoundIfThere : Option Draft → Type 0
 IsSoundIfThere o = (d : Draft) → o ≡ Some d → IsSound (draft_view d).skeleton
 
 -- The skeletons of all of these drafts are sound.
-abbrev pub AreSound : List (Option Draft) → Type 0
-AreSound os = (d : Draft) → IsIn (Some d) os → IsSound (draft_view d).skeleton
+abbrev pub HaveSoundSkeletons : List (Option Draft) → Type 0
+HaveSoundSkeletons os = (d : Draft) → IsIn (Some d) os → IsSound (draft_view d).skeleton

@@ -1,17 +1,6 @@
-pub mod Terms
-pub mod OwnFaults
-pub mod Applied
-pub mod Fixed
-pub mod Kinds
-pub mod Named
-pub mod Above
-pub mod Mapped
-pub mod Instantiating
-pub mod Making
 pub mod Directions
 pub mod Inputs
 pub mod Drafts
 pub mod Stages
 pub mod Originations
 pub mod Acyclic
-pub mod Sets

@@ -1,12 +1,13 @@
 // Whether the pairs of a problem have no cycle, seen at once for all of them.
 ghost use Rattle.std.specs.Prelude.{◌≡◌, ◌++◌, ◌||◌, map, IfOk, OnOk};
-ghost use Rattle.cp_model.specs.Lists.{IsIn};
+ghost use Rattle.cp_lists.specs.Lists.{IsIn};
 ghost use Rattle.cp_model.specs.Bundle as bundle;
+ghost use Rattle.cp_model.specs.declared.node.Node.{Node};
 ghost use Rattle.cp_model.specs.Skeleton as model;
-ghost use Rattle.cp_model.specs.RunView.{node_view};
+ghost use Rattle.cp_model.specs.declared.node.OrderPair.{OrderPair};
 ghost use Rattle.cp_sexpr.specs.View.{view};
-ghost use Rattle.cp_skel.specs.View.{pair_view};
-ghost use Rattle.cp_skel.specs.Leading.{tops_of, is_below, is_at_or_before};
+ghost use Rattle.cp_model.specs.Order.{at_or_after};
+ghost use Rattle.cp_order.specs.Leading.{tops_of, is_below};
 ghost use Rattle.cp_load.specs.Acyclic.{IsAcyclicIf, pairs_under, pairs_stated};
 
 use crate::pairs::add_pairs;
@@ -26,7 +27,7 @@ struct Ranked {
 
 /// The pairs in the order of these ranks. That each of them is there is all that is promised: the order is checked.
 fn in_order(alloc: Global, pairs: &[OrderPair], ranks: &[usize]) -> Result<Vec<Ranked>, AllocError>
-    ensures { IfOk result (λ v. (p : model.OrderPair) → IsIn p (map pair_view pairs.now) → IsIn p (map (λ r. pair_view r.pair) v.items)) }
+    ensures { IfOk result (λ v. (p : OrderPair) → IsIn p pairs.now → IsIn p (map (λ r. r.pair) v.items)) }
 {
     let mut ranked = Vec::new(alloc);
     for (number, pair) in pairs.iter().enumerate() {
@@ -39,7 +40,7 @@ fn in_order(alloc: Global, pairs: &[OrderPair], ranks: &[usize]) -> Result<Vec<R
 
 /// Whether a node is at the top of its strand or below it.
 fn is_below(tops: &HashMap<usize, usize>, node: Node) -> bool
-    ensures { result ≡ is_below (tops_of tops.now) (node_view node) }
+    ensures { result ≡ is_below (tops_of tops.now) node }
 {
     match tops.get(&node.strand) {
         Some(top) => node.index <= *top,
@@ -49,7 +50,7 @@ fn is_below(tops: &HashMap<usize, usize>, node: Node) -> bool
 
 /// Raises the top of a node's strand to this node, where it is below it.
 fn raise(tops: &mut HashMap<usize, usize>, node: Node) -> Result<(), AllocError>
-    ensures { OnOk result ((x : bundle.Node) → is_below (tops_of tops.new) x ≡ (is_below (tops_of tops.old) x || is_at_or_before x (node_view node))) }
+    ensures { OnOk result ((x : Node) → is_below (tops_of tops.new) x ≡ (is_below (tops_of tops.old) x || at_or_after x node)) }
 {
     if !is_below(tops, node) {
         tops.insert(node.strand, node.index)?;
@@ -60,7 +61,7 @@ fn raise(tops: &mut HashMap<usize, usize>, node: Node) -> Result<(), AllocError>
 /// Whether no pair ends at a node where it or one before it begins, or before such a node on its strand. Then the pairs
 /// have no cycle.
 fn none_leads_back(alloc: Global, ranked: &[Ranked]) -> Result<bool, AllocError>
-    ensures { IfOk result (λ b. IsAcyclicIf b (map (λ r. pair_view r.pair) ranked.now)) }
+    ensures { IfOk result (λ b. IsAcyclicIf b (map (λ r. r.pair) ranked.now)) }
 {
     let mut tops = HashMap::new(alloc);
     for next in ranked {
@@ -74,7 +75,7 @@ fn none_leads_back(alloc: Global, ranked: &[Ranked]) -> Result<bool, AllocError>
 
 /// Whether it was seen that the pairs have no cycle. No contract says that it is seen wherever they have none.
 fn have_no_cycle(alloc: Global, pairs: &[OrderPair]) -> Result<bool, AllocError>
-    ensures { IfOk result (λ b. IsAcyclicIf b (map pair_view pairs.now)) }
+    ensures { IfOk result (λ b. IsAcyclicIf b pairs.now) }
 {
     let Some(ranks) = ranks_of(alloc, pairs)? else {
         return Ok(false);
@@ -85,7 +86,7 @@ fn have_no_cycle(alloc: Global, pairs: &[OrderPair]) -> Result<bool, AllocError>
 
 /// Puts the pairs that an item of a problem states behind others.
 fn add_pairs_under(item: &Form, pairs: &mut Vec<OrderPair>) -> Result<(), AllocError>
-    ensures { OnOk result (map pair_view pairs.new.items ≡ map pair_view pairs.old.items ++ pairs_under (view item.now)) }
+    ensures { OnOk result (pairs.new.items ≡ pairs.old.items ++ pairs_under (view item.now)) }
 {
     let Some(list) = headed(item) else {
         return Ok(());

@@ -4,22 +4,21 @@ ghost use Rattle.cp_sexpr.specs.View.{view};
 ghost use Rattle.cp_language.specs.Terms.{atom_faults};
 ghost use Rattle.cp_language.specs.Roles.{headed, item_or_none, items_behind, item_faults, each_faults};
 ghost use Rattle.cp_language.specs.Problems.{misplaced_unless, instance_faults, listener_faults, unique_faults, pairs_faults, pairs_in, pairs_if, is_precedes_item, stage_after, problem_item_faults, body_faults};
-ghost use Rattle.cp_skel.specs.View.{declaration_view, pair_view, strand_view};
+ghost use Rattle.cp_strand.specs.View.{declaration_view, strand_view};
 ghost use Rattle.cp_forms.specs.FirstFault.{first_onto};
-ghost use Rattle.cp_load.specs.Named.{shared_roles_view};
+ghost use Rattle.cp_roles.specs.Named.{shared_roles_view};
 ghost use Rattle.cp_load.specs.Stages.{stage_view, no_stage};
 ghost use Rattle.cp_load.specs.Acyclic.{IsAcyclicIf, pairs_under};
 
 use crate::acyclic::state_no_cycle;
-use crate::assumptions::atoms_faults;
-use crate::making::is_assumption_or_order;
+use crate::items::{is_assumption_or_order, is_strand_item};
 use crate::orders::pairs_faults;
 use crate::pairs::add_pairs;
-use crate::problems::is_strand_item;
-use crate::strands::{instance_faults, listener_faults};
 use crate::values::unique_faults;
 use cp_base::{Code, Place};
 use cp_forms::{FirstFault, ItemHead, headed, item_head, place_of};
+use cp_instances::{instance_faults, listener_faults};
+use cp_scope::atoms_faults;
 use cp_sexpr::Form;
 use cp_skel::{Declaration, OrderPair, Role, Strand};
 use std::alloc::{AllocError, Global};
@@ -153,10 +152,10 @@ fn order_item_faults(
     items: &[Form],
     first: &mut FirstFault,
 ) -> Result<(), AllocError>
-    requires { IsAcyclicIf acyclic (map pair_view before.old.items ++ pairs_in (map view items.now)) }
+    requires { IsAcyclicIf acyclic (before.old.items ++ pairs_in (map view items.now)) }
     ensures faults { OnOk result (first.new ≡ first_onto first.old (misplaced_unless stage.after_strand place
-        (pairs_faults (map strand_view scope.entry.strands.now) (map pair_view before.old.items) (map view items.now)))) }
-    ensures pairs { OnOk result (map pair_view before.new.items ≡ map pair_view before.old.items ++ pairs_in (map view items.now)) }
+        (pairs_faults (map strand_view scope.entry.strands.now) before.old.items (map view items.now)))) }
+    ensures pairs { OnOk result (before.new.items ≡ before.old.items ++ pairs_in (map view items.now)) }
 {
     if stage.after_strand {
         return pairs_faults(alloc, scope.strands, before, acyclic, items, first);
@@ -176,11 +175,11 @@ fn item_faults(
     form: &Form,
     first: &mut FirstFault,
 ) -> Result<(), AllocError>
-    requires { IsAcyclicIf acyclic (map pair_view before.old.items ++ pairs_under (view form.now)) }
+    requires { IsAcyclicIf acyclic (before.old.items ++ pairs_under (view form.now)) }
     ensures faults { OnOk result (first.new ≡ first_onto first.old (item_faults (problem_item_faults (shared_roles_view scope.entry.roles.now)
-        (map declaration_view scope.entry.variables.now) (map strand_view scope.entry.strands.now) (map pair_view before.old.items) (stage_view stage)) (view form.now))) }
-    ensures pairs { OnOk result (map pair_view before.new.items
-        ≡ map pair_view before.old.items ++ pairs_if (is_precedes_item (item_or_none (headed (view form.now)))) (items_behind (headed (view form.now)))) }
+        (map declaration_view scope.entry.variables.now) (map strand_view scope.entry.strands.now) before.old.items (stage_view stage)) (view form.now))) }
+    ensures pairs { OnOk result (before.new.items
+        ≡ before.old.items ++ pairs_if (is_precedes_item (item_or_none (headed (view form.now)))) (items_behind (headed (view form.now)))) }
 {
     let place = place_of(form);
     let Some(list) = headed(form) else {

@@ -1,7 +1,7 @@
 // Problems while forms are read, and what becomes of them where the forms have no faults.
 ghost use Rattle.std.specs.Prelude.{◌≡◌, map, option_map, IfOk};
 ghost use Rattle.cp_skel.specs.Sound.{IsSound};
-ghost use Rattle.cp_load.specs.Drafts.{draft_view, IsSoundIfThere, AreSound};
+ghost use Rattle.cp_load.specs.Drafts.{draft_view, IsSoundIfThere, HaveSoundSkeletons};
 ghost use Rattle.cp_load.specs.Inputs.{problem_view};
 
 use crate::input::Problem;
@@ -68,7 +68,7 @@ pub(crate) fn all_finished(
     alloc: Global,
     drafts: Vec<Option<Draft>>,
 ) -> Result<Vec<Option<Problem>>, AllocError>
-    requires { AreSound drafts.items }
+    requires { HaveSoundSkeletons drafts.items }
     ensures { IfOk result (λ v. map (option_map problem_view) v.items ≡ map (option_map draft_view) drafts.items) }
 {
     let mut problems = Vec::new(alloc);

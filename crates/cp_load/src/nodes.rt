@@ -1,17 +1,16 @@
 // Nodes of problems: their faults, and the directions of their events.
 ghost use Rattle.std.specs.Prelude.{◌≡◌, map, option_map};
-ghost use Rattle.cp_model.specs.Lists.{item_at};
+ghost use Rattle.cp_lists.specs.Lists.{item_at};
 ghost use Rattle.cp_model.specs.Skeleton.{skeleton_trace, term_event_at};
 ghost use Rattle.cp_sexpr.specs.View.{view};
 ghost use Rattle.cp_language.specs.Problems.{node_of, range_faults, two_number_faults, node_faults};
-ghost use Rattle.cp_model.specs.RunView.{node_view};
-ghost use Rattle.cp_skel.specs.View.{event_view, strand_view};
+ghost use Rattle.cp_strand.specs.View.{event_view, strand_view};
 ghost use Rattle.cp_forms.specs.FirstFault.{first_onto};
 ghost use Rattle.cp_load.specs.Directions.{direction_of, number_in, number_faults_if};
 
-use crate::faults::lacks;
 use cp_base::{Code, Place};
 use cp_forms::{FirstFault, item_at, list_items, place_of};
+use cp_scope::lacks;
 use cp_sexpr::Form;
 use cp_skel::{Event, Node, Strand, StrandShape, prefix_of};
 
@@ -52,7 +51,7 @@ fn strand_direction(strand: &Strand, index: usize) -> Option<Direction>
 
 /// The direction of the event at a node, if there is one.
 pub(crate) fn node_direction(strands: &[Strand], node: Node) -> Option<Direction>
-    ensures { result ≡ direction_of (term_event_at (map strand_view strands.now) (node_view node)) }
+    ensures { result ≡ direction_of (term_event_at (map strand_view strands.now) node) }
 {
     match strands.get(node.strand) {
         Some(strand) => strand_direction(strand, node.index),
@@ -72,7 +71,7 @@ fn number(form: Option<&Form>) -> Option<usize>
 
 /// The node that a form states, if it does.
 pub(crate) fn node_of(form: &Form) -> Option<Node>
-    ensures { option_map node_view result ≡ node_of (view form.now) }
+    ensures { result ≡ node_of (view form.now) }
 {
     let items = list_items(form);
     match (number(item_at(items, 0)), number(item_at(items, 1))) {
@@ -93,7 +92,7 @@ fn number_faults(form: Option<&Form>, first: &mut FirstFault)
 
 /// A node has to be there.
 fn range_faults(strands: &[Strand], place: Place, node: Option<Node>, first: &mut FirstFault)
-    ensures { first.new ≡ first_onto first.old (range_faults (map strand_view strands.now) place (option_map node_view node)) }
+    ensures { first.new ≡ first_onto first.old (range_faults (map strand_view strands.now) place node) }
 {
     if let Some(node) = node {
         first.note_unless(

@@ -3,30 +3,29 @@ ghost use Rattle.std.specs.Prelude.{◌≡◌, ◌++◌, map, Some, option_map, 
 ghost use Rattle.cp_sexpr.specs.View.{view};
 ghost use Rattle.cp_language.specs.Roles.{unless_faulty};
 ghost use Rattle.cp_language.specs.Problems.{node_of, node_faults, pair_of_nodes, at_or_after, any_pair, closes_cycle, order_faults, pair_items_faults, pair_faults, pairs_in, pairs_faults, between_strands, pair_of};
-ghost use Rattle.cp_model.specs.RunView.{node_view};
-ghost use Rattle.cp_skel.specs.View.{strand_view, pair_view};
+ghost use Rattle.cp_strand.specs.View.{strand_view};
 ghost use Rattle.cp_forms.specs.FirstFault.{first_onto};
 ghost use Rattle.cp_load.specs.Acyclic.{IsAcyclicIf, pair_in};
 
-use crate::faults::exceeds;
 use crate::nodes::{node_faults, node_of};
 use crate::pairs::{add_pair, direction_faults, is_on_one_strand, pair_of};
 use cp_base::{Code, Place};
 use cp_forms::{FirstFault, list_items, place_of};
+use cp_scope::exceeds;
 use cp_sexpr::Form;
 use cp_skel::{Leading, Node, OrderPair, Strand};
 use std::alloc::{AllocError, Global};
 
 /// Whether the other node is this one or comes after it on its strand.
 fn is_at_or_after(node: Node, other: Node) -> bool
-    ensures { result ≡ at_or_after (node_view node) (node_view other) }
+    ensures { result ≡ at_or_after node other }
 {
     node.strand == other.strand && node.index <= other.index
 }
 
 /// Whether one of the pairs begins at a node or after it on its strand.
 fn some_begins_behind(pairs: &[OrderPair], node: Node) -> bool
-    ensures { result ≡ any_pair (λ p. at_or_after (node_view node) p.earlier) (map pair_view pairs.now) }
+    ensures { result ≡ any_pair (λ p. at_or_after node p.earlier) pairs.now }
 {
     for pair in pairs {
         if is_at_or_after(node, pair.earlier) {
@@ -38,7 +37,7 @@ fn some_begins_behind(pairs: &[OrderPair], node: Node) -> bool
 
 /// Whether one of the pairs ends at a node or before it on its strand.
 fn some_ends_before(pairs: &[OrderPair], node: Node) -> bool
-    ensures { result ≡ any_pair (λ p. at_or_after p.later (node_view node)) (map pair_view pairs.now) }
+    ensures { result ≡ any_pair (λ p. at_or_after p.later node) pairs.now }
 {
     for pair in pairs {
         if is_at_or_after(pair.later, node) {
@@ -57,8 +56,8 @@ fn closes_cycle(
     acyclic: bool,
     pair: OrderPair,
 ) -> Result<bool, AllocError>
-    requires { IsAcyclicIf acyclic (map pair_view before.now ++ between_strands (Some (pair_view pair))) }
-    ensures { IfOk result (λ closes. closes ≡ closes_cycle (map pair_view before.now) (pair_view pair)) }
+    requires { IsAcyclicIf acyclic (before.now ++ between_strands (Some pair)) }
+    ensures { IfOk result (λ closes. closes ≡ closes_cycle before.now pair) }
 {
     if is_on_one_strand(pair) {
         return Ok(pair.later.index <= pair.earlier.index);
@@ -78,7 +77,7 @@ fn closes_cycle(
 
 /// The pair of two nodes, if both are there.
 fn pair_of_nodes(earlier: Option<Node>, later: Option<Node>) -> Option<OrderPair>
-    ensures { option_map pair_view result ≡ pair_of_nodes (option_map node_view earlier) (option_map node_view later) }
+    ensures { result ≡ pair_of_nodes earlier later }
 {
     match (earlier, later) {
         (Some(earlier), Some(later)) => Some(OrderPair { earlier, later }),
@@ -86,28 +85,35 @@ fn pair_of_nodes(earlier: Option<Node>, later: Option<Node>) -> Option<OrderPair
     }
 }
 
+/// What stands before a pair: the strands of the problem, and the pairs that it states before; and whether these are
+/// said to be acyclic with the pair.
+#[derive(Clone, Copy)]
+struct Before<'a> {
+    strands: &'a [Strand],
+    pairs: &'a [OrderPair],
+    acyclic: bool,
+}
+
 /// The faults of the pair that two forms state, at this place: a cycle, or else its directions. Where the pairs are said
 /// to be acyclic, here and below, those before and the pair have no cycle.
 fn order_faults(
     alloc: Global,
-    strands: &[Strand],
-    before: &[OrderPair],
-    acyclic: bool,
+    before: Before<'_>,
     place: Place,
     earlier: &Form,
     later: &Form,
     first: &mut FirstFault,
 ) -> Result<(), AllocError>
-    requires { IsAcyclicIf acyclic (map pair_view before.now ++ between_strands (pair_of_nodes (node_of (view earlier.now)) (node_of (view later.now)))) }
-    ensures { OnOk result (first.new ≡ first_onto first.old (order_faults (map strand_view strands.now) (map pair_view before.now) place (view earlier.now) (view later.now) (pair_of_nodes (node_of (view earlier.now)) (node_of (view later.now))))) }
+    requires { IsAcyclicIf before.acyclic (before.pairs.now ++ between_strands (pair_of_nodes (node_of (view earlier.now)) (node_of (view later.now)))) }
+    ensures { OnOk result (first.new ≡ first_onto first.old (order_faults (map strand_view before.entry.strands.now) before.entry.pairs.now place (view earlier.now) (view later.now) (pair_of_nodes (node_of (view earlier.now)) (node_of (view later.now))))) }
 {
     let Some(pair) = pair_of_nodes(node_of(earlier), node_of(later)) else {
         return Ok(());
     };
-    if closes_cycle(alloc, before, acyclic, pair)? {
+    if closes_cycle(alloc, before.pairs, before.acyclic, pair)? {
         first.note(place, Code::CyclicOrder);
     } else {
-        direction_faults(strands, earlier, later, pair, first);
+        direction_faults(before.strands, earlier, later, pair, first);
     }
     Ok(())
 }
@@ -115,32 +121,21 @@ fn order_faults(
 /// The faults of the two nodes that forms state, or else those of their pair.
 fn nodes_or_order_faults(
     alloc: Global,
-    strands: &[Strand],
-    before: &[OrderPair],
-    acyclic: bool,
+    before: Before<'_>,
     place: Place,
     earlier: &Form,
     later: &Form,
     first: &mut FirstFault,
 ) -> Result<(), AllocError>
-    requires { IsAcyclicIf acyclic (map pair_view before.now ++ between_strands (pair_of_nodes (node_of (view earlier.now)) (node_of (view later.now)))) }
-    ensures { OnOk result (first.new ≡ first_onto first.old (unless_faulty (node_faults (map strand_view strands.now) (view earlier.now) ++ node_faults (map strand_view strands.now) (view later.now))
-        (order_faults (map strand_view strands.now) (map pair_view before.now) place (view earlier.now) (view later.now) (pair_of_nodes (node_of (view earlier.now)) (node_of (view later.now)))))) }
+    requires { IsAcyclicIf before.acyclic (before.pairs.now ++ between_strands (pair_of_nodes (node_of (view earlier.now)) (node_of (view later.now)))) }
+    ensures { OnOk result (first.new ≡ first_onto first.old (unless_faulty (node_faults (map strand_view before.entry.strands.now) (view earlier.now) ++ node_faults (map strand_view before.entry.strands.now) (view later.now))
+        (order_faults (map strand_view before.entry.strands.now) before.entry.pairs.now place (view earlier.now) (view later.now) (pair_of_nodes (node_of (view earlier.now)) (node_of (view later.now)))))) }
 {
     let mut inside = FirstFault::new();
-    node_faults(strands, earlier, &mut inside);
-    node_faults(strands, later, &mut inside);
+    node_faults(before.strands, earlier, &mut inside);
+    node_faults(before.strands, later, &mut inside);
     if inside.is_none() {
-        order_faults(
-            alloc,
-            strands,
-            before,
-            acyclic,
-            place,
-            earlier,
-            later,
-            &mut inside,
-        )?;
+        order_faults(alloc, before, place, earlier, later, &mut inside)?;
     }
     first.merge(inside);
     Ok(())
@@ -149,23 +144,19 @@ fn nodes_or_order_faults(
 /// The faults of a pair with these items, behind which these pairs stand.
 fn pair_items_faults(
     alloc: Global,
-    strands: &[Strand],
-    before: &[OrderPair],
-    acyclic: bool,
+    before: Before<'_>,
     place: Place,
     items: &[Form],
     first: &mut FirstFault,
 ) -> Result<(), AllocError>
-    requires { IsAcyclicIf acyclic (map pair_view before.now ++ pair_in (map view items.now)) }
-    ensures { OnOk result (first.new ≡ first_onto first.old (pair_items_faults (map strand_view strands.now) (map pair_view before.now) place (map view items.now))) }
+    requires { IsAcyclicIf before.acyclic (before.pairs.now ++ pair_in (map view items.now)) }
+    ensures { OnOk result (first.new ≡ first_onto first.old (pair_items_faults (map strand_view before.entry.strands.now) before.entry.pairs.now place (map view items.now))) }
 {
     let [earlier, later, rest @ ..] = items else {
         first.note(place, Code::BadShape);
         return Ok(());
     };
-    nodes_or_order_faults(
-        alloc, strands, before, acyclic, place, earlier, later, first,
-    )?;
+    nodes_or_order_faults(alloc, before, place, earlier, later, first)?;
     exceeds(2, list_items(earlier), first);
     exceeds(2, list_items(later), first);
     exceeds(0, rest, first);
@@ -175,28 +166,18 @@ fn pair_items_faults(
 /// The faults of a pair that a form states, behind which these pairs stand.
 fn pair_faults(
     alloc: Global,
-    strands: &[Strand],
-    before: &[OrderPair],
-    acyclic: bool,
+    before: Before<'_>,
     form: &Form,
     first: &mut FirstFault,
 ) -> Result<(), AllocError>
-    requires { IsAcyclicIf acyclic (map pair_view before.now ++ pair_of (view form.now)) }
-    ensures { OnOk result (first.new ≡ first_onto first.old (pair_faults (map strand_view strands.now) (map pair_view before.now) (view form.now))) }
+    requires { IsAcyclicIf before.acyclic (before.pairs.now ++ pair_of (view form.now)) }
+    ensures { OnOk result (first.new ≡ first_onto first.old (pair_faults (map strand_view before.entry.strands.now) before.entry.pairs.now (view form.now))) }
 {
     let Form::List(place, items) = form else {
         first.note(place_of(form), Code::BadShape);
         return Ok(());
     };
-    pair_items_faults(
-        alloc,
-        strands,
-        before,
-        acyclic,
-        *place,
-        items.as_slice(),
-        first,
-    )
+    pair_items_faults(alloc, before, *place, items.as_slice(), first)
 }
 
 /// The faults of the pairs that these forms state, behind which these stand; the pairs go behind them.
@@ -208,12 +189,17 @@ pub(crate) fn pairs_faults(
     items: &[Form],
     first: &mut FirstFault,
 ) -> Result<(), AllocError>
-    requires { IsAcyclicIf acyclic (map pair_view before.old.items ++ pairs_in (map view items.now)) }
-    ensures faults { OnOk result (first.new ≡ first_onto first.old (pairs_faults (map strand_view strands.now) (map pair_view before.old.items) (map view items.now))) }
-    ensures pairs { OnOk result (map pair_view before.new.items ≡ map pair_view before.old.items ++ pairs_in (map view items.now)) }
+    requires { IsAcyclicIf acyclic (before.old.items ++ pairs_in (map view items.now)) }
+    ensures faults { OnOk result (first.new ≡ first_onto first.old (pairs_faults (map strand_view strands.now) before.old.items (map view items.now))) }
+    ensures pairs { OnOk result (before.new.items ≡ before.old.items ++ pairs_in (map view items.now)) }
 {
     for form in items {
-        pair_faults(alloc, strands, before, acyclic, form, first)?;
+        let stated = Before {
+            strands,
+            pairs: before,
+            acyclic,
+        };
+        pair_faults(alloc, stated, form, first)?;
         add_pair(pair_of(form), before)?;
     }
     Ok(())

@@ -1,65 +1,68 @@
 // Where unique values originate on the strands of problems.
-ghost use Rattle.std.specs.Prelude.{◌≡◌, map, IfOk, OnOk};
+ghost use Rattle.std.specs.Prelude.{◌≡◌, map, OnOk};
+ghost use Rattle.cp_model.specs.Term.{apply_to};
+ghost use Rattle.cp_model.specs.Homomorphism.{substitution_by};
 ghost use Rattle.cp_model.specs.Skeleton.{skeleton_trace};
 ghost use Rattle.cp_model.specs.Given.{uniques_onto};
 ghost use Rattle.cp_language.specs.Problems.{origins_from, own_uniques};
-ghost use Rattle.cp_model.specs.Same.{origin_in};
-ghost use Rattle.cp_skel.specs.View.{instance_view, strand_view};
-ghost use Rattle.cp_load.specs.Originations.{origin_on, originates, unique_at};
+ghost use Rattle.cp_model.specs.Same.{carries, origin_in};
+ghost use Rattle.cp_strand.specs.View.{event_view, instance_view, strand_view};
+ghost use Rattle.cp_load.specs.Originations.{origin_on, originates, place_if_sent, unique_at};
 
-use crate::same::carries;
-use cp_skel::{
-    Atom, Event, Instance, Node, Strand, StrandShape, UniqueAt, add_unique, applied, prefix_of,
-};
+use cp_skel::{Atom, Event, Instance, Node, Strand, StrandShape, UniqueAt, add_unique, prefix_of};
 use cp_term::Term;
-use std::alloc::{AllocError, Global};
+use std::alloc::AllocError;
+
+/// Whether what a role's term becomes under the terms of an instance carries the part.
+fn carries_under(values: &[Term], whole: &Term, part: &Term) -> bool
+    ensures { result ≡ carries (apply_to (substitution_by values.now) whole.now) part.now }
+{
+    cp_strand::carries_under(values, whole, part)
+}
+
+/// The place of an event, if it is a transmission.
+fn place_if_sent(event: &Event, index: usize) -> Option<usize>
+    ensures { result ≡ place_if_sent (event_view event.now) index }
+{
+    match event {
+        Event::Send(_) => Some(index),
+        Event::Receive(_) => None,
+    }
+}
 
 /// The place of an instance at which a value originates.
-fn instance_origin(
-    alloc: Global,
-    instance: &Instance,
-    value: &Term,
-) -> Result<Option<usize>, AllocError>
-    ensures { IfOk result (λ o. o ≡ origin_in (skeleton_trace (instance_view instance.now)) value.now) }
+fn instance_origin(instance: &Instance, value: &Term) -> Option<usize>
+    ensures { result ≡ origin_in (skeleton_trace (instance_view instance.now)) value.now }
 {
     let prefix = prefix_of(instance.role(), instance.height());
     for (index, event) in prefix.iter().enumerate() {
-        let message = applied(alloc, instance.values(), event.payload())?;
-        if carries(&message, value) {
-            return match event {
-                Event::Send(_) => Ok(Some(index)),
-                Event::Receive(_) => Ok(None),
-            };
+        if carries_under(instance.values(), event.payload(), value) {
+            return place_if_sent(event, index);
         }
     }
-    Ok(None)
+    None
 }
 
 /// The place of a strand at which a value originates: on a listener there is none.
-fn strand_origin(alloc: Global, strand: &Strand, value: &Term) -> Result<Option<usize>, AllocError>
-    ensures { IfOk result (λ o. o ≡ origin_on (strand_view strand.now) value.now) }
+fn strand_origin(strand: &Strand, value: &Term) -> Option<usize>
+    ensures { result ≡ origin_on (strand_view strand.now) value.now }
 {
     match strand.shape() {
-        StrandShape::Instance(instance) => instance_origin(alloc, instance, value),
-        StrandShape::Listener(_) => Ok(None),
+        StrandShape::Instance(instance) => instance_origin(instance, value),
+        StrandShape::Listener(_) => None,
     }
 }
 
 /// Whether a value originates on one of these strands.
-pub(crate) fn originates(
-    alloc: Global,
-    strands: &[Strand],
-    value: &Atom,
-) -> Result<bool, AllocError>
-    ensures { IfOk result (λ b. b ≡ originates (map strand_view strands.now) value.now) }
+pub(crate) fn originates(strands: &[Strand], value: &Atom) -> bool
+    ensures { result ≡ originates (map strand_view strands.now) value.now }
 {
     for strand in strands {
-        let origin = strand_origin(alloc, strand, value.as_term())?;
-        if origin.is_some() {
-            return Ok(true);
+        if strand_origin(strand, value.as_term()).is_some() {
+            return true;
         }
     }
-    Ok(false)
+    false
 }
 
 /// Puts the origin of a value, which is a place of this strand or none, behind others, if it is not one of them.
@@ -81,7 +84,6 @@ pub(crate) fn add_origin(
 
 /// Puts the origins of a value on these strands behind others, each that is not there yet.
 fn add_origins(
-    alloc: Global,
     strands: &[Strand],
     value: &Atom,
     uniques: &mut Vec<UniqueAt>,
@@ -90,7 +92,7 @@ fn add_origins(
         ≡ uniques_onto uniques.old.items (origins_from 0 (map strand_view strands.now) value.now)) }
 {
     for (number, strand) in strands.iter().enumerate() {
-        let origin = strand_origin(alloc, strand, value.as_term())?;
+        let origin = strand_origin(strand, value.as_term());
         add_origin(value, number, origin, uniques)?;
     }
     Ok(())
@@ -98,7 +100,6 @@ fn add_origins(
 
 /// Puts the origins of these values on the strands behind others, each that is not there yet.
 pub(crate) fn add_own_uniques(
-    alloc: Global,
     strands: &[Strand],
     values: &[Atom],
     uniques: &mut Vec<UniqueAt>,
@@ -107,7 +108,7 @@ pub(crate) fn add_own_uniques(
         ≡ uniques_onto uniques.old.items (own_uniques (map strand_view strands.now) values.now)) }
 {
     for value in values {
-        add_origins(alloc, strands, value, uniques)?;
+        add_origins(strands, value, uniques)?;
     }
     Ok(())
 }

@@ -3,8 +3,7 @@ ghost use Rattle.std.specs.Prelude.{◌≡◌, ◌++◌, map, option_map, OnOk};
 ghost use Rattle.std.specs.Option.{option_to_list};
 ghost use Rattle.cp_sexpr.specs.View.{view};
 ghost use Rattle.cp_language.specs.Problems.{option_node, on_one_strand, pair_of, pairs_in, is_transmission, is_reception, direction_faults};
-ghost use Rattle.cp_model.specs.RunView.{node_view};
-ghost use Rattle.cp_skel.specs.View.{pair_view, strand_view};
+ghost use Rattle.cp_strand.specs.View.{strand_view};
 ghost use Rattle.cp_model.specs.Skeleton.{term_event_at};
 ghost use Rattle.cp_forms.specs.FirstFault.{first_onto};
 
@@ -17,7 +16,7 @@ use std::alloc::AllocError;
 
 /// The node that a form states, if it is there and does.
 fn node_if_there(form: Option<&Form>) -> Option<Node>
-    ensures { option_map node_view result ≡ option_node (option_map (λ f. view f.now) form.entry) }
+    ensures { result ≡ option_node (option_map (λ f. view f.now) form.entry) }
 {
     match form {
         Some(form) => node_of(form),
@@ -27,14 +26,14 @@ fn node_if_there(form: Option<&Form>) -> Option<Node>
 
 /// Whether a pair is between two nodes of one strand.
 pub(crate) fn is_on_one_strand(pair: OrderPair) -> bool
-    ensures { result ≡ on_one_strand (pair_view pair) }
+    ensures { result ≡ on_one_strand pair }
 {
     pair.earlier.strand == pair.later.strand
 }
 
 /// The pair that a form states, if it is between two strands.
 pub(crate) fn pair_of(form: &Form) -> Option<OrderPair>
-    ensures { option_to_list (option_map pair_view result) ≡ pair_of (view form.now) }
+    ensures { option_to_list result ≡ pair_of (view form.now) }
 {
     let items = list_items(form);
     let (Some(earlier), Some(later)) = (
@@ -56,7 +55,7 @@ pub(crate) fn add_pair(
     pair: Option<OrderPair>,
     pairs: &mut Vec<OrderPair>,
 ) -> Result<(), AllocError>
-    ensures { OnOk result (map pair_view pairs.new.items ≡ map pair_view pairs.old.items ++ option_to_list (option_map pair_view pair)) }
+    ensures { OnOk result (pairs.new.items ≡ pairs.old.items ++ option_to_list pair) }
 {
     if let Some(pair) = pair {
         pairs.push(pair)?;
@@ -66,7 +65,7 @@ pub(crate) fn add_pair(
 
 /// Puts the pairs that these forms state behind others.
 pub(crate) fn add_pairs(forms: &[Form], pairs: &mut Vec<OrderPair>) -> Result<(), AllocError>
-    ensures { OnOk result (map pair_view pairs.new.items ≡ map pair_view pairs.old.items ++ pairs_in (map view forms.now)) }
+    ensures { OnOk result (pairs.new.items ≡ pairs.old.items ++ pairs_in (map view forms.now)) }
 {
     for form in forms {
         add_pair(pair_of(form), pairs)?;
@@ -76,14 +75,14 @@ pub(crate) fn add_pairs(forms: &[Form], pairs: &mut Vec<OrderPair>) -> Result<()
 
 /// Whether there is a transmission at a node.
 fn is_transmission(strands: &[Strand], node: Node) -> bool
-    ensures { result ≡ is_transmission (term_event_at (map strand_view strands.now) (node_view node)) }
+    ensures { result ≡ is_transmission (term_event_at (map strand_view strands.now) node) }
 {
     node_direction(strands, node) == Some(Direction::Transmission)
 }
 
 /// Whether there is a reception at a node.
 fn is_reception(strands: &[Strand], node: Node) -> bool
-    ensures { result ≡ is_reception (term_event_at (map strand_view strands.now) (node_view node)) }
+    ensures { result ≡ is_reception (term_event_at (map strand_view strands.now) node) }
 {
     node_direction(strands, node) == Some(Direction::Reception)
 }
@@ -97,7 +96,7 @@ pub(crate) fn direction_faults(
     pair: OrderPair,
     first: &mut FirstFault,
 )
-    ensures { first.new ≡ first_onto first.old (direction_faults (map strand_view strands.now) (view earlier.now) (view later.now) (pair_view pair)) }
+    ensures { first.new ≡ first_onto first.old (direction_faults (map strand_view strands.now) (view earlier.now) (view later.now) pair) }
 {
     if is_on_one_strand(pair) {
         return;

@@ -1,24 +1,23 @@
 // Problems: their faults, and what they state.
 ghost use Rattle.std.specs.Prelude.{◌≡◌, [], map, option_map, IfOk, OnOk};
 ghost use Rattle.cp_sexpr.specs.View.{view};
-ghost use Rattle.cp_language.specs.Problems.{protocol_name_faults, has_strand, is_strand_item, protocol_named, protocol_or_none, problem_strands, problem_faults, problem_of};
-ghost use Rattle.cp_language.specs.Roles.{headed, item_or_none};
-ghost use Rattle.cp_skel.specs.View.{declaration_view, strand_view};
-ghost use Rattle.cp_load.specs.Above.{protocols_view, turned};
+ghost use Rattle.cp_language.specs.Problems.{protocol_name_faults, has_strand, protocol_named, protocol_or_none, problem_strands, problem_faults, problem_of};
+ghost use Rattle.cp_strand.specs.View.{declaration_view, strand_view};
+ghost use Rattle.cp_roles.specs.Above.{protocols_view, turned};
 ghost use Rattle.cp_forms.specs.FirstFault.{first_onto};
 ghost use Rattle.cp_load.specs.Drafts.{draft_view};
-ghost use Rattle.cp_load.specs.Making.{AreMade};
-ghost use Rattle.cp_load.specs.Named.{shared_roles_view};
+ghost use Rattle.cp_instances.specs.Making.{AreMade};
+ghost use Rattle.cp_roles.specs.Named.{shared_roles_view};
 
 use crate::bodies::{Scope, body_faults};
-use crate::declarations::variables_of;
 use crate::drafts::Draft;
-use crate::instances::copies_of;
-use crate::making::{before_items, strands};
-use crate::protocols::{no_protocol, protocol_named};
+use crate::items::{before_items, has_strand};
 use crate::values::own_skeleton;
 use cp_base::{Code, Place};
-use cp_forms::{FirstFault, ItemHead, headed, item_head, later_items, place_of, symbol_or_empty};
+use cp_forms::{FirstFault, later_items, place_of, symbol_or_empty};
+use cp_instances::{copies_of, strands};
+use cp_roles::{no_protocol, protocol_named};
+use cp_scope::variables_of;
 use cp_sexpr::Form;
 use cp_skel::{Declaration, Protocol, Strand};
 use std::alloc::{AllocError, Global};
@@ -38,28 +37,6 @@ pub(crate) fn protocol_name_faults(above: &[Rc<Protocol>], form: &Form, first: &
         }
         _ => first.note(place_of(form), Code::BadShape),
     }
-}
-
-/// Whether an item is headed as a strand.
-pub(crate) fn is_strand_item(form: &Form) -> bool
-    ensures { result ≡ is_strand_item (item_or_none (headed (view form.now))) }
-{
-    match headed(form) {
-        Some(list) => matches!(item_head(list.head), ItemHead::Strand | ItemHead::Listener),
-        None => false,
-    }
-}
-
-/// Whether one of these items is headed as a strand.
-pub(crate) fn has_strand(items: &[Form]) -> bool
-    ensures { result ≡ has_strand (map view items.now) }
-{
-    for item in items {
-        if is_strand_item(item) {
-            return true;
-        }
-    }
-    false
 }
 
 /// The last protocol of this name; where there is none, one without roles.

@@ -1,5 +1,7 @@
 // Ranks of the nodes at which pairs begin and end: a topological sort of these nodes along the pairs and the strands.
-// Nothing is promised of the ranks, since whoever uses them checks them.
+// Nothing is promised of what the ranks are, since whoever uses them checks them.
+ghost use Rattle.std.specs.Prelude.{◌≡◌, length, IfOk, IfSome};
+
 use cp_skel::{Node, OrderPair};
 use std::alloc::{AllocError, Global};
 
@@ -153,19 +155,27 @@ fn ranks_in(alloc: Global, graph: Graph) -> Result<Option<Vec<usize>>, AllocErro
     Ok(Some(ranks))
 }
 
-/// For each pair the rank of its earlier node; none where there is a cycle.
-pub(crate) fn ranks_of(
-    alloc: Global,
-    pairs: &[OrderPair],
-) -> Result<Option<Vec<usize>>, AllocError> {
+/// The rank of the node from which the edge with a number leads.
+fn rank_of(edges: &[Edge], ranks: &[usize], number: usize) -> usize {
+    match edges.get(number) {
+        Some(edge) => ranks.get(edge.from).copied().unwrap_or(0),
+        None => 0,
+    }
+}
+
+/// For each pair the rank of its earlier node; none where there is a cycle. That there is one for each is all that is
+/// promised.
+pub(crate) fn ranks_of(alloc: Global, pairs: &[OrderPair]) -> Result<Option<Vec<usize>>, AllocError>
+    ensures { IfOk result (λ o. IfSome o (λ ranks. length ranks.items ≡ length pairs.now)) }
+{
     let ends = ends_of(alloc, pairs)?;
     let edges = edges_of(alloc, pairs.len(), &ends)?;
     let Some(ranks) = ranks_in(alloc, graph_of(alloc, ends.len(), &edges)?)? else {
         return Ok(None);
     };
     let mut of_pairs = Vec::new(alloc);
-    for (_, edge) in pairs.iter().zip(edges.iter()) {
-        of_pairs.push(ranks.get(edge.from).copied().unwrap_or(0))?;
+    for (number, _) in pairs.iter().enumerate() {
+        of_pairs.push(rank_of(&edges, &ranks, number))?;
     }
     Ok(Some(of_pairs))
 }

@@ -5,21 +5,19 @@ ghost use Rattle.cp_sexpr.specs.View.{view};
 ghost use Rattle.cp_model.specs.Given.{atoms_onto, uniques_onto};
 ghost use Rattle.cp_language.specs.Problems.{unique_faults, own_uniques, own_assumptions, is_precedes_item, pairs_in, own_skeleton};
 ghost use Rattle.cp_language.specs.Roles.{headed, item_or_none, atoms_in, forms_under, is_unique_item};
-ghost use Rattle.cp_skel.specs.View.{declaration_view, pair_view, strand_view, skeleton_view};
+ghost use Rattle.cp_strand.specs.View.{declaration_view, strand_view};
+ghost use Rattle.cp_skel.specs.View.{skeleton_view};
 ghost use Rattle.cp_skel.specs.Trees.{variables_view};
 ghost use Rattle.cp_forms.specs.FirstFault.{first_onto};
 ghost use Rattle.cp_load.specs.Drafts.{skeleton_drafted};
-ghost use Rattle.cp_load.specs.Kinds.{is_of_kind};
+ghost use Rattle.cp_scope.specs.Kinds.{is_of_kind};
 
-use crate::assumptions::{Kind, atom_of, atoms_of};
 use crate::drafts::SkeletonDraft;
-use crate::faults::atom_faults;
 use crate::originating::{add_own_uniques, originates};
 use crate::pairs::add_pairs;
-use crate::sorts::Variable;
-use crate::terms::variable_term;
 use cp_base::Code;
 use cp_forms::{FirstFault, ItemHead, headed, item_head, items_behind, place_of};
+use cp_scope::{Kind, Variable, atom_faults, atom_of, atoms_of, variable_term};
 use cp_sexpr::Form;
 use cp_skel::{
     Assumptions, Atom, Declaration, FromProblem, Order, OrderPair, Strand, UniqueAt, add_atoms,
@@ -39,7 +37,7 @@ pub(crate) fn unique_faults(
     ensures { OnOk result (first.new ≡ first_onto first.old (unique_faults (map strand_view strands.now) (map declaration_view variables.now) (view form.now))) }
 {
     let value = atom_of(alloc, variables, form)?;
-    let holds = originates(alloc, strands, &value)?;
+    let holds = originates(strands, &value);
     let mut inside = FirstFault::new();
     atom_faults(variables, form, &mut inside);
     inside.note_unless_faulty(holds, place_of(form), Code::UniqNowhere);
@@ -74,7 +72,7 @@ fn own_uniques(
 {
     let values = atoms_of(alloc, declared, Kind::Unique, body)?;
     let mut uniques = Vec::new(alloc);
-    add_own_uniques(alloc, strands, &values, &mut uniques)?;
+    add_own_uniques(strands, &values, &mut uniques)?;
     Ok(uniques)
 }
 
@@ -106,7 +104,7 @@ fn is_precedes(form: &Form) -> bool
 
 /// The pairs that these items of a problem state.
 fn pairs_of(alloc: Global, body: &[Form]) -> Result<Vec<OrderPair>, AllocError>
-    ensures { IfOk result (λ v. map pair_view v.items ≡ pairs_in (forms_under is_precedes_item (map view body.now))) }
+    ensures { IfOk result (λ v. v.items ≡ pairs_in (forms_under is_precedes_item (map view body.now))) }
 {
     let mut pairs = Vec::new(alloc);
     for item in body {

@@ -1,22 +1,13 @@
 -- The first event of a strand that carries a message.
-use Rattle.std.proofs.Common.{◌≡◌, ℕ, zero, suc, ◌+◌, ◌<◌, ◌≤◌, List, [], ◌∷◌, Some, None, map, length, get_or, slice_get, refl, sym, ap, ◌∙◌, subst, ◌⊎◌, inl, inr, arith, eq-or-lt_of_le}
+use Rattle.std.proofs.Common.{◌≡◌, ℕ, ◌+◌, ◌<◌, ◌≤◌, List, Some, None, map, length, get_or, sym, ap, ◌∙◌, subst, ◌⊎◌, inl, inr, arith, eq-or-lt_of_le}
 use Rattle.std.proofs.lemmas.List.{length-map}
-use Rattle.std.proofs.lemmas.Option.{slice_get_read}
-use Rattle.cp_model.specs.Lists.{item_at}
+use Rattle.cp_lists.specs.Lists.{item_at}
 use Rattle.cp_model.specs.Message.{Message, IsCarriedBy}
 use Rattle.cp_model.specs.Strand.{Event, payload}
-use Rattle.cp_model.specs.Bundle.{Node}
+use Rattle.cp_model.specs.declared.node.Node.{Node}
 use Rattle.cp_model.specs.RunView.{items_or_none}
 use Rattle.cp_model.specs.Carrying.{NoneCarriesBefore, IsFirstCarrying, CarriesAt}
-use Rattle.cp_model.proofs.LawLists.{item_below, map_of_item}
-
-slice_get_item : {A : Type 0} (xs : List A) (i : ℕ) → slice_get xs i ≡ item_at xs i
-slice_get_item [] i = refl
-slice_get_item (x ∷ xs) zero = refl
-slice_get_item (x ∷ xs) (suc i) = slice_get_item xs i
-
-pub item_of_get : {A B : Type 0} (f : A → B) (xs : List A) (i : ℕ) (x : A) → i < length xs → x ≡ get_or xs i x → item_at (map f xs) i ≡ Some (f x)
-item_of_get f xs i x l e = map_of_item f xs i x (sym (slice_get_item xs i) ∙ slice_get_read xs (length xs) i x refl l e)
+use Rattle.cp_lists.proofs.Items.{item_below, map_of_read}
 
 module _ {A : Type 0} (f : A → Event Message) (m : Message) (es : List A) where
   none_at : (i : ℕ) (x : A) → item_at (map f es) i ≡ Some (f x) → (IsCarriedBy m (payload (f x)) → ⊥) → NoneCarriesBefore m (map f es) i →
@@ -29,7 +20,7 @@ module _ {A : Type 0} (f : A → Event Message) (m : Message) (es : List A) wher
 
   -- An event that does not carry the message is passed.
   pub none_next : (i : ℕ) (x : A) → i < length es → x ≡ get_or es i x → (IsCarriedBy m (payload (f x)) → ⊥) → NoneCarriesBefore m (map f es) i → NoneCarriesBefore m (map f es) (i + 1)
-  none_next i x l e not none j g less at c = none_at i x (item_of_get f es i x l e) not none j g (eq-or-lt_of_le (omega arith)) at c
+  none_next i x l e not none j g less at c = none_at i x (map_of_read f es i x l e) not none j g (eq-or-lt_of_le (omega arith)) at c
 
   -- Behind the last none is left.
   pub none_at_all : (i : ℕ) → length es ≤ i → NoneCarriesBefore m (map f es) i → IsFirstCarrying m (map f es) None

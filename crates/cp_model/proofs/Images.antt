@@ -1,6 +1,7 @@
 -- Lists that are exactly what a function makes of the items of another.
 use Rattle.std.proofs.Common.{◌≡◌, List, [], ◌∷◌, map, refl, sym, ap, ◌∙◌, subst}
-use Rattle.cp_model.specs.Lists.{IsIn, here, there}
+use Rattle.cp_lists.specs.Lists.{IsIn, here, there}
+use Rattle.cp_lists.proofs.Members.{into_map}
 use Rattle.cp_model.specs.Stated.{IsImageOfOne, AreImages}
 
 -- What a function that changes nothing makes of the items is these items.
@@ -23,13 +24,8 @@ in_mapped f [] y i = elim i [ ]
 in_mapped f (x ∷ xs) y here = record { item = x; listed = here; image = refl }
 in_mapped f (x ∷ xs) y (there i) = let r = in_mapped f xs y i in record { item = r.item; listed = there r.listed; image = r.image }
 
-into_mapped : {A B : Type 0} (f : A → B) (xs : List A) (x : A) → IsIn x xs → IsIn (f x) (map f xs)
-into_mapped f [] x i = elim i [ ]
-into_mapped f (y ∷ ys) x here = here
-into_mapped f (y ∷ ys) x (there i) = there (into_mapped f ys x i)
-
 pub mapped_images : {A B : Type 0} (f : A → B) (xs : List A) → AreImages f xs (map f xs)
-mapped_images f xs y = (in_mapped f xs y, λ r. subst (λ z. IsIn z (map f xs)) r.image (into_mapped f xs r.item r.listed))
+mapped_images f xs y = (in_mapped f xs y, λ r. subst (λ z. IsIn z (map f xs)) r.image (into_map f r.listed))
 
 -- What a function makes of some of the items is among what it makes of all.
 pub images_within : {A B : Type 0} (f : A → B) (xs all : List A) (ys zs : List B) → AreImages f xs ys → AreImages f all zs → ((x : A) → IsIn x xs → IsIn x all) → (y : B) → IsIn y ys → IsIn y zs

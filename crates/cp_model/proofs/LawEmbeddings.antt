@@ -1,26 +1,19 @@
 -- A skeleton embeds in itself, and embeddings compose.
-use Rattle.std.proofs.Common.{◌≡◌, ℕ, List, [], ◌∷◌, Some, map, refl, sym, ap, ap₂, ◌∙◌, subst, le_trans, le_refl}
-use Rattle.cp_model.specs.Lists.{item_at, IsIn}
+use Rattle.std.proofs.Common.{◌≡◌, ℕ, Some, map, refl, sym, ap, ◌∙◌, subst, le_trans, le_refl}
+use Rattle.cp_lists.specs.Lists.{item_at, IsIn}
+use Rattle.cp_lists.proofs.Mapped.{map_same, map_then}
 use Rattle.cp_model.specs.Term.{AtomTerm, atom_of_variable, Term, Substitution, apply_to, apply_to_atom, composed, unchanged}
 use Rattle.cp_model.specs.Strand.{Role}
 use Rattle.cp_model.specs.Skeleton.{instance, listener, Skeleton}
 use Rattle.cp_model.specs.Homomorphism.{SkeletonMap, mapped, GoesToInstance, IsHomomorphism, IsEmbedding, Embeds}
-use Rattle.cp_model.proofs.LawTerms.{atom_composed, term_composed, atom_unchanged, term_unchanged}
-use Rattle.cp_model.proofs.LawLists.{variables_of_higher}
-
-map_same : {A : Type 0} (f : A → A) → ((x : A) → f x ≡ x) → (xs : List A) → map f xs ≡ xs
-map_same f e [] = refl
-map_same f e (x ∷ xs) = ap₂ ◌∷◌ (e x) (map_same f e xs)
-
-map_both : {A : Type 0} (f g h : A → A) → ((x : A) → h x ≡ g (f x)) → (xs : List A) → map h xs ≡ map g (map f xs)
-map_both f g h e [] = refl
-map_both f g h e (x ∷ xs) = ap₂ ◌∷◌ (e x) (map_both f g h e xs)
+use Rattle.cp_model.proofs.LawTerms.{composed_further, atom_composed, term_composed, atom_unchanged, term_unchanged}
+use Rattle.cp_model.proofs.LawPrefixes.{variables_of_higher}
 
 -- The map that changes nothing.
 abbrev pub same_map : SkeletonMap
 same_map = record { strands = λ s. s; terms = unchanged }
 
-same_homomorphism : (k : Skeleton) → IsHomomorphism k k same_map
+pub same_homomorphism : (k : Skeleton) → IsHomomorphism k k same_map
 same_homomorphism k = record {
   instances = λ s role height terms at. record {
     to_height = height;
@@ -58,12 +51,7 @@ then_instance a b c f g hf hg s role height terms at = record {
   to_terms = second.to_terms;
   on_instance = second.on_instance;
   at_least = le_trans first.at_least second.at_least;
-  equal_terms = λ x inx.
-      atom_composed terms (composed f.terms g.terms) (atom_of_variable x)
-      ∙ atom_composed f.terms g.terms (apply_to_atom terms (atom_of_variable x))
-      ∙ ap (apply_to_atom g.terms) (sym (atom_composed terms f.terms (atom_of_variable x)) ∙ first.equal_terms x inx)
-      ∙ sym (atom_composed first.to_terms g.terms (atom_of_variable x))
-      ∙ second.equal_terms x (variables_of_higher role height first.to_height first.at_least x inx);
+  equal_terms = λ x inx. composed_further f.terms terms first.to_terms g.terms (atom_of_variable x) (first.equal_terms x inx) ∙ second.equal_terms x (variables_of_higher role height first.to_height first.at_least x inx);
 }
   where
     first : GoesToInstance b f s role height terms
@@ -91,8 +79,8 @@ then_embedding a b c f g ef eg = record {
       let gt = ef.homomorphism.instances t role' height' terms' au in
       ef.injective s t role height terms role' height' terms' at au
       (eg.injective (f.strands s) (f.strands t) role gs.to_height gs.to_terms role' gt.to_height gt.to_terms gs.on_instance gt.on_instance e);
-  same_strands = map_both f.strands g.strands (λ s. g.strands (f.strands s)) (λ s. refl) a.from_problem.strands ∙ ap (map g.strands) ef.same_strands ∙ eg.same_strands;
-  same_values = map_both (apply_to f.terms) (apply_to g.terms) (apply_to (composed f.terms g.terms)) (term_composed f.terms g.terms) a.from_problem.values
+  same_strands = map_then f.strands g.strands (λ s. g.strands (f.strands s)) (λ s. refl) a.from_problem.strands ∙ ap (map g.strands) ef.same_strands ∙ eg.same_strands;
+  same_values = map_then (apply_to f.terms) (apply_to g.terms) (apply_to (composed f.terms g.terms)) (term_composed f.terms g.terms) a.from_problem.values
       ∙ ap (map (apply_to g.terms)) ef.same_values ∙ eg.same_values;
 }
 

@@ -61,13 +61,13 @@ dec_message (enc a k) (enc b l) = dec_two (ap₂ enc) (λ e. cc) (λ e. cc) (dec
 dec_message _ _ = no (λ e. cc)
 
 -- What a message carries: itself, or what its parts carry.
-abbrev InParts : Message → Message → Type 0
+abbrev pub InParts : Message → Message → Type 0
 InParts v (tag bytes) = ⊥
 InParts v (atom a) = ⊥
 InParts v (pair a b) = IsCarriedBy v a ⊎ IsCarriedBy v b
 InParts v (enc a k) = IsCarriedBy v a
 
-carried_cases : {v m : Message} → IsCarriedBy v m → (v ≡ m) ⊎ InParts v m
+pub carried_cases : {v m : Message} → IsCarriedBy v m → (v ≡ m) ⊎ InParts v m
 carried_cases itself = inl refl
 carried_cases (in_left p) = inr (inl p)
 carried_cases (in_right p) = inr (inr p)
@@ -81,7 +81,8 @@ dec_parts v m back (yes e) d = yes (same_is_carried v m e)
 dec_parts v m back (no n) (yes p) = yes (back p)
 dec_parts v m back (no n) (no q) = no (λ c. ⊎_elim n q (carried_cases c))
 
-dec_or : {A B : Type 0} → Dec A → Dec B → Dec (A ⊎ B)
+-- One of two decidable facts.
+pub dec_or : {A B : Type 0} → Dec A → Dec B → Dec (A ⊎ B)
 dec_or (yes a) d = yes (inl a)
 dec_or (no n) (yes b) = yes (inr b)
 dec_or (no n) (no m) = no (⊎_elim n m)

@@ -1,11 +1,15 @@
 -- The order of a skeleton by strands and pairs alone.
-use Rattle.std.proofs.Common.{◌≡◌, ◌↔◌, ◌⊎◌, inl, inr, ℕ, zero, suc, ◌<◌, ◌≤◌, List, [], ◌∷◌, refl, sym, ◌∙◌, subst, arith}
-use Rattle.std.specs.Prelude.{nat_lt, Bool, true, false, Some}
+use Rattle.std.proofs.Common.{Some, ◌≡◌, ◌↔◌, ◌⊎◌, inl, inr, ℕ, zero, suc, ◌<◌, List, refl, sym, ◌∙◌, subst, arith}
+use Rattle.std.specs.Prelude.{nat_lt, Bool, true, false}
 use Rattle.std.proofs.lemmas.Bool.Decides.{nat_tests}
-use Rattle.cp_model.specs.Lists.{item_at, IsIn, Steps, one_step, more_steps}
+use Rattle.cp_lists.specs.Lists.{item_at, IsIn, one_step, more_steps}
+use Rattle.cp_lists.proofs.Items.{item_before}
+use Rattle.cp_lists.proofs.Reached.{steps_append}
 use Rattle.cp_model.specs.Strand.{send}
-use Rattle.cp_model.specs.Bundle.{Node, node_at}
-use Rattle.cp_model.specs.Skeleton.{skeleton_trace_or_none, IsNodeOf, OrderPair, Skeleton, OrderStep, along_strand_of, along_pair, Before, IsOrderPair}
+use Rattle.cp_model.specs.Bundle.{node_at}
+use Rattle.cp_model.specs.declared.node.Node.{Node}
+use Rattle.cp_model.specs.Skeleton.{term_event_at, skeleton_trace_or_none, IsNodeOf, Skeleton, OrderStep, along_strand_of, along_pair, Before, IsOrderPair}
+use Rattle.cp_model.specs.declared.node.OrderPair.{OrderPair}
 use Rattle.cp_model.specs.Order.{IsAtOrAfter, LeadsTo, on_strand, over_pair}
 
 -- ---- what is before leads there
@@ -24,16 +28,6 @@ before_leads k x z (more_steps {y} s l) = step_leads k x y z s (before_leads k y
 
 -- ---- what leads there is before
 
-earlier_item : {A : Type 0} (xs : List A) (i j : ℕ) (e : A) → i ≤ j → item_at xs j ≡ Some e → (f : A) × (item_at xs i ≡ Some f)
-earlier_item [] i j e l h = absurd (cc)
-earlier_item (x ∷ xs) zero j e l h = (x, refl)
-earlier_item (x ∷ xs) (suc i) zero e l h = absurd (omega arith)
-earlier_item (x ∷ xs) (suc i) (suc j) e l h = earlier_item xs i j e (omega (arith, l)) h
-
-joined : {A : Type 0} {step : A → A → Type 0} (a b c : A) → Steps step a b → Steps step b c → Steps step a c
-joined a b c (one_step s) t = more_steps s t
-joined a b c (more_steps {y} s r) t = more_steps s (joined y b c r t)
-
 less_or_same : (i j : ℕ) → i < suc j → (i < j) ⊎ (i ≡ j)
 less_or_same i j l = by_test (nat_lt i j) refl
   where
@@ -45,10 +39,10 @@ less_or_same i j l = by_test (nat_lt i j) refl
 along : (k : Skeleton) (s i j : ℕ) → i < j → IsNodeOf k.strands (node_at s j) → Before k (node_at s i) (node_at s j)
 along k s i zero l n = absurd (omega arith)
 along k s i (suc j) l n =
-    let below : IsNodeOf k.strands (node_at s j) = earlier_item (skeleton_trace_or_none (item_at k.strands s)) j (suc j) n.0 (omega arith) n.1 in
+    let below : IsNodeOf k.strands (node_at s j) = item_before (skeleton_trace_or_none (item_at k.strands s)) j (suc j) n.0 n.1 (omega arith) in
     let last : Before k (node_at s j) (node_at s (suc j)) = one_step (along_strand_of n.1) in
     elim (less_or_same i j l) as (λ _. Before k (node_at s i) (node_at s (suc j))) [
-      | inl less ↦ joined (node_at s i) (node_at s j) (node_at s (suc j)) (along k s i j less below) last
+      | inl less ↦ steps_append (along k s i j less below) last
       | inr same ↦ subst (λ h. Before k (node_at s h) (node_at s (suc j))) (sym same) last
     ]
 
@@ -60,11 +54,11 @@ same_or_along k x y a n = elim (less_or_same x.index y.index (omega (arith, a.1)
 
 then_before : (k : Skeleton) (x y z : Node) → (x ≡ y) ⊎ Before k x y → Before k y z → Before k x z
 then_before k x y z (inl e) b = subst (λ (n : Node). Before k n z) (sym e) b
-then_before k x y z (inr a) b = joined x y z a b
+then_before k x y z (inr a) b = steps_append a b
 
 before_then : (k : Skeleton) (x y z : Node) → Before k x y → (y ≡ z) ⊎ Before k y z → Before k x z
 before_then k x y z a (inl e) = subst (Before k x) e a
-before_then k x y z a (inr b) = joined x y z a b
+before_then k x y z a (inr b) = steps_append a b
 
 module _ (k : Skeleton) (order_pairs : (p : OrderPair) → IsIn p k.pairs → IsOrderPair k p) where
   is_node : (p : OrderPair) → IsIn p k.pairs → IsNodeOf k.strands p.earlier
@@ -83,3 +77,14 @@ module _ (k : Skeleton) (order_pairs : (p : OrderPair) → IsIn p k.pairs → Is
   pub before_by_pairs : ((n : Node) → Before k n n → ⊥) → (x y : Node) → IsNodeOf k.strands y → Before k x y ↔ (LeadsTo k.pairs x y × (x ≡ y → ⊥))
   before_by_pairs no_cycle x y n =
       (λ b. (before_leads k x y b, λ e. no_cycle x (subst (Before k x) (sym e) b)), λ h. differ x y h.1 (leads_before x y n h.0))
+
+-- ---- with more pairs
+
+module _ (k l : Skeleton) (strands : l.strands ≡ k.strands) (wider : (p : OrderPair) → IsIn p k.pairs → IsIn p l.pairs) where
+  step_wider : {x y : Node} → OrderStep k x y → OrderStep l x y
+  step_wider (along_strand_of {s = s} {i = i} {e = e} ev) = along_strand_of (subst (λ ss. term_event_at ss (node_at s (suc i)) ≡ Some e) (sym strands) ev)
+  step_wider (along_pair {p = p} inp) = along_pair (wider p inp)
+
+  pub before_wider : {x y : Node} → Before k x y → Before l x y
+  before_wider (one_step p) = one_step (step_wider p)
+  before_wider (more_steps p q) = more_steps (step_wider p) (before_wider q)

@@ -1,39 +1,15 @@
 -- What a node carries originates there or before.
-use Rattle.std.proofs.Common.{◌≡◌, ℕ, zero, suc, ◌<◌, List, Option, Some, None, refl, sym, ap, ◌∙◌, subst, ◌⊎◌, inl, inr, arith, eq-or-lt_of_le, le_of_suc-le-suc, lt_trans}
-use Rattle.cp_model.specs.Lists.{item_at, IsIn, here, there, one_step, more_steps}
+use Rattle.std.proofs.Common.{◌≡◌, ℕ, zero, suc, ◌<◌, Option, Some, None, refl, sym, ap, ◌∙◌, subst, ◌⊎◌, inl, inr, arith, eq-or-lt_of_le, le_of_suc-le-suc, lt_trans}
+use Rattle.cp_lists.specs.Lists.{item_at, one_step, more_steps}
+use Rattle.cp_lists.proofs.Items.{place_of}
+use Rattle.cp_lists.proofs.Least.{least}
 use Rattle.cp_model.specs.Message.{Message, IsCarriedBy}
 use Rattle.cp_model.specs.Strand.{Event, send, recv, payload, Protocol}
-use Rattle.cp_model.specs.Bundle.{Node, node_at, event_at, OriginatesAt, Bundle, BundleStep, along_strand, along_link, Precedes, IsBundle}
+use Rattle.cp_model.specs.Bundle.{node_at, event_at, OriginatesAt, Bundle, BundleStep, along_strand, along_link, Precedes, IsBundle}
+use Rattle.cp_model.specs.declared.node.Node.{Node}
 use Rattle.cp_model.proofs.LawMessages.{dec_carried}
-use Rattle.cp_model.proofs.LawLists.{steps_append}
+use Rattle.cp_lists.proofs.Reached.{steps_append}
 use Rattle.cp_model.proofs.LawStandings.{bundle_climb}
-
--- The least number with a decidable property, below a bound.
-abbrev NoneBelow : (ℕ → Type 0) → ℕ → Type 0
-NoneBelow P n = (k : ℕ) → k < n → P k → ⊥
-
-abbrev LeastBelow : (ℕ → Type 0) → ℕ → Type 0
-LeastBelow P n = (j : ℕ) × (j < n) × P j × NoneBelow P j
-
-none_more : (P : ℕ → Type 0) (n : ℕ) → NoneBelow P n → (P n → ⊥) → (k : ℕ) → (k ≡ n) ⊎ (k < n) → P k → ⊥
-none_more P n none last k (inl e) p = last (subst P e p)
-none_more P n none last k (inr l) p = none k l p
-
-least_more : (P : ℕ → Type 0) (n : ℕ) → Dec (P n) → LeastBelow P n ⊎ NoneBelow P n → LeastBelow P (suc n) ⊎ NoneBelow P (suc n)
-least_more P n d (inl r) = let l : r.0 < n = r.1 in inl (r.0, omega arith, r.2, r.3)
-least_more P n (yes p) (inr none) = inl (n, omega arith, p, none)
-least_more P n (no q) (inr none) = inr (λ k l. none_more P n none q k (eq-or-lt_of_le (le_of_suc-le-suc l)))
-
-scan : (P : ℕ → Type 0) → ((j : ℕ) → Dec (P j)) → (n : ℕ) → LeastBelow P n ⊎ NoneBelow P n
-scan P d zero = inr (λ k l. absurd (omega arith))
-scan P d (suc n) = least_more P n (d n) (scan P d n)
-
-least_of : (P : ℕ → Type 0) (n : ℕ) → P n → LeastBelow P (suc n) ⊎ NoneBelow P (suc n) → LeastBelow P (suc n)
-least_of P n p (inl r) = r
-least_of P n p (inr none) = absurd (none n (omega arith) p)
-
-least : (P : ℕ → Type 0) → ((j : ℕ) → Dec (P j)) → (n : ℕ) → P n → LeastBelow P (suc n)
-least P d n p = least_of P n p (scan P d (suc n))
 
 -- An event there carries the message.
 abbrev CarriedIn : Message → Option (Event Message) → Type 0
@@ -47,12 +23,7 @@ dec_carried_in : (v : Message) (o : Option (Event Message)) → Dec (CarriedIn v
 dec_carried_in v None = no (λ r. let e : None ≡ Some r.0 = r.1 in absurd (cc))
 dec_carried_in v (Some e) = carried_in_some v e (dec_carried v (payload e))
 
--- Places in the numbering.
-pub place_of : {A : Type 0} {x : A} {xs : List A} → IsIn x xs → (i : ℕ) × (item_at xs i ≡ Some x)
-place_of here = (zero, refl)
-place_of (there p) = let r = place_of p in (suc r.0, r.1)
-
-event_after : (b : Bundle) {x y : Node} → BundleStep b x y → (e : Event Message) × (event_at b.strands y ≡ Some e)
+pub event_after : (b : Bundle) {x y : Node} → BundleStep b x y → (e : Event Message) × (event_at b.strands y ≡ Some e)
 event_after b (along_strand {e = e} ev) = (e, ev)
 event_after b (along_link {m = m} ev) = (recv m, ev)
 
@@ -63,6 +34,18 @@ path_rises protocol b is {x = x} (more_steps {y = z} s p) i j at au =
     let ev = event_after b s in
     let place = place_of (is.listing.each z ev.0 ev.1) in
     lt_trans (is.rises x z i place.0 s at place.1) (path_rises protocol b is p place.0 j place.1 au)
+
+-- No node of a bundle precedes itself.
+last_event : (b : Bundle) {x y : Node} → Precedes b x y → (e : Event Message) × (event_at b.strands y ≡ Some e)
+last_event b (one_step s) = event_after b s
+last_event b (more_steps s p) = last_event b p
+
+pub never_before_itself : (protocol : Protocol) (b : Bundle) (n : Node) → IsBundle protocol b → Precedes b n n → ⊥
+never_before_itself protocol b n is p =
+    let e = last_event b p in
+    let place = place_of (is.listing.each n e.0 e.1) in
+    let l : place.0 < place.0 = path_rises protocol b is p place.0 place.0 place.1 place.1 in
+    omega arith
 
 abbrev pub AtOrBefore : Bundle → Node → Node → Type 0
 AtOrBefore b x y = (x ≡ y) ⊎ Precedes b x y

@@ -1,9 +1,10 @@
 -- A run makes a bundle.
 use Rattle.std.proofs.Common.{◌≡◌, ℕ, ◌<◌, ◌≤◌, List, Some, sym, subst, subst₂, arith}
-use Rattle.cp_model.specs.Lists.{item_at}
+use Rattle.cp_lists.specs.Lists.{item_at}
 use Rattle.cp_model.specs.Message.{Message}
 use Rattle.cp_model.specs.Strand.{send, recv, Protocol, Strand}
-use Rattle.cp_model.specs.Bundle.{Node, event_at, AreOfProtocol, Bundle, BundleStep, along_strand, along_link, IsListing, IsBundle}
+use Rattle.cp_model.specs.Bundle.{event_at, AreOfProtocol, Bundle, BundleStep, along_strand, along_link, IsListing, IsBundle}
+use Rattle.cp_model.specs.declared.node.Node.{Node}
 use Rattle.cp_model.specs.Run.{Run, IsRun, IsFirstSender, IsBundleOf}
 
 -- The numbering rises from the first sender of a message to its reception.

@@ -1,17 +1,21 @@
 -- A homomorphism followed by a standing is a standing.
 use Rattle.std.proofs.Common.{◌≡◌, ◌≢◌, ℕ, zero, suc, ◌<◌, ◌≤◌, List, Option, Some, None, refl, sym, ap, ◌∙◌, subst, subst₂, le_trans, ◌⊎◌, inl, inr, arith, eq-or-lt_of_le}
 use native.Mathlib.Decide.{ℕ_discrete, dec_lt}
-use Rattle.cp_model.specs.Lists.{item_at, IsIn, one_step, more_steps}
+use Rattle.cp_lists.specs.Lists.{item_at, IsIn, one_step, more_steps}
 use Rattle.cp_model.specs.Message.{Atom, Message, atom}
 use Rattle.cp_model.specs.Term.{atom_of_variable, Term, Assignment, value_of, value_of_atom, Substitution, apply_to, apply_to_atom, after}
 use Rattle.cp_model.specs.Strand.{Event, send, recv, event_map, Role, Protocol, prefix_of, Strand, regular}
-use Rattle.cp_model.specs.Bundle.{Node, node_at, event_at, trace_or_none, Bundle, along_strand, Precedes, KeepsNon, KeepsPenetratorNon, KeepsUnique}
-use Rattle.cp_model.specs.Skeleton.{SkeletonStrand, instance, listener, skeleton_trace, skeleton_trace_or_none, term_event_at, UniqueAt, OrderPair, Skeleton, OrderStep, along_strand_of, along_pair, Before, IsOrderPair, IsSkeleton}
+use Rattle.cp_model.specs.Bundle.{node_at, event_at, trace_or_none, Bundle, along_strand, Precedes, KeepsNon, KeepsPenetratorNon, KeepsUnique}
+use Rattle.cp_model.specs.declared.node.Node.{Node}
+use Rattle.cp_model.specs.Skeleton.{SkeletonStrand, instance, listener, skeleton_trace, skeleton_trace_or_none, term_event_at, UniqueAt, Skeleton, OrderStep, along_strand_of, along_pair, Before, IsOrderPair, IsSkeleton}
+use Rattle.cp_model.specs.declared.node.OrderPair.{OrderPair}
 use Rattle.cp_model.specs.Standing.{Standing, image_on, image_of, StandsOnRegular, StandsIn}
 use Rattle.cp_model.specs.Homomorphism.{SkeletonMap, mapped, GoesToInstance, IsHomomorphism}
 use Rattle.cp_model.specs.Composition.{through}
-use Rattle.cp_model.proofs.LawTerms.{value_after, atom_after, atom_composed}
-use Rattle.cp_model.proofs.LawLists.{variables_of_higher, item_of_take, take_of_item, item_of_map, map_of_item, item_before, climb, steps_append}
+use Rattle.cp_model.proofs.LawTerms.{after_further, value_after, atom_after}
+use Rattle.cp_model.proofs.LawPrefixes.{variables_of_higher, climb}
+use Rattle.cp_lists.proofs.Items.{item_of_take, take_of_item, item_of_map, map_of_item, item_before}
+use Rattle.cp_lists.proofs.Reached.{steps_append}
 
 -- A strand of a skeleton on which there is an event.
 strand_of_option : (o : Option SkeletonStrand) (i : ℕ) (e : Event Term) → item_at (skeleton_trace_or_none o) i ≡ Some e → (st : SkeletonStrand) × (o ≡ Some st)
@@ -202,25 +206,17 @@ pair_follows protocol a b f bundle h ska skb hom stands p inp =
 -- Instances, listeners and assumptions.
 instances_stand : (a b : Skeleton) (f : SkeletonMap) (bundle : Bundle) (h : Standing) → IsHomomorphism a b f → StandsIn b bundle h →
     (s : ℕ) (role : Role) (height : ℕ) (terms : Substitution) → item_at a.strands s ≡ Some (instance role height terms) → StandsOnRegular bundle (through f h) s role height terms
-instances_stand a b f bundle h hom stands s role height terms at = record {
-  at_start = st.at_start;
-  to_height = st.to_height;
-  to_values = st.to_values;
-  on_regular = st.on_regular;
-  at_least = le_trans g.at_least st.at_least;
-  equal_values = λ x inx.
-      atom_after (after h.values f.terms) terms (atom_of_variable x)
-      ∙ atom_after h.values f.terms (apply_to_atom terms (atom_of_variable x))
-      ∙ ap (value_of_atom h.values) (sym (atom_composed terms f.terms (atom_of_variable x)) ∙ g.equal_terms x inx)
-      ∙ sym (atom_after h.values g.to_terms (atom_of_variable x))
-      ∙ st.equal_values x (variables_of_higher role height g.to_height g.at_least x inx);
-}
-  where
-    g : GoesToInstance b f s role height terms
-    g = hom.instances s role height terms at
-
-    st : StandsOnRegular bundle h (f.strands s) role g.to_height g.to_terms
-    st = stands.instances (f.strands s) role g.to_height g.to_terms g.on_instance
+instances_stand a b f bundle h hom stands s role height terms at =
+    let g : GoesToInstance b f s role height terms = hom.instances s role height terms at in
+    let st : StandsOnRegular bundle h (f.strands s) role g.to_height g.to_terms = stands.instances (f.strands s) role g.to_height g.to_terms g.on_instance in
+    record {
+      at_start = st.at_start;
+      to_height = st.to_height;
+      to_values = st.to_values;
+      on_regular = st.on_regular;
+      at_least = le_trans g.at_least st.at_least;
+      equal_values = λ x inx. after_further f.terms terms g.to_terms h.values (atom_of_variable x) (g.equal_terms x inx) ∙ st.equal_values x (variables_of_higher role height g.to_height g.at_least x inx);
+    }
 
 uniques_stand : (protocol : Protocol) (a b : Skeleton) (f : SkeletonMap) (bundle : Bundle) (h : Standing) → IsSkeleton protocol a → IsHomomorphism a b f → StandsIn b bundle h →
     (u : UniqueAt) → IsIn u a.assumptions.uniquely_originating → KeepsUnique bundle.strands (atom (value_of_atom (after h.values f.terms) u.value)) (image_of a (through f h) u.origin)

@@ -1,7 +1,7 @@
 -- Values and terms under composed substitutions, and that they depend on the variables that occur alone.
-use Rattle.std.proofs.Common.{◌≡◌, Bool, true, false, refl, sym, ap, ap₂}
+use Rattle.std.proofs.Common.{◌≡◌, Bool, true, false, refl, sym, ap, ap₂, ◌∙◌}
 use Rattle.cp_model.specs.Message.{KeyPair, symmetric, asymmetric, key, atom, pair, enc}
-use Rattle.cp_model.specs.Term.{SymmetricTerm, skey_variable, ltk_term, PairTerm, akey_variable, pubk_term, KeyTerm, symmetric_term, asymmetric_term, AtomTerm, text_variable, datum_variable, name_variable, key_term, Term, tag_term, atom_term, pair_term, enc_term, Assignment, flag_of, value_of_symmetric, value_of_half, value_of_key, value_of_atom, value_of, Substitution, apply_to_symmetric, apply_to_half, apply_to_key, apply_to_atom, apply_to, after, composed, unchanged}
+use Rattle.cp_model.specs.Term.{SymmetricTerm, skey_variable, ltk_term, PairTerm, akey_variable, pubk_term, KeyTerm, symmetric_term, asymmetric_term, AtomTerm, text_variable, datum_variable, name_variable, key_term, Term, tag_term, atom_term, pair_term, enc_term, Assignment, flag_of, value_of_symmetric, value_of_half, value_of_key, value_of_atom, value_of, Substitution, apply_to_symmetric, apply_to_half, apply_to_key, apply_to_atom, apply_to, after, composed, unchanged, IsCarriedByTerm, itself_term, in_left_term, in_right_term, in_plaintext_term}
 
 -- Flags add up.
 pub flags : (a b c : Bool) → flag_of a (flag_of b c) ≡ flag_of (flag_of a b) c
@@ -93,3 +93,18 @@ term_unchanged (tag_term bytes) = refl
 term_unchanged (atom_term a) = ap atom_term (atom_unchanged a)
 term_unchanged (pair_term a b) = ap₂ pair_term (term_unchanged a) (term_unchanged b)
 term_unchanged (enc_term a k) = ap₂ enc_term (term_unchanged a) (key_unchanged k)
+
+-- What two substitutions make of a variable alike stays alike under a further one, and under an assignment.
+pub composed_further : (f t to g : Substitution) (v : AtomTerm) → apply_to_atom (composed t f) v ≡ apply_to_atom to v → apply_to_atom (composed t (composed f g)) v ≡ apply_to_atom (composed to g) v
+composed_further f t to g v e =
+    atom_composed t (composed f g) v ∙ atom_composed f g (apply_to_atom t v) ∙ ap (apply_to_atom g) (sym (atom_composed t f v) ∙ e) ∙ sym (atom_composed to g v)
+
+pub after_further : (f t to : Substitution) (g : Assignment) (v : AtomTerm) → apply_to_atom (composed t f) v ≡ apply_to_atom to v → value_of_atom (after (after g f) t) v ≡ value_of_atom (after g to) v
+after_further f t to g v e = atom_after (after g f) t v ∙ atom_after g f (apply_to_atom t v) ∙ ap (value_of_atom g) (sym (atom_composed t f v) ∙ e) ∙ sym (atom_after g to v)
+
+-- What a term carries is carried under a substitution.
+pub carried_under : (s : Substitution) {v : AtomTerm} {t : Term} → IsCarriedByTerm (atom_term v) t → IsCarriedByTerm (atom_term (apply_to_atom s v)) (apply_to s t)
+carried_under s itself_term = itself_term
+carried_under s (in_left_term p) = in_left_term (carried_under s p)
+carried_under s (in_right_term p) = in_right_term (carried_under s p)
+carried_under s (in_plaintext_term p) = in_plaintext_term (carried_under s p)

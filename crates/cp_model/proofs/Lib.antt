@@ -1,4 +1,4 @@
-pub mod LawLists
+pub mod LawPrefixes
 pub mod LawTerms
 pub mod LawStandings
 pub mod LawEmbeddings
@@ -6,6 +6,10 @@ pub mod LawMessages
 pub mod LawOrigins
 pub mod LawRuns
 pub mod LawOrder
+pub mod LawEvents
+pub mod StrandParts
+pub mod LawAgreement
+pub mod CarriedValues
 pub mod SingleValues
 pub mod SingleTraces
 pub mod SingleBundle
@@ -13,6 +17,7 @@ pub mod SingleRealised
 pub mod SingleMaps
 pub mod SingleExample
 pub mod CarriedMessages
+pub mod CarriedParts
 pub mod Paired
 pub mod RunLinks
 pub mod FirstCarrying
@@ -21,3 +26,7 @@ pub mod SameTests
 pub mod Images
 pub mod StatedItself
 pub mod StatedStays
+pub mod Gathered
+pub mod NodeTests
+pub mod Reaching
+pub mod DeclaredVariables

@@ -1,16 +1,17 @@
 -- Back along strands and links to an origin.
 use Rattle.std.proofs.Common.{◌≡◌, ℕ, ◌+◌, ◌<◌, ◌≤◌, List, Some, None, map, length, refl, sym, ap, ◌∙◌, subst, ◌⊎◌, inl, inr, arith, eq-or-lt_of_le}
-use Rattle.std.proofs.lemmas.List.{length-map}
-use Rattle.cp_model.specs.Lists.{item_at, one_step, more_steps}
+use Rattle.cp_lists.specs.Lists.{item_at, one_step, more_steps}
 use Rattle.cp_model.specs.Message.{Message, IsCarriedBy}
 use Rattle.cp_model.specs.Strand.{Event, send, recv, payload, Protocol}
-use Rattle.cp_model.specs.Bundle.{Node, node_at, event_at, OriginatesAt, Bundle, BundleStep, along_link, Precedes, IsBundle}
-use Rattle.cp_model.specs.RunView.{trace_view, node_view, row_view, items_or_none, link_in, if_reception, sender_in, StandsForBundle}
+use Rattle.cp_model.specs.Bundle.{node_at, event_at, OriginatesAt, Bundle, BundleStep, along_link, Precedes, IsBundle}
+use Rattle.cp_model.specs.declared.node.Node.{Node}
+use Rattle.cp_model.specs.RunView.{trace_view, items_or_none, link_in, if_reception, sender_in, StandsForBundle, row_view}
 use Rattle.cp_model.specs.Carrying.{CarriesAt, IsFirstOnStrand}
 use Rattle.cp_model.specs.declared.bundle.Bundle as program
 use Rattle.cp_model.specs.declared.strand.Strand as program_strand
-use Rattle.cp_model.proofs.LawLists.{steps_append, item_below}
-use Rattle.cp_model.proofs.LawOrigins.{AtOrBefore, place_of, path_rises}
+use Rattle.cp_lists.proofs.Reached.{steps_append}
+use Rattle.cp_lists.proofs.Items.{item_below, place_of}
+use Rattle.cp_model.proofs.LawOrigins.{AtOrBefore, path_rises}
 use Rattle.cp_model.proofs.LawStandings.{bundle_climb}
 use Rattle.cp_model.proofs.RunLinks.{trace_there, same_event}
 
@@ -137,7 +138,7 @@ module _ (b : program.Bundle) (m : Message) (n : Node) (steps : ℕ) (x : Node) 
   pub runs_out : length b.order.items ≤ steps → WhereCarried b m n (λ p. IsOrigin p m n x)
   runs_out all protocol p e stands is ev c =
       let few : steps < length p.order = trail_few p m n steps x (trail protocol p e stands is ev c) in
-      let as_many : length p.order ≡ length b.order.items = ap length stands.order ∙ length-map b.order.items node_view in
+      let as_many : length p.order ≡ length b.order.items = ap length stands.order ∙ refl in
       absurd (omega arith)
 
   module _ (ss : List program_strand.Strand) (f : Node) (same : ss ≡ b.strands.items) (first : CarriesAt (map trace_view ss) m x → IsFirstOnStrand (map trace_view ss) m f x) where

@@ -1,7 +1,7 @@
 -- Lists that are related place by place, and the first item that is so.
 use Rattle.std.proofs.Common.{◌≡◌, ℕ, zero, suc, ◌≤◌, List, [], ◌∷◌, ◌++◌, Option, Some, map, drop, length, refl, sym, subst, inl, inr, arith}
 use Rattle.std.proofs.lemmas.List.{append-nil, drop_all}
-use Rattle.cp_model.specs.Lists.{item_at}
+use Rattle.cp_lists.specs.Lists.{item_at}
 use Rattle.cp_model.specs.Linking.{IsFirst, ArePaired}
 
 -- Where nothing is left, all are paired.

@@ -1,18 +1,19 @@
 -- The bundle that a run of the program makes, and the run along a bundle.
 use Rattle.std.proofs.Common.{◌≡◌, ℕ, zero, suc, ◌<◌, List, [], ◌∷◌, Option, Some, None, map, refl, sym, ap, ◌∙◌, subst}
 use Rattle.std.specs.Option.{option_and_then, unwrap_or}
-use Rattle.cp_model.specs.Lists.{item_at, IsIn, here, there}
+use Rattle.cp_lists.specs.Lists.{item_at}
 use Rattle.cp_model.specs.Message.{Message}
 use Rattle.cp_model.specs.Strand.{Event, send, recv, Protocol, Strand, trace_of}
-use Rattle.cp_model.specs.Bundle.{Node, node_at, trace_or_none, event_at, AreOfProtocol, Bundle, along_strand, along_link, IsBundle}
+use Rattle.cp_model.specs.Bundle.{node_at, trace_or_none, event_at, AreOfProtocol, Bundle, along_strand, along_link, IsBundle}
+use Rattle.cp_model.specs.declared.node.Node.{Node}
 use Rattle.cp_model.specs.Run.{Run, IsRun, IsFirstSender, IsBundleOf}
-use Rattle.cp_model.specs.RunView.{trace_view, node_view, row_view, items_or_none, event_in, link_in, if_reception, StandsForRun, StandsForBundle, run_along}
+use Rattle.cp_model.specs.RunView.{trace_view, items_or_none, event_in, link_in, if_reception, StandsForRun, StandsForBundle, run_along, row_view}
 use Rattle.cp_model.specs.Linking.{IsFirst, ArePaired, Sends, IsSenderOf, AreSendersOf}
-use Rattle.cp_model.specs.declared.strand.Node as program_node
+use Rattle.cp_model.specs.declared.node.Node as program_node
 use Rattle.cp_model.specs.declared.strand.Strand as program_strand
 use Rattle.cp_model.specs.declared.bundle.Run as program_run
 use Rattle.cp_model.specs.declared.bundle.Bundle as program_bundle
-use Rattle.cp_model.proofs.LawOrigins.{place_of}
+use Rattle.cp_lists.proofs.Items.{at_place, place_of}
 use Rattle.cp_model.proofs.LawRuns.{bundle_of_run}
 use Rattle.cp_model.proofs.Paired.{paired_item, first_found, FirstPlace, first_place}
 
@@ -71,15 +72,15 @@ module _ (traces : List (List (Event Message))) (nodes : List Node) (rows : List
 
 -- The bundle of a run of the program.
 pub makes_bundle : (run : program_run.Run) (b : program_bundle.Bundle) (ss : List program_strand.Strand) (ns : List program_node.Node) → ss ≡ run.strands.items → ns ≡ run.events.items →
-    ArePaired (AreSendersOf (map trace_view ss) (map node_view ns)) (map trace_view ss) (map row_view b.senders.items) →
+    ArePaired (AreSendersOf (map trace_view ss) ns) (map trace_view ss) (map row_view b.senders.items) →
     map trace_view b.strands.items ≡ map trace_view run.strands.items → b.order.items ≡ run.events.items →
     (r : Run) → StandsForRun run r → IsRun r → (p : Bundle) × StandsForBundle b p × IsBundleOf r p × ((protocol : Protocol) → AreOfProtocol protocol r.strands → IsBundle protocol p)
 makes_bundle run b ss ns s n paired strands order r stands is =
     let traces = map trace_view ss in
-    let nodes = map node_view ns in
+    let nodes = ns in
     let rows = map row_view b.senders.items in
     let same : map trace_of r.strands ≡ traces = stands.strands ∙ ap (map trace_view) (sym s) in
-    let events : r.events ≡ nodes = stands.events ∙ ap (map node_view) (sym n) in
+    let events : r.events ≡ nodes = stands.events ∙ (sym n) in
     let own : map trace_of r.strands ≡ map trace_view b.strands.items = stands.strands ∙ sym strands in
     let p : Bundle = record { strands = r.strands; sender = sender traces nodes rows paired r same events is; order = r.events } in
     let of : IsBundleOf r p = record { strands = refl; order = refl; first_sender = sender_is_first traces nodes rows paired r same events is } in (
@@ -89,16 +90,11 @@ makes_bundle run b ss ns s n paired strands order r stands is =
         senders = λ x m ev.
             ap (λ o. if_reception o (link_in rows x)) (sym (same_event r.strands (map trace_view b.strands.items) own x) ∙ ev)
             ∙ link_is_sender traces nodes rows paired r same events is x m ev;
-        order = stands.events ∙ ap (map node_view) (sym order);
+        order = stands.events ∙ (sym order);
       },
       of,
       λ protocol kept. bundle_of_run protocol r p is of kept,
     )
-
-in_of_place : {A : Type 0} (xs : List A) (i : ℕ) (x : A) → item_at xs i ≡ Some x → IsIn x xs
-in_of_place [] i x e = absurd (cc)
-in_of_place (y ∷ xs) zero x e = let same : y ≡ x = cc in subst (λ z. IsIn z (y ∷ xs)) same here
-in_of_place (y ∷ xs) (suc i) x e = there (in_of_place xs i x e)
 
 -- A bundle has a run.
 run_of_bundle : (protocol : Protocol) (b : Bundle) → IsBundle protocol b → IsRun (run_along b)
@@ -106,7 +102,7 @@ run_of_bundle protocol b is = record { listing = is.listing; in_order = in_order
   where
     in_order : (s i j k : ℕ) → item_at b.order j ≡ Some (node_at s i) → item_at b.order k ≡ Some (node_at s (suc i)) → j < k
     in_order s i j k at au =
-        let ev = is.listing.only (node_at s (suc i)) (in_of_place b.order k (node_at s (suc i)) au) in
+        let ev = is.listing.only (node_at s (suc i)) (at_place b.order k (node_at s (suc i)) au) in
         is.rises (node_at s i) (node_at s (suc i)) j k (along_strand ev.1) at au
 
     sent_before : (n : Node) (m : Message) (k : ℕ) → event_at b.strands n ≡ Some (recv m) → item_at b.order k ≡ Some n →
@@ -120,4 +116,4 @@ run_of_bundle protocol b is = record { listing = is.listing; in_order = in_order
 pub makes_run : (b : program_bundle.Bundle) (r : program_run.Run) → map trace_view r.strands.items ≡ map trace_view b.strands.items → r.events.items ≡ b.order.items →
     (protocol : Protocol) (p : Bundle) → StandsForBundle b p → IsBundle protocol p → StandsForRun r (run_along p) × IsRun (run_along p)
 makes_run b r strands events protocol p stands is =
-    (record { strands = stands.strands ∙ sym strands; events = stands.order ∙ ap (map node_view) (sym events) }, run_of_bundle protocol p is)
+    (record { strands = stands.strands ∙ sym strands; events = stands.order ∙ (sym events) }, run_of_bundle protocol p is)

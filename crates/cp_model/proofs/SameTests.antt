@@ -1,10 +1,10 @@
 -- The tests on texts, atoms and terms are exact: they hold where the values are equal, and nowhere else.
 use Rattle.std.proofs.Common.{◌≡◌, ℕ, zero, suc, ◌<◌, List, [], ◌∷◌, Bool, true, false, ◌&&◌, ◌||◌, ◌==◌, Option, Some, None, refl, sym, ap, ap₂, ◌∙◌, subst, arith, eq-eqb, eqb-true, ⊎_elim, if◌then◌else◌}
 use Rattle.std.proofs.lemmas.Bool.{and_parts, and_from, or_cases, or_left, or_right, both_ways, false_from_ne_true, cond-true, cond-false}
-use Rattle.cp_model.specs.Lists.{item_at, IsIn, here, there}
+use Rattle.cp_lists.specs.Lists.{item_at, IsIn, here, there}
 use Rattle.cp_model.specs.Term.{Sort, text_sort, datum_sort, name_sort, skey_sort, akey_sort, Variable, SymmetricTerm, skey_variable, ltk_term, PairTerm, akey_variable, pubk_term, KeyTerm, symmetric_term, asymmetric_term, AtomTerm, text_variable, datum_variable, name_variable, key_term, Term, tag_term, atom_term, pair_term, enc_term, IsCarriedByTerm, itself_term, in_left_term, in_right_term, in_plaintext_term}
 use Rattle.cp_model.specs.Strand.{Event, send, recv, payload, OriginatesInTerms}
-use Rattle.cp_model.specs.Bundle.{Node}
+use Rattle.cp_model.specs.declared.node.Node.{Node}
 use Rattle.cp_model.specs.Same.{same_text, same_bool, same_sort, same_purpose, same_symmetric, same_pair, same_key, same_atom, same_term, same_node, carries, one_later, origin_in, has_variable}
 
 -- ---- from a test to equality
@@ -29,26 +29,7 @@ sort_is datum_sort datum_sort e = refl
 sort_is name_sort name_sort e = refl
 sort_is skey_sort skey_sort e = refl
 sort_is akey_sort akey_sort e = refl
-sort_is text_sort datum_sort e = absurd (cc)
-sort_is text_sort name_sort e = absurd (cc)
-sort_is text_sort skey_sort e = absurd (cc)
-sort_is text_sort akey_sort e = absurd (cc)
-sort_is datum_sort text_sort e = absurd (cc)
-sort_is datum_sort name_sort e = absurd (cc)
-sort_is datum_sort skey_sort e = absurd (cc)
-sort_is datum_sort akey_sort e = absurd (cc)
-sort_is name_sort text_sort e = absurd (cc)
-sort_is name_sort datum_sort e = absurd (cc)
-sort_is name_sort skey_sort e = absurd (cc)
-sort_is name_sort akey_sort e = absurd (cc)
-sort_is skey_sort text_sort e = absurd (cc)
-sort_is skey_sort datum_sort e = absurd (cc)
-sort_is skey_sort name_sort e = absurd (cc)
-sort_is skey_sort akey_sort e = absurd (cc)
-sort_is akey_sort text_sort e = absurd (cc)
-sort_is akey_sort datum_sort e = absurd (cc)
-sort_is akey_sort name_sort e = absurd (cc)
-sort_is akey_sort skey_sort e = absurd (cc)
+sort_is _ _ e = absurd (cc)
 
 pub purpose_is : (p q : Option (List ℕ)) → same_purpose p q ≡ true → p ≡ q
 purpose_is None None e = refl
@@ -79,36 +60,14 @@ atom_is (text_variable m) (text_variable n) e = ap text_variable (eqb-true m n e
 atom_is (datum_variable m) (datum_variable n) e = ap datum_variable (eqb-true m n e)
 atom_is (name_variable m) (name_variable n) e = ap name_variable (eqb-true m n e)
 atom_is (key_term j) (key_term k) e = ap key_term (key_is j k e)
-atom_is (text_variable m) (datum_variable n) e = absurd (cc)
-atom_is (text_variable m) (name_variable n) e = absurd (cc)
-atom_is (text_variable m) (key_term k) e = absurd (cc)
-atom_is (datum_variable m) (text_variable n) e = absurd (cc)
-atom_is (datum_variable m) (name_variable n) e = absurd (cc)
-atom_is (datum_variable m) (key_term k) e = absurd (cc)
-atom_is (name_variable m) (text_variable n) e = absurd (cc)
-atom_is (name_variable m) (datum_variable n) e = absurd (cc)
-atom_is (name_variable m) (key_term k) e = absurd (cc)
-atom_is (key_term j) (text_variable n) e = absurd (cc)
-atom_is (key_term j) (datum_variable n) e = absurd (cc)
-atom_is (key_term j) (name_variable n) e = absurd (cc)
+atom_is _ _ e = absurd (cc)
 
 pub term_is : (t u : Term) → same_term t u ≡ true → t ≡ u
 term_is (tag_term s) (tag_term t) e = ap tag_term (text_is s t e)
 term_is (atom_term a) (atom_term b) e = ap atom_term (atom_is a b e)
 term_is (pair_term a b) (pair_term c d) e = let h = and_parts (same_term a c) (same_term b d) e in ap₂ pair_term (term_is a c h.0) (term_is b d h.1)
 term_is (enc_term a j) (enc_term b k) e = let h = and_parts (same_term a b) (same_key j k) e in ap₂ enc_term (term_is a b h.0) (key_is j k h.1)
-term_is (tag_term s) (atom_term b) e = absurd (cc)
-term_is (tag_term s) (pair_term c d) e = absurd (cc)
-term_is (tag_term s) (enc_term b k) e = absurd (cc)
-term_is (atom_term a) (tag_term t) e = absurd (cc)
-term_is (atom_term a) (pair_term c d) e = absurd (cc)
-term_is (atom_term a) (enc_term b k) e = absurd (cc)
-term_is (pair_term a b) (tag_term t) e = absurd (cc)
-term_is (pair_term a b) (atom_term c) e = absurd (cc)
-term_is (pair_term a b) (enc_term c k) e = absurd (cc)
-term_is (enc_term a j) (tag_term t) e = absurd (cc)
-term_is (enc_term a j) (atom_term b) e = absurd (cc)
-term_is (enc_term a j) (pair_term c d) e = absurd (cc)
+term_is _ _ e = absurd (cc)
 
 -- ---- a value is the same as itself
 
@@ -266,7 +225,7 @@ finds_origin (recv m ∷ es) v (suc i) o =
 
 -- ---- variables of a list
 
-variable_is : (x y : Variable) → (same_sort x.sort y.sort && (x.number == y.number)) ≡ true → x ≡ y
+pub variable_is : (x y : Variable) → (same_sort x.sort y.sort && (x.number == y.number)) ≡ true → x ≡ y
 variable_is x y e =
     let h = and_parts (same_sort x.sort y.sort) (x.number == y.number) e in
     ap₂ (λ (s : Sort) (n : ℕ). record { sort = s; number = n }) (sort_is x.sort y.sort h.0) (eqb-true x.number y.number h.1)

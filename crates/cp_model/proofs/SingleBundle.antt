@@ -1,34 +1,15 @@
 -- The bundle of one regular strand that only transmits.
 use Rattle.std.proofs.Common.{◌≡◌, ℕ, zero, suc, ◌+◌, ◌*◌, ◌<◌, List, [], ◌∷◌, map, Some, refl, sym, ap, ◌∙◌, subst, arith}
-use Rattle.cp_model.specs.Lists.{item_at, IsIn, here, there}
+use Rattle.cp_lists.specs.Lists.{item_at, IsIn, here, there}
+use Rattle.cp_lists.proofs.Items.{place_of, item_of_map}
 use Rattle.cp_model.specs.Message.{Message, atom}
 use Rattle.cp_model.specs.Term.{Sort, text_sort, datum_sort, name_sort, skey_sort, akey_sort, Variable, AtomTerm, Term, atom_term, Substitution, apply_to, value_of_atom, after, atoms_by, IsDistinct}
+use Rattle.cp_model.specs.SortNumbers.{sort_number, sort_from, sort_back}
 use Rattle.cp_model.specs.Strand.{Event, send, recv, event_map, OriginatesIn, OriginatesInTerms, Role, prefix_of, Strand, regular, trace_of}
-use Rattle.cp_model.specs.Bundle.{Node, node_at, trace_or_none, event_at, OriginatesAt, KeepsNon, KeepsPenetratorNon, KeepsUnique, IsListing}
-use Rattle.cp_model.proofs.SingleTraces.{at_map, only_place, trace_after, one_origin, origin_of_value, origin_of_term}
-
--- Distinct numbers for the variables of all sorts.
-abbrev sort_number : Sort → ℕ
-sort_number text_sort = 0
-sort_number datum_sort = 1
-sort_number name_sort = 2
-sort_number skey_sort = 3
-sort_number akey_sort = 4
-
-sort_of : ℕ → Sort
-sort_of zero = text_sort
-sort_of (suc zero) = datum_sort
-sort_of (suc (suc zero)) = name_sort
-sort_of (suc (suc (suc zero))) = skey_sort
-sort_of (suc (suc (suc (suc n)))) = akey_sort
-
-sort_of_number : (s : Sort) → sort_of (sort_number s) ≡ s
-unfolding sort_of
-sort_of_number text_sort = refl
-sort_of_number datum_sort = refl
-sort_of_number name_sort = refl
-sort_of_number skey_sort = refl
-sort_of_number akey_sort = refl
+use Rattle.cp_model.specs.Bundle.{node_at, trace_or_none, event_at, OriginatesAt, KeepsNon, KeepsPenetratorNon, KeepsUnique, IsListing}
+use Rattle.cp_model.specs.declared.node.Node.{Node}
+use Rattle.cp_model.proofs.LawEvents.{trace_after}
+use Rattle.cp_model.proofs.SingleTraces.{only_place, one_origin, origin_of_value, origin_of_term}
 
 sort_number_below : (s : Sort) → sort_number s < 5
 sort_number_below text_sort = omega arith
@@ -37,6 +18,7 @@ sort_number_below name_sort = omega arith
 sort_number_below skey_sort = omega arith
 sort_number_below akey_sort = omega arith
 
+-- Distinct numbers for the variables of all sorts.
 abbrev pub own_number : Variable → ℕ
 own_number x = 5 * x.number + sort_number x.sort
 
@@ -46,7 +28,7 @@ own_numbers_distinct x y e =
     let by = sort_number_below y.sort in
     let n : x.number ≡ y.number = omega arith in
     let c : sort_number x.sort ≡ sort_number y.sort = omega arith in
-    let s : x.sort ≡ y.sort = sym (sort_of_number x.sort) ∙ ap sort_of c ∙ sort_of_number y.sort in
+    let s : x.sort ≡ y.sort = sym (sort_back x.sort) ∙ ap sort_from c ∙ sort_back y.sort in
     λ i. record { sort = s i; number = n i }
 
 -- The nodes of strand 0, from place n on, as many as the list has items.
@@ -71,10 +53,6 @@ listed_node (y ∷ es) n (suc i) e =
     let p : suc n + i ≡ n + suc i = omega arith in
     let r = listed_node es (suc n) i e in
     (r.0, r.1, r.2 ∙ ap (node_at 0) p)
-
-pub place_of : {A : Type 0} {x : A} {xs : List A} → IsIn x xs → (i : ℕ) × (item_at xs i ≡ Some x)
-place_of here = (0, refl)
-place_of (there h) = let r = place_of h in (suc r.0, r.1)
 
 -- A list of one strand has events and origins on strand 0 alone.
 pub event_there : (s : Strand) (a i : ℕ) {e : Event Message} → item_at (trace_or_none (item_at (s ∷ []) a)) i ≡ Some e → (a ≡ 0) × (item_at (trace_of s) i ≡ Some e)
@@ -120,7 +98,7 @@ rises_along s a m i j p q =
 pub no_reception : (es : List (Event Term)) → ((i : ℕ) (e : Event Term) → item_at es i ≡ Some e → (t : Term) × (e ≡ send t)) →
     {A : Type 0} (f : Term → A) (i : ℕ) {m : A} → item_at (map (event_map f) es) i ≡ Some (recv m) → ⊥
 no_reception es sends f i {m} p =
-    let a = at_map (event_map f) es i p in
+    let a = item_of_map (event_map f) es i _ p in
     let s = sends i a.0 a.1 in
     let q : event_map f (send s.0) ≡ recv m = ap (event_map f) (sym s.1) ∙ a.2 in
     cc

@@ -1,11 +1,14 @@
 -- The map of a problem's own skeleton changes nothing.
-use Rattle.std.proofs.Common.{◌≡◌, ℕ, zero, suc, ◌+◌, ◌⊎◌, inl, inr, Bool, true, false, List, [], ◌∷◌, Option, Some, None, refl, sym, ap, ◌∙◌, subst, le_refl, arith, map}
-use Rattle.cp_model.specs.Lists.{item_at, IsIn}
-use Rattle.cp_model.specs.Term.{Sort, text_sort, datum_sort, name_sort, skey_sort, akey_sort, SymmetricTerm, skey_variable, ltk_term, PairTerm, akey_variable, pubk_term, KeyTerm, symmetric_term, asymmetric_term, AtomTerm, text_variable, datum_variable, name_variable, key_term, Term, tag_term, atom_term, pair_term, enc_term, atom_of_variable, flag_of, Substitution, apply_to_symmetric, apply_to_half, apply_to_key, apply_to_atom, apply_to, unchanged, composed}
+use Rattle.std.proofs.Common.{◌≡◌, ℕ, zero, suc, ◌+◌, ◌⊎◌, inl, inr, false, List, [], ◌∷◌, Option, Some, None, refl, sym, ap, ◌∙◌, subst, arith, map}
+use Rattle.cp_lists.specs.Lists.{item_at}
+use Rattle.cp_model.specs.Term.{Sort, text_sort, datum_sort, name_sort, skey_sort, akey_sort, skey_variable, akey_variable, Term, atom_term, atom_of_variable, apply_to, unchanged}
 use Rattle.cp_model.specs.Strand.{Declaration}
-use Rattle.cp_model.specs.Skeleton.{listener, Skeleton}
+use Rattle.cp_model.specs.Skeleton.{Skeleton}
 use Rattle.cp_model.specs.Problem.{numbers_from, variable_terms, IsPointOfView}
 use Rattle.cp_model.specs.Homomorphism.{SkeletonMap, IsHomomorphism, CarriesHomomorphism, text_in, datum_in, name_in, skey_in, akey_in, substitution_by, number_or, strand_in, map_from_problem}
+use Rattle.cp_lists.proofs.Mapped.{map_same}
+use Rattle.cp_model.proofs.LawTerms.{term_unchanged}
+use Rattle.cp_model.proofs.LawEmbeddings.{same_map, same_homomorphism}
 
 -- A place of the numbers from n on holds its own number, or nothing.
 number_at : {A : Type 0} (n : ℕ) (xs : List A) (i : ℕ) → number_or (n + i) (item_at (numbers_from n xs) i) ≡ n + i
@@ -61,84 +64,19 @@ own_substitution ds = λ i. record {
   akeys = λ n. (own_at ds n).4 i;
 }
 
--- What the unchanged substitution does.
-flag_unchanged : (flag : Bool) → flag_of flag false ≡ flag
-flag_unchanged true = refl
-flag_unchanged false = refl
-
-symmetric_unchanged : (k : SymmetricTerm) → apply_to_symmetric unchanged k ≡ k
-symmetric_unchanged (skey_variable n) = refl
-symmetric_unchanged (ltk_term a b) = refl
-
-half_unchanged : (flag : Bool) (p : PairTerm) → apply_to_half unchanged flag p ≡ (flag, p)
-half_unchanged flag (akey_variable n) = λ i. (flag_unchanged flag i, akey_variable n)
-half_unchanged flag (pubk_term purpose a) = refl
-
-key_unchanged : (k : KeyTerm) → apply_to_key unchanged k ≡ k
-key_unchanged (symmetric_term k) = ap symmetric_term (symmetric_unchanged k)
-key_unchanged (asymmetric_term flag p) = λ i. asymmetric_term (half_unchanged flag p i).0 (half_unchanged flag p i).1
-
-pub atom_unchanged : (v : AtomTerm) → apply_to_atom unchanged v ≡ v
-atom_unchanged (text_variable n) = refl
-atom_unchanged (datum_variable n) = refl
-atom_unchanged (name_variable n) = refl
-atom_unchanged (key_term k) = ap key_term (key_unchanged k)
-
-pub term_unchanged : (t : Term) → apply_to unchanged t ≡ t
-term_unchanged (tag_term bytes) = refl
-term_unchanged (atom_term a) = ap atom_term (atom_unchanged a)
-term_unchanged (pair_term a b) = λ i. pair_term (term_unchanged a i) (term_unchanged b i)
-term_unchanged (enc_term a k) = λ i. enc_term (term_unchanged a i) (key_unchanged k i)
-
-pub composed_unchanged : (s : Substitution) → composed s unchanged ≡ s
-composed_unchanged s = λ i. record {
-  texts = s.texts;
-  datums = s.datums;
-  names = s.names;
-  skeys = λ n. symmetric_unchanged (s.skeys n) i;
-  akeys = λ n. half_unchanged (s.akeys n).0 (s.akeys n).1 i;
-}
-
-abbrev pub standing_still : SkeletonMap
-standing_still = record { strands = λ s. s; terms = unchanged }
-
-pub own_map : (variables : List Declaration) (k : Skeleton) → IsPointOfView variables k → map_from_problem k ≡ standing_still
+pub own_map : (variables : List Declaration) (k : Skeleton) → IsPointOfView variables k → map_from_problem k ≡ same_map
 own_map variables k own =
     let p : strand_in k.from_problem.strands ≡ (λ s. s) = ap strand_in own.strands ∙ λ i s. own_strands k.strands s i in
     let q : substitution_by k.from_problem.values ≡ unchanged = ap substitution_by own.values ∙ own_substitution variables in
     λ i. record { strands = p i; terms = q i }
 
-maps_to_itself : (k : Skeleton) → IsHomomorphism k k standing_still
-maps_to_itself k = record {
-  instances = λ s role height terms e. record {
-    to_height = height;
-    to_terms = terms;
-    on_instance = e;
-    at_least = le_refl height;
-    equal_terms = λ x isin. ap (λ u. apply_to_atom u (atom_of_variable x)) (composed_unchanged terms);
-  };
-  listeners = λ s t e. e ∙ ap (λ u. Some (listener u)) (sym (term_unchanged t));
-  ordered = λ x y h. h;
-  non = λ v h. subst (λ u. IsIn u k.assumptions.non_originating) (sym (atom_unchanged v)) h;
-  penetrator_non = λ v h. subst (λ u. IsIn u k.assumptions.penetrator_non_originating) (sym (atom_unchanged v)) h;
-  unique = λ u h. subst (λ v. IsIn (record { value = v; origin = u.origin }) k.assumptions.uniquely_originating) (sym (atom_unchanged u.value)) h;
-}
-
 pub own_homomorphism : (variables : List Declaration) (k : Skeleton) → IsPointOfView variables k → IsHomomorphism k k (map_from_problem k)
-own_homomorphism variables k own = subst (IsHomomorphism k k) (sym (own_map variables k own)) (maps_to_itself k)
+own_homomorphism variables k own = subst (IsHomomorphism k k) (sym (own_map variables k own)) (same_homomorphism k)
 
 -- A problem's own skeleton carries a homomorphism from itself.
-same_numbers : (xs : List ℕ) → map (λ s. s) xs ≡ xs
-same_numbers [] = refl
-same_numbers (x ∷ xs) = ap (λ ys. x ∷ ys) (same_numbers xs)
-
-same_terms : (ts : List Term) → map (apply_to unchanged) ts ≡ ts
-same_terms [] = refl
-same_terms (t ∷ ts) = (λ i. term_unchanged t i ∷ same_terms ts i)
-
 pub own_carries : (variables : List Declaration) (k : Skeleton) → IsPointOfView variables k → CarriesHomomorphism k k
 own_carries variables k own = record {
   homomorphism = own_homomorphism variables k own;
-  strands = ap (λ (f : SkeletonMap). map f.strands k.from_problem.strands) (own_map variables k own) ∙ same_numbers k.from_problem.strands;
-  values = ap (λ (f : SkeletonMap). map (apply_to f.terms) k.from_problem.values) (own_map variables k own) ∙ same_terms k.from_problem.values;
+  strands = ap (λ (f : SkeletonMap). map f.strands k.from_problem.strands) (own_map variables k own) ∙ map_same (λ s. s) (λ s. refl) k.from_problem.strands;
+  values = ap (λ (f : SkeletonMap). map (apply_to f.terms) k.from_problem.values) (own_map variables k own) ∙ map_same (apply_to unchanged) term_unchanged k.from_problem.values;
 }

@@ -1,15 +1,17 @@
 -- A skeleton of one sending strand is realised, and is its own complete list.
 use Rattle.std.proofs.Common.{◌≡◌, ℕ, zero, suc, ◌<◌, List, [], ◌∷◌, Some, refl, sym, ap, ◌∙◌, subst, le_refl}
-use Rattle.cp_model.specs.Lists.{item_at, IsIn, here, one_step, more_steps}
+use Rattle.cp_lists.specs.Lists.{item_at, IsIn, here, one_step, more_steps}
 use Rattle.cp_model.specs.Message.{Message, atom}
 use Rattle.cp_model.specs.Term.{AtomTerm, Term, atom_term, Substitution, apply_to, apply_to_atom, Assignment, value_of, value_of_atom, after, atoms_by}
 use Rattle.cp_model.specs.Strand.{Event, send, recv, OriginatesInTerms, Role, Protocol, prefix_of, IsHeight, regular, trace_of}
-use Rattle.cp_model.specs.Bundle.{Node, node_at, event_at, KeepsNon, KeepsUnique, KeepsRole, AreOfProtocol, Bundle, BundleStep, along_strand, along_link, IsBundle}
-use Rattle.cp_model.specs.Skeleton.{SkeletonStrand, instance, skeleton_trace, skeleton_trace_or_none, UniqueAt, Assumptions, OrderPair, FromProblem, Skeleton, OrderStep, along_strand_of, along_pair, Before, IsSkeleton}
+use Rattle.cp_model.specs.Bundle.{node_at, event_at, KeepsNon, KeepsUnique, KeepsRole, AreOfProtocol, Bundle, BundleStep, along_strand, along_link, IsBundle}
+use Rattle.cp_model.specs.declared.node.Node.{Node}
+use Rattle.cp_model.specs.Skeleton.{SkeletonStrand, instance, skeleton_trace, skeleton_trace_or_none, UniqueAt, Assumptions, FromProblem, Skeleton, OrderStep, along_strand_of, along_pair, Before, IsSkeleton}
+use Rattle.cp_model.specs.declared.node.OrderPair.{OrderPair}
 use Rattle.cp_model.specs.Standing.{Standing, image_on, image_of, StandsOnRegular, StandsIn, StandsApart, IsRealised}
 use Rattle.cp_model.specs.Homomorphism.{IsCompleteList}
 use Rattle.cp_model.specs.Single.{IsOneSendingStrand}
-use Rattle.cp_model.proofs.SingleValues.{value_after_atom}
+use Rattle.cp_model.proofs.LawTerms.{atom_after}
 use Rattle.cp_model.proofs.SingleTraces.{only_place}
 use Rattle.cp_model.proofs.SingleBundle.{own_number, own_numbers_distinct, nodes_from, one_strand_listing, event_there, rises_along, no_reception, own_strand, keeps_non, keeps_penetrator_non, keeps_unique}
 
@@ -104,10 +106,10 @@ module _ (protocol : Protocol) (role : Role) (height : ℕ) (terms : Substitutio
         let given = is_skeleton.given 0 role height terms refl in
         let g = atoms_by own_number in
         record {
-          non = λ v h a. subst (λ m. KeepsNon (own_strand role height terms ∷ []) (atom m)) (sym (value_after_atom g terms v))
+          non = λ v h a. subst (λ m. KeepsNon (own_strand role height terms ∷ []) (atom m)) (sym (atom_after g terms v))
               (keeps_non role height terms (apply_to_atom terms v) (λ i o. nons (apply_to_atom terms v) i (given.non v h a) o));
           penetrator_non = λ v h a. keeps_penetrator_non role height terms (atom (value_of_atom (after g terms) v));
-          unique = λ v i h a. subst (λ m. KeepsUnique (own_strand role height terms ∷ []) (atom m) (node_at 0 i)) (sym (value_after_atom g terms v))
+          unique = λ v i h a. subst (λ m. KeepsUnique (own_strand role height terms ∷ []) (atom m) (node_at 0 i)) (sym (atom_after g terms v))
               (keeps_unique role height terms (apply_to_atom terms v) i (uniques _ (given.unique v i h a)));
         }
 

@@ -1,44 +1,24 @@
 -- Places of lists, and origination on values and on terms.
 use Rattle.std.proofs.Common.{◌≡◌, ℕ, zero, suc, ◌<◌, ◌⊎◌, inl, inr, List, [], ◌∷◌, map, Some, refl, sym, ap, ◌∙◌, subst}
 use Rattle.std.proofs.lemmas.Bool.{cases_order}
-use Rattle.cp_model.specs.Lists.{item_at}
+use Rattle.cp_lists.specs.Lists.{item_at}
 use Rattle.cp_model.specs.Message.{Message, atom, IsCarriedBy}
-use Rattle.cp_model.specs.Term.{Variable, AtomTerm, Term, atom_term, Assignment, value_of, value_of_atom, Substitution, apply_to, after, atoms_by, IsDistinct}
+use Rattle.cp_model.specs.Term.{Variable, AtomTerm, Term, atom_term, value_of, value_of_atom, atoms_by, IsDistinct}
 use Rattle.cp_model.specs.Strand.{Event, send, recv, payload, event_map, OriginatesIn, OriginatesInTerms}
-use Rattle.cp_model.proofs.SingleValues.{value_after, carried_value, carried_term}
-
--- What stands at a place of a mapped list comes from what stands there in the list.
-pub map_at : {A B : Type 0} (f : A → B) (xs : List A) (i : ℕ) {x : A} → item_at xs i ≡ Some x → item_at (map f xs) i ≡ Some (f x)
-map_at f [] i e = absurd (cc)
-map_at f (y ∷ xs) zero {x} e = let p : y ≡ x = cc in ap (λ z. Some (f z)) p
-map_at f (y ∷ xs) (suc i) e = map_at f xs i e
-
-pub at_map : {A B : Type 0} (f : A → B) (xs : List A) (i : ℕ) {y : B} → item_at (map f xs) i ≡ Some y → (x : A) × (item_at xs i ≡ Some x) × (f x ≡ y)
-at_map f [] i e = absurd (cc)
-at_map f (x ∷ xs) zero {y} e = let p : f x ≡ y = cc in (x, refl, p)
-at_map f (x ∷ xs) (suc i) e = at_map f xs i e
+use Rattle.cp_lists.proofs.Items.{map_of_item, item_of_map}
+use Rattle.cp_model.proofs.LawEvents.{payload_map}
+use Rattle.cp_model.proofs.CarriedValues.{carried_value}
+use Rattle.cp_model.proofs.SingleValues.{carried_term}
 
 -- A list of one item.
 pub only_place : {A : Type 0} (x : A) (i : ℕ) {y : A} → item_at (x ∷ []) i ≡ Some y → (i ≡ 0) × (x ≡ y)
 only_place x zero e = let p : x ≡ _ = cc in (refl, p)
 only_place x (suc i) e = absurd (cc)
 
--- The events of a value trace.
-event_after : (g : Assignment) (s : Substitution) (e : Event Term) → event_map (value_of (after g s)) e ≡ event_map (value_of g) (event_map (apply_to s) e)
-event_after g s (send t) = ap send (value_after g s t)
-event_after g s (recv t) = ap recv (value_after g s t)
-
-pub trace_after : (g : Assignment) (s : Substitution) (es : List (Event Term)) → map (event_map (value_of (after g s))) es ≡ map (event_map (value_of g)) (map (event_map (apply_to s)) es)
-trace_after g s [] = refl
-trace_after g s (e ∷ es) = λ i. event_after g s e i ∷ trace_after g s es i
-
+-- What makes a transmission is one.
 sent_of : {A B : Type 0} (f : A → B) (e : Event A) {m : B} → event_map f e ≡ send m → (t : A) × (e ≡ send t) × (f t ≡ m)
 sent_of f (send t) {m} p = let q : f t ≡ m = cc in (t, refl, q)
 sent_of f (recv t) p = absurd (cc)
-
-payload_map : {A B : Type 0} (f : A → B) (e : Event A) → payload (event_map f e) ≡ f (payload e)
-payload_map f (send t) = refl
-payload_map f (recv t) = refl
 
 -- A value originates at one place of a trace.
 pub one_origin : {trace : List (Event Message)} {v : Message} {i j : ℕ} → OriginatesIn trace v i → OriginatesIn trace v j → i ≡ j
@@ -55,13 +35,13 @@ module _ (number : Variable → ℕ) (distinct : IsDistinct number) where
       OriginatesIn (map (event_map (value_of (atoms_by number))) es) (atom (value_of_atom (atoms_by number) v)) i → OriginatesInTerms es (atom_term v) i
   origin_of_value es v i o =
       let g = atoms_by number in
-      let a = at_map (event_map (value_of g)) es i o.transmission in
+      let a = item_of_map (event_map (value_of g)) es i _ o.transmission in
       let s = sent_of (value_of g) a.0 a.2 in
       record {
         sent = s.0;
         transmission = a.1 ∙ ap Some s.1;
         carried = carried_term number distinct v s.0 (subst (IsCarriedBy (atom (value_of_atom g v))) (sym s.2) o.carried);
-        first = λ j e lt at c. o.first j (event_map (value_of g) e) lt (map_at (event_map (value_of g)) es j at)
+        first = λ j e lt at c. o.first j (event_map (value_of g) e) lt (map_of_item (event_map (value_of g)) es j _ at)
             (subst (IsCarriedBy (atom (value_of_atom g v))) (sym (payload_map (value_of g) e)) (carried_value g c));
       }
 
@@ -71,10 +51,10 @@ module _ (number : Variable → ℕ) (distinct : IsDistinct number) where
       let g = atoms_by number in
       record {
         sent = value_of g o.sent;
-        transmission = map_at (event_map (value_of g)) es i o.transmission;
+        transmission = map_of_item (event_map (value_of g)) es i _ o.transmission;
         carried = carried_value g o.carried;
         first = λ j e lt at c.
-            let a = at_map (event_map (value_of g)) es j at in
+            let a = item_of_map (event_map (value_of g)) es j _ at in
             o.first j a.0 lt a.1 (carried_term number distinct v (payload a.0)
             (subst (IsCarriedBy (atom (value_of_atom g v))) (ap payload (sym a.2) ∙ payload_map (value_of g) a.0) c));
       }

@@ -1,14 +1,17 @@
 -- A point-of-view skeleton keeps what it states itself.
 use Rattle.std.proofs.Common.{◌≡◌, ◌↔◌, ℕ, suc, ◌<◌, ◌+◌, List, [], ◌∷◌, length, refl, sym, ap, subst, arith}
-use Rattle.cp_model.specs.Lists.{IsIn, here, there, one_step}
+use Rattle.cp_lists.specs.Lists.{IsIn, here, there, one_step}
 use Rattle.cp_model.specs.Term.{apply_to_atom, unchanged}
 use Rattle.cp_model.specs.Strand.{Declaration, Protocol}
-use Rattle.cp_model.specs.Skeleton.{OrderPair, Skeleton, along_pair, IsSkeleton}
+use Rattle.cp_model.specs.Skeleton.{Skeleton, along_pair, IsSkeleton}
+use Rattle.cp_model.specs.declared.node.OrderPair.{OrderPair}
 use Rattle.cp_model.specs.Homomorphism.{SkeletonMap, map_from_problem}
 use Rattle.cp_model.specs.Problem.{numbers_from, IsPointOfView}
 use Rattle.cp_model.specs.Stated.{unique_image, pair_image, IsImageOfOne, AreImages, KeepsStated}
 use Rattle.cp_model.proofs.Images.{own_images}
-use Rattle.cp_model.proofs.SingleMaps.{atom_unchanged, standing_still, own_map}
+use Rattle.cp_model.proofs.LawTerms.{atom_unchanged}
+use Rattle.cp_model.proofs.LawEmbeddings.{same_map}
+use Rattle.cp_model.proofs.SingleMaps.{own_map}
 
 below : {A : Type 0} (n : ℕ) (xs : List A) (s : ℕ) → IsIn s (numbers_from n xs) → s < n + length xs
 below n [] s i = elim i [ ]
@@ -19,10 +22,10 @@ pub numbers_below : {A : Type 0} (xs : List A) (s : ℕ) → IsIn s (numbers_fro
 numbers_below xs s i = let l : s < 0 + length xs = below 0 xs s i in omega (arith, l)
 
 module _ (protocol : Protocol) (variables : List Declaration) (k : Skeleton) (sk : IsSkeleton protocol k) (own : IsPointOfView variables k) where
-  still : standing_still ≡ map_from_problem k
+  still : same_map ≡ map_from_problem k
   still = sym (own_map variables k own)
 
-  pairs_stay : (p : OrderPair) → IsIn p k.from_problem.pairs ↔ (IsImageOfOne (pair_image standing_still) k.from_problem.pairs p × (p.earlier.strand ≡ p.later.strand → ⊥))
+  pairs_stay : (p : OrderPair) → IsIn p k.from_problem.pairs ↔ (IsImageOfOne (pair_image same_map) k.from_problem.pairs p × (p.earlier.strand ≡ p.later.strand → ⊥))
   pairs_stay p = (
     λ i. (record { item = p; listed = i; image = refl }, (sk.order_pairs p (subst (IsIn p) own.pairs i)).between_strands),
     λ r. let h = r.0 in subst (λ q. IsIn q k.from_problem.pairs) h.image h.listed,
@@ -35,7 +38,7 @@ module _ (protocol : Protocol) (variables : List Declaration) (k : Skeleton) (sk
     non = subst (λ (f : SkeletonMap). AreImages (apply_to_atom f.terms) k.from_problem.assumptions.non_originating k.from_problem.assumptions.non_originating) still (own_images (apply_to_atom unchanged) k.from_problem.assumptions.non_originating atom_unchanged);
     penetrator_non = subst (λ (f : SkeletonMap). AreImages (apply_to_atom f.terms) k.from_problem.assumptions.penetrator_non_originating k.from_problem.assumptions.penetrator_non_originating) still (own_images (apply_to_atom unchanged) k.from_problem.assumptions.penetrator_non_originating atom_unchanged);
     unique = subst (λ (f : SkeletonMap). AreImages (unique_image f) k.from_problem.assumptions.uniquely_originating k.from_problem.assumptions.uniquely_originating) still
-        (own_images (unique_image standing_still) k.from_problem.assumptions.uniquely_originating (λ u. ap (λ v. record { value = v; origin = u.origin }) (atom_unchanged u.value)));
+        (own_images (unique_image same_map) k.from_problem.assumptions.uniquely_originating (λ u. ap (λ v. record { value = v; origin = u.origin }) (atom_unchanged u.value)));
     assumed = own.assumed;
     pairs = subst (λ (f : SkeletonMap). (p : OrderPair) → IsIn p k.from_problem.pairs ↔ (IsImageOfOne (pair_image f) k.from_problem.pairs p × (p.earlier.strand ≡ p.later.strand → ⊥))) still pairs_stay;
     ordered = λ p i. one_step (along_pair (subst (IsIn p) own.pairs i));

@@ -1,15 +1,11 @@
 -- Bundles: finite graphs of strands in which each reception has its sender (CPSA Primer, "Bundles"; TACAS 2007,
 -- section 2).
 use Rattle.std.specs.Prelude.{◌≡◌, ℕ, suc, ◌<◌, List, [], Option, Some, None}
-use Rattle.cp_model.specs.Lists.{item_at, IsIn, Steps}
+use Rattle.cp_lists.specs.Lists.{item_at, IsIn, Steps}
 use Rattle.cp_model.specs.Message.{Message, atom}
 use Rattle.cp_model.specs.Term.{AtomTerm, Assignment, value_of_atom}
 use Rattle.cp_model.specs.Strand.{Event, send, recv, OriginatesIn, Role, Protocol, IsHeight, Applies, AppliesAt, Strand, regular, penetrator, Penetrator, trace_of}
-
--- A node: the number of a strand, and the place of the event on it, both from 0.
-pub record Node : Type 0 where
-  pub strand : ℕ
-  pub index : ℕ
+use Rattle.cp_model.specs.declared.node.Node.{Node}
 
 abbrev pub node_at : ℕ → ℕ → Node
 node_at s i = record { strand = s; index = i }

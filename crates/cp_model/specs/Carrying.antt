@@ -1,9 +1,9 @@
 -- The first events that carry a message.
 use Rattle.std.specs.Prelude.{◌≡◌, ℕ, ◌<◌, ◌≤◌, List, Option, Some, None}
-use Rattle.cp_model.specs.Lists.{item_at}
+use Rattle.cp_lists.specs.Lists.{item_at}
 use Rattle.cp_model.specs.Message.{Message, IsCarriedBy}
 use Rattle.cp_model.specs.Strand.{Event, payload}
-use Rattle.cp_model.specs.Bundle.{Node}
+use Rattle.cp_model.specs.declared.node.Node.{Node}
 use Rattle.cp_model.specs.RunView.{items_or_none, event_in}
 
 -- No event of the trace before this place carries the message.

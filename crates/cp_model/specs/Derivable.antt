@@ -1,10 +1,10 @@
 -- What the penetrator can derive before a node of a skeleton (TACAS 2007, section 4), and skeletons with a reception that
 -- is not derivable.
 use Rattle.std.specs.Prelude.{◌≡◌, ◌⊎◌, ℕ, List, Some}
-use Rattle.cp_model.specs.Lists.{item_at, IsIn}
+use Rattle.cp_lists.specs.Lists.{item_at, IsIn}
 use Rattle.cp_model.specs.Term.{AtomTerm, key_term, KeyTerm, inverse_term, Term, tag_term, atom_term, pair_term, enc_term, Substitution}
 use Rattle.cp_model.specs.Strand.{send, recv, Role}
-use Rattle.cp_model.specs.Bundle.{Node}
+use Rattle.cp_model.specs.declared.node.Node.{Node}
 use Rattle.cp_model.specs.Skeleton.{instance, term_event_at, UniqueAt, Skeleton, Before}
 
 -- The value of a unique value's entry is v.

@@ -1,9 +1,10 @@
 -- Maps between skeletons, and lists of skeletons that leave nothing out.
 use Rattle.std.specs.Prelude.{◌≡◌, ℕ, ◌≤◌, List, Option, Some, None, Bool, false, map}
-use Rattle.cp_model.specs.Lists.{item_at, IsIn}
+use Rattle.cp_lists.specs.Lists.{item_at, IsIn}
 use Rattle.cp_model.specs.Term.{AtomTerm, text_variable, datum_variable, name_variable, key_term, symmetric_term, asymmetric_term, SymmetricTerm, skey_variable, PairTerm, akey_variable, Term, atom_term, Substitution, apply_to, apply_to_atom, composed, AgreeOnTerms, value_of}
 use Rattle.cp_model.specs.Strand.{Role, Protocol, variables_of_prefix}
-use Rattle.cp_model.specs.Bundle.{Node, node_at, Bundle, IsBundle}
+use Rattle.cp_model.specs.Bundle.{node_at, Bundle, IsBundle}
+use Rattle.cp_model.specs.declared.node.Node.{Node}
 use Rattle.cp_model.specs.Skeleton.{instance, listener, UniqueAt, Skeleton, Before}
 use Rattle.cp_model.specs.Standing.{Standing, StandsIn, StandsApart}
 

@@ -1,4 +1,3 @@
-pub mod Lists
 pub mod Message
 pub mod Term
 pub mod Strand
@@ -18,6 +17,7 @@ pub mod Realising
 pub mod Tree
 pub mod Pattern
 pub mod MessageCode
+pub mod SortNumbers
 pub mod KeyView
 pub mod MessageView
 pub mod MessageSize

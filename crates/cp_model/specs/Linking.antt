@@ -2,7 +2,7 @@
 use Rattle.std.specs.Prelude.{◌≡◌, ◌⊎◌, List, [], ◌∷◌, Option, Some, None}
 use Rattle.cp_model.specs.Message.{Message}
 use Rattle.cp_model.specs.Strand.{Event, send, recv}
-use Rattle.cp_model.specs.Bundle.{Node}
+use Rattle.cp_model.specs.declared.node.Node.{Node}
 use Rattle.cp_model.specs.RunView.{event_in}
 
 -- The first item of the list that is so, or none where none is.

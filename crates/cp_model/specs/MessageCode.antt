@@ -75,7 +75,7 @@ atom_back (datum n) = refl
 atom_back (name n) = refl
 atom_back (key k) = refl
 
-abbrev coded_atom : Coded Atom
+abbrev pub coded_atom : Coded Atom
 coded_atom = code_by ((ℕ ⊎ ℕ) ⊎ (ℕ ⊎ Key)) (coded⊎ (coded⊎ coded_ℕ coded_ℕ) (coded⊎ coded_ℕ coded_key)) atom_parts atom_from atom_back
 
 -- One token: a tag, an atom, that the two messages before it are a pair, or that the one before it is encrypted.

@@ -1,6 +1,6 @@
 -- Patterns.
 use Rattle.std.specs.Prelude.{◌≡◌}
-use Rattle.cp_model.specs.Lists.{IsIn}
+use Rattle.cp_lists.specs.Lists.{IsIn}
 use Rattle.cp_model.specs.Term.{Variable, KeyTerm, Term, enc_term, variables_of}
 use Rattle.cp_model.specs.Tree.{Pattern}
 

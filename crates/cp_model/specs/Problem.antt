@@ -1,6 +1,6 @@
 -- Problems: point-of-view skeletons, which map to themselves.
 use Rattle.std.specs.Prelude.{◌≡◌, ℕ, suc, List, [], ◌∷◌, ◌++◌, Option, Some, None}
-use Rattle.cp_model.specs.Lists.{item_at, IsIn}
+use Rattle.cp_lists.specs.Lists.{item_at, IsIn}
 use Rattle.cp_model.specs.Term.{Sort, Variable, AtomTerm, atom_of_variable, Term, atom_term, variables_of_atom, variables_of}
 use Rattle.cp_model.specs.Strand.{Declaration, variables_of_trace}
 use Rattle.cp_model.specs.Skeleton.{SkeletonStrand, skeleton_trace, UniqueAt, Assumptions, Skeleton}

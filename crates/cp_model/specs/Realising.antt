@@ -1,9 +1,9 @@
 -- What makes a skeleton realised: its assumptions are true of its role strands, and all of its receptions are derivable.
 use Rattle.std.specs.Prelude.{◌≡◌, Some}
-use Rattle.cp_model.specs.Lists.{item_at, IsIn}
+use Rattle.cp_lists.specs.Lists.{item_at, IsIn}
 use Rattle.cp_model.specs.Term.{AtomTerm, Term, atom_term}
 use Rattle.cp_model.specs.Strand.{recv, OriginatesInTerms}
-use Rattle.cp_model.specs.Bundle.{Node}
+use Rattle.cp_model.specs.declared.node.Node.{Node}
 use Rattle.cp_model.specs.Skeleton.{skeleton_trace_or_none, term_event_at, UniqueAt, Skeleton}
 use Rattle.cp_model.specs.Derivable.{IsOnInstance, DerivableAt}
 

@@ -1,9 +1,10 @@
 -- Runs: the events of some strands, one after another, and the bundle that a run makes.
 use Rattle.std.specs.Prelude.{◌≡◌, ℕ, suc, ◌<◌, ◌≤◌, List, Some}
-use Rattle.cp_model.specs.Lists.{item_at}
+use Rattle.cp_lists.specs.Lists.{item_at}
 use Rattle.cp_model.specs.Message.{Message}
 use Rattle.cp_model.specs.Strand.{send, recv, Strand}
-use Rattle.cp_model.specs.Bundle.{Node, node_at, event_at, IsListing, Bundle}
+use Rattle.cp_model.specs.Bundle.{node_at, event_at, IsListing, Bundle}
+use Rattle.cp_model.specs.declared.node.Node.{Node}
 
 pub record Run : Type 0 where
   pub strands : List Strand

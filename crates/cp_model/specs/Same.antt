@@ -2,7 +2,7 @@
 use Rattle.std.specs.Prelude.{◌==◌, ◌&&◌, ◌||◌, ℕ, suc, List, [], ◌∷◌, Bool, true, false, not, if◌then◌else◌, Option, Some, None}
 use Rattle.cp_model.specs.Term.{Sort, text_sort, datum_sort, name_sort, skey_sort, akey_sort, Variable, SymmetricTerm, skey_variable, ltk_term, PairTerm, akey_variable, pubk_term, KeyTerm, symmetric_term, asymmetric_term, AtomTerm, text_variable, datum_variable, name_variable, key_term, Term, tag_term, atom_term, pair_term, enc_term}
 use Rattle.cp_model.specs.Strand.{Event, send, recv}
-use Rattle.cp_model.specs.Bundle.{Node}
+use Rattle.cp_model.specs.declared.node.Node.{Node}
 
 -- The texts are equal.
 abbrev pub same_text : List ℕ → List ℕ → Bool

@@ -1,6 +1,6 @@
 -- Skeletons of one strand that only transmits.
 use Rattle.std.specs.Prelude.{◌≡◌, ℕ, [], ◌∷◌, Some}
-use Rattle.cp_model.specs.Lists.{item_at, IsIn}
+use Rattle.cp_lists.specs.Lists.{item_at, IsIn}
 use Rattle.cp_model.specs.Term.{AtomTerm, Term, atom_term, Substitution}
 use Rattle.cp_model.specs.Strand.{Event, send, OriginatesInTerms, Role, Protocol, prefix_of}
 use Rattle.cp_model.specs.Skeleton.{instance, skeleton_trace, UniqueAt, Skeleton, IsSkeleton}

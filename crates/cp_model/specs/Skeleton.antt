@@ -1,9 +1,11 @@
 -- Skeletons: partial descriptions of what happened, over terms (TACAS 2007, section 3; CPSA Primer, "Skeletons").
 use Rattle.std.specs.Prelude.{◌≡◌, ◌≢◌, ℕ, suc, List, [], ◌∷◌, Option, Some, None, map}
-use Rattle.cp_model.specs.Lists.{item_at, IsIn, Steps}
+use Rattle.cp_lists.specs.Lists.{item_at, IsIn, Steps}
 use Rattle.cp_model.specs.Term.{AtomTerm, Term, atom_term, IsCarriedByTerm, Substitution, apply_to, apply_to_atom}
 use Rattle.cp_model.specs.Strand.{Event, send, recv, event_map, Role, Protocol, prefix_of, IsHeight, Applies, AppliesAt}
-use Rattle.cp_model.specs.Bundle.{Node, node_at}
+use Rattle.cp_model.specs.Bundle.{node_at}
+use Rattle.cp_model.specs.declared.node.Node.{Node}
+use Rattle.cp_model.specs.declared.node.OrderPair.{OrderPair}
 
 -- A strand of a skeleton: an instance of a role, of some height, with a term for each of the role's variables;
 -- or a listener, which receives a message and sends it on. Terms of variables outside the prefix have no meaning.
@@ -37,10 +39,6 @@ pub record Assumptions : Type 0 where
   pub non_originating : List AtomTerm
   pub penetrator_non_originating : List AtomTerm
   pub uniquely_originating : List UniqueAt
-
-pub record OrderPair : Type 0 where
-  pub earlier : Node
-  pub later : Node
 
 -- The way from a problem: a strand for each strand of the problem, and a term for each of its variables; and the
 -- images of the assumptions and the pairs that the problem itself states.

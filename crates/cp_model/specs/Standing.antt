@@ -1,10 +1,11 @@
 -- When a skeleton describes a bundle, and when it is a shape's kind of description: standing, and realised.
 use Rattle.std.specs.Prelude.{◌≡◌, ◌≢◌, ℕ, ◌≤◌, Option, Some, None}
-use Rattle.cp_model.specs.Lists.{item_at, IsIn}
+use Rattle.cp_lists.specs.Lists.{item_at, IsIn}
 use Rattle.cp_model.specs.Message.{atom}
 use Rattle.cp_model.specs.Term.{Variable, AtomTerm, Term, Assignment, value_of, value_of_atom, after, AgreeOn, Substitution, atoms_by, IsDistinct}
 use Rattle.cp_model.specs.Strand.{recv, Role, Protocol, variables_of_prefix, regular}
-use Rattle.cp_model.specs.Bundle.{Node, node_at, event_at, KeepsNon, KeepsPenetratorNon, KeepsUnique, Bundle, Precedes, IsBundle}
+use Rattle.cp_model.specs.Bundle.{node_at, event_at, KeepsNon, KeepsPenetratorNon, KeepsUnique, Bundle, Precedes, IsBundle}
+use Rattle.cp_model.specs.declared.node.Node.{Node}
 use Rattle.cp_model.specs.Skeleton.{SkeletonStrand, instance, listener, UniqueAt, Skeleton, IsNodeOf, Before}
 
 -- A way for a skeleton to stand in a bundle: a role strand goes to the first node of a regular strand, a

@@ -1,8 +1,9 @@
 -- What a skeleton keeps of what its problem states itself: its own assumptions and its own pairs.
 use Rattle.std.specs.Prelude.{◌≡◌, ◌≢◌, ◌↔◌, ℕ, ◌<◌, List, length}
-use Rattle.cp_model.specs.Lists.{IsIn}
+use Rattle.cp_lists.specs.Lists.{IsIn}
 use Rattle.cp_model.specs.Term.{AtomTerm, apply_to_atom}
-use Rattle.cp_model.specs.Skeleton.{UniqueAt, OrderPair, Skeleton, Before}
+use Rattle.cp_model.specs.Skeleton.{UniqueAt, Skeleton, Before}
+use Rattle.cp_model.specs.declared.node.OrderPair.{OrderPair}
 use Rattle.cp_model.specs.Homomorphism.{SkeletonMap, mapped, map_from_problem}
 
 -- A unique value where the map takes it, its recorded origin with it.

@@ -1,6 +1,6 @@
 -- Strands: traces, origination, roles, and the penetrator (CPSA Primer, "Strand Spaces"; TACAS 2007, section 2).
 use Rattle.std.specs.Prelude.{◌≡◌, ℕ, ◌<◌, ◌≤◌, List, [], ◌∷◌, ◌++◌, Some, map, take, length}
-use Rattle.cp_model.specs.Lists.{item_at, IsIn}
+use Rattle.cp_lists.specs.Lists.{item_at, IsIn}
 use Rattle.cp_model.specs.Message.{Key, key, inverse, Atom, Message, tag, atom, pair, enc, IsCarriedBy}
 use Rattle.cp_model.specs.Term.{Sort, Variable, AtomTerm, Term, atom_term, IsCarriedByTerm, variables_of, variables_of_atom, Assignment, value_of}
 

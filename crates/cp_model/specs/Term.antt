@@ -3,7 +3,7 @@
 -- A variable is a sort and a number. The shape is that of messages, and a term is well sorted by construction:
 -- where a message has the number of an atom, a term has the number of a variable of that sort.
 use Rattle.std.specs.Prelude.{◌≡◌, ℕ, List, [], ◌∷◌, ◌++◌, Option, Bool, true, false, not}
-use Rattle.cp_model.specs.Lists.{IsIn}
+use Rattle.cp_lists.specs.Lists.{IsIn}
 use Rattle.cp_model.specs.Message.{SymmetricKey, skey, ltk, KeyPair, akey, pubk, Key, symmetric, asymmetric, Atom, text, datum, name, key, Message, tag, atom, pair, enc}
 
 -- The sorts of atoms.

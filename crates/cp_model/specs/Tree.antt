@@ -1,9 +1,9 @@
 -- Derivation trees, and what has to be true of one that is printed for a problem.
 use Rattle.std.specs.Prelude.{◌≡◌, ◌≢◌, ℕ, ◌+◌, ◌<◌, ◌≤◌, List, [], ◌∷◌, length, Option, Some, None}
-use Rattle.cp_model.specs.Lists.{item_at, IsIn}
+use Rattle.cp_lists.specs.Lists.{item_at, IsIn}
 use Rattle.cp_model.specs.Term.{Variable, Term}
 use Rattle.cp_model.specs.Strand.{Declaration, Protocol}
-use Rattle.cp_model.specs.Bundle.{Node}
+use Rattle.cp_model.specs.declared.node.Node.{Node}
 use Rattle.cp_model.specs.Skeleton.{Skeleton, IsSkeleton}
 use Rattle.cp_model.specs.Derivable.{IsUnrealised}
 use Rattle.cp_model.specs.Standing.{IsRealised}

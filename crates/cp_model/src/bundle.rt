@@ -1,10 +1,11 @@
 // Runs and bundles, and what stands at their nodes.
 ghost use Rattle.std.specs.Prelude.{◌≡◌, map};
 ghost use Rattle.std.specs.Option.{option_map, option_and_then};
-ghost use Rattle.cp_model.specs.Lists.{item_at};
-ghost use Rattle.cp_model.specs.RunView.{event_view, trace_view, node_view, event_in, sender_view, row_view, link_in, sender_in};
+ghost use Rattle.cp_lists.specs.Lists.{item_at};
+ghost use Rattle.cp_model.specs.RunView.{event_view, trace_view, event_in, link_in, sender_in, row_view};
 
-use crate::strand::{Event, Node, Strand};
+use crate::node::Node;
+use crate::strand::{Event, Strand};
 
 /// A run: strands, and their events one after another.
 #[derive(Drop)]
@@ -31,7 +32,7 @@ fn event_on(events: &[Event], place: usize) -> Option<&Event>
 
 /// The event at a node, if there is one.
 pub(crate) fn event_at(strands: &[Strand], node: Node) -> Option<&Event>
-    ensures { option_map (λ e. event_view e.now) result ≡ event_in (map trace_view strands.now) (node_view node) }
+    ensures { option_map (λ e. event_view e.now) result ≡ event_in (map trace_view strands.now) node }
 {
     match strands.get(node.strand) {
         Some(strand) => event_on(&strand.events, node.index),
@@ -41,7 +42,7 @@ pub(crate) fn event_at(strands: &[Strand], node: Node) -> Option<&Event>
 
 /// The sender at a place of a strand's row, counted from 0.
 fn sender_on(row: &[Option<Node>], place: usize) -> Option<Node>
-    ensures { option_map node_view result ≡ option_and_then (λ o. o) (item_at (map sender_view row.now) place) }
+    ensures { result ≡ option_and_then (λ o. o) (item_at row.now place) }
 {
     match row.get(place) {
         Some(sender) => *sender,
@@ -51,7 +52,7 @@ fn sender_on(row: &[Option<Node>], place: usize) -> Option<Node>
 
 /// The sender that rows have for a node.
 fn link_at(rows: &[Vec<Option<Node>>], node: Node) -> Option<Node>
-    ensures { option_map node_view result ≡ link_in (map row_view rows.now) (node_view node) }
+    ensures { result ≡ link_in (map row_view rows.now) node }
 {
     match rows.get(node.strand) {
         Some(row) => sender_on(row, node.index),
@@ -62,7 +63,7 @@ fn link_at(rows: &[Vec<Option<Node>>], node: Node) -> Option<Node>
 impl Bundle {
     /// The sender of the reception at a node; none where no reception is there.
     pub fn sender(&self, node: Node) -> Option<Node>
-        ensures { option_map node_view result ≡ sender_in self.now (node_view node) }
+        ensures { result ≡ sender_in self.now node }
     {
         match event_at(&self.strands, node) {
             Some(Event::Receive(_)) => link_at(&self.senders, node),

@@ -6,23 +6,7 @@ ghost use Rattle.cp_model.specs.FormLeaves.{IsLeafForm};
 
 use crate::key::{Key, KeyKind};
 use crate::message::{Form, Msg};
-use cp_base::Text;
-
-fn same_text(a: &Text, b: &Text) -> bool
-    ensures { IsTrue result ↔ (a.now ≡ b.now) }
-{
-    a.as_str() == b.as_str()
-}
-
-fn same_purpose(a: &Option<Text>, b: &Option<Text>) -> bool
-    ensures { IsTrue result ↔ (a.now ≡ b.now) }
-{
-    match (a, b) {
-        (None, None) => true,
-        (Some(x), Some(y)) => same_text(x, y),
-        _ => false,
-    }
-}
+use cp_base::same_if_any;
 
 impl Key {
     /// Whether this is the same key as the other.
@@ -34,7 +18,7 @@ impl Key {
             (KeyKind::Ltk(a, b), KeyKind::Ltk(c, d)) => a == c && b == d,
             (KeyKind::Akey(f, x), KeyKind::Akey(g, y)) => f == g && x == y,
             (KeyKind::Pubk(f, p, x), KeyKind::Pubk(g, q, y)) => {
-                f == g && x == y && same_purpose(p, q)
+                f == g && x == y && same_if_any(p, q)
             }
             _ => false,
         }
@@ -47,7 +31,7 @@ fn same_leaf(leaf: &Form, other: &Form) -> bool
     ensures { IsTrue result ↔ (message_of_form leaf.now ≡ message_of_form other.now) }
 {
     match (leaf, other) {
-        (Form::Tag(a), Form::Tag(b)) => same_text(a, b),
+        (Form::Tag(a), Form::Tag(b)) => a.same(b),
         (Form::Text(x), Form::Text(y)) => x == y,
         (Form::Datum(x), Form::Datum(y)) => x == y,
         (Form::Name(x), Form::Name(y)) => x == y,

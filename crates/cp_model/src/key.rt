@@ -3,7 +3,7 @@ ghost use Rattle.std.specs.Prelude.{◌≡◌, false, IfOk};
 ghost use Rattle.std.specs.Option.{option_map};
 ghost use Rattle.cp_model.specs.Message.{skey, ltk, akey, pubk, symmetric, asymmetric, inverse};
 
-use cp_base::Text;
+use cp_base::{Text, copy_if_any};
 use std::alloc::{AllocError, Global};
 use std::marker::Model;
 
@@ -35,18 +35,6 @@ impl Model for Key {
     ghost use Rattle.cp_model.specs.KeyView.{key_of_kind};
 
     ghost view = { λ k. key_of_kind k.kind };
-}
-
-fn copy_of(purpose: &Option<Text>) -> Result<Option<Text>, AllocError>
-    ensures { IfOk result (λ p. p ≡ purpose.now) }
-{
-    match purpose {
-        None => Ok(None),
-        Some(text) => {
-            let text = text.copy()?;
-            Ok(Some(text))
-        }
-    }
 }
 
 impl Key {
@@ -104,7 +92,7 @@ impl Key {
             KeyKind::Ltk(first, second) => KeyKind::Ltk(*first, *second),
             KeyKind::Akey(flag, number) => KeyKind::Akey(!*flag, *number),
             KeyKind::Pubk(flag, purpose, name) => {
-                KeyKind::Pubk(!*flag, copy_of(purpose)?, *name)
+                KeyKind::Pubk(!*flag, copy_if_any(purpose)?, *name)
             }
         };
         Ok(Key { kind })
@@ -118,7 +106,11 @@ impl Key {
             KeyKind::Skey(number) => KeyKind::Skey(*number),
             KeyKind::Ltk(first, second) => KeyKind::Ltk(*first, *second),
             KeyKind::Akey(flag, number) => KeyKind::Akey(*flag, *number),
-            KeyKind::Pubk(flag, purpose, name) => KeyKind::Pubk(*flag, copy_of(purpose)?, *name),
+            KeyKind::Pubk(flag, purpose, name) => KeyKind::Pubk(
+                *flag,
+                copy_if_any(purpose)?,
+                *name,
+            ),
         };
         Ok(Key { kind })
     }

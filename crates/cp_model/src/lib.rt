@@ -7,6 +7,7 @@ mod key;
 mod laws;
 mod linking;
 mod message;
+mod node;
 mod origin;
 mod single;
 mod strand;
@@ -19,9 +20,10 @@ pub use laws::{
 };
 pub use linking::{bundle_of, run_of};
 pub use message::Msg;
+pub use node::{Node, OrderPair};
 pub use origin::origin_before;
 pub use single::{
     one_sending_strand_example, one_sending_strand_is_realised,
     one_strand_is_its_own_complete_list, skeleton_keeps_what_it_states, skeleton_maps_from_itself,
 };
-pub use strand::{Event, Node, Strand};
+pub use strand::{Event, Strand};

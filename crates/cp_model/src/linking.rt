@@ -3,17 +3,18 @@ ghost use Rattle.std.specs.Prelude.{◌≡◌, ◌↔◌, map, Some, IsTrue, IfO
 ghost use Rattle.cp_model.specs.Strand.{Protocol};
 ghost use Rattle.cp_model.specs.Bundle.{Bundle as PlainBundle, AreOfProtocol, IsBundle};
 ghost use Rattle.cp_model.specs.Run.{Run as PlainRun, IsRun, IsBundleOf};
-ghost use Rattle.cp_model.specs.RunView.{event_view, trace_view, node_view, sender_view, row_view, StandsForRun, StandsForBundle, run_along};
+ghost use Rattle.cp_model.specs.RunView.{event_view, trace_view, StandsForRun, StandsForBundle, run_along, row_view};
 ghost use Rattle.cp_model.specs.Linking.{IsFirst, ArePaired, Sends, IsSenderOf, AreSendersOf};
 
 use crate::bundle::{Bundle, Run, event_at};
 use crate::message::Msg;
-use crate::strand::{Event, Node, Strand, copy_strands};
+use crate::node::Node;
+use crate::strand::{Event, Strand, copy_strands};
 use std::alloc::{AllocError, Global};
 
 /// Whether the node sends the message.
 fn sends(strands: &[Strand], node: Node, message: &Msg) -> bool
-    ensures { IsTrue result ↔ Sends (map trace_view strands.now) message.now (node_view node) }
+    ensures { IsTrue result ↔ Sends (map trace_view strands.now) message.now node }
 {
     match event_at(strands, node) {
         Some(Event::Send(sent)) => sent.same(message),
@@ -23,7 +24,7 @@ fn sends(strands: &[Strand], node: Node, message: &Msg) -> bool
 
 /// The first of the nodes that sends the message.
 fn first_sender(strands: &[Strand], nodes: &[Node], message: &Msg) -> Option<Node>
-    ensures { IsFirst (Sends (map trace_view strands.now) message.now) (map node_view nodes.now) (sender_view result) }
+    ensures { IsFirst (Sends (map trace_view strands.now) message.now) nodes.now result }
 {
     for node in nodes {
         if sends(strands, *node, message) {
@@ -35,7 +36,7 @@ fn first_sender(strands: &[Strand], nodes: &[Node], message: &Msg) -> Option<Nod
 
 /// What an event is linked to.
 fn sender_of(strands: &[Strand], nodes: &[Node], event: &Event) -> Option<Node>
-    ensures { IsSenderOf (map trace_view strands.now) (map node_view nodes.now) (event_view event.now) (sender_view result) }
+    ensures { IsSenderOf (map trace_view strands.now) nodes.now (event_view event.now) result }
 {
     match event {
         Event::Send(_) => None,
@@ -50,7 +51,7 @@ fn senders_on(
     nodes: &[Node],
     events: &[Event],
 ) -> Result<Vec<Option<Node>>, AllocError>
-    ensures { IfOk result (λ row. AreSendersOf (map trace_view strands.now) (map node_view nodes.now) (map event_view events.now) (row_view row)) }
+    ensures { IfOk result (λ row. AreSendersOf (map trace_view strands.now) nodes.now (map event_view events.now) row.items) }
 {
     let mut row = Vec::new(alloc);
     for event in events {
@@ -65,7 +66,7 @@ fn senders_of(
     strands: &[Strand],
     nodes: &[Node],
 ) -> Result<Vec<Vec<Option<Node>>>, AllocError>
-    ensures { IfOk result (λ rows. ArePaired (AreSendersOf (map trace_view strands.now) (map node_view nodes.now)) (map trace_view strands.now) (map row_view rows.items)) }
+    ensures { IfOk result (λ rows. ArePaired (AreSendersOf (map trace_view strands.now) nodes.now) (map trace_view strands.now) (map row_view rows.items)) }
 {
     let mut rows = Vec::new(alloc);
     for strand in strands {

@@ -3,12 +3,13 @@ ghost use Rattle.std.specs.Prelude.{◌≡◌, ◌⊎◌, map, Some};
 ghost use Rattle.cp_model.specs.Message.{Message, IsCarriedBy};
 ghost use Rattle.cp_model.specs.Strand.{Event as PlainEvent, payload, Protocol};
 ghost use Rattle.cp_model.specs.Bundle.{Bundle as PlainBundle, event_at, OriginatesAt, Precedes, IsBundle};
-ghost use Rattle.cp_model.specs.RunView.{event_view, trace_view, node_view, StandsForBundle};
+ghost use Rattle.cp_model.specs.RunView.{event_view, trace_view, StandsForBundle};
 ghost use Rattle.cp_model.specs.Carrying.{IsFirstCarrying, CarriesAt, IsFirstOnStrand};
 
 use crate::bundle::Bundle;
 use crate::message::Msg;
-use crate::strand::{Event, Node, Strand};
+use crate::node::Node;
+use crate::strand::{Event, Strand};
 
 /// The place of the first of the events that carries the message.
 fn first_carrying(events: &[Event], message: &Msg) -> Option<usize>
@@ -24,8 +25,8 @@ fn first_carrying(events: &[Event], message: &Msg) -> Option<usize>
 
 /// The first node of a node's strand whose event carries the message; the node itself where none does.
 fn first_on_strand(strands: &[Strand], node: Node, message: &Msg) -> Node
-    ensures { CarriesAt (map trace_view strands.now) message.now (node_view node)
-        → IsFirstOnStrand (map trace_view strands.now) message.now (node_view result) (node_view node) }
+    ensures { CarriesAt (map trace_view strands.now) message.now node
+        → IsFirstOnStrand (map trace_view strands.now) message.now result node }
 {
     let Some(strand) = strands.get(node.strand) else {
         return node;
@@ -43,8 +44,8 @@ fn first_on_strand(strands: &[Strand], node: Node, message: &Msg) -> Node
 /// or precedes it. Where the node does not carry the message the answer has no meaning.
 pub fn origin_before(bundle: &Bundle, n: Node, m: &Msg) -> Node
     ensures origin { (protocol : Protocol) (p : PlainBundle) (e : PlainEvent Message) → StandsForBundle bundle.now p → IsBundle protocol p
-        → event_at p.strands (node_view n) ≡ Some e → IsCarriedBy m.now (payload e)
-        → OriginatesAt p.strands m.now (node_view result) × ((node_view result ≡ node_view n) ⊎ Precedes p (node_view result) (node_view n)) }
+        → event_at p.strands n ≡ Some e → IsCarriedBy m.now (payload e)
+        → OriginatesAt p.strands m.now result × ((result ≡ n) ⊎ Precedes p result n) }
 {
     let mut node = n;
     // Back along links the numbering falls, so that there are fewer steps than nodes.

@@ -1,17 +1,10 @@
-// Nodes, events and strands.
+// Events and strands.
 ghost use Rattle.std.specs.Prelude.{◌≡◌, map, IfOk};
 ghost use Rattle.cp_model.specs.Strand.{payload};
 ghost use Rattle.cp_model.specs.RunView.{event_view, trace_view};
 
 use crate::message::Msg;
 use std::alloc::{AllocError, Global};
-
-/// A node: the number of a strand, and the place of the event on it, both from 0.
-#[derive(Clone, Copy, Debug, PartialEq, Eq)]
-pub struct Node {
-    pub strand: usize,
-    pub index: usize,
-}
 
 /// One event of a strand: a transmission or a reception of a message.
 #[derive(Drop)]

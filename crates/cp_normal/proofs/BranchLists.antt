@@ -1,20 +1,20 @@
 -- The loop that makes the branches of a skeleton, and what they are.
 use Rattle.std.proofs.Common.{◌≡◌, ◌⊎◌, inl, inr, ℕ, ◌+◌, ◌<◌, List, [], ◌∷◌, ◌++◌, length, get_or, take, map, sym, ap, ◌∙◌, subst}
 use Rattle.std.proofs.lemmas.List.{take_more, map-append}
-use Rattle.cp_model.specs.Lists.{IsIn, here, there}
+use Rattle.cp_lists.specs.Lists.{IsIn, here, there}
 use Rattle.cp_model.specs.Term.{AtomTerm, Term, atom_term, Substitution}
 use Rattle.cp_model.specs.Skeleton.{Skeleton as Plain}
-use Rattle.cp_model.proofs.LawLists.{in_append, in_append_left, in_append_right}
+use Rattle.cp_lists.proofs.Members.{in_append, in_append_left, in_append_right}
 use Rattle.cp_completeness.specs.Normal.{skeleton_under}
 use Rattle.cp_unify.specs.Bindings.{Binding, as_substitution}
 use Rattle.cp_unify.specs.Unifiers.{IsMostGeneral, HasNoUnifier}
 use Rattle.cp_skel.specs.View.{skeleton_view}
 use Rattle.cp_skel.specs.Data.{SkeletonData as Skeleton}
-use Rattle.cp_normal.specs.Agreeing.{SaysTheSame}
-use Rattle.cp_normal.specs.Narrowing.{IsMostGeneralFor}
+use Rattle.cp_collapse.specs.Agreeing.{SaysTheSame}
+use Rattle.cp_collapse.specs.Directed.{IsMostGeneralFor}
 use Rattle.cp_normal.specs.Branching.{NeverEqual, HasBranch}
 use Rattle.cp_normal.specs.Branched.{AreInOrder, no_atoms, never_equal_to, unified_with, IsBranch, AreBranchesOf}
-use Rattle.cp_normal.proofs.Unifying.{most_general_for, never_equal}
+use Rattle.cp_collapse.proofs.Unifying.{most_general_for, never_equal}
 
 -- ---- in order
 

@@ -3,15 +3,17 @@ use Rattle.std.proofs.Common.{◌≡◌, ◌⊎◌, inl, inr, List, sym}
 use Rattle.cp_model.specs.Message.{atom}
 use Rattle.cp_model.specs.Term.{Variable, AtomTerm, atom_of_variable, atom_term, value_of_atom, after, Assignment, Substitution}
 use Rattle.cp_model.specs.Strand.{Protocol}
-use Rattle.cp_model.specs.Bundle.{Node, Bundle}
+use Rattle.cp_model.specs.Bundle.{Bundle}
+use Rattle.cp_model.specs.declared.node.Node.{Node}
 use Rattle.cp_model.specs.Skeleton.{UniqueAt, Skeleton, IsSkeleton}
 use Rattle.cp_model.specs.Standing.{Standing, StandsIn, StandsApart}
 use Rattle.cp_completeness.specs.Normal.{IsHeardBefore, IsSolution, skeleton_under, StandsAmong, LosesNoStanding}
 use Rattle.cp_completeness.proofs.Heard.{heard_before}
 use Rattle.cp_completeness.proofs.Under.{stands_under, apart_under, factors_under, factors_then}
-use Rattle.cp_normal.specs.Narrowing.{IsStray, IsHeardAt, IsMostGeneralFor}
+use Rattle.cp_normal.specs.Narrowing.{IsStray, IsHeardAt}
+use Rattle.cp_collapse.specs.Directed.{IsMostGeneralFor}
 use Rattle.cp_normal.specs.Branching.{NeverEqual, HasBranch, HasBranches}
-use Rattle.cp_normal.proofs.SameStandings.{same_stands, same_apart, same_factors}
+use Rattle.cp_collapse.proofs.SameStandings.{same_stands, same_apart, same_factors}
 
 -- An assignment that gives two atoms one value solves every skeleton by their most general unifier.
 solution_of : (k : Skeleton) (a b : AtomTerm) (s : Substitution) (g : Assignment) → IsMostGeneralFor a b s → value_of_atom g a ≡ value_of_atom g b → IsSolution g s k

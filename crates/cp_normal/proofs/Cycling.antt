@@ -1,14 +1,15 @@
 -- With the pairs that are added, a cycle of the order is one that such a pair closes.
 use Rattle.std.proofs.Common.{◌≡◌, ◌⊎◌, inl, inr, List, Some, refl, sym, subst, ap, arith}
-use Rattle.cp_model.specs.Lists.{IsIn, one_step, more_steps}
+use Rattle.cp_lists.specs.Lists.{IsIn, one_step, more_steps}
 use Rattle.cp_model.specs.Strand.{send}
-use Rattle.cp_model.specs.Bundle.{Node}
-use Rattle.cp_model.specs.Skeleton.{UniqueAt, OrderPair, Skeleton, OrderStep, along_strand_of, along_pair, Before, IsOrderPair, IsOrigin, IsNodeOf, term_event_at}
+use Rattle.cp_model.specs.declared.node.Node.{Node}
+use Rattle.cp_model.specs.Skeleton.{UniqueAt, Skeleton, OrderStep, along_strand_of, along_pair, Before, IsOrderPair, IsOrigin, IsNodeOf, term_event_at}
+use Rattle.cp_model.specs.declared.node.OrderPair.{OrderPair}
 use Rattle.cp_model.specs.Order.{LeadsTo, on_strand}
-use Rattle.cp_model.proofs.LawOrder.{before_leads, leads_before}
+use Rattle.cp_model.proofs.LawOrder.{before_leads, leads_before, before_wider}
 use Rattle.cp_completeness.specs.Normal.{with_pairs}
-use Rattle.cp_normal.specs.Events.{Has}
-use Rattle.cp_normal.specs.Cycles.{IsClosedAt}
+use Rattle.cp_collapse.specs.Having.{Has}
+use Rattle.cp_collapse.specs.Cycles.{IsClosedAt}
 use Rattle.cp_normal.specs.Normalising.{IsAddedPair, AreNormalPairs, ClosesCycle}
 
 module _ (k : Skeleton) (pairs : List OrderPair) (normal : AreNormalPairs k pairs) where
@@ -116,13 +117,5 @@ module _ (k : Skeleton) (pairs : List OrderPair) (normal : AreNormalPairs k pair
 
 -- ---- the pairs of a normal form are known up to their order
 
-step_same : (k : Skeleton) (ps qs : List OrderPair) → ((p : OrderPair) → IsIn p ps → IsIn p qs) → (x y : Node) → OrderStep (with_pairs k ps) x y → OrderStep (with_pairs k qs) x y
-step_same k ps qs more x y (along_strand_of e) = along_strand_of e
-step_same k ps qs more x y (along_pair {p} inp) = along_pair (more p inp)
-
-before_same : (k : Skeleton) (ps qs : List OrderPair) → ((p : OrderPair) → IsIn p ps → IsIn p qs) → (x y : Node) → Before (with_pairs k ps) x y → Before (with_pairs k qs) x y
-before_same k ps qs more x y (one_step s) = one_step (step_same k ps qs more x y s)
-before_same k ps qs more x z (more_steps {y} s b) = more_steps (step_same k ps qs more x y s) (before_same k ps qs more y z b)
-
 pub cycle_of_these : (k : Skeleton) (pairs : List OrderPair) → AreNormalPairs k pairs → (c : ClosesCycle k) → Before (with_pairs k pairs) c.node c.node
-cycle_of_these k pairs normal c = before_same k c.pairs pairs (λ p inp. (normal p).1 ((c.normal p).0 inp)) c.node c.node c.cycle
+cycle_of_these k pairs normal c = before_wider (with_pairs k c.pairs) (with_pairs k pairs) refl (λ p inp. (normal p).1 ((c.normal p).0 inp)) c.cycle

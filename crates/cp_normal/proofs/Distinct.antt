@@ -1,9 +1,9 @@
 -- How many different variables a list has.
 use Rattle.std.proofs.Common.{◌≡◌, ◌⊎◌, inl, inr, ◌<◌, ◌≤◌, ◌+◌, ℕ, Bool, true, false, cond, ◌||◌, List, [], ◌∷◌, refl, sym, ap, ◌∙◌, subst, arith}
-use Rattle.cp_model.specs.Lists.{IsIn, here, there}
+use Rattle.cp_lists.specs.Lists.{IsIn, here, there}
 use Rattle.cp_model.specs.Term.{Variable}
 use Rattle.cp_unify.specs.Unifiers.{AreAmong}
-use Rattle.cp_unify.proofs.Members.{in_cases}
+use Rattle.cp_lists.proofs.Members.{in_cases}
 use Rattle.cp_unify.proofs.Deciding.{is_variable, is_variable_tells, occurs, occurs_tells}
 
 abbrev pub distinct : List Variable → ℕ
@@ -77,7 +77,7 @@ not_more [] xs h = omega arith
 not_more (y ∷ ys) xs h = not_more_at y ys xs h (λ zs k. not_more ys zs k) (occurs_tells ys y)
 
 among_cons : (x : Variable) (ys xs : List Variable) → IsIn x xs → AreAmong ys xs → AreAmong (x ∷ ys) xs
-among_cons x ys xs h k y i = elim (in_cases i) [ inl e ↦ subst (λ (z : Variable). IsIn z xs) (sym e) h | inr j ↦ k y j ]
+among_cons x ys xs h k y i = elim (in_cases i) [ inl e ↦ subst (λ (z : Variable). IsIn z xs) e h | inr j ↦ k y j ]
 
 pub fewer_distinct : (ys xs : List Variable) (x : Variable) → AreAmong ys xs → IsIn x xs → (IsIn x ys → ⊥) → distinct ys < distinct xs
 fewer_distinct ys xs x h i gone =

@@ -1,12 +1,12 @@
 -- Rounds of narrowing: what takes the place of each candidate.
-use Rattle.std.proofs.Common.{◌≡◌, ◌↔◌, ◌⊎◌, inl, inr, List, [], ◌∷◌, ◌++◌, map, reverse, length, refl, sym, ap, ◌∙◌, subst}
+use Rattle.std.proofs.Common.{◌≡◌, ◌↔◌, ◌⊎◌, inl, inr, List, [], ◌∷◌, ◌++◌, map, reverse, refl, sym, ap, ◌∙◌, subst}
 use Rattle.std.proofs.lemmas.List.{reverse-append, reverse-reverse, map-append, append-nil}
-use Rattle.cp_model.specs.Lists.{IsIn, here, there}
+use Rattle.cp_lists.specs.Lists.{IsIn, here}
+use Rattle.cp_lists.proofs.Items.{at_place}
 use Rattle.cp_model.specs.Term.{AtomTerm, atom_term}
-use Rattle.cp_model.specs.Bundle.{Node}
+use Rattle.cp_model.specs.declared.node.Node.{Node}
 use Rattle.cp_model.specs.Skeleton.{UniqueAt, Skeleton}
-use Rattle.cp_model.proofs.LawLists.{in_append, in_append_left, in_append_right}
-use Rattle.cp_skel.specs.DeclaredPrefixes.{HasDeclaredPrefixes}
+use Rattle.cp_lists.proofs.Members.{in_append, in_append_left, in_append_right, from_map, from_reverse, only_item}
 use Rattle.cp_skel.specs.View.{skeleton_view}
 use Rattle.cp_skel.specs.Data.{SkeletonData as Program}
 use Rattle.cp_skel.proofs.EachOnce.{listed-unique}
@@ -19,12 +19,8 @@ use Rattle.cp_normal.specs.Branched.{AreInOrder, IsBranch, AreBranchesOf}
 use Rattle.cp_normal.specs.Exact.{IsRefuted, HaveForms, refuted_one, stray_one}
 use Rattle.cp_normal.specs.Hearing.{heard_before}
 use Rattle.cp_normal.specs.Straying.{IsFirstStray}
-use Rattle.cp_normal.specs.Candidates.{candidate_view, IsSound, Follows, TakesPlace, Puts, AllFollow, IsRound}
-use Rattle.cp_unify.specs.Bindings.{as_substitution}
+use Rattle.cp_normal.specs.Candidates.{skeleton_of, candidate_view, IsSound, Follows, TakesPlace, Puts, AllFollow, IsRound}
 use Rattle.cp_unify.specs.Unifiers.{IsMostGeneral}
-use Rattle.cp_normal.proofs.Declared.{under_declared}
-use Rattle.cp_normal.proofs.Having.{IsViewed, in_map}
-use Rattle.cp_normal.proofs.Strayed.{at_is_in}
 use Rattle.cp_normal.proofs.BranchLists.{all_have_branches}
 use Rattle.cp_normal.proofs.Fewer.{narrowed_has_fewer, is_narrowed}
 use Rattle.cp_normal.proofs.Exactly.{placed}
@@ -47,31 +43,19 @@ nothing_follows k r c = record {
 pub dropped_place : (k : Program) (old : List Candidate) → IsRefuted (skeleton_view k) → Puts (Open k) old old
 dropped_place k old r = record { added = []; behind = sym (append-nil old); takes_place = nothing_follows k r (refuted (skeleton_view k) r) }
 
-only_one : {A : Type 0} {x y : A} → IsIn y (x ∷ []) → x ≡ y
-only_one here = refl
-only_one (there i) = elim i [ ]
+-- In the place of a candidate without stray values its skeleton stands, settled.
+settled_takes : (c : Candidate) → IsSettled (candidate_view c) → TakesPlace c (Settled (skeleton_of c) ∷ [])
+settled_takes c settled = record {
+  each = λ d i. subst (Follows c) (sym (only_item i)) (record { sound = settled; falls = tt; variables = refl });
+  narrowed = λ first done rest so_far. stays first (candidate_view c) done rest so_far;
+  exact = λ rest rs h. h;
+}
 
 pub settled_place : (k : Program) (old new : List Candidate) → IsSettled (skeleton_view k) → new ≡ old ++ Settled k ∷ [] → Puts (Open k) old new
-settled_place k old new settled e = record {
-  added = Settled k ∷ [];
-  behind = e;
-  takes_place = record {
-    each = λ d i. subst (Follows (Open k)) (only_one i) (record { sound = settled; falls = tt; variables = refl });
-    narrowed = λ first done rest so_far. stays first (skeleton_view k) done rest so_far;
-    exact = λ rest rs h. h;
-  };
-}
+settled_place k old new settled e = record { added = Settled k ∷ []; behind = e; takes_place = settled_takes (Open k) settled }
 
 same_place : (k : Program) (old new : List Candidate) → IsSettled (skeleton_view k) → new ≡ old ++ Settled k ∷ [] → Puts (Settled k) old new
-same_place k old new sound e = record {
-  added = Settled k ∷ [];
-  behind = e;
-  takes_place = record {
-    each = λ d i. subst (Follows (Settled k)) (only_one i) (record { sound = sound; falls = tt; variables = refl });
-    narrowed = λ first done rest so_far. stays first (skeleton_view k) done rest so_far;
-    exact = λ rest rs h. h;
-  };
-}
+same_place k old new settled e = record { added = Settled k ∷ []; behind = e; takes_place = settled_takes (Settled k) settled }
 
 pub settled_stays : (c : Candidate) (k : Program) (old new : List Candidate) → c ≡ Settled k → IsSound c → new ≡ old ++ Settled k ∷ [] → Puts c old new
 settled_stays c k old new is sound e = subst (λ (d : Candidate). Puts d old new) (sym is) (same_place k old new (subst IsSound is sound) e)
@@ -126,24 +110,12 @@ module _ (all left rest old new : List Candidate) (c : Candidate) (so_far : IsPa
     exact = exact_next;
   }
 
-in_reverse : {A : Type 0} {x : A} (xs : List A) → IsIn x xs → IsIn x (reverse xs)
-in_reverse (y ∷ ys) here = subst (IsIn y) (sym (reverse-append (y ∷ []) ys)) (in_append_right (reverse ys) here)
-in_reverse {A} {x} (y ∷ ys) (there i) = subst (IsIn x) (sym (reverse-append (y ∷ []) ys)) (in_append_left (y ∷ []) (in_reverse ys i))
-in_reverse [] i = elim i [ ]
-
-pub back_of : (candidates : List Candidate) (c : Candidate) → IsIn c (reverse candidates) → IsIn c candidates
-back_of candidates c i = subst (IsIn c) (reverse-reverse candidates) (in_reverse (reverse candidates) i)
-
 pub next_is_in : (candidates all left rest new : List Candidate) (c : Candidate) → all ≡ reverse candidates → IsPartWay all left new → left ≡ rest ++ c ∷ [] → IsIn c candidates
-next_is_in candidates all left rest new c e part popped = back_of candidates c (subst (IsIn c) e (part.each_left c (subst (IsIn c) (sym popped) (in_append_right rest here))))
-
-pub empty_list : {A : Type 0} (xs : List A) → length xs ≡ 0 → xs ≡ []
-empty_list [] e = refl
-empty_list (x ∷ xs) e = absurd (cc)
+next_is_in candidates all left rest new c e part popped = from_reverse candidates (subst (IsIn c) e (part.each_left c (subst (IsIn c) (sym popped) (in_append_right rest here))))
 
 pub all_done : (candidates all left new : List Candidate) → all ≡ reverse candidates → left ≡ [] → IsPartWay all left new → IsRound candidates new
 all_done candidates all left new e done part = record {
-  all_follow = λ d i. let r = part.all_follow d i in (r.0, back_of candidates r.0 (subst (IsIn r.0) e r.1), r.2);
+  all_follow = λ d i. let r = part.all_follow d i in (r.0, from_reverse candidates (subst (IsIn r.0) e r.1), r.2);
   narrowed = λ k first. subst (AreNarrowedFrom k) (append-nil (map candidate_view new))
       (subst (λ (ds : List Candidate). AreNarrowedFrom k (map candidate_view new ++ map candidate_view (reverse ds))) done
       (part.narrowed k (subst (λ (ds : List Candidate). AreNarrowedFrom k (map candidate_view ds)) (sym (ap reverse e ∙ reverse-reverse candidates)) first)));
@@ -154,14 +126,14 @@ all_done candidates all left new e done part = record {
 
 -- ---- branches
 
-module _ (k : Program) (v : AtomTerm) (x : Node) (atoms : List AtomTerm) (made : List Program) (declared : HasDeclaredPrefixes (skeleton_view k)) where
+module _ (k : Program) (v : AtomTerm) (x : Node) (atoms : List AtomTerm) (made : List Program) where
   module _ (consistent : IsRefuted (skeleton_view k) → ⊥) (stray : IsFirstStray (skeleton_view k) v x) (in_order : atoms ≡ heard_before (skeleton_view k) x) (heard : (a : AtomTerm) → IsIn a atoms ↔ IsHeardAt (skeleton_view k) a x)
       (are : AreBranchesOf k v atoms made) where
     abbrev entry : UniqueAt
     entry = stray.here.entry
 
     is_stray : IsStray (skeleton_view k) entry x
-    is_stray = record { listed = ((listed-unique (skeleton_view k)).same entry).0 (at_is_in _ stray.here.place entry stray.here.at_place); originates = stray.here.strays.1; elsewhere = stray.here.strays.0 }
+    is_stray = record { listed = ((listed-unique (skeleton_view k)).same entry).0 (at_place _ stray.here.place entry stray.here.at_place); originates = stray.here.strays.1; elsewhere = stray.here.strays.0 }
 
     have_branches : HasBranches (skeleton_view k) entry x (map skeleton_view made)
     have_branches a h = subst (λ (u : AtomTerm). NeverEqual u a ⊎ HasBranch (skeleton_view k) u a (map skeleton_view made)) (sym stray.here.is_value)
@@ -173,7 +145,7 @@ module _ (k : Program) (v : AtomTerm) (x : Node) (atoms : List AtomTerm) (made :
 
       follows : Follows (Open k) (Open l)
       follows = record {
-        sound = under_declared (as_substitution b.bindings) (skeleton_view k) (skeleton_view l) b.same declared;
+        sound = tt;
         falls = narrowed_has_fewer (skeleton_view k) (skeleton_view l) entry x b.heard b.bindings is_stray ((heard b.heard).0 b.listed) most_general b.same;
         variables = b.variables;
       }
@@ -181,10 +153,10 @@ module _ (k : Program) (v : AtomTerm) (x : Node) (atoms : List AtomTerm) (made :
       narrowed_so : IsNarrowed (skeleton_view k) (skeleton_view l)
       narrowed_so = is_narrowed (skeleton_view k) (skeleton_view l) entry x b.heard b.bindings is_stray ((heard b.heard).0 b.listed) most_general b.same
 
-    each_follows : (d : Candidate) → IsViewed Open d made → Follows (Open k) d
+    each_follows : (d : Candidate) → (l : Program) × IsIn l made × (Open l ≡ d) → Follows (Open k) d
     each_follows d r = subst (Follows (Open k)) r.2 (follows r.0 (are.each r.0 r.1))
 
-    each_narrowed : (m : Skeleton) → IsViewed skeleton_view m made → IsNarrowed (skeleton_view k) m
+    each_narrowed : (m : Skeleton) → (l : Program) × IsIn l made × (skeleton_view l ≡ m) → IsNarrowed (skeleton_view k) m
     each_narrowed m r = subst (IsNarrowed (skeleton_view k)) r.2 (narrowed_so r.0 (are.each r.0 r.1))
 
     view_open : (ls : List Program) → map candidate_view (map Open ls) ≡ map skeleton_view ls
@@ -196,9 +168,9 @@ module _ (k : Program) (v : AtomTerm) (x : Node) (atoms : List AtomTerm) (made :
       added = map Open made;
       behind = e;
       takes_place = record {
-        each = λ d i. each_follows d (in_map Open d made i);
+        each = λ d i. each_follows d (from_map Open made i);
         narrowed = λ first done rest so_far. subst (λ (ms : List Skeleton). AreNarrowedFrom first ((done ++ ms) ++ rest)) (sym (view_open made))
-            (branched first (skeleton_view k) done rest so_far entry x (map skeleton_view made) is_stray have_branches (λ m i. each_narrowed m (in_map skeleton_view m made i)));
+            (branched first (skeleton_view k) done rest so_far entry x (map skeleton_view made) is_stray have_branches (λ m i. each_narrowed m (from_map skeleton_view made i)));
         exact = λ rest rs h.
             stray_one consistent stray (subst (λ (vs : List AtomTerm). AreInOrder (skeleton_view k) v vs (map skeleton_view made)) in_order are.in_order)
             (subst (λ (ms : List Skeleton). HaveForms (ms ++ rest) rs) (view_open made) h);

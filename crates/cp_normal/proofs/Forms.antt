@@ -1,9 +1,10 @@
 -- A skeleton with no stray value and the pairs that its unique values add is a normal form.
 use Rattle.std.proofs.Common.{◌⊎◌, inl, inr, List, [], ◌∷◌, refl}
-use Rattle.cp_model.specs.Lists.{IsIn, one_step}
+use Rattle.cp_lists.specs.Lists.{IsIn, one_step}
 use Rattle.cp_model.specs.Term.{AtomTerm}
-use Rattle.cp_model.specs.Bundle.{Node}
-use Rattle.cp_model.specs.Skeleton.{UniqueAt, OrderPair, Skeleton, along_pair, IsSkeleton}
+use Rattle.cp_model.specs.declared.node.Node.{Node}
+use Rattle.cp_model.specs.Skeleton.{UniqueAt, Skeleton, along_pair, IsSkeleton}
+use Rattle.cp_model.specs.declared.node.OrderPair.{OrderPair}
 use Rattle.cp_model.specs.Realising.{OriginatesAtTerm}
 use Rattle.cp_model.specs.Strand.{Protocol}
 use Rattle.cp_completeness.specs.Normal.{IsCarriedAt, with_pairs, LosesNoStanding}

@@ -1,12 +1,13 @@
 -- The normal forms that the rules give are normal forms of the skeleton, and lose none of its standings.
 use Rattle.std.proofs.Common.{◌≡◌, ◌⊎◌, inl, inr, List, ◌++◌, refl, sym, subst, ⊎_elim}
-use Rattle.cp_model.specs.Lists.{IsIn, here, there}
+use Rattle.cp_lists.specs.Lists.{IsIn, here, there}
+use Rattle.cp_lists.proofs.Items.{at_place}
 use Rattle.cp_model.specs.Term.{AtomTerm}
 use Rattle.cp_model.specs.Strand.{Protocol}
-use Rattle.cp_model.specs.Bundle.{Node}
+use Rattle.cp_model.specs.declared.node.Node.{Node}
 use Rattle.cp_model.specs.Given.{listed}
 use Rattle.cp_model.specs.Skeleton.{UniqueAt, Skeleton, IsSkeleton}
-use Rattle.cp_model.proofs.LawLists.{in_append, in_append_left, in_append_right}
+use Rattle.cp_lists.proofs.Members.{in_append, in_append_left, in_append_right}
 use Rattle.cp_completeness.specs.Normal.{LosesNoStanding}
 use Rattle.cp_completeness.proofs.Losing.{among_more, through_each}
 use Rattle.cp_skel.proofs.EachOnce.{listed-unique}
@@ -14,7 +15,8 @@ use Rattle.cp_normal.specs.Branched.{AreInOrder, no_atoms, never_equal_to, unifi
 use Rattle.cp_normal.specs.Branching.{NeverEqual, HasBranch, HasBranches}
 use Rattle.cp_normal.specs.Exact.{IsRefuted, HasForms, refuted, branching, cyclic, normal, EachHasForms, no_more, and_then}
 use Rattle.cp_normal.specs.Hearing.{heard_before}
-use Rattle.cp_normal.specs.Narrowing.{IsStray, IsHeardAt, IsMostGeneralFor, IsNarrowed, none, one, IsNormalFormOf}
+use Rattle.cp_normal.specs.Narrowing.{IsStray, IsHeardAt, IsNarrowed, none, one, IsNormalFormOf}
+use Rattle.cp_collapse.specs.Directed.{IsMostGeneralFor}
 use Rattle.cp_normal.specs.Normalising.{IsContradictory}
 use Rattle.cp_normal.specs.Straying.{IsFirstStray}
 use Rattle.cp_normal.proofs.BranchLists.{all_have_branches}
@@ -23,7 +25,6 @@ use Rattle.cp_normal.proofs.Forms.{normal_form, pairs_lose_no_standing}
 use Rattle.cp_normal.proofs.Heard.{heard_if_listed, listed_if_heard}
 use Rattle.cp_normal.proofs.Losses.{none_of_contradictory}
 use Rattle.cp_normal.proofs.Rounds.{narrows_is_skeleton}
-use Rattle.cp_normal.proofs.Strayed.{at_is_in}
 
 pub contradicts : (k : Skeleton) → IsRefuted k → IsContradictory k
 contradicts k (inl c) = inl c
@@ -41,7 +42,7 @@ module _ (k : Skeleton) (v : AtomTerm) (x : Node) (first : IsFirstStray k v x) w
 
   stray : IsStray k entry x
   stray = record {
-    listed = ((listed-unique k).same entry).0 (at_is_in (listed k).uniquely_originating first.here.place entry first.here.at_place);
+    listed = ((listed-unique k).same entry).0 (at_place (listed k).uniquely_originating first.here.place entry first.here.at_place);
     originates = first.here.strays.1;
     elsewhere = first.here.strays.0;
   }

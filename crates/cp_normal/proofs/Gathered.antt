@@ -1,9 +1,10 @@
 -- The normal forms of settled skeletons, one after the other.
 use Rattle.std.proofs.Common.{◌≡◌, ◌⊎◌, inl, inr, List, [], ◌∷◌, ◌++◌, map, reverse, sym, ap, ◌∙◌, subst, append_assoc}
 use Rattle.std.proofs.lemmas.List.{reverse-append, reverse-reverse, map-append, append-nil}
-use Rattle.cp_model.specs.Lists.{IsIn, here, there}
-use Rattle.cp_model.specs.Skeleton.{OrderPair, Skeleton}
-use Rattle.cp_model.proofs.LawLists.{in_append, in_append_left, in_append_right}
+use Rattle.cp_lists.specs.Lists.{IsIn, here, there}
+use Rattle.cp_model.specs.Skeleton.{Skeleton}
+use Rattle.cp_model.specs.declared.node.OrderPair.{OrderPair}
+use Rattle.cp_lists.proofs.Members.{in_append, in_append_left, in_append_right, from_reverse}
 use Rattle.cp_completeness.specs.Normal.{with_pairs}
 use Rattle.cp_skel.specs.View.{skeleton_view}
 use Rattle.cp_skel.specs.Data.{SkeletonData as Program}
@@ -12,7 +13,6 @@ use Rattle.cp_normal.specs.Normalising.{AreNormalPairs, IsContradictory}
 use Rattle.cp_normal.specs.Branching.{IsSettled, AreFormsBeside}
 use Rattle.cp_normal.specs.Exact.{HaveForms, no_skeletons, cyclic_one, normal_one}
 use Rattle.cp_normal.specs.Candidates.{skeleton_of, candidate_view, IsFormOf, PutsForm, no_form, form, AreForms}
-use Rattle.cp_normal.proofs.Following.{back_of}
 use Rattle.cp_normal.proofs.Reaching.{form_dropped, form_added}
 
 -- Of the candidates, which are taken from the end, those that are left are still to be done.
@@ -86,8 +86,8 @@ all_forms candidates all left forms e done part = record {
       let none_left : HaveForms (map candidate_view (reverse left)) [] = subst (λ (ds : List Candidate). HaveForms (map candidate_view (reverse ds)) []) (sym done) no_skeletons in
       subst (λ (ds : List Candidate). HaveForms (map candidate_view ds) (map skeleton_view forms)) (ap reverse e ∙ reverse-reverse candidates)
       (subst (λ (fs : List Skeleton). HaveForms (map candidate_view (reverse all)) fs) (append-nil (map skeleton_view forms))
-      (part.exact (λ c i. settled c (back_of candidates c (subst (IsIn c) e i))) [] none_left));
-  variables = λ r i. let v = part.variables r i in (v.0, back_of candidates v.0 (subst (IsIn v.0) e v.1), v.2);
+      (part.exact (λ c i. settled c (from_reverse candidates (subst (IsIn c) e i))) [] none_left));
+  variables = λ r i. let v = part.variables r i in (v.0, from_reverse candidates (subst (IsIn v.0) e v.1), v.2);
 }
 
 pub form_made : (l r : Program) (old new : List Program) (pairs : List OrderPair) → AreNormalPairs (skeleton_view l) pairs × (IsContradictory (skeleton_view l) → ⊥) → skeleton_view r ≡ with_pairs (skeleton_view l) pairs → r.variables ≡ l.variables → new ≡ old ++ r ∷ [] → PutsForm l old new

@@ -1,10 +1,11 @@
 -- Loops that gather what the items of a list give.
 use Rattle.std.proofs.Common.{ℕ, ◌+◌, ◌<◌, ◌≤◌, List, [], ◌∷◌, ◌++◌, ◌≡◌, ◌↔◌, ◌⊎◌, inl, inr, length, get_or, drop, sym, subst}
-use Rattle.cp_model.specs.Lists.{IsIn, here}
-use Rattle.cp_model.specs.Skeleton.{OrderPair}
-use Rattle.cp_normal.specs.Events.{Has, Gathers}
-use Rattle.cp_normal.proofs.Having.{next_or_rest, next_back, none, in_cases}
-use Rattle.cp_skel.proofs.Composing.{in_either, in_front, in_back}
+use Rattle.cp_lists.specs.Lists.{IsIn, here}
+use Rattle.cp_lists.proofs.Members.{in_cases, in_append, in_append_left, in_append_right}
+use Rattle.cp_model.specs.declared.node.OrderPair.{OrderPair}
+use Rattle.cp_collapse.specs.Having.{Has}
+use Rattle.cp_normal.specs.Events.{Gathers}
+use Rattle.cp_collapse.proofs.Having.{next_or_rest, next_back, none}
 
 -- The pairs so far, with those that the items from i on give, are the first ones and all that are given.
 abbrev pub IsGathering : {A : Type 0} → (A → OrderPair → Type 0) → List A → ℕ → List OrderPair → List OrderPair → Type 0
@@ -59,7 +60,7 @@ module _ {A : Type 0} (gives : A → OrderPair → Type 0) (xs : List A) where
   -- an item that gives one pair
   pub puts_one : (x : A) (q : OrderPair) (old new : List OrderPair) → gives x q → ((p : OrderPair) → gives x p → q ≡ p) → new ≡ old ++ q ∷ [] → Puts gives x old new
   puts_one x q old new given only pushed p = (
-    λ h. of (in_either old (q ∷ []) (subst (IsIn p) pushed h)),
+    λ h. of (in_append old (q ∷ []) (subst (IsIn p) pushed h)),
     λ h. subst (IsIn p) (sym pushed) (back h),
   )
     where
@@ -72,5 +73,5 @@ module _ {A : Type 0} (gives : A → OrderPair → Type 0) (xs : List A) where
       of (inr h) = inr (one (in_cases h))
 
       back : IsIn p old ⊎ gives x p → IsIn p (old ++ q ∷ [])
-      back (inl h) = in_front old (q ∷ []) h
-      back (inr g) = in_back old (q ∷ []) (subst (λ z. IsIn z (q ∷ [])) (only p g) here)
+      back (inl h) = in_append_left (q ∷ []) h
+      back (inr g) = in_append_right old (subst (λ z. IsIn z (q ∷ [])) (only p g) here)

@@ -1,6 +1,6 @@
 -- The greatest of the numbers of a list's items, and when it falls.
 use Rattle.std.proofs.Common.{◌≡◌, ◌⊎◌, inl, inr, ◌<◌, ◌≤◌, ℕ, max, List, [], ◌∷◌, arith}
-use Rattle.cp_model.specs.Lists.{IsIn, here, there}
+use Rattle.cp_lists.specs.Lists.{IsIn, here, there}
 
 abbrev pub greatest : {A : Type 0} → (A → ℕ) → List A → ℕ
 greatest f [] = 0

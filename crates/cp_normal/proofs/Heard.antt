@@ -2,18 +2,19 @@
 use Rattle.std.proofs.Common.{◌≡◌, ◌⊎◌, inl, inr, ℕ, zero, suc, ◌+◌, ◌<◌, ◌≤◌, ◌==◌, ◌&&◌, nat_lt, if◌then◌else◌, Bool, true, false, List, [], ◌∷◌, ◌++◌, map, length, get_or, take, drop, Some, refl, sym, ap, ◌∙◌, subst, arith, append_assoc, add-one}
 use Rattle.std.proofs.Math.Seq.{drop-cons}
 use Rattle.std.proofs.lemmas.List.{append-nil, drop_all}
-use Rattle.cp_model.specs.Lists.{item_at, IsIn, here, there}
+use Rattle.cp_lists.specs.Lists.{item_at, IsIn, here}
+use Rattle.cp_lists.proofs.Members.{only_item, in_append, in_append_left, in_append_right}
 use Rattle.cp_model.specs.Term.{AtomTerm, Term, tag_term, atom_term, pair_term, enc_term, IsCarriedByTerm, itself_term, in_left_term, in_right_term, in_plaintext_term}
 use Rattle.cp_model.specs.Strand.{Event, send, recv}
-use Rattle.cp_model.specs.Bundle.{Node, node_at}
+use Rattle.cp_model.specs.Bundle.{node_at}
+use Rattle.cp_model.specs.declared.node.Node.{Node}
 use Rattle.cp_model.specs.Skeleton.{SkeletonStrand, skeleton_trace, skeleton_trace_or_none, Skeleton}
 use Rattle.cp_model.specs.Given.{atoms_onto}
-use Rattle.cp_skel.proofs.EachOnce.{atoms as gathering, onto-append, onto-takes, onto-only}
+use Rattle.cp_model.proofs.Gathered.{onto-append, onto-takes, onto-only, atoms as gathering}
 use Rattle.cp_skel.specs.Events.{Occurrence, occurrence_view, is_role_strand, occurrences_on, occurrences_from, events_of}
 use Rattle.cp_skel.specs.declared.events.Occurrence as program
 use Rattle.cp_normal.specs.Hearing.{carried_atoms, received_atoms, heard_in, heard_before, heard_of, heard_among}
 use Rattle.cp_normal.specs.Narrowing.{IsHeardAt}
-use Rattle.cp_skel.proofs.Composing.{in_either, in_front, in_back}
 
 -- ---- the loops that gather them
 
@@ -110,18 +111,14 @@ heard_listed k x os atoms all e = e ∙ ap (λ (ys : List Occurrence). atoms_ont
 
 carried_listed : (v : AtomTerm) (w t : Term) → w ≡ atom_term v → IsCarriedByTerm w t → IsIn v (carried_atoms t)
 carried_listed v w t e itself_term = subst (λ u. IsIn v (carried_atoms u)) (sym e) here
-carried_listed v w t e (in_left_term {a = x} {b = y} c) = in_front (carried_atoms x) (carried_atoms y) (carried_listed v w x e c)
-carried_listed v w t e (in_right_term {a = x} {b = y} c) = in_back (carried_atoms x) (carried_atoms y) (carried_listed v w y e c)
+carried_listed v w t e (in_left_term {a = x} {b = y} c) = in_append_left (carried_atoms y) (carried_listed v w x e c)
+carried_listed v w t e (in_right_term {a = x} {b = y} c) = in_append_right (carried_atoms x) (carried_listed v w y e c)
 carried_listed v w t e (in_plaintext_term {a = x} c) = carried_listed v w x e c
-
-of_one : {A : Type 0} {x y : A} → IsIn x (y ∷ []) → y ≡ x
-of_one here = refl
-of_one (there m) = elim m [ ]
 
 listed_carried : (v : AtomTerm) (t : Term) → IsIn v (carried_atoms t) → IsCarriedByTerm (atom_term v) t
 listed_carried v (tag_term bytes) h = elim h [ ]
-listed_carried v (atom_term u) h = subst (λ z. IsCarriedByTerm (atom_term v) (atom_term z)) (sym (of_one h)) itself_term
-listed_carried v (pair_term x y) h = elim (in_either (carried_atoms x) (carried_atoms y) h) as (λ _. IsCarriedByTerm (atom_term v) (pair_term x y)) [
+listed_carried v (atom_term u) h = subst (λ z. IsCarriedByTerm (atom_term v) (atom_term z)) (only_item h) itself_term
+listed_carried v (pair_term x y) h = elim (in_append (carried_atoms x) (carried_atoms y) h) as (λ _. IsCarriedByTerm (atom_term v) (pair_term x y)) [
   | inl i ↦ in_left_term (listed_carried v x i)
   | inr i ↦ in_right_term (listed_carried v y i)
 ]
@@ -138,7 +135,7 @@ first_heard v (recv t) n es h = (0, omega arith, t, refl, listed_carried v t h)
 heard_below : (v : AtomTerm) (n : ℕ) (es : List (Event Term)) → IsIn v (heard_in (take n es)) → IsHeardBelow n es v
 heard_below v zero es h = elim h [ ]
 heard_below v (suc n) [] h = elim h [ ]
-heard_below v (suc n) (e ∷ es) h = elim (in_either (received_atoms e) (heard_in (take n es)) h) as (λ _. IsHeardBelow (suc n) (e ∷ es) v) [
+heard_below v (suc n) (e ∷ es) h = elim (in_append (received_atoms e) (heard_in (take n es)) h) as (λ _. IsHeardBelow (suc n) (e ∷ es) v) [
   | inl i ↦ first_heard v e n es i
   | inr i ↦ let r = heard_below v n es i in (suc r.0, omega (arith, r.1), r.2, r.3, r.4)
 ]
@@ -148,8 +145,8 @@ below_heard v zero es i t h at c = absurd (omega arith)
 below_heard v (suc n) [] i t h at c = absurd (cc)
 below_heard v (suc n) (e ∷ es) zero t h at c =
     let q : e ≡ recv t = cc in
-    in_front (received_atoms e) (heard_in (take n es)) (subst (λ z. IsIn v (received_atoms z)) (sym q) c)
-below_heard v (suc n) (e ∷ es) (suc i) t h at c = in_back (received_atoms e) (heard_in (take n es)) (below_heard v n es i t (omega arith) at c)
+    in_append_left (heard_in (take n es)) (subst (λ z. IsIn v (received_atoms z)) (sym q) c)
+below_heard v (suc n) (e ∷ es) (suc i) t h at c = in_append_right (received_atoms e) (below_heard v n es i t (omega arith) at c)
 
 none_before : {v : AtomTerm} {ys : List AtomTerm} → IsIn v [] ⊎ IsIn v ys → IsIn v ys
 none_before (inl h) = elim h [ ]

@@ -1,18 +1,18 @@
 -- A normal form of a skeleton that carries a homomorphism from its problem carries one.
 use Rattle.std.proofs.Common.{◌≡◌, ℕ, List, map, sym, ◌∙◌, subst, inl}
-use Rattle.cp_model.specs.Lists.{IsIn}
+use Rattle.cp_lists.specs.Lists.{IsIn}
 use Rattle.cp_model.specs.Term.{Substitution, apply_to, apply_to_atom}
 use Rattle.cp_model.specs.Strand.{Role, Declaration}
 use Rattle.cp_model.specs.Skeleton.{Assumptions, FromProblem, Skeleton}
 use Rattle.cp_model.specs.Homomorphism.{SkeletonMap, mapped, GoesToInstance, IsHomomorphism, substitution_by, strand_in, map_from_problem, CarriesHomomorphism}
 use Rattle.cp_model.specs.Problem.{IsPointOfView}
-use Rattle.cp_model.proofs.LawLists.{variables_of_higher}
+use Rattle.cp_model.proofs.LawPrefixes.{variables_of_higher}
 use Rattle.cp_completeness.specs.Normal.{skeleton_under}
 use Rattle.cp_completeness.proofs.Mapped.{carried_under, carried_with_pairs}
-use Rattle.cp_normal.specs.Agreeing.{SaysTheSame}
+use Rattle.cp_collapse.specs.Agreeing.{SaysTheSame}
 use Rattle.cp_normal.specs.Narrowing.{IsNarrowed, NarrowsTo, none, one, IsNormalFormOf}
-use Rattle.cp_normal.proofs.SameStrands.{all_same_back, instance_at, listener_at}
-use Rattle.cp_normal.proofs.SameFacts.{same_before}
+use Rattle.cp_collapse.proofs.SameStrands.{all_same_back, instance_at, listener_at}
+use Rattle.cp_collapse.proofs.SameFacts.{same_before}
 
 module _ (problem k l : Skeleton) (s : SaysTheSame k l) where
   same_instance_goes : (f : SkeletonMap) (a : ℕ) (role : Role) (height : ℕ) (terms : Substitution) → GoesToInstance k f a role height terms → GoesToInstance l f a role height terms

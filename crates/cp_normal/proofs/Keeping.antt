@@ -1,9 +1,10 @@
 -- A normal form of a skeleton over a protocol is one, is a normal form of itself, and its assumptions are true of it.
 use Rattle.std.proofs.Common.{◌≡◌, ◌≢◌, ◌⊎◌, inl, inr, ◌<◌, ℕ, List, refl, sym, subst, arith}
-use Rattle.cp_model.specs.Lists.{IsIn}
+use Rattle.cp_lists.specs.Lists.{IsIn}
 use Rattle.cp_model.specs.Strand.{send, Protocol}
-use Rattle.cp_model.specs.Bundle.{Node}
-use Rattle.cp_model.specs.Skeleton.{UniqueAt, OrderPair, Skeleton, Before, IsSkeleton}
+use Rattle.cp_model.specs.declared.node.Node.{Node}
+use Rattle.cp_model.specs.Skeleton.{UniqueAt, Skeleton, Before, IsSkeleton}
+use Rattle.cp_model.specs.declared.node.OrderPair.{OrderPair}
 use Rattle.cp_model.specs.Realising.{OriginatesAtTerm, KeepsAssumptions}
 use Rattle.cp_completeness.specs.Normal.{with_pairs}
 use Rattle.cp_completeness.proofs.Skeletons.{with_pairs_is_skeleton}

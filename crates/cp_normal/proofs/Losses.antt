@@ -1,8 +1,9 @@
 -- A skeleton that contradicts itself stands apart nowhere, and the pairs that are added lose no standing.
 use Rattle.std.proofs.Common.{List, [], ◌⊎◌, inl, inr}
-use Rattle.cp_model.specs.Lists.{IsIn}
+use Rattle.cp_lists.specs.Lists.{IsIn}
 use Rattle.cp_model.specs.Strand.{Protocol}
-use Rattle.cp_model.specs.Skeleton.{OrderPair, Skeleton, IsSkeleton}
+use Rattle.cp_model.specs.Skeleton.{Skeleton, IsSkeleton}
+use Rattle.cp_model.specs.declared.node.OrderPair.{OrderPair}
 use Rattle.cp_completeness.specs.Normal.{IsOriginPair, AddOnlyOriginPairs, LosesNoStanding}
 use Rattle.cp_completeness.proofs.Losing.{none_carried, none_with_two_origins, none_not_originating, none_with_cycle}
 use Rattle.cp_normal.specs.Normalising.{IsAddedPair, AreNormalPairs, IsContradictory}

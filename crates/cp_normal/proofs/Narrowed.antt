@@ -1,22 +1,22 @@
 -- A skeleton under a most general unifier of two different atoms of it has fewer different variables.
 use Rattle.std.proofs.Common.{◌≡◌, ◌<◌, List, [], ◌∷◌, ◌++◌, map, refl, ap, ap₂, subst, ⊎_elim}
-use Rattle.cp_model.specs.Lists.{IsIn}
+use Rattle.cp_lists.specs.Lists.{IsIn}
 use Rattle.cp_model.specs.Term.{Variable, AtomTerm, Term, atom_term, variables_of_atom, variables_of, Substitution, apply_to_atom, apply_to}
 use Rattle.cp_model.specs.Strand.{Event, send, recv, payload, event_map, variables_of_trace}
 use Rattle.cp_model.specs.Skeleton.{SkeletonStrand, skeleton_trace, UniqueAt, Assumptions, Skeleton}
 use Rattle.cp_model.specs.Problem.{variables_of_strands, variables_of_atoms, variables_of_uniques, variables_of_assumptions, variables_of_skeleton}
-use Rattle.cp_model.proofs.LawLists.{in_append, in_append_left, in_append_right}
+use Rattle.cp_lists.proofs.Members.{in_append, in_append_left, in_append_right}
 use Rattle.cp_completeness.specs.Normal.{strand_under, unique_under, assumptions_under, skeleton_under}
 use Rattle.cp_completeness.proofs.Under.{trace_under}
 use Rattle.cp_unify.specs.Bindings.{Binding, as_substitution, variables_of_bindings}
 use Rattle.cp_unify.specs.Unifiers.{AreAmong, IsMostGeneral}
 use Rattle.cp_unify.proofs.Members.{among_append}
 use Rattle.cp_unify.proofs.Steps.{applied_among}
-use Rattle.cp_normal.specs.Agreeing.{AreSameStrands, no_strands, same_strands, SaysTheSame}
+use Rattle.cp_collapse.specs.Agreeing.{AreSameStrands, no_strands, same_strands, SaysTheSame}
 use Rattle.cp_normal.specs.Branching.{HasFewerVariables}
-use Rattle.cp_normal.proofs.SameStrands.{same_trace}
+use Rattle.cp_collapse.proofs.SameStrands.{same_trace}
 use Rattle.cp_normal.proofs.Distinct.{distinct, fewer_distinct}
-use Rattle.cp_normal.proofs.Bound.{gone, some_taken}
+use Rattle.cp_collapse.proofs.Bound.{gone, some_taken}
 
 -- Skeletons that say the same have the same variables.
 same_of_strands : {ss ts : List SkeletonStrand} → AreSameStrands ss ts → variables_of_strands ss ≡ variables_of_strands ts

@@ -1,41 +1,29 @@
 -- The tests of normalising, put together.
-use Rattle.std.proofs.Common.{◌≡◌, ◌⊎◌, inl, inr, List, map, sym, subst}
-use Rattle.cp_model.specs.Lists.{IsIn}
-use Rattle.cp_model.specs.Bundle.{Node}
-use Rattle.cp_model.specs.Skeleton.{UniqueAt, OrderPair, Skeleton, Before, IsOrderPair, IsOrigin}
-use Rattle.cp_skel.specs.View.{pair_view}
-use Rattle.cp_skel.specs.Leading.{Target}
-use Rattle.cp_skel.specs.declared.skeleton.OrderPair.{OrderPair as Pair}
-use Rattle.cp_normal.specs.Events.{Has}
-use Rattle.cp_normal.specs.Cycles.{LeadsOn, IsClosedAt}
+use Rattle.std.proofs.Common.{◌≡◌, ◌⊎◌, inl, inr, List, sym, subst}
+use Rattle.cp_lists.specs.Lists.{IsIn}
+use Rattle.cp_model.specs.declared.node.Node.{Node}
+use Rattle.cp_model.specs.Skeleton.{UniqueAt, Skeleton, Before, IsOrderPair, IsOrigin}
+use Rattle.cp_model.specs.declared.node.OrderPair.{OrderPair, OrderPair as Pair}
+use Rattle.cp_order.specs.Leading.{Target}
+use Rattle.cp_collapse.specs.Having.{Has}
+use Rattle.cp_collapse.specs.Cycles.{LeadsOn, IsClosedAt}
 use Rattle.cp_normal.specs.Normalising.{CarriesNonOriginating, HasTwoOrigins, LosesOrigin, ClosesCycle, AreNormalPairs, IsContradictory}
-use Rattle.cp_normal.proofs.Having.{of_views, to_views}
 use Rattle.cp_normal.proofs.Found.{unique_has, has_unique}
 use Rattle.cp_normal.proofs.Cycling.{closed_if_cycle, cycle_if_closed, cycle_of_these}
 
--- ---- cycles
-
-pub closed_if : (pairs : List Pair) (n : Node) (l : Target) → l ≡ record { pairs = map pair_view pairs; node = n } → Has (λ p. LeadsOn l.pairs n l.node (pair_view p)) pairs → IsClosedAt (map pair_view pairs) n
-closed_if pairs n l e h = of_views pair_view (LeadsOn (map pair_view pairs) n n) pairs (subst (λ (l : Target). Has (λ p. LeadsOn l.pairs n l.node (pair_view p)) pairs) e h)
-
-pub if_closed : (pairs : List Pair) (n : Node) (l : Target) → l ≡ record { pairs = map pair_view pairs; node = n } → IsClosedAt (map pair_view pairs) n → Has (λ p. LeadsOn l.pairs n l.node (pair_view p)) pairs
-if_closed pairs n l e h = subst (λ (l : Target). Has (λ p. LeadsOn l.pairs n l.node (pair_view p)) pairs) (sym e) (to_views pair_view (LeadsOn (map pair_view pairs) n n) pairs h)
-
--- ---- the answer
-
-module _ (k : Skeleton) (pairs read : List Pair) (entries read_entries : List UniqueAt) (normal : AreNormalPairs k (map pair_view pairs)) (is_read : read ≡ pairs)
+module _ (k : Skeleton) (pairs read : List OrderPair) (entries read_entries : List UniqueAt) (normal : AreNormalPairs k pairs) (is_read : read ≡ pairs)
     (are_uniques : entries ≡ k.assumptions.uniquely_originating) (entries_read : read_entries ≡ entries)
     (own : (p : OrderPair) → IsIn p k.pairs → IsOrderPair k p) (no_cycle : (n : Node) → Before k n n → ⊥) (origins : (u : UniqueAt) → IsIn u k.assumptions.uniquely_originating → IsOrigin k u) where
-  pub cycle_if_found : Has (λ u. IsClosedAt (map pair_view read) u.origin) read_entries → ClosesCycle k
+  pub cycle_if_found : Has (λ u. IsClosedAt read u.origin) read_entries → ClosesCycle k
   cycle_if_found h =
-      let r : Has (λ u. IsClosedAt (map pair_view read) u.origin) k.assumptions.uniquely_originating = unique_has k entries read_entries are_uniques entries_read (λ u. IsClosedAt (map pair_view read) u.origin) h in
-      cycle_if_closed k (map pair_view pairs) normal own origins (subst (λ (ps : List Pair). Has (λ u. IsClosedAt (map pair_view ps) u.origin) k.assumptions.uniquely_originating) is_read r)
+      let r : Has (λ u. IsClosedAt read u.origin) k.assumptions.uniquely_originating = unique_has k entries read_entries are_uniques entries_read (λ u. IsClosedAt read u.origin) h in
+      cycle_if_closed k pairs normal own origins (subst (λ (ps : List OrderPair). Has (λ u. IsClosedAt ps u.origin) k.assumptions.uniquely_originating) is_read r)
 
-  pub found_if_cycle : ClosesCycle k → Has (λ u. IsClosedAt (map pair_view read) u.origin) read_entries
+  pub found_if_cycle : ClosesCycle k → Has (λ u. IsClosedAt read u.origin) read_entries
   found_if_cycle c =
-      let r : Has (λ u. IsClosedAt (map pair_view pairs) u.origin) k.assumptions.uniquely_originating = closed_if_cycle k (map pair_view pairs) normal no_cycle c.node (cycle_of_these k (map pair_view pairs) normal c) in
-      let s : Has (λ u. IsClosedAt (map pair_view read) u.origin) k.assumptions.uniquely_originating = subst (λ (ps : List Pair). Has (λ u. IsClosedAt (map pair_view ps) u.origin) k.assumptions.uniquely_originating) (sym is_read) r in
-      has_unique k entries read_entries are_uniques entries_read (λ u. IsClosedAt (map pair_view read) u.origin) s
+      let r : Has (λ u. IsClosedAt pairs u.origin) k.assumptions.uniquely_originating = closed_if_cycle k pairs normal no_cycle c.node (cycle_of_these k pairs normal c) in
+      let s : Has (λ u. IsClosedAt read u.origin) k.assumptions.uniquely_originating = subst (λ (ps : List OrderPair). Has (λ u. IsClosedAt ps u.origin) k.assumptions.uniquely_originating) (sym is_read) r in
+      has_unique k entries read_entries are_uniques entries_read (λ u. IsClosedAt read u.origin) s
 
 pub contradictory : (k : Skeleton) → CarriesNonOriginating k ⊎ (HasTwoOrigins k ⊎ LosesOrigin k) → IsContradictory k
 contradictory k (inl c) = inl c

@@ -1,11 +1,11 @@
 -- What rounds of narrowing reach, and that there is a last one.
-use Rattle.std.proofs.Common.{◌≡◌, ◌⊎◌, inl, inr, ◌<◌, ℕ, suc, List, [], ◌∷◌, map, refl, sym, ◌∙◌, subst, arith}
-use Rattle.cp_model.specs.Lists.{IsIn, here, there}
+use Rattle.std.proofs.Common.{Bool, true, false, ◌≡◌, ◌⊎◌, inl, inr, ◌<◌, ℕ, suc, List, [], ◌∷◌, map, refl, sym, ◌∙◌, subst, arith}
+use Rattle.cp_lists.specs.Lists.{IsIn}
+use Rattle.cp_lists.proofs.Members.{from_map, only_item}
 use Rattle.cp_model.specs.Skeleton.{Skeleton, IsSkeleton}
 use Rattle.cp_model.specs.Strand.{Protocol}
 use Rattle.cp_model.specs.Problem.{variables_of_skeleton}
 use Rattle.cp_completeness.specs.Normal.{LosesNoStanding}
-use Rattle.cp_skel.specs.DeclaredPrefixes.{HasDeclaredPrefixes}
 use Rattle.cp_skel.specs.View.{skeleton_view}
 use Rattle.cp_skel.specs.Data.{SkeletonData as Program}
 use Rattle.cp_normal.specs.declared.candidates.Candidate.{Candidate}
@@ -13,12 +13,13 @@ use Rattle.cp_normal.specs.declared.candidates.Candidate.TheVariants.{Open, Sett
 use Rattle.cp_normal.specs.Branching.{IsSettled, AreNarrowedFrom, AreFormsBeside}
 use Rattle.cp_normal.specs.Narrowing.{IsNormalFormOf}
 use Rattle.cp_normal.specs.Candidates.{skeleton_of, candidate_view, IsOpen, IsSound, FallsTo, IsRound, AreForms}
-use Rattle.cp_normal.specs.Events.{Has}
-use Rattle.cp_normal.specs.Exact.{HaveForms}
+use Rattle.cp_collapse.specs.Having.{Has}
+use Rattle.cp_normal.specs.Exact.{HasForms, HaveForms}
+use Rattle.cp_collapse.proofs.Having.{not_both}
 use Rattle.cp_normal.proofs.Distinct.{distinct}
 use Rattle.cp_normal.proofs.Fewer.{fewer_counted}
 use Rattle.cp_normal.proofs.Greatest.{greatest, greatest_falls}
-use Rattle.cp_normal.proofs.Having.{IsViewed, in_map}
+use Rattle.cp_normal.proofs.TreeOfForms.{has_forms}
 use Rattle.cp_normal.proofs.Reaching.{narrowed_at_first, forms_at_first, forms_at_last}
 
 -- ---- the measure
@@ -53,20 +54,16 @@ pub record IsReached (k : Program) (candidates : List Candidate) : Type 0 where
   pub sound : (c : Candidate) → IsIn c candidates → IsSound c
   pub variables : (c : Candidate) → IsIn c candidates → (skeleton_of c).variables ≡ k.variables
 
-only_one : {A : Type 0} {x y : A} → IsIn y (x ∷ []) → x ≡ y
-only_one here = refl
-only_one (there i) = elim i [ ]
-
-reached_first : (k : Program) → HasDeclaredPrefixes (skeleton_view k) → IsReached k (Open k ∷ [])
-reached_first k declared = record {
+reached_first : (k : Program) → IsReached k (Open k ∷ [])
+reached_first k = record {
   narrowed = narrowed_at_first (skeleton_view k);
   exact = λ rs h. h;
-  sound = λ c i. subst IsSound (only_one i) declared;
-  variables = λ c i. subst (λ (d : Candidate). (skeleton_of d).variables ≡ k.variables) (only_one i) refl;
+  sound = λ c i. subst IsSound (sym (only_item i)) tt;
+  variables = λ c i. subst (λ (d : Candidate). (skeleton_of d).variables ≡ k.variables) (sym (only_item i)) refl;
 }
 
-pub reached_at_first : (k : Program) (candidates : List Candidate) → HasDeclaredPrefixes (skeleton_view k) → candidates ≡ Open k ∷ [] → IsReached k candidates
-reached_at_first k candidates declared e = subst (IsReached k) (sym e) (reached_first k declared)
+pub reached_at_first : (k : Program) (candidates : List Candidate) → candidates ≡ Open k ∷ [] → IsReached k candidates
+reached_at_first k candidates e = subst (IsReached k) (sym e) (reached_first k)
 
 pub reached_next : (k : Program) (old new : List Candidate) → IsReached k old → IsRound old new → IsReached k new
 reached_next k old new reached r = record {
@@ -82,13 +79,17 @@ settled_of : (c : Candidate) → (IsOpen c → ⊥) → IsSound c → IsSettled 
 settled_of (Open k) not sound = absurd (not tt)
 settled_of (Settled k) not sound = sound
 
+-- No candidate is open where the test finds none.
+pub none_open : (candidates read : List Candidate) (b : Bool) → b ≡ false → (Has IsOpen read → b ≡ true) → read ≡ candidates → Has IsOpen candidates → ⊥
+none_open candidates read b closed finds same h = not_both closed (finds (subst (Has IsOpen) (sym same) h))
+
 module _ (k : Program) (candidates : List Candidate) (reached : IsReached k candidates) where
   module _ (none : Has IsOpen candidates → ⊥) where
-    settled_view : (l : Skeleton) → IsViewed candidate_view l candidates → IsSettled l
+    settled_view : (l : Skeleton) → (c : Candidate) × IsIn c candidates × (candidate_view c ≡ l) → IsSettled l
     settled_view l r = subst IsSettled r.2 (settled_of r.0 (λ o. none (r.0, r.1, o)) (reached.sound r.0 r.1))
 
     all_settled : AreFormsBeside (skeleton_view k) [] (map candidate_view candidates)
-    all_settled = forms_at_first (skeleton_view k) (map candidate_view candidates) reached.narrowed (λ l i. settled_view l (in_map candidate_view l candidates i))
+    all_settled = forms_at_first (skeleton_view k) (map candidate_view candidates) reached.narrowed (λ l i. settled_view l (from_map candidate_view candidates i))
 
     pub reached_forms : (forms : List Program) → AreForms candidates forms → (r : Skeleton) → IsIn r (map skeleton_view forms) → IsNormalFormOf (skeleton_view k) r
     reached_forms forms f r i = (f.beside (skeleton_view k) all_settled).are_forms r i
@@ -96,8 +97,8 @@ module _ (k : Program) (candidates : List Candidate) (reached : IsReached k cand
     pub reached_loses_none : (forms : List Program) → AreForms candidates forms → (protocol : Protocol) → IsSkeleton protocol (skeleton_view k) → LosesNoStanding protocol (skeleton_view k) (map skeleton_view forms)
     reached_loses_none forms f protocol sk = forms_at_last protocol (skeleton_view k) (map skeleton_view forms) (f.beside (skeleton_view k) all_settled) sk
 
-    pub reached_exact : (forms : List Program) → AreForms candidates forms → HaveForms (skeleton_view k ∷ []) (map skeleton_view forms)
-    reached_exact forms f = reached.exact (map skeleton_view forms) (f.exact (λ c i. settled_of c (λ o. none (c, i, o)) (reached.sound c i)))
+    pub reached_exact : (forms : List Program) → AreForms candidates forms → HasForms (skeleton_view k) (map skeleton_view forms)
+    reached_exact forms f = has_forms (skeleton_view k) (map skeleton_view forms) (reached.exact (map skeleton_view forms) (f.exact (λ c i. settled_of c (λ o. none (c, i, o)) (reached.sound c i))))
 
   pub reached_variables : (forms : List Program) → AreForms candidates forms → (r : Program) → IsIn r forms → r.variables ≡ k.variables
   reached_variables forms f r i = let v = f.variables r i in v.2 ∙ reached.variables v.0 v.1

@@ -1,11 +1,12 @@
 -- What narrowing has made of a skeleton so far, one skeleton of a list after the other.
-use Rattle.std.proofs.Common.{◌≡◌, ◌⊎◌, inl, inr, List, [], ◌∷◌, ◌++◌, refl, sym, subst, ⊎_elim}
+use Rattle.std.proofs.Common.{◌⊎◌, inl, inr, List, [], ◌∷◌, ◌++◌, sym, subst, ⊎_elim}
 use Rattle.std.proofs.lemmas.List.{append-nil}
-use Rattle.cp_model.specs.Lists.{IsIn, here, there}
+use Rattle.cp_lists.specs.Lists.{IsIn, here, there}
 use Rattle.cp_model.specs.Strand.{Protocol}
-use Rattle.cp_model.specs.Bundle.{Node}
-use Rattle.cp_model.specs.Skeleton.{UniqueAt, OrderPair, Skeleton, IsSkeleton}
-use Rattle.cp_model.proofs.LawLists.{in_append, in_append_left, in_append_right}
+use Rattle.cp_model.specs.declared.node.Node.{Node}
+use Rattle.cp_model.specs.Skeleton.{UniqueAt, Skeleton, IsSkeleton}
+use Rattle.cp_model.specs.declared.node.OrderPair.{OrderPair}
+use Rattle.cp_lists.proofs.Members.{in_append, in_append_left, in_append_right, only_item}
 use Rattle.cp_completeness.specs.Normal.{with_pairs, LosesNoStanding}
 use Rattle.cp_completeness.proofs.Losing.{itself_alone}
 use Rattle.cp_normal.specs.Normalising.{AreNormalPairs, IsContradictory}
@@ -16,15 +17,11 @@ use Rattle.cp_normal.proofs.Branches.{branches_lose_none}
 use Rattle.cp_normal.proofs.Rounds.{narrows_further, narrows_is_skeleton, round_goes_on}
 use Rattle.cp_normal.proofs.Forms.{normal_form, pairs_lose_no_standing}
 
-only_one : {A : Type 0} {x y : A} → IsIn y (x ∷ []) → y ≡ x
-only_one here = refl
-only_one (there i) = elim i [ ]
-
 -- ---- rounds
 
 pub narrowed_at_first : (k : Skeleton) → AreNarrowedFrom k (k ∷ [])
 narrowed_at_first k = record {
-  by_steps = λ l i. subst (NarrowsTo k) (sym (only_one i)) none;
+  by_steps = λ l i. subst (NarrowsTo k) (sym (only_item i)) none;
   loses_none = λ protocol sk. itself_alone protocol k;
 }
 
@@ -53,7 +50,7 @@ module _ (k l : Skeleton) (done rest : List Skeleton) (so_far : AreNarrowedFrom 
 
   -- The next one has no stray value, and stays.
   pub stays : AreNarrowedFrom k ((done ++ l ∷ []) ++ rest)
-  stays = replaced (l ∷ []) (λ m i. subst (NarrowsTo k) (sym (only_one i)) next_by_steps) (λ protocol sk. itself_alone protocol l)
+  stays = replaced (l ∷ []) (λ m i. subst (NarrowsTo k) (sym (only_item i)) next_by_steps) (λ protocol sk. itself_alone protocol l)
 
   -- The next one has a stray value, and its branches take its place.
   pub branched : (u : UniqueAt) (x : Node) (new : List Skeleton) → IsStray l u x → HasBranches l u x new → ((m : Skeleton) → IsIn m new → IsNarrowed l m) → AreNarrowedFrom k ((done ++ new) ++ rest)
@@ -87,7 +84,7 @@ module _ (k l : Skeleton) (forms rest : List Skeleton) (so_far : AreFormsBeside 
 
   form_of : (pairs : List OrderPair) → AreNormalPairs l pairs × (IsContradictory l → ⊥) → (r : Skeleton) → IsIn r forms ⊎ IsIn r (with_pairs l pairs ∷ []) → IsNormalFormOf k r
   form_of pairs found r (inl i) = so_far.are_forms r i
-  form_of pairs found r (inr i) = subst (IsNormalFormOf k) (sym (only_one i)) (normal_form k l pairs last_by_steps found (so_far.settled l here))
+  form_of pairs found r (inr i) = subst (IsNormalFormOf k) (sym (only_item i)) (normal_form k l pairs last_by_steps found (so_far.settled l here))
 
   -- The next one with its pairs is a normal form.
   pub form_added : (pairs : List OrderPair) → AreNormalPairs l pairs × (IsContradictory l → ⊥) → AreFormsBeside k (forms ++ with_pairs l pairs ∷ []) rest

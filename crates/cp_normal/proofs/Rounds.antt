@@ -1,14 +1,14 @@
 -- Steps of narrowing, one after the other, and rounds of them: what a skeleton has they keep, and they lose no standing.
 use Rattle.std.proofs.Common.{◌⊎◌, inl, inr, List, [], ◌∷◌, ◌++◌}
-use Rattle.cp_model.specs.Lists.{IsIn, here, there}
+use Rattle.cp_lists.specs.Lists.{IsIn, here, there}
 use Rattle.cp_model.specs.Strand.{Protocol}
 use Rattle.cp_model.specs.Skeleton.{Skeleton, IsSkeleton}
-use Rattle.cp_model.proofs.LawLists.{in_append, in_append_left, in_append_right}
+use Rattle.cp_lists.proofs.Members.{in_append, in_append_left, in_append_right}
 use Rattle.cp_completeness.specs.Normal.{skeleton_under, LosesNoStanding}
 use Rattle.cp_completeness.proofs.Skeletons.{skeleton_under_is_skeleton}
 use Rattle.cp_completeness.proofs.Losing.{itself_alone, among_more, through_each}
 use Rattle.cp_normal.specs.Narrowing.{IsNarrowed, NarrowsTo, none, one}
-use Rattle.cp_normal.proofs.SameSkeletons.{same_is_skeleton}
+use Rattle.cp_collapse.proofs.SameSkeletons.{same_is_skeleton}
 
 -- ---- narrowing
 

@@ -1,9 +1,13 @@
 -- The first of the unique values that stray.
-use Rattle.std.proofs.Common.{Bool, ◌≡◌, ◌⊎◌, inl, inr, ℕ, zero, suc, ◌+◌, ◌<◌, ◌≤◌, List, [], ◌∷◌, ◌++◌, length, get_or, map, Some, refl, sym, ap, ◌∙◌, subst, arith}
-use Rattle.cp_model.specs.Lists.{item_at, IsIn, here, there}
+use Rattle.std.proofs.Common.{Bool, ◌≡◌, ◌⊎◌, inl, inr, ℕ, zero, suc, ◌+◌, ◌<◌, ◌≤◌, List, [], ◌∷◌, ◌++◌, length, get_or, map, Some, sym, ap, ◌∙◌, subst, arith}
+use Rattle.std.proofs.lemmas.List.{get_or_default, map-id}
+use Rattle.cp_lists.specs.Lists.{item_at, IsIn}
+use Rattle.cp_lists.proofs.Items.{place_of, map_of_read, item_of_map, item_below}
+use Rattle.cp_lists.proofs.Members.{item_is_in, into_map}
 use Rattle.cp_model.specs.Term.{AtomTerm, Term, atom_term, IsCarriedByTerm}
 use Rattle.cp_model.specs.Strand.{Event, send, payload}
-use Rattle.cp_model.specs.Bundle.{Node, node_at}
+use Rattle.cp_model.specs.Bundle.{node_at}
+use Rattle.cp_model.specs.declared.node.Node.{Node}
 use Rattle.cp_model.specs.Given.{listed}
 use Rattle.cp_model.specs.Skeleton.{SkeletonStrand, skeleton_trace, term_event_at, UniqueAt, Skeleton}
 use Rattle.cp_skel.specs.Deleting.{as_it_is}
@@ -13,29 +17,17 @@ use Rattle.cp_skel.specs.Events.{Occurrence, is_role_strand, occurrences_on, occ
 use Rattle.cp_normal.specs.Narrowing.{IsStray}
 use Rattle.cp_normal.specs.Branching.{IsSettled}
 use Rattle.cp_normal.specs.Straying.{Strays, StraysOne, NoneBefore, IsFirstAt, IsEarlier, IsFirstStray}
-use Rattle.cp_normal.proofs.Having.{item_is_in}
 
 -- ---- loops that find the first
 
 pub viewed_at : {A B : Type 0} (f : A → B) (xs : List A) (i : ℕ) (x d : A) → i < length xs → x ≡ get_or xs i d → item_at (map f xs) i ≡ Some (f x)
-viewed_at f [] i x d h e = absurd (omega arith)
-viewed_at f (y ∷ ys) zero x d h e = ap (λ z. Some (f z)) (sym e)
-viewed_at f (y ∷ ys) (suc i) x d h e = viewed_at f ys i x d (omega arith) e
+viewed_at f xs i x d l e = map_of_read f xs i x l (e ∙ get_or_default xs i d x l)
 
 past_end : {A B : Type 0} (f : A → B) (xs : List A) (i : ℕ) (y : B) → length xs ≤ i → item_at (map f xs) i ≡ Some y → ⊥
-past_end f [] i y h e = cc
-past_end f (x ∷ xs) zero y h e = omega arith
-past_end f (x ∷ xs) (suc i) y h e = past_end f xs i y (omega arith) e
-
-place_of : {A : Type 0} {x : A} (xs : List A) → IsIn x xs → (j : ℕ) × (item_at xs j ≡ Some x)
-place_of (x ∷ xs) here = (0, refl)
-place_of (x ∷ xs) (there h) = let r = place_of xs h in (suc r.0, r.1)
-place_of [] h = elim h [ ]
-
-pub at_is_in : {A : Type 0} (xs : List A) (n : ℕ) (x : A) → item_at xs n ≡ Some x → IsIn x xs
-at_is_in [] n x e = absurd (cc)
-at_is_in (y ∷ ys) zero x e = let q : y ≡ x = cc in subst (λ z. IsIn x (z ∷ ys)) (sym q) here
-at_is_in (y ∷ ys) (suc n) x e = there (at_is_in ys n x e)
+past_end f xs i y l at =
+    let r = item_of_map f xs i y at in
+    let below = item_below xs i r.0 r.1 in
+    omega (arith, l, below)
 
 module _ {A B : Type 0} (has : B → Type 0) (f : A → B) (xs : List A) (i : ℕ) where
   pub none_at_first : NoneBefore has (map f xs) 0
@@ -63,22 +55,17 @@ module _ {A B : Type 0} (has : B → Type 0) (f : A → B) (xs : List A) (i : �
   none_of y j inv (inr m) at h = past_end f xs j y m at
 
   pub none_at_all : length xs ≤ i → NoneBefore has (map f xs) i → (y : B) → IsIn y (map f xs) → has y → ⊥
-  none_at_all l inv y m h = let r = place_of (map f xs) m in none_of y r.0 inv (before_or_past r.0 l) r.1 h
-
--- The same of items that are what they show.
-as_they_are : {A : Type 0} (xs : List A) → map as_it_is xs ≡ xs
-as_they_are [] = refl
-as_they_are (x ∷ xs) = ap (λ ys. x ∷ ys) (as_they_are xs)
+  none_at_all l inv y m h = let r = place_of m in none_of y r.0 inv (before_or_past r.0 l) r.1 h
 
 module _ {B : Type 0} (has : B → Type 0) (xs : List B) (i : ℕ) where
   shown : NoneBefore has xs i → NoneBefore has (map as_it_is xs) i
-  shown = subst (λ (ys : List B). NoneBefore has ys i) (sym (as_they_are xs))
+  shown = subst (λ (ys : List B). NoneBefore has ys i) (sym (map-id xs))
 
   pub none_next_of : (x d : B) → i < length xs → x ≡ get_or xs i d → (has x → ⊥) → NoneBefore has xs i → NoneBefore has xs (i + 1)
-  none_next_of x d l e not inv = subst (λ (ys : List B). NoneBefore has ys (i + 1)) (as_they_are xs) (none_next has as_it_is xs i x d l e not (shown inv))
+  none_next_of x d l e not inv = subst (λ (ys : List B). NoneBefore has ys (i + 1)) (map-id xs) (none_next has as_it_is xs i x d l e not (shown inv))
 
   pub none_of_all : length xs ≤ i → NoneBefore has xs i → (y : B) → IsIn y xs → has y → ⊥
-  none_of_all l inv = subst (λ (ys : List B). (y : B) → IsIn y ys → has y → ⊥) (as_they_are xs) (none_at_all has as_it_is xs i l (shown inv))
+  none_of_all l inv = subst (λ (ys : List B). (y : B) → IsIn y ys → has y → ⊥) (map-id xs) (none_at_all has as_it_is xs i l (shown inv))
 
 -- ---- one event
 
@@ -90,7 +77,7 @@ not_carried k o u inside not s =
     not (subst (λ (e : Event Term). IsCarriedByTerm (atom_term u.value) (payload e)) same s.1.1.carried)
 
 pub first_found : (k : Skeleton) (x : Node) (us : List UniqueAt) (i : ℕ) (u d : UniqueAt) (v : AtomTerm) → i < length us → u ≡ get_or us i d → Strays k x u → u.value ≡ v → NoneBefore (Strays k x) us i → IsFirstAt k x us v
-first_found k x us i u d v l e s q inv = record { place = i; entry = u; at_place = subst (λ (ws : List UniqueAt). item_at ws i ≡ Some u) (as_they_are us) (viewed_at as_it_is us i u d l e); strays = s; is_value = q; first = inv }
+first_found k x us i u d v l e s q inv = record { place = i; entry = u; at_place = subst (λ (ws : List UniqueAt). item_at ws i ≡ Some u) (map-id us) (viewed_at as_it_is us i u d l e); strays = s; is_value = q; first = inv }
 
 pub none_of_entries : (k : Skeleton) (o : Occurrence) (us : List UniqueAt) → us ≡ (listed k).uniquely_originating → ((u : UniqueAt) → IsIn u us → Strays k o.node u → ⊥) → StraysOne k o → ⊥
 none_of_entries k o us same none h = none h.0 (subst (IsIn h.0) (sym same) (((listed-unique k).same h.0).1 h.1)) h.2
@@ -168,16 +155,12 @@ module _ {A : Type 0} (f : A → Occurrence) (k : Skeleton) (xs : List A) (event
       none_at_all (StraysOne k) f xs i l inv (occurrence_at k y (send stray.originates.1.sent)) (stray_listed u y stray) (u, stray.listed, (stray.elsewhere, stray.originates))
 
   pub event_listed : (i : ℕ) (x : A) → i < length xs → x ≡ get_or xs i x → IsIn (f x) (events_of k)
-  event_listed i x l e = subst (IsIn (f x)) events (into (item_is_in xs i x l e))
-    where
-      into : {x : A} {xs : List A} → IsIn x xs → IsIn (f x) (map f xs)
-      into here = here
-      into (there p) = there (into p)
+  event_listed i x l e = subst (IsIn (f x)) events (into_map f (item_is_in xs i x l e))
 
   pub earliest_found : (i : ℕ) (x d : A) → i < length xs → x ≡ get_or xs i d → NoneBefore (StraysOne k) (map f xs) i → (u : UniqueAt) (y : Node) → IsStray k u y → IsEarlier y (f x).node → ⊥
   earliest_found i x d l e inv u y stray earlier =
       let o : Occurrence = occurrence_at k y (send stray.originates.1.sent) in
-      let r = place_of (map f xs) (stray_listed u y stray) in
+      let r = place_of (stray_listed u y stray) in
       let at_o : item_at (events_of k) r.0 ≡ Some o = subst (λ (os : List Occurrence). item_at os r.0 ≡ Some o) events r.1 in
       let at_x : item_at (events_of k) i ≡ Some (f x) = subst (λ (os : List Occurrence). item_at os i ≡ Some (f x)) events (viewed_at f xs i x d l e) in
       inv r.0 o (in_order 0 k.strands i r.0 (f x) o earlier at_x at_o) r.1 (u, stray.listed, (stray.elsewhere, stray.originates))

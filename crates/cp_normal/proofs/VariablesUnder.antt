@@ -1,20 +1,20 @@
 -- The variables of a skeleton, and of what it is under a substitution.
 use Rattle.std.proofs.Common.{◌≡◌, List, [], ◌∷◌, Some, sym, subst, ⊎_elim}
-use Rattle.cp_model.specs.Lists.{IsIn, here, there}
+use Rattle.cp_lists.specs.Lists.{IsIn, here, there}
 use Rattle.cp_model.specs.Term.{Variable, AtomTerm, atom_of_variable, atom_term, Term, IsCarriedByTerm, variables_of_atom, variables_of, Substitution, apply_to_atom, apply_to}
 use Rattle.cp_model.specs.Strand.{Declaration, Event, payload}
-use Rattle.cp_model.specs.Bundle.{Node}
+use Rattle.cp_model.specs.declared.node.Node.{Node}
 use Rattle.cp_model.specs.Skeleton.{skeleton_trace, FromProblem, Skeleton, term_event_at}
 use Rattle.cp_model.specs.Problem.{IsDeclared, variables_of_assumptions, variables_of_skeleton, HasDeclaredVariables}
-use Rattle.cp_model.proofs.LawLists.{in_append, in_append_left, in_append_right}
+use Rattle.cp_lists.proofs.Members.{in_append, in_append_left, in_append_right, from_map}
 use Rattle.cp_model.proofs.LawStandings.{strand_of_event}
 use Rattle.cp_completeness.specs.Normal.{skeleton_under, variables_of_terms}
 use Rattle.cp_completeness.proofs.Images.{event_on}
-use Rattle.cp_completeness.proofs.Under.{in_strands, in_map}
-use Rattle.cp_completeness.proofs.Values.{in_trace}
+use Rattle.cp_completeness.proofs.Under.{in_strands}
+use Rattle.cp_model.proofs.LawPrefixes.{in_trace}
 use Rattle.cp_unify.proofs.Occurring.{given_term}
 use Rattle.cp_skel.proofs.UnderVariables.{carried_variables}
-use Rattle.cp_normal.specs.Agreeing.{SaysTheSame}
+use Rattle.cp_collapse.specs.Agreeing.{SaysTheSame}
 use Rattle.cp_normal.specs.BySubstitution.{all_variables}
 use Rattle.cp_normal.proofs.Narrowed.{same_variables, of_skeleton}
 
@@ -49,7 +49,7 @@ module _ (ds : List Declaration) where
     given_under = record {
       occurring = of_skeleton s (all_variables k) (IsDeclared ds) of_own k (λ x i. in_append_left (variables_of_terms k.from_problem.values) i);
       mapped = λ t x i j.
-          let m = in_map (apply_to s) k.from_problem.values t i in
+          let m = from_map (apply_to s) k.from_problem.values i in
           of_own m.0 (λ z n. in_append_right (variables_of_skeleton k) (in_terms k.from_problem.values m.0 z m.1 n)) x (subst (λ (u : Term). IsIn x (variables_of u)) (sym m.2) j);
     }
 

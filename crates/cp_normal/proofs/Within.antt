@@ -1,21 +1,20 @@
 -- Substitutions that change a skeleton within its own variables, and one after the other.
 use Rattle.std.proofs.Common.{◌≡◌, ◌⊎◌, inl, inr, ℕ, List, [], ◌∷◌, map, refl, sym, ap, ap₂, ◌∙◌, subst, ⊎_elim}
-use Rattle.cp_model.specs.Lists.{IsIn}
+use Rattle.cp_lists.specs.Lists.{IsIn}
 use Rattle.cp_model.specs.Term.{Sort, text_sort, datum_sort, name_sort, skey_sort, akey_sort, Variable, AtomTerm, atom_of_variable, KeyTerm, key_term, Term, tag_term, atom_term, pair_term, enc_term, variables_of_key, variables_of_atom, variables_of, Substitution, apply_to_key, apply_to_atom, apply_to, unchanged, composed}
 use Rattle.cp_model.specs.Skeleton.{FromProblem, Skeleton}
 use Rattle.cp_model.specs.Problem.{variables_of_skeleton}
-use Rattle.cp_model.proofs.LawLists.{in_append, in_append_left, in_append_right}
+use Rattle.cp_lists.proofs.Members.{in_append, in_append_left, in_append_right, only_item}
 use Rattle.cp_model.proofs.LawTerms.{atom_composed, term_composed, atom_unchanged, term_unchanged}
 use Rattle.cp_completeness.specs.Normal.{variables_of_terms, skeleton_under}
 use Rattle.cp_unify.specs.Unifiers.{AreAmong}
 use Rattle.cp_unify.proofs.Deciding.{occurs_tells}
-use Rattle.cp_unify.proofs.Members.{in_one}
 use Rattle.cp_unify.proofs.Occurring.{Leaves, leaves_variables_of, leaves_atom, given_atom, given_term}
-use Rattle.cp_normal.specs.Agreeing.{SaysTheSame}
+use Rattle.cp_collapse.specs.Agreeing.{SaysTheSame}
 use Rattle.cp_normal.specs.BySubstitution.{all_variables, StaysWithin}
-use Rattle.cp_normal.specs.Narrowing.{IsMostGeneralFor}
+use Rattle.cp_collapse.specs.Directed.{IsMostGeneralFor}
 use Rattle.cp_normal.proofs.Narrowed.{same_variables, of_skeleton}
-use Rattle.cp_normal.proofs.NoNewVariables.{unifier_none_new, unifier_leaves}
+use Rattle.cp_collapse.proofs.NoNewVariables.{unifier_none_new, unifier_leaves}
 
 -- ---- variables of terms
 
@@ -23,11 +22,11 @@ in_or_not : (xs : List Variable) (x : Variable) → IsIn x xs ⊎ (IsIn x xs →
 in_or_not xs x = elim (occurs_tells xs x) [ inl p ↦ inl p.1 | inr p ↦ inr p.1 ]
 
 of_variable : (s : Sort) (n : ℕ) (y : Variable) → IsIn y (variables_of_atom (atom_of_variable (record { sort = s; number = n }))) → y ≡ record { sort = s; number = n }
-of_variable text_sort n y i = in_one i
-of_variable datum_sort n y i = in_one i
-of_variable name_sort n y i = in_one i
-of_variable skey_sort n y i = in_one i
-of_variable akey_sort n y i = in_one i
+of_variable text_sort n y i = only_item i
+of_variable datum_sort n y i = only_item i
+of_variable name_sort n y i = only_item i
+of_variable skey_sort n y i = only_item i
+of_variable akey_sort n y i = only_item i
 
 -- What a substitution gives a variable that it leaves has that variable alone.
 left_alone : (s : Substitution) (x y : Variable) → Leaves s x → IsIn y (variables_of_atom (apply_to_atom s (atom_of_variable x))) → y ≡ x

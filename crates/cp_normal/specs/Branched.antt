@@ -1,6 +1,6 @@
 -- The skeletons of the program that one step of narrowing makes.
 use Rattle.std.specs.Prelude.{◌≡◌, List, [], ◌∷◌, map}
-use Rattle.cp_model.specs.Lists.{IsIn}
+use Rattle.cp_lists.specs.Lists.{IsIn}
 use Rattle.cp_model.specs.Term.{AtomTerm, atom_term, Substitution}
 use Rattle.cp_model.specs.Skeleton.{Skeleton as Plain}
 use Rattle.cp_completeness.specs.Normal.{skeleton_under}
@@ -8,9 +8,9 @@ use Rattle.cp_unify.specs.Bindings.{Binding, as_substitution}
 use Rattle.cp_unify.specs.Unifiers.{IsMostGeneral}
 use Rattle.cp_skel.specs.View.{skeleton_view}
 use Rattle.cp_skel.specs.Data.{SkeletonData as Skeleton}
-use Rattle.cp_normal.specs.Agreeing.{SaysTheSame}
+use Rattle.cp_collapse.specs.Agreeing.{SaysTheSame}
 use Rattle.cp_normal.specs.Branching.{NeverEqual}
-use Rattle.cp_normal.specs.Narrowing.{IsMostGeneralFor}
+use Rattle.cp_collapse.specs.Directed.{IsMostGeneralFor}
 
 -- The branches of k by v and the atoms, in their order: for each atom that unifies with v one that says the same as k under
 -- the most general unifier of the two.

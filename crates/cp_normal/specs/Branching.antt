@@ -1,14 +1,15 @@
 -- The branches of a skeleton in which a unique value strays, and what narrowing has made of a skeleton so far.
 use Rattle.std.specs.Prelude.{◌≡◌, ◌⊎◌, List, ◌++◌}
-use Rattle.cp_model.specs.Lists.{IsIn}
+use Rattle.cp_lists.specs.Lists.{IsIn}
 use Rattle.cp_model.specs.Term.{Variable, AtomTerm, Assignment, value_of_atom, Substitution}
 use Rattle.cp_model.specs.Strand.{Protocol}
-use Rattle.cp_model.specs.Bundle.{Node}
+use Rattle.cp_model.specs.declared.node.Node.{Node}
 use Rattle.cp_model.specs.Skeleton.{UniqueAt, Skeleton, IsSkeleton}
 use Rattle.cp_model.specs.Problem.{variables_of_skeleton}
 use Rattle.cp_completeness.specs.Normal.{skeleton_under, LosesNoStanding}
-use Rattle.cp_normal.specs.Agreeing.{SaysTheSame}
-use Rattle.cp_normal.specs.Narrowing.{IsStray, IsHeardAt, IsMostGeneralFor, NarrowsTo, IsNormalFormOf}
+use Rattle.cp_collapse.specs.Agreeing.{SaysTheSame}
+use Rattle.cp_normal.specs.Narrowing.{IsStray, IsHeardAt, NarrowsTo, IsNormalFormOf}
+use Rattle.cp_collapse.specs.Directed.{IsMostGeneralFor}
 
 -- No assignment gives the two atoms one value.
 abbrev pub NeverEqual : AtomTerm → AtomTerm → Type 0

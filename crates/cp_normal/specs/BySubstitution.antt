@@ -1,6 +1,6 @@
 -- Skeletons that come from another by one substitution each, which is chosen before any bundle.
 use Rattle.std.specs.Prelude.{◌≡◌, List, ◌++◌}
-use Rattle.cp_model.specs.Lists.{IsIn}
+use Rattle.cp_lists.specs.Lists.{IsIn}
 use Rattle.cp_model.specs.Term.{Variable, atom_of_variable, Term, variables_of_atom, value_of, after, Substitution, apply_to, apply_to_atom}
 use Rattle.cp_model.specs.Strand.{Protocol}
 use Rattle.cp_model.specs.Bundle.{Bundle, IsBundle}
@@ -8,7 +8,7 @@ use Rattle.cp_model.specs.Skeleton.{Skeleton}
 use Rattle.cp_model.specs.Standing.{Standing, StandsIn, StandsApart}
 use Rattle.cp_model.specs.Problem.{variables_of_skeleton}
 use Rattle.cp_completeness.specs.Normal.{skeleton_under, with_pairs, variables_of_terms}
-use Rattle.cp_normal.specs.Agreeing.{SaysTheSame}
+use Rattle.cp_collapse.specs.Agreeing.{SaysTheSame}
 use Rattle.cp_normal.specs.Normalising.{AreNormalPairs}
 
 -- The variables that occur in a skeleton, or in a term of its map from the problem.
@@ -23,7 +23,7 @@ pub record StaysWithin (k : Skeleton) (s : Substitution) : Type 0 where
   pub leaves : (x : Variable) → (IsIn x (all_variables k) → ⊥) → apply_to_atom s (atom_of_variable x) ≡ atom_of_variable x
 
 -- r is k under one substitution, with pairs added: it says what k says under the substitution, but for its pairs, which are
--- exactly those of k and those that are added there. What was a term t beside k is beside r that term under the substitution.
+-- exactly those of k and those that are added there.
 pub record ComesBySubstitution (k r : Skeleton) : Type 0 where
   pub substitution : Substitution
   pub stays_within : StaysWithin k substitution

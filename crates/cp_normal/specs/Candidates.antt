@@ -1,8 +1,8 @@
 -- Skeletons on the way to normal forms.
 use Rattle.std.specs.Prelude.{◌≡◌, List, [], ◌∷◌, ◌++◌, map}
-use Rattle.cp_model.specs.Lists.{IsIn}
-use Rattle.cp_model.specs.Skeleton.{OrderPair, Skeleton}
-use Rattle.cp_skel.specs.DeclaredPrefixes.{HasDeclaredPrefixes}
+use Rattle.cp_lists.specs.Lists.{IsIn}
+use Rattle.cp_model.specs.Skeleton.{Skeleton}
+use Rattle.cp_model.specs.declared.node.OrderPair.{OrderPair}
 use Rattle.cp_skel.specs.View.{skeleton_view}
 use Rattle.cp_skel.specs.Data.{SkeletonData as Program}
 use Rattle.cp_completeness.specs.Normal.{with_pairs}
@@ -25,9 +25,9 @@ abbrev pub IsOpen : Candidate → Type 0
 IsOpen (Open k) = Unit {0}
 IsOpen (Settled k) = ⊥
 
--- The roles of an open one declare the variables of the prefixes, and in a settled one no unique value strays.
+-- In a settled one no unique value strays.
 abbrev pub IsSound : Candidate → Type 0
-IsSound (Open k) = HasDeclaredPrefixes (skeleton_view k)
+IsSound (Open k) = Unit {0}
 IsSound (Settled k) = IsSettled (skeleton_view k)
 
 -- The second is settled, or both are open and it has fewer variables.

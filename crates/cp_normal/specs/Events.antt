@@ -1,24 +1,16 @@
 -- What is looked for among the events of a skeleton.
-use Rattle.std.specs.Prelude.{◌≡◌, ◌≢◌, ◌↔◌, ◌⊎◌, ◌<◌, List, Option, Some, None, Bool, true, false}
-use Rattle.cp_model.specs.Lists.{IsIn}
+use Rattle.std.specs.Prelude.{◌≡◌, ◌≢◌, ◌↔◌, ◌⊎◌, ◌<◌, List}
+use Rattle.cp_lists.specs.Lists.{IsIn}
 use Rattle.cp_model.specs.Term.{AtomTerm, Term, atom_term, IsCarriedByTerm}
 use Rattle.cp_model.specs.Strand.{send, recv, payload}
-use Rattle.cp_model.specs.Skeleton.{SkeletonStrand, instance, listener, UniqueAt, OrderPair}
+use Rattle.cp_model.specs.Skeleton.{UniqueAt}
+use Rattle.cp_model.specs.declared.node.OrderPair.{OrderPair}
 use Rattle.cp_skel.specs.Events.{Occurrence}
-
--- An item of the list has the property.
-abbrev pub Has : {A : Type 0} → (A → Type 0) → List A → Type 0
-Has {A = A} has xs = (x : A) × IsIn x xs × has x
+use Rattle.cp_collapse.specs.Having.{Has}
 
 -- The new pairs are the old ones, and those that an item of the list gives.
 abbrev pub Gathers : {A : Type 0} → (A → OrderPair → Type 0) → List A → List OrderPair → List OrderPair → Type 0
 Gathers gives xs old new = (p : OrderPair) → IsIn p new ↔ (IsIn p old ⊎ Has (λ x. gives x p) xs)
-
--- There is a strand, and it is an instance of a role.
-abbrev pub is_instance : Option SkeletonStrand → Bool
-is_instance None = false
-is_instance (Some (instance role height terms)) = true
-is_instance (Some (listener t)) = false
 
 -- The event carries one of the values.
 abbrev pub CarriesOne : List AtomTerm → Occurrence → Type 0

@@ -1,11 +1,7 @@
 pub mod Normalising
 pub mod OwnPairs
 pub mod Events
-pub mod Cycles
-pub mod Agreeing
-pub mod Directed
 pub mod Narrowing
-pub mod Values
 pub mod Branching
 pub mod Hearing
 pub mod Straying
@@ -13,11 +9,4 @@ pub mod Branched
 pub mod Exact
 pub mod Candidates
 pub mod Example
-pub mod Partitions
-pub mod Collapsing
-pub mod Extending
-pub mod CollapsingExample
-pub mod Merging
-pub mod Partials
 pub mod BySubstitution
-pub mod MergedParts

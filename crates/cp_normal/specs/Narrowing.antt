@@ -1,15 +1,17 @@
 -- Narrowing by unique values that originate elsewhere than at their recorded origins, and normal forms.
 use Rattle.std.specs.Prelude.{◌≡◌, ◌≢◌, ℕ, ◌<◌, Some}
-use Rattle.cp_model.specs.Lists.{IsIn}
-use Rattle.cp_model.specs.Term.{AtomTerm, Term, atom_term, IsCarriedByTerm, Assignment, value_of_atom, value_of, after, Substitution, apply_to_atom}
+use Rattle.cp_lists.specs.Lists.{IsIn}
+use Rattle.cp_model.specs.Term.{AtomTerm, Term, atom_term, IsCarriedByTerm, Substitution}
 use Rattle.cp_model.specs.Strand.{recv}
-use Rattle.cp_model.specs.Bundle.{Node, node_at}
-use Rattle.cp_model.specs.Skeleton.{UniqueAt, OrderPair, Skeleton, term_event_at, Before}
+use Rattle.cp_model.specs.Bundle.{node_at}
+use Rattle.cp_model.specs.declared.node.Node.{Node}
+use Rattle.cp_model.specs.Skeleton.{UniqueAt, Skeleton, term_event_at, Before}
+use Rattle.cp_model.specs.declared.node.OrderPair.{OrderPair}
 use Rattle.cp_model.specs.Realising.{OriginatesAtTerm}
 use Rattle.cp_completeness.specs.Normal.{skeleton_under, with_pairs}
 use Rattle.cp_normal.specs.Normalising.{IsAddedPair, AreNormalPairs, IsContradictory}
-use Rattle.cp_normal.specs.Agreeing.{SaysTheSame}
-use Rattle.cp_normal.specs.Directed.{BindsLaterToEarlier}
+use Rattle.cp_collapse.specs.Agreeing.{SaysTheSame}
+use Rattle.cp_collapse.specs.Directed.{IsMostGeneralFor}
 
 -- A unique value originates at a node of a role strand that is not its recorded origin.
 pub record IsStray (k : Skeleton) (u : UniqueAt) (x : Node) : Type 0 where
@@ -24,13 +26,6 @@ pub record IsHeardAt (k : Skeleton) (a : AtomTerm) (x : Node) : Type 0 where
   pub received : Term
   pub reception : term_event_at k.strands (node_at x.strand index) ≡ Some (recv received)
   pub carried : IsCarriedByTerm (atom_term a) received
-
--- s is the most general unifier of two atoms that binds later variables to earlier ones: it makes them one, and every
--- assignment that gives them one value gives each term the value of that term under s.
-pub record IsMostGeneralFor (a b : AtomTerm) (s : Substitution) : Type 0 where
-  pub unifies : apply_to_atom s a ≡ apply_to_atom s b
-  pub general : (g : Assignment) → value_of_atom g a ≡ value_of_atom g b → (t : Term) → value_of (after g s) t ≡ value_of g t
-  pub directed : BindsLaterToEarlier s
 
 -- One step of narrowing: l says the same as k under the most general unifier of a stray unique value and an atom that was
 -- heard before the node where it originates.

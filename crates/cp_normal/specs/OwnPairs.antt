@@ -2,7 +2,7 @@
 use Rattle.std.specs.Prelude.{◌≡◌, ◌==◌, ◌&&◌, ℕ, List, Bool, not}
 use Rattle.std.specs.List.{list_any}
 use Rattle.std.specs.HashSet.{HashSet, contains}
-use Rattle.cp_model.specs.Skeleton.{OrderPair}
+use Rattle.cp_model.specs.declared.node.OrderPair.{OrderPair}
 
 -- The strand and index of a pair's earlier node, and those of its later one.
 abbrev pub Key : Type 0

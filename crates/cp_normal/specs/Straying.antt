@@ -1,8 +1,8 @@
 -- The first unique value that strays.
 use Rattle.std.specs.Prelude.{◌≡◌, ◌≢◌, ◌⊎◌, ℕ, ◌<◌, List, Some}
-use Rattle.cp_model.specs.Lists.{item_at, IsIn}
+use Rattle.cp_lists.specs.Lists.{item_at, IsIn}
 use Rattle.cp_model.specs.Term.{AtomTerm}
-use Rattle.cp_model.specs.Bundle.{Node}
+use Rattle.cp_model.specs.declared.node.Node.{Node}
 use Rattle.cp_model.specs.Skeleton.{UniqueAt, Skeleton}
 use Rattle.cp_model.specs.Realising.{OriginatesAtTerm}
 use Rattle.cp_model.specs.Given.{listed}

@@ -1,12 +1,10 @@
 // Skeletons on the way to normal forms, and rounds of narrowing.
 ghost use Rattle.std.specs.Prelude.{◌≡◌, ◌↔◌, ◌++◌, map, IsTrue, IfOk, OnOk};
-ghost use Rattle.cp_model.specs.Lists.{IsIn};
-ghost use Rattle.cp_model.specs.RunView.{node_view};
-ghost use Rattle.cp_skel.specs.DeclaredPrefixes.{HasDeclaredPrefixes};
+ghost use Rattle.cp_lists.specs.Lists.{IsIn};
 ghost use Rattle.cp_skel.specs.Events.{occurrence_view, events_of};
 ghost use Rattle.cp_skel.specs.View.{skeleton_view};
 ghost use Rattle.cp_normal.specs.Candidates.{skeleton_of, IsOpen, IsSound, Puts, IsRound};
-ghost use Rattle.cp_normal.specs.Events.{Has};
+ghost use Rattle.cp_collapse.specs.Having.{Has};
 ghost use Rattle.cp_normal.specs.Exact.{IsRefuted};
 ghost use Rattle.cp_normal.specs.Straying.{IsFirstStray};
 ghost use Rattle.cp_normal.specs.declared.candidates.Candidate as program;
@@ -59,9 +57,8 @@ fn put_branches(
     next: &mut Vec<Candidate>,
 ) -> Result<(), AllocError>
     requires listed { map occurrence_view occurrences.now ≡ events_of (skeleton_view skeleton.now) }
-    requires declared { HasDeclaredPrefixes (skeleton_view skeleton.now) }
     requires consistent { IsRefuted (skeleton_view skeleton.now) → ⊥ }
-    requires stray { IsFirstStray (skeleton_view skeleton.now) stray.now.value (node_view stray.now.node) }
+    requires stray { IsFirstStray (skeleton_view skeleton.now) stray.now.value stray.now.node }
     ensures { OnOk result (Puts (variants.Open skeleton.now) next.old.items next.new.items) }
 {
     let atoms = heard_atoms(alloc, occurrences, stray.node)?;
@@ -72,7 +69,6 @@ fn put_branches(
 /// Puts what a skeleton in which unique values may stray leads to behind others: nothing where its assumptions contradict
 /// what its nodes carry, its branches where a unique value strays, and else itself.
 fn narrow(alloc: Global, skeleton: Skeleton, next: &mut Vec<Candidate>) -> Result<(), AllocError>
-    requires { HasDeclaredPrefixes (skeleton_view skeleton) }
     ensures { OnOk result (Puts (variants.Open skeleton) next.old.items next.new.items) }
 {
     let occurrences = skeleton.events(alloc)?;

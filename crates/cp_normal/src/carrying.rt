@@ -2,9 +2,11 @@
 ghost use Rattle.std.specs.Prelude.{◌≡◌, ◌↔◌, map, IsTrue, IfOk};
 ghost use Rattle.cp_model.specs.Term.{atom_term, IsCarriedByTerm};
 ghost use Rattle.cp_model.specs.Strand.{payload};
-ghost use Rattle.cp_skel.specs.View.{event_view, skeleton_view};
+ghost use Rattle.cp_strand.specs.View.{event_view};
+ghost use Rattle.cp_skel.specs.View.{skeleton_view};
 ghost use Rattle.cp_skel.specs.Events.{occurrence_view, events_of};
-ghost use Rattle.cp_normal.specs.Events.{Has, CarriesOne};
+ghost use Rattle.cp_collapse.specs.Having.{Has};
+ghost use Rattle.cp_normal.specs.Events.{CarriesOne};
 ghost use Rattle.cp_normal.specs.Normalising.{CarriesNonOriginating};
 
 use cp_skel::{Atom, Occurrence, Skeleton};

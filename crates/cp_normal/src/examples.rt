@@ -1,11 +1,9 @@
-//! Examples of narrowing and of collapses.
-ghost use Rattle.std.specs.Prelude.{[], ◌∷◌};
+//! An example of narrowing.
 ghost use Rattle.cp_model.specs.Term.{text_variable};
 ghost use Rattle.cp_completeness.specs.Example.{unique_text, two_say_it, repeated};
-ghost use Rattle.cp_normal.specs.Narrowing.{IsStray, IsMostGeneralFor, IsNormalFormOf};
+ghost use Rattle.cp_normal.specs.Narrowing.{IsStray, IsNormalFormOf};
+ghost use Rattle.cp_collapse.specs.Directed.{IsMostGeneralFor};
 ghost use Rattle.cp_normal.specs.Example.{heard_is_said, repeated_after_speaker};
-ghost use Rattle.cp_normal.specs.Collapsing.{AreCollapses};
-ghost use Rattle.cp_normal.specs.CollapsingExample.{two_repeaters, one_repeater};
 
 /// A speaker says a text that originates uniquely, and a repeater says it too, who heard some text: where the repeater
 /// says it, it strays, and what he heard is what he says; he heard it after the speaker said it.
@@ -13,10 +11,4 @@ pub fn stray_text_example()
     ensures stray { IsStray two_say_it unique_text repeated }
     ensures most_general { IsMostGeneralFor unique_text.value (text_variable 1) heard_is_said }
     ensures form { IsNormalFormOf two_say_it repeated_after_speaker }
-{}
-
-/// Of two repeaters one has heard a text, and the other has heard one and said one: identifying them is their one
-/// collapse, a repeater at the first's place, who has heard one text and said one.
-pub fn two_strands_of_one_role_example()
-    ensures { AreCollapses two_repeaters (one_repeater ∷ []) }
 {}

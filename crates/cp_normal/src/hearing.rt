@@ -2,9 +2,8 @@
 ghost use Rattle.std.specs.Prelude.{◌≡◌, [], map, IfOk, OnOk};
 ghost use Rattle.cp_model.specs.Given.{atoms_onto};
 ghost use Rattle.cp_term.specs.Spines.{HasTail};
-ghost use Rattle.cp_model.specs.RunView.{node_view};
 ghost use Rattle.cp_skel.specs.Events.{occurrence_view};
-ghost use Rattle.cp_skel.specs.View.{event_view};
+ghost use Rattle.cp_strand.specs.View.{event_view};
 ghost use Rattle.cp_normal.specs.Hearing.{carried_atoms, received_atoms, heard_of, heard_among};
 
 use cp_skel::{Atom, Event, Node, Occurrence, add_atom};
@@ -53,7 +52,7 @@ fn add_received(event: &Event, atoms: &mut Vec<Atom>) -> Result<(), AllocError>
 /// Puts the atoms that the event carries, if it is a reception before the node on its strand, behind these, each that is
 /// not there yet.
 fn add_heard(occurrence: &Occurrence, node: Node, atoms: &mut Vec<Atom>) -> Result<(), AllocError>
-    ensures { OnOk result (atoms.new.items ≡ atoms_onto atoms.old.items (heard_of (node_view node) (occurrence_view occurrence.now))) }
+    ensures { OnOk result (atoms.new.items ≡ atoms_onto atoms.old.items (heard_of node (occurrence_view occurrence.now))) }
 {
     if occurrence.node.strand == node.strand && occurrence.node.index < node.index {
         return add_received(&occurrence.event, atoms);
@@ -68,7 +67,7 @@ pub(crate) fn heard_atoms(
     occurrences: &[Occurrence],
     node: Node,
 ) -> Result<Vec<Atom>, AllocError>
-    ensures { IfOk result (λ atoms. atoms.items ≡ atoms_onto [] (heard_among (node_view node) (map occurrence_view occurrences.now))) }
+    ensures { IfOk result (λ atoms. atoms.items ≡ atoms_onto [] (heard_among node (map occurrence_view occurrences.now))) }
 {
     let mut atoms = Vec::new(alloc);
     for occurrence in occurrences {

@@ -1,37 +1,25 @@
 // Laws of the definitions: each stands as the contract of a function that does nothing.
-ghost use Rattle.std.specs.Prelude.{◌≡◌, List, [], ◌∷◌};
-ghost use Rattle.cp_model.specs.Term.{AtomTerm, Term, Substitution, after, apply_to, value_of};
+ghost use Rattle.std.specs.Prelude.{◌≡◌, List, []};
+ghost use Rattle.cp_model.specs.Term.{Term, Substitution, after, value_of};
 ghost use Rattle.cp_model.specs.Strand.{Declaration, Protocol};
 ghost use Rattle.cp_model.specs.Bundle.{Bundle};
-ghost use Rattle.cp_model.specs.Skeleton.{OrderPair, Skeleton, IsSkeleton};
+ghost use Rattle.cp_model.specs.Skeleton.{Skeleton, IsSkeleton};
+ghost use Rattle.cp_model.specs.declared.node.OrderPair.{OrderPair};
 ghost use Rattle.cp_model.specs.Standing.{Standing, StandsIn};
 ghost use Rattle.cp_model.specs.Homomorphism.{CarriesHomomorphism};
 ghost use Rattle.cp_model.specs.Problem.{IsPointOfView};
 ghost use Rattle.cp_model.specs.Stated.{KeepsStated};
 ghost use Rattle.cp_model.specs.Realising.{KeepsAssumptions};
 ghost use Rattle.cp_completeness.specs.Normal.{skeleton_under, AddOnlyOriginPairs, LosesNoStanding};
-ghost use Rattle.cp_normal.specs.Agreeing.{SaysTheSame};
+ghost use Rattle.cp_collapse.specs.Agreeing.{SaysTheSame};
 ghost use Rattle.cp_normal.specs.Normalising.{AreNormalPairs, IsContradictory};
-ghost use Rattle.cp_normal.specs.Narrowing.{IsMostGeneralFor, NarrowsTo, IsNormal, IsNormalFormOf};
+ghost use Rattle.cp_normal.specs.Narrowing.{NarrowsTo, IsNormal, IsNormalFormOf};
 
 /// A skeleton that contradicts itself stands apart in no bundle; and where normalising adds pairs, it adds only such as
 /// lose no standing.
 pub fn contradictory_skeletons_stand_nowhere()
     ensures nowhere { (protocol : Protocol) (k : Skeleton) → IsSkeleton protocol k → IsContradictory k → LosesNoStanding protocol k [] }
     ensures added { (k : Skeleton) (pairs : List OrderPair) → AreNormalPairs k pairs → AddOnlyOriginPairs k pairs }
-{}
-
-/// Skeletons that say the same stand in the same bundles, and none loses a standing of the other; and one that says the
-/// same as a skeleton over a protocol is one.
-pub fn agreeing_skeletons_stand_alike()
-    ensures stands { (k l : Skeleton) (b : Bundle) (h : Standing) → SaysTheSame k l → StandsIn k b h → StandsIn l b h }
-    ensures loses_none { (protocol : Protocol) (k l : Skeleton) → SaysTheSame k l → LosesNoStanding protocol k (l ∷ []) }
-    ensures skeleton { (protocol : Protocol) (k l : Skeleton) → SaysTheSame k l → IsSkeleton protocol k → IsSkeleton protocol l }
-{}
-
-/// Two atoms have one most general unifier that binds later variables to earlier ones: two of them give each term the same.
-pub fn unifiers_are_determined()
-    ensures { (a b : AtomTerm) (s t : Substitution) → IsMostGeneralFor a b s → IsMostGeneralFor a b t → (u : Term) → apply_to s u ≡ apply_to t u }
 {}
 
 /// A normal form of a skeleton over a protocol is one, and is a normal form of itself; it carries a homomorphism from

@@ -3,7 +3,7 @@ ghost use Rattle.std.specs.Prelude.{IfOk};
 ghost use Rattle.cp_skel.specs.View.{skeleton_view};
 ghost use Rattle.cp_normal.specs.Branched.{AreBranchesOf};
 
-use crate::substituting::under;
+use cp_collapse::under;
 use cp_skel::{Atom, Skeleton};
 use cp_unify::{Subst, unify};
 use std::alloc::{AllocError, Global};

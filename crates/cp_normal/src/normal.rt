@@ -1,14 +1,14 @@
 // The pairs of a normal form, where there is one.
 ghost use Rattle.std.specs.Prelude.{◌≡◌, ◌↔◌, ◌⊎◌, map, option_map, IsTrue, IfOk};
 ghost use Rattle.cp_skel.specs.Events.{occurrence_view, events_of};
-ghost use Rattle.cp_skel.specs.View.{pair_view, skeleton_view};
+ghost use Rattle.cp_skel.specs.View.{skeleton_view};
 ghost use Rattle.cp_normal.specs.Normalising.{AreNormalPairs, ClosesCycle, IsNormalised, CarriesNonOriginating, HasTwoOrigins, LosesOrigin};
 
 use crate::carrying::some_carries_non_originating;
-use crate::cycles::some_is_closed;
 use crate::origins::{has_two_origins, some_loses_origin};
 use crate::own_pairs::{add_others, keys_of};
 use crate::pairs::pairs_among;
+use cp_collapse::some_is_closed;
 use cp_skel::{Occurrence, OrderPair, Skeleton};
 use std::alloc::{AllocError, Global};
 
@@ -33,7 +33,7 @@ fn own_and_added(
     occurrences: &[Occurrence],
 ) -> Result<Vec<OrderPair>, AllocError>
     requires listed { map occurrence_view occurrences.now ≡ events_of (skeleton_view k.now) }
-    ensures { IfOk result (λ pairs. AreNormalPairs (skeleton_view k.now) (map pair_view pairs.items)) }
+    ensures { IfOk result (λ pairs. AreNormalPairs (skeleton_view k.now) pairs.items) }
 {
     let added = pairs_among(alloc, k, occurrences)?;
     let own = k.order().pairs();
@@ -48,7 +48,7 @@ fn own_and_added(
 /// non-originating value, where a unique value has two recorded origins or does not originate at its own, and where the
 /// pairs close a cycle. The error is that memory ran out.
 pub fn normal_pairs(alloc: Global, k: &Skeleton) -> Result<Option<Vec<OrderPair>>, AllocError>
-    ensures { IfOk result (λ found. IsNormalised (skeleton_view k.now) (option_map (λ pairs. map pair_view pairs.items) found)) }
+    ensures { IfOk result (λ found. IsNormalised (skeleton_view k.now) (option_map (λ pairs. pairs.items) found)) }
 {
     k.is_sound();
     let occurrences = k.events(alloc)?;

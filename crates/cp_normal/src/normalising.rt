@@ -1,10 +1,9 @@
 // Normal forms of a skeleton.
 ghost use Rattle.std.specs.Prelude.{◌≡◌, map, IfOk, OnOk};
-ghost use Rattle.cp_model.specs.Lists.{IsIn};
+ghost use Rattle.cp_lists.specs.Lists.{IsIn};
 ghost use Rattle.cp_model.specs.Skeleton.{Skeleton as Plain, IsSkeleton};
 ghost use Rattle.cp_model.specs.Strand.{Protocol};
 ghost use Rattle.cp_completeness.specs.Normal.{LosesNoStanding};
-ghost use Rattle.cp_skel.specs.DeclaredPrefixes.{HasDeclaredPrefixes};
 ghost use Rattle.cp_skel.specs.View.{skeleton_view};
 ghost use Rattle.cp_skel.specs.Data.{SkeletonData};
 ghost use Rattle.cp_normal.specs.BySubstitution.{ComeBySubstitutions};
@@ -63,10 +62,8 @@ pub fn normalise(alloc: Global, k: Skeleton) -> Result<Vec<Skeleton>, AllocError
     ensures loses_none { IfOk result (λ ks. (protocol : Protocol) → IsSkeleton protocol (skeleton_view k) → LosesNoStanding protocol (skeleton_view k) (map skeleton_view ks.items)) }
     ensures exact { IfOk result (λ ks. HasForms (skeleton_view k) (map skeleton_view ks.items)) }
     ensures by_substitutions { IfOk result (λ ks. (protocol : Protocol) → IsSkeleton protocol (skeleton_view k) → ComeBySubstitutions protocol (skeleton_view k) (map skeleton_view ks.items)) }
-    ensures declared { IfOk result (λ ks. (r : SkeletonData) → IsIn r ks.items → HasDeclaredPrefixes (skeleton_view r)) }
     ensures variables { IfOk result (λ ks. (r : SkeletonData) → IsIn r ks.items → r.variables ≡ k.variables) }
 {
-    k.is_sound();
     let mut candidates = Vec::new(alloc);
     candidates.push(Candidate::Open(k))?;
     while some_is_open(&candidates) {

@@ -2,29 +2,24 @@
 ghost use Rattle.std.specs.Prelude.{◌≡◌, ◌↔◌, map, IsTrue, IfOk};
 ghost use Rattle.cp_model.specs.Derivable.{IsOnInstance};
 ghost use Rattle.cp_model.specs.Realising.{OriginatesAtTerm};
-ghost use Rattle.cp_model.specs.Lists.{item_at};
-ghost use Rattle.cp_model.specs.RunView.{node_view};
-ghost use Rattle.cp_skel.specs.View.{strand_view, skeleton_view};
+ghost use Rattle.cp_lists.specs.Lists.{item_at};
+ghost use Rattle.cp_strand.specs.View.{strand_view};
+ghost use Rattle.cp_skel.specs.View.{skeleton_view};
 ghost use Rattle.cp_skel.specs.Events.{occurrence_view, events_of};
-ghost use Rattle.cp_normal.specs.Events.{Has, is_instance, IsElsewhere, IsSentAtOrigin, IsCarriedBefore};
+ghost use Rattle.cp_collapse.specs.Having.{Has};
+ghost use Rattle.cp_collapse.specs.Partitions.{is_instance};
+ghost use Rattle.cp_normal.specs.Events.{IsElsewhere, IsSentAtOrigin, IsCarriedBefore};
 ghost use Rattle.cp_normal.specs.Normalising.{HasTwoOrigins, LosesOrigin};
 
 use crate::carrying::carries_value;
 use cp_skel::{Event, Node, Occurrence, Skeleton, Strand, StrandShape, UniqueAt};
 use std::alloc::{AllocError, Global};
 
-/// Whether the nodes are the same.
-pub(crate) fn is_same_node(first: Node, second: Node) -> bool
-    ensures { IsTrue result ↔ (node_view first ≡ node_view second) }
-{
-    first.strand == second.strand && first.index == second.index
-}
-
 /// Whether the other entry is of the same value, with its origin at another node.
 fn is_elsewhere(unique: &UniqueAt, other: &UniqueAt) -> bool
     ensures { IsTrue result ↔ IsElsewhere unique.now other.now }
 {
-    !is_same_node(unique.origin(), other.origin()) && unique.value().same(other.value())
+    unique.origin() != other.origin() && unique.value().same(other.value())
 }
 
 /// Whether one of the entries gives the value another origin.
@@ -63,7 +58,7 @@ fn is_sent_at_origin(occurrence: &Occurrence, unique: &UniqueAt) -> bool
     ensures { IsTrue result ↔ IsSentAtOrigin unique.now (occurrence_view occurrence.now) }
 {
     matches!(occurrence.event, Event::Send(_))
-        && is_same_node(occurrence.node, unique.origin())
+        && occurrence.node == unique.origin()
         && carries_value(occurrence, unique.value())
 }
 
@@ -112,7 +107,7 @@ fn is_instance_at(strands: &[Strand], number: usize) -> bool
 
 /// Whether the node is on a role strand.
 fn is_on_instance(k: &Skeleton, node: Node) -> bool
-    ensures { IsTrue result ↔ IsOnInstance (skeleton_view k.now) (node_view node) }
+    ensures { IsTrue result ↔ IsOnInstance (skeleton_view k.now) node }
 {
     is_instance_at(k.strands(), node.strand)
 }

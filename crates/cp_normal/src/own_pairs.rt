@@ -1,7 +1,6 @@
 // A skeleton's own pairs, among which others are looked up.
 ghost use Rattle.std.specs.Prelude.{◌≡◌, ◌++◌, map, IfOk, OnOk};
 ghost use Rattle.std.specs.List.{filter};
-ghost use Rattle.cp_skel.specs.View.{pair_view};
 ghost use Rattle.cp_normal.specs.OwnPairs.{key_of, AreKeysOf, is_other};
 
 use cp_skel::OrderPair;
@@ -13,7 +12,7 @@ pub(crate) type Key = ((usize, usize), (usize, usize));
 
 /// The key by which a pair is looked up.
 fn key_of(pair: OrderPair) -> Key
-    ensures { result ≡ key_of (pair_view pair) }
+    ensures { result ≡ key_of pair }
 {
     let OrderPair { earlier, later } = pair;
     ((earlier.strand, earlier.index), (later.strand, later.index))
@@ -21,7 +20,7 @@ fn key_of(pair: OrderPair) -> Key
 
 /// The keys of the pairs.
 pub(crate) fn keys_of(alloc: Global, pairs: &[OrderPair]) -> Result<HashSet<Key>, AllocError>
-    ensures { IfOk result (λ keys. AreKeysOf keys (map pair_view pairs.now)) }
+    ensures { IfOk result (λ keys. AreKeysOf keys pairs.now) }
 {
     let mut keys = HashSet::new(alloc);
     for pair in pairs {
@@ -36,7 +35,7 @@ pub(crate) fn add_others(
     keys: &HashSet<Key>,
     pairs: &mut Vec<OrderPair>,
 ) -> Result<(), AllocError>
-    ensures { OnOk result (pairs.new.items ≡ pairs.old.items ++ filter (λ p. is_other keys.now (pair_view p)) more.now) }
+    ensures { OnOk result (pairs.new.items ≡ pairs.old.items ++ filter (λ p. is_other keys.now p) more.now) }
 {
     for pair in more {
         if keys.contains(&key_of(*pair)) {

@@ -1,10 +1,11 @@
 // The pairs from recorded origins of unique values to receptions that carry them.
 ghost use Rattle.std.specs.Prelude.{◌≡◌, ◌↔◌, map, IfOk, OnOk, IfSome, IfNone};
-ghost use Rattle.cp_model.specs.Lists.{IsIn};
-ghost use Rattle.cp_model.specs.Skeleton.{OrderPair as Plain};
-ghost use Rattle.cp_skel.specs.View.{pair_view, skeleton_view};
+ghost use Rattle.cp_lists.specs.Lists.{IsIn};
+ghost use Rattle.cp_model.specs.declared.node.OrderPair.{OrderPair as Plain};
+ghost use Rattle.cp_skel.specs.View.{skeleton_view};
 ghost use Rattle.cp_skel.specs.Events.{occurrence_view, events_of};
-ghost use Rattle.cp_normal.specs.Events.{Has, Gathers, IsPairBetween};
+ghost use Rattle.cp_collapse.specs.Having.{Has};
+ghost use Rattle.cp_normal.specs.Events.{Gathers, IsPairBetween};
 ghost use Rattle.cp_normal.specs.Normalising.{IsAddedPair};
 
 use crate::carrying::carries_value;
@@ -14,7 +15,7 @@ use std::alloc::{AllocError, Global};
 /// The pair from the recorded origin of a unique value to an event, where that is a reception on another strand that
 /// carries the value.
 fn pair_between(occurrence: &Occurrence, unique: &UniqueAt) -> Option<OrderPair>
-    ensures some { IfSome result (λ p. IsPairBetween (occurrence_view occurrence.now) unique.now (pair_view p)) }
+    ensures some { IfSome result (λ p. IsPairBetween (occurrence_view occurrence.now) unique.now p) }
     ensures none { IfNone result ((p : Plain) → IsPairBetween (occurrence_view occurrence.now) unique.now p → ⊥) }
 {
     let is_pair = matches!(occurrence.event, Event::Receive(_))
@@ -36,7 +37,7 @@ fn add_pairs_to(
     uniques: &[UniqueAt],
     pairs: &mut Vec<OrderPair>,
 ) -> Result<(), AllocError>
-    ensures { OnOk result (Gathers (λ u p. IsPairBetween (occurrence_view occurrence.now) u p) uniques.now (map pair_view pairs.old.items) (map pair_view pairs.new.items)) }
+    ensures { OnOk result (Gathers (λ u p. IsPairBetween (occurrence_view occurrence.now) u p) uniques.now pairs.old.items pairs.new.items) }
 {
     for unique in uniques {
         if let Some(pair) = pair_between(occurrence, unique) {
@@ -52,7 +53,7 @@ fn add_pairs(
     uniques: &[UniqueAt],
     pairs: &mut Vec<OrderPair>,
 ) -> Result<(), AllocError>
-    ensures { OnOk result (Gathers (λ o p. Has (λ u. IsPairBetween (occurrence_view o) u p) uniques.now) occurrences.now (map pair_view pairs.old.items) (map pair_view pairs.new.items)) }
+    ensures { OnOk result (Gathers (λ o p. Has (λ u. IsPairBetween (occurrence_view o) u p) uniques.now) occurrences.now pairs.old.items pairs.new.items) }
 {
     for occurrence in occurrences {
         add_pairs_to(occurrence, uniques, pairs)?;
@@ -67,7 +68,7 @@ pub(crate) fn pairs_among(
     occurrences: &[Occurrence],
 ) -> Result<Vec<OrderPair>, AllocError>
     requires listed { map occurrence_view occurrences.now ≡ events_of (skeleton_view k.now) }
-    ensures { IfOk result (λ pairs. (p : Plain) → IsIn p (map pair_view pairs.items) ↔ IsAddedPair (skeleton_view k.now) p) }
+    ensures { IfOk result (λ pairs. (p : Plain) → IsIn p pairs.items ↔ IsAddedPair (skeleton_view k.now) p) }
 {
     let mut pairs = Vec::new(alloc);
     add_pairs(
@@ -81,7 +82,7 @@ pub(crate) fn pairs_among(
 /// The pairs from recorded origins of unique values to the receptions of other strands, listeners too, that carry the
 /// value. The error is that memory ran out.
 pub fn added_pairs(alloc: Global, k: &Skeleton) -> Result<Vec<OrderPair>, AllocError>
-    ensures { IfOk result (λ pairs. (p : Plain) → IsIn p (map pair_view pairs.items) ↔ IsAddedPair (skeleton_view k.now) p) }
+    ensures { IfOk result (λ pairs. (p : Plain) → IsIn p pairs.items ↔ IsAddedPair (skeleton_view k.now) p) }
 {
     let occurrences = k.events(alloc)?;
     pairs_among(alloc, k, &occurrences)

@@ -1,16 +1,15 @@
 // Unique values that originate elsewhere than at their recorded origins.
 ghost use Rattle.std.specs.Prelude.{◌≡◌, ◌↔◌, map, IsTrue, IfOk, MatchOption};
 ghost use Rattle.cp_model.specs.Given.{listed};
-ghost use Rattle.cp_model.specs.Lists.{IsIn, item_at};
+ghost use Rattle.cp_lists.specs.Lists.{IsIn, item_at};
 ghost use Rattle.cp_model.specs.Skeleton.{UniqueAt as Plain};
-ghost use Rattle.cp_model.specs.RunView.{node_view};
 ghost use Rattle.cp_skel.specs.View.{skeleton_view};
 ghost use Rattle.cp_normal.specs.Branching.{IsSettled};
 ghost use Rattle.cp_skel.specs.Events.{occurrence_view, events_of};
 ghost use Rattle.cp_normal.specs.Straying.{Strays, IsFirstAt, IsFirstStray};
 
 use crate::carrying::carries_value;
-use crate::origins::{is_same_node, originates};
+use crate::origins::originates;
 use cp_skel::{Atom, Node, Occurrence, Skeleton, UniqueAt, listed};
 use std::alloc::{AllocError, Global};
 
@@ -30,9 +29,9 @@ fn strays(
 ) -> Result<bool, AllocError>
     requires listed { map occurrence_view occurrences.now ≡ events_of (skeleton_view k.now) }
     requires is_there { IsIn (occurrence_view occurrence.now) (events_of (skeleton_view k.now)) }
-    ensures { IfOk result (λ found. IsTrue found ↔ Strays (skeleton_view k.now) (node_view occurrence.now.node) unique.now) }
+    ensures { IfOk result (λ found. IsTrue found ↔ Strays (skeleton_view k.now) occurrence.now.node unique.now) }
 {
-    if is_same_node(occurrence.node, unique.origin()) {
+    if occurrence.node == unique.origin() {
         return Ok(false);
     }
     if !carries_value(occurrence, unique.value()) {
@@ -52,8 +51,8 @@ fn first_at(
     requires listed { map occurrence_view occurrences.now ≡ events_of (skeleton_view k.now) }
     requires is_there { IsIn (occurrence_view occurrence.now) (events_of (skeleton_view k.now)) }
     ensures { IfOk result (λ found. MatchOption found
-        ((u : Plain) → IsIn u uniques.now → Strays (skeleton_view k.now) (node_view occurrence.now.node) u → ⊥)
-        (λ v. IsFirstAt (skeleton_view k.now) (node_view occurrence.now.node) uniques.now v)) }
+        ((u : Plain) → IsIn u uniques.now → Strays (skeleton_view k.now) occurrence.now.node u → ⊥)
+        (λ v. IsFirstAt (skeleton_view k.now) occurrence.now.node uniques.now v)) }
 {
     for unique in uniques {
         if strays(k, occurrences, occurrence, unique)? {
@@ -74,7 +73,7 @@ fn first_among(
     requires in_order { uniques.now ≡ (listed (skeleton_view k.now)).uniquely_originating }
     ensures { IfOk result (λ found. MatchOption found
         (IsSettled (skeleton_view k.now))
-        (λ s. IsFirstStray (skeleton_view k.now) s.value (node_view s.node))) }
+        (λ s. IsFirstStray (skeleton_view k.now) s.value s.node)) }
 {
     for occurrence in occurrences {
         match first_at(k, occurrences, occurrence, uniques)? {
@@ -98,7 +97,7 @@ pub(crate) fn first_stray(
     requires listed { map occurrence_view occurrences.now ≡ events_of (skeleton_view k.now) }
     ensures { IfOk result (λ found. MatchOption found
         (IsSettled (skeleton_view k.now))
-        (λ s. IsFirstStray (skeleton_view k.now) s.value (node_view s.node))) }
+        (λ s. IsFirstStray (skeleton_view k.now) s.value s.node)) }
 {
     let assumptions = listed(alloc, k)?;
     first_among(k, occurrences, assumptions.uniquely_originating())

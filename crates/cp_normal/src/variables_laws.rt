@@ -1,16 +1,14 @@
-// Laws on the variables of normal forms and collapses: each stands as the contract of a function that does nothing.
-ghost use Rattle.std.specs.Prelude.{ℕ, List};
-ghost use Rattle.cp_model.specs.Lists.{IsIn};
+// Laws on the variables of normal forms: each stands as the contract of a function that does nothing.
+ghost use Rattle.std.specs.Prelude.{List};
+ghost use Rattle.cp_lists.specs.Lists.{IsIn};
 ghost use Rattle.cp_model.specs.Term.{Variable, atom_of_variable, variables_of_atom, Substitution, apply_to_atom};
 ghost use Rattle.cp_model.specs.Strand.{Declaration};
 ghost use Rattle.cp_model.specs.Skeleton.{Skeleton};
 ghost use Rattle.cp_model.specs.Problem.{IsDeclared, HasDeclaredVariables};
 ghost use Rattle.cp_completeness.specs.Normal.{skeleton_under};
-ghost use Rattle.cp_normal.specs.Agreeing.{SaysTheSame};
+ghost use Rattle.cp_collapse.specs.Agreeing.{SaysTheSame};
 ghost use Rattle.cp_normal.specs.BySubstitution.{all_variables, ComesBySubstitution};
-ghost use Rattle.cp_normal.specs.Collapsing.{IsCollapsed, AreCollapses};
 ghost use Rattle.cp_normal.specs.Exact.{HasForms};
-ghost use Rattle.cp_normal.specs.Partitions.{IsPartition};
 
 /// Under a substitution that gives declared variables terms of declared variables, a skeleton whose variables are declared is
 /// one; and so is any under a substitution that gives each of its variables such a term. One that says the same as another has
@@ -27,10 +25,4 @@ pub fn substitutions_keep_declared_variables()
 pub fn normal_forms_have_declared_variables()
     ensures forms { (variables : List Declaration) (k r : Skeleton) (rs : List Skeleton) → HasForms k rs → HasDeclaredVariables variables k → IsIn r rs → HasDeclaredVariables variables r }
     ensures by_substitution { (variables : List Declaration) (k r : Skeleton) → ComesBySubstitution k r → HasDeclaredVariables variables k → HasDeclaredVariables variables r }
-{}
-
-/// Collapses bring in no variables.
-pub fn collapses_have_declared_variables()
-    ensures one { (variables : List Declaration) (k l : Skeleton) (p : List ℕ) → IsPartition k p → IsCollapsed k p l → HasDeclaredVariables variables k → HasDeclaredVariables variables l }
-    ensures all { (variables : List Declaration) (k l : Skeleton) (ls : List Skeleton) → AreCollapses k ls → HasDeclaredVariables variables k → IsIn l ls → HasDeclaredVariables variables l }
 {}

@@ -1,40 +1,19 @@
 -- What is made of marked variables is what is made of those that occur.
-use Rattle.std.proofs.Common.{◌≡◌, ℕ, zero, suc, ◌+◌, ◌<◌, ◌≤◌, List, [], ◌∷◌, ◌++◌, length, get_or, Bool, true, false, refl, ap, ◌∙◌, arith, add-one, if◌then◌else◌, drop, map}
+use Rattle.std.proofs.Common.{◌≡◌, ℕ, suc, ◌+◌, ◌≤◌, List, [], ◌∷◌, length, get_or, Bool, false, refl, ap, ◌∙◌, arith, add-one}
 use Rattle.std.specs.Prelude.{Some}
-use Rattle.cp_model.specs.Lists.{item_at}
+use Rattle.cp_lists.specs.Lists.{item_at}
 use Rattle.cp_model.specs.Term.{Variable, Substitution, atom_of_variable, apply_to_atom}
 use Rattle.cp_model.specs.Strand.{Declaration}
 use Rattle.cp_sexpr.specs.Syntax.{Form}
-use Rattle.cp_language.specs.Names.{free_name, behind, has_number, later_names, label_names, sort_text}
+use Rattle.cp_language.specs.Names.{has_number, sort_text}
 use Rattle.cp_language.specs.Printed.{variable, word, plain_list, atom_form}
 use Rattle.cp_language.specs.Report.{name_or_none, vars_from, maplets_from}
 use Rattle.cp_model.specs.Same.{has_variable}
-use Rattle.cp_print.specs.Marks.{AreMarksOf, AreMarksAmong, later_names_by, label_names_by, vars_by, maplets_by}
-
-pub branch : {A : Type 0} (b c : Bool) (p q r s : A) → b ≡ c → p ≡ r → q ≡ s → (if b then p else q) ≡ (if c then r else s)
-branch b true p q r s e f g = ap (λ d. if d then p else q) e ∙ f
-branch b false p q r s e f g = ap (λ d. if d then p else q) e ∙ g
+use Rattle.cp_names.specs.Marks.{AreMarksOf, AreMarksAmong}
+use Rattle.cp_names.proofs.NamesByMarks.{branch}
+use Rattle.cp_print.specs.MarkedForms.{vars_by, maplets_by}
 
 module _ (occurring : List Variable) (count : ℕ) (marks : List Bool) (m : AreMarksOf occurring count marks) where
-  later-names : (taken : List (List ℕ)) (n : ℕ) (ds : List Declaration) → (0 < length ds → n + length ds ≤ count) → later_names_by taken marks n ds ≡ later_names taken occurring n ds
-  later-names taken n [] h = refl
-  later-names taken n (d ∷ ds) h =
-      let within : n + suc (length ds) ≤ count = h (omega arith) in
-      let x = free_name taken d.identifier in
-      branch (get_or marks n false) (has_number occurring n) (x ∷ later_names_by (taken ++ x ∷ []) marks (n + 1) ds) ([] ∷ later_names_by taken marks (n + 1) ds)
-      (x ∷ later_names (taken ++ x ∷ []) occurring (suc n) ds) ([] ∷ later_names taken occurring (suc n) ds)
-      (m.each n (omega arith))
-      (ap (λ k. x ∷ later_names_by (taken ++ x ∷ []) marks k ds) (add-one n) ∙ ap (λ xs. x ∷ xs) (later-names (taken ++ x ∷ []) (suc n) ds (λ _. omega arith)))
-      (ap (λ k. [] ∷ later_names_by taken marks k ds) (add-one n) ∙ ap (λ xs. [] ∷ xs) (later-names taken (suc n) ds (λ _. omega arith)))
-
-  behind-within : (n : ℕ) (ds : List Declaration) → 0 < length (behind n ds) → n + length (behind n ds) ≤ length ds
-  behind-within zero ds h = omega arith
-  behind-within (suc n) [] h = absurd (omega arith)
-  behind-within (suc n) (d ∷ ds) h = let k = behind-within n ds h in omega arith
-
-  pub names-by : (names : List (List ℕ)) (ds : List Declaration) → length ds ≡ count → label_names_by names marks ds ≡ label_names names occurring ds
-  names-by names ds e = ap (λ xs. names ++ xs) (later-names names (length names) (behind (length names) ds) (λ h. let k = behind-within (length names) ds h in omega arith))
-
   vars-from : (names : List (List ℕ)) (n : ℕ) (ds : List Declaration) → n + length ds ≤ count → vars_by names marks n ds ≡ vars_from names occurring n ds
   vars-from names n [] h = refl
   vars-from names n (d ∷ ds) h =
@@ -62,16 +41,10 @@ module _ (named : Variable → Form) (prefix : List Variable) (all : List Declar
       branch (get_or marks n false) (has_variable prefix x) (f ∷ maplets_by named marks terms (n + 1) ds) (maplets_by named marks terms (n + 1) ds) (f ∷ maplets_from named prefix terms (suc n) ds) (maplets_from named prefix terms (suc n) ds)
       (m.each n d here) (ap (λ fs. f ∷ fs) rest) rest
 
-  pub maplets-by : maplets_by named marks terms 0 all ≡ maplets_from named prefix terms 0 all
+  maplets-by : maplets_by named marks terms 0 all ≡ maplets_from named prefix terms 0 all
   maplets-by = maplets-from 0 all (λ k d e. ap (item_at all) (let j : 0 + k ≡ k = omega arith in j) ∙ e)
 
--- dropped
-pub behind_is : {A : Type 0} (n : ℕ) (xs : List A) → behind n xs ≡ drop n xs
-behind_is zero xs = refl
-behind_is (suc n) [] = refl
-behind_is (suc n) (x ∷ xs) = behind_is n xs
-
-pub map_drop : {A B : Type 0} (f : A → B) (n : ℕ) (xs : List A) → map f (drop n xs) ≡ drop n (map f xs)
-map_drop f zero xs = refl
-map_drop f (suc n) [] = refl
-map_drop f (suc n) (x ∷ xs) = map_drop f n xs
+-- the maplets of an instance by the marks of its prefix
+pub instance_maplets : (named : Variable → Form) (prefix : List Variable) (all : List Declaration) (marks : List Bool) (terms : Substitution) (fs : List Form)
+    → fs ≡ maplets_by named marks terms 0 all → AreMarksAmong prefix all marks → fs ≡ maplets_from named prefix terms 0 all
+instance_maplets named prefix all marks terms fs e m = e ∙ maplets-by named prefix all marks m terms

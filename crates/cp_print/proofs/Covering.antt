@@ -1,7 +1,8 @@
 -- Covering pairs.
 use Rattle.std.proofs.Common.{◌≡◌, ℕ, zero, suc, ◌&&◌, ◌==◌, List, [], ◌∷◌, ◌++◌, length, map, take, min, Bool, true, false, refl, ap, ◌∙◌, arith, if◌then◌else◌}
 use Rattle.std.specs.Prelude.{not, nat_le}
-use Rattle.cp_model.specs.Bundle.{Node, node_at}
+use Rattle.cp_model.specs.Bundle.{node_at}
+use Rattle.cp_model.specs.declared.node.Node.{Node}
 use Rattle.cp_model.specs.Strand.{Event}
 use Rattle.cp_model.specs.Term.{Term}
 use Rattle.cp_language.specs.Printed.{plain_list}

@@ -3,7 +3,7 @@ use Rattle.std.proofs.Common.{◌≡◌, List, [], ◌∷◌, ◌++◌, map, ref
 use Rattle.cp_sexpr.specs.Syntax.{Form, list, Forms, none, more, append, forms_of}
 use Rattle.cp_model.specs.Term.{Variable, Term, pair_term, enc_term, KeyTerm}
 use Rattle.cp_language.specs.Printed.{gathered, headed_list, spine, no_place, word, key_form, atom_form}
-use Rattle.cp_skel.specs.Atoms.{atom_of}
+use Rattle.cp_strand.specs.Atoms.{atom_of}
 use Rattle.cp_term.specs.Keys.{key_as_term}
 use Rattle.cp_print.specs.Parts.{as_one}
 use Rattle.cp_sexpr.specs.View.{view, views}

@@ -1,17 +1,10 @@
 -- Top forms that are written one after another.
-use Rattle.std.proofs.Common.{◌≡◌, ℕ, ◌+◌, List, [], ◌∷◌, ◌++◌, length, refl, sym, ap, ap₂, ◌∙◌, arith, length-append, subst}
+use Rattle.std.proofs.Common.{◌≡◌, ℕ, ◌+◌, List, [], ◌∷◌, ◌++◌, length, refl, sym, ap, ap₂, ◌∙◌, arith, length-append, subst, append_assoc}
+use Rattle.std.proofs.lemmas.List.{append-nil}
 use Rattle.cp_sexpr.specs.Syntax.{Form}
 use Rattle.cp_sexpr.specs.Spelling.{top_spelling, AppendsFront}
 use Rattle.cp_language.specs.Report.{text_of_forms}
 use Rattle.cp_print.specs.Writing.{ends_from, HasWritten, Leaves}
-
-append_assoc : {A : Type 0} (xs ys zs : List A) → (xs ++ ys) ++ zs ≡ xs ++ (ys ++ zs)
-append_assoc [] ys zs = refl
-append_assoc (x ∷ xs) ys zs = ap (λ bs. x ∷ bs) (append_assoc xs ys zs)
-
-append_nil : {A : Type 0} (xs : List A) → xs ++ [] ≡ xs
-append_nil [] = refl
-append_nil (x ∷ xs) = ap (λ bs. x ∷ bs) (append_nil xs)
 
 pub text-append : (fs gs : List Form) → text_of_forms (fs ++ gs) ≡ text_of_forms fs ++ text_of_forms gs
 text-append [] gs = refl
@@ -26,7 +19,7 @@ ends-append n (f ∷ fs) gs =
     ap (λ es. m ∷ es) (ends-append m fs gs ∙ ap (λ k. ends_from m fs ++ ends_from k gs) at)
 
 pub written_none : (text ends : List ℕ) → HasWritten text ends text ends []
-written_none text ends = record { text_grew = sym (append_nil text); ends_grew = sym (append_nil ends) }
+written_none text ends = record { text_grew = sym (append-nil text); ends_grew = sym (append-nil ends) }
 
 pub written_two : (a ea b eb c ec : List ℕ) (fs gs : List Form) → HasWritten a ea b eb fs → HasWritten b eb c ec gs → HasWritten a ea c ec (fs ++ gs)
 written_two a ea b eb c ec fs gs h i = record {
@@ -38,7 +31,7 @@ written_two a ea b eb c ec fs gs h i = record {
 }
 
 pub front_none : (a t : List ℕ) → AppendsFront a a t
-front_none a t = ([], t, refl, sym (append_nil a))
+front_none a t = ([], t, refl, sym (append-nil a))
 
 pub front_first : (a b : List ℕ) (fs gs : List Form) → AppendsFront a b (text_of_forms fs) → AppendsFront a b (text_of_forms (fs ++ gs))
 front_first a b fs gs h = (h.0, h.1 ++ text_of_forms gs, text-append fs gs ∙ ap (λ t. t ++ text_of_forms gs) h.2 ∙ append_assoc h.0 h.1 (text_of_forms gs), h.3)
@@ -75,18 +68,18 @@ pub leaves_stop : (a ea b eb : List ℕ) (whole before : List Form) → Leaves a
 leaves_stop a ea b eb whole before l = subst (λ (gs : List Form). AppendsFront a b (text_of_forms gs)) (sym l.split) (front_written a ea b eb l.done before l.written)
 
 pub leaves_none : (a ea b eb : List ℕ) (whole before : List Form) → Leaves a ea b eb whole before → before ≡ [] → HasWritten a ea b eb whole
-leaves_none a ea b eb whole before l e = subst (λ (gs : List Form). HasWritten a ea b eb gs) (sym (l.split ∙ ap (λ gs. l.done ++ gs) e ∙ append_nil l.done)) l.written
+leaves_none a ea b eb whole before l e = subst (λ (gs : List Form). HasWritten a ea b eb gs) (sym (l.split ∙ ap (λ gs. l.done ++ gs) e ∙ append-nil l.done)) l.written
 
 -- ---- one top form
 
 pub written_one : (a ea b eb : List ℕ) (f : Form) → b ≡ a ++ top_spelling f → eb ≡ ea ++ length b ∷ [] → HasWritten a ea b eb (f ∷ [])
 written_one a ea b eb f e g = record {
-  text_grew = e ∙ ap (λ t. a ++ t) (sym (append_nil (top_spelling f)));
+  text_grew = e ∙ ap (λ t. a ++ t) (sym (append-nil (top_spelling f)));
   ends_grew = g ∙ ap (λ n. ea ++ n ∷ []) (ap length e ∙ length-append a (top_spelling f));
 }
 
 pub front_one : (a b : List ℕ) (f : Form) → AppendsFront a b (top_spelling f) → AppendsFront a b (text_of_forms (f ∷ []))
-front_one a b f h = (h.0, h.1, append_nil (top_spelling f) ∙ h.2, h.3)
+front_one a b f h = (h.0, h.1, append-nil (top_spelling f) ∙ h.2, h.3)
 
 pub front_whole : (a b : List ℕ) (f : Form) → b ≡ a ++ top_spelling f → AppendsFront a b (text_of_forms (f ∷ []))
 front_whole a b f e = (top_spelling f, [], refl, e)

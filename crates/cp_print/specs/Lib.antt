@@ -1,7 +1,5 @@
 pub mod Named
-pub mod Variables
-pub mod Marks
-pub mod Sorts
+pub mod MarkedForms
 pub mod Order
 pub mod Writing
 pub mod Parts

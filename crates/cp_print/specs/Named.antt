@@ -2,14 +2,10 @@
 use Rattle.std.specs.Prelude.{map}
 use Rattle.cp_model.specs.Term as model
 use Rattle.cp_sexpr.specs.Syntax.{Form}
-use Rattle.cp_skel.specs.View.{sort_view}
+use Rattle.cp_scope.specs.Terms.{variable_view}
 use Rattle.cp_language.specs.Printed.{place_among, local_or_name}
 use Rattle.cp_language.specs.Report.{named_by}
-use Rattle.cp_print.specs.declared.naming.Variable.{Variable}
 use Rattle.cp_print.specs.declared.naming.Naming.{Naming}
-
-abbrev pub variable_view : Variable → model.Variable
-variable_view x = record { sort = sort_view x.sort; number = x.number }
 
 -- A variable by its name, and a local by its place.
 abbrev pub named_in : Naming → model.Variable → Form

@@ -1,11 +1,11 @@
 -- Words for the order of a label.
 use Rattle.std.specs.Prelude.{◌==◌, ℕ, zero, suc, ◌&&◌, ◌||◌, List, [], ◌∷◌, ◌++◌, map, get_or, Bool, false, not, if◌then◌else◌}
-use Rattle.cp_model.specs.Bundle.{Node, node_at}
-use Rattle.cp_model.specs.Skeleton.{OrderPair}
+use Rattle.cp_model.specs.Bundle.{node_at}
+use Rattle.cp_model.specs.declared.node.Node.{Node}
+use Rattle.cp_model.specs.declared.node.OrderPair.{OrderPair}
 use Rattle.cp_sexpr.specs.Syntax.{Form}
 use Rattle.cp_language.specs.Printed.{plain_list}
 use Rattle.cp_language.specs.Report.{node_form, is_before}
-use Rattle.cp_model.specs.RunView.{node_view}
 use Rattle.cp_print.specs.declared.order.Ordered.{Ordered}
 
 -- So many nodes of a strand, the first having index i.
@@ -19,7 +19,7 @@ pub record OrderedNode : Type 0 where
   pub before : List Bool
 
 abbrev pub ordered_view : Ordered → OrderedNode
-ordered_view o = record { node = node_view o.node; before = o.before.items }
+ordered_view o = record { node = o.node; before = o.before.items }
 
 -- For each of these nodes whether it is before y.
 abbrev pub marks_before : List OrderPair → Node → List Node → List Bool

@@ -3,7 +3,6 @@ ghost use Rattle.std.specs.Prelude.{◌≡◌, ◌++◌, [], ◌∷◌, map, opt
 ghost use Rattle.cp_language.specs.Printed.{word, numeral};
 ghost use Rattle.cp_language.specs.Report.{item_unless_empty, node_form, parent_items, operation_words, mark_words, mark_items, outcome_words};
 ghost use Rattle.cp_sexpr.specs.View.{view};
-ghost use Rattle.cp_model.specs.RunView.{node_view};
 ghost use Rattle.cp_skel.specs.Trees.{operation_view, mark_view, outcome_view};
 
 use crate::making::{headed_list, numeral, one, plain_list, two, word};
@@ -40,7 +39,7 @@ pub(crate) fn numerals(alloc: Global, numbers: &[usize]) -> Result<Vec<Form>, Al
 
 /// A node: the number of its strand, and its index.
 pub(crate) fn node_form(alloc: Global, node: Node) -> Result<Form, AllocError>
-    ensures { IfOk result (λ f. view f ≡ node_form (node_view node)) }
+    ensures { IfOk result (λ f. view f ≡ node_form node) }
 {
     let strand = numeral(node.strand)?;
     let index = numeral(node.index)?;
@@ -49,7 +48,7 @@ pub(crate) fn node_form(alloc: Global, node: Node) -> Result<Form, AllocError>
 
 /// These nodes as forms.
 pub(crate) fn node_forms(alloc: Global, nodes: &[Node]) -> Result<Vec<Form>, AllocError>
-    ensures { IfOk result (λ fs. map view fs.items ≡ map node_form (map node_view nodes.now)) }
+    ensures { IfOk result (λ fs. map view fs.items ≡ map node_form nodes.now) }
 {
     let mut forms = Vec::new(alloc);
     for node in nodes {

@@ -1,52 +1,25 @@
 // Label forms.
 ghost use Rattle.std.specs.Prelude.{◌≡◌, ◌++◌, [], ◌∷◌, codes, map, option_map, IfOk, OnOk};
 ghost use Rattle.cp_language.specs.Printed.{headed_list, numeral, atom_form, pattern_form};
-ghost use Rattle.cp_language.specs.Report.{named_by, variables_of_test, occurring, item_unless_empty, parent_items, operation_words, strand_form, covering_pairs, unique_form, map_form, node_form, test_items, mark_items, label_form};
+ghost use Rattle.cp_language.specs.Report.{named_by, item_unless_empty, parent_items, operation_words, strand_form, covering_pairs, unique_form, map_form, node_form, test_items, mark_items, label_form};
 ghost use Rattle.cp_model.specs.Given.{listed};
 ghost use Rattle.cp_sexpr.specs.View.{view};
 ghost use Rattle.cp_skel.specs.Trees.{operation_view, mark_view, test_view, label_view};
-ghost use Rattle.cp_model.specs.RunView.{node_view};
-ghost use Rattle.cp_skel.specs.View.{strand_view, skeleton_view};
-ghost use Rattle.cp_print.specs.Named.{variable_view, named_in};
+ghost use Rattle.cp_strand.specs.View.{strand_view};
+ghost use Rattle.cp_skel.specs.View.{skeleton_view};
+ghost use Rattle.cp_print.specs.Named.{named_in};
 
 use crate::assumptions::{add_test, atom_forms, map_form, pattern_forms, unique_forms};
 use crate::items::{add_mark, add_parent, add_unless_empty, node_forms, numerals, operation_words};
 use crate::making::{headed_list, numeral};
-use crate::marks::marks_of;
-use crate::names::{declarations, label_names};
-use crate::naming::{Naming, Variable};
+use crate::naming::Naming;
 use crate::order::covering_pairs;
-use crate::patterns::add_patterns;
 use crate::strands::{add_strand_forms, vars};
-use crate::variables::{add_assumptions, add_strands, add_term, add_terms};
+use cp_names::variables_of_label;
 use cp_sexpr::Form;
-use cp_skel::{Skeleton, Test, TreeNode, listed};
+use cp_skel::{Skeleton, TreeNode, listed};
 use cp_term::Text;
 use std::alloc::{AllocError, Global};
-
-/// Appends the variables of a test.
-fn add_test_variables(test: &Option<Test>, out: &mut Vec<Variable>) -> Result<(), AllocError>
-    ensures { OnOk result (map variable_view out.new.items ≡ map variable_view out.old.items ++ variables_of_test (option_map test_view test.now)) }
-{
-    match test {
-        Some(test) => add_term(&test.term, out),
-        None => Ok(()),
-    }
-}
-
-/// The variables that occur in a label form.
-fn occurring(alloc: Global, label: &TreeNode) -> Result<Vec<Variable>, AllocError>
-    ensures { IfOk result (λ xs. map variable_view xs.items ≡ occurring (label_view label.now)) }
-{
-    let skeleton = &label.skeleton;
-    let mut variables = Vec::new(alloc);
-    add_strands(alloc, skeleton.strands(), &mut variables)?;
-    add_assumptions(skeleton.assumptions(), &mut variables)?;
-    add_terms(skeleton.from_problem().values(), &mut variables)?;
-    add_test_variables(&label.test, &mut variables)?;
-    add_patterns(alloc, &label.patterns, &mut variables)?;
-    Ok(variables)
-}
 
 /// Appends where the label comes from, its variables and its strands.
 fn add_strand_items(
@@ -103,7 +76,7 @@ fn add_result_items(
 ) -> Result<(), AllocError>
     ensures { OnOk result (map view items.new.items ≡ map view items.old.items
         ++ map_form (named_in naming.now) of_problem.now (skeleton_view label.now.skeleton) ∷ []
-        ++ item_unless_empty (codes "unrealised") (map node_form (map node_view label.now.unrealised.items))
+        ++ item_unless_empty (codes "unrealised") (map node_form label.now.unrealised.items)
         ++ test_items (named_in naming.now) (option_map test_view label.now.test)
         ++ item_unless_empty (codes "escape") (map (pattern_form (named_by naming.now.names.now)) label.now.patterns.items)
         ++ item_unless_empty (codes "children") (map numeral label.now.children.items)
@@ -129,13 +102,15 @@ pub(crate) fn label_form(
 ) -> Result<Form, AllocError>
     ensures { IfOk result (λ f. view f ≡ label_form of_problem.now number (label_view label.now)) }
 {
-    let variables = declarations(alloc, label.skeleton.variables())?;
-    let occurring = occurring(alloc, label)?;
-    let marks = marks_of(alloc, variables.len(), &occurring)?;
-    let names = label_names(alloc, of_problem, &marks, &variables)?;
-    let vars = vars(alloc, &names, &marks, &variables)?;
+    let variables = variables_of_label(alloc, of_problem, label)?;
+    let vars = vars(
+        alloc,
+        &variables.names,
+        &variables.marks,
+        &variables.declared,
+    )?;
     let naming = Naming {
-        names: &names,
+        names: &variables.names,
         locals: &[],
     };
     let mut items = Vec::new(alloc);

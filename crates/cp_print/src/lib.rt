@@ -5,14 +5,11 @@ mod assumptions;
 mod items;
 mod labels;
 mod making;
-mod marks;
-mod names;
 mod naming;
 mod order;
 mod patterns;
 mod report;
 mod strands;
 mod terms;
-mod variables;
 
 pub use report::{Report, print, print_pieces};

@@ -3,23 +3,18 @@ ghost use Rattle.std.specs.Prelude.{◌≡◌, map, IfOk};
 ghost use Rattle.cp_language.specs.Names.{sort_text};
 ghost use Rattle.cp_language.specs.Printed.{variable, place_among};
 ghost use Rattle.cp_language.specs.Report.{name_or_none};
-ghost use Rattle.cp_model.specs.Same.{same_sort};
-ghost use Rattle.cp_model.specs.Lists.{item_at};
+ghost use Rattle.cp_lists.specs.Lists.{item_at};
 ghost use Rattle.cp_sexpr.specs.View.{view};
-ghost use Rattle.cp_skel.specs.View.{sort_view};
-ghost use Rattle.cp_print.specs.Named.{variable_view, named_in};
+ghost use Rattle.cp_strand.specs.View.{sort_view};
+ghost use Rattle.cp_scope.specs.Terms.{variable_view};
+ghost use Rattle.cp_print.specs.Named.{named_in};
 
 use crate::making::{headed_list, numeral, two, word};
+use cp_names::is_same_sort;
+use cp_scope::Variable;
 use cp_sexpr::Form;
 use cp_term::{Sort, Text, VarId};
 use std::alloc::{AllocError, Global};
-
-/// A variable of a term: its sort and its number.
-#[derive(Clone, Copy)]
-pub(crate) struct Variable {
-    pub(crate) sort: Sort,
-    pub(crate) number: usize,
-}
 
 /// The names of variables by their numbers, and the locals of a pattern in the order in which they occur, which have no
 /// names.
@@ -27,12 +22,6 @@ pub(crate) struct Variable {
 pub(crate) struct Naming<'a> {
     pub(crate) names: &'a [Text],
     pub(crate) locals: &'a [Variable],
-}
-
-pub(crate) fn is_same_sort(first: Sort, second: Sort) -> bool
-    ensures { result ≡ same_sort (sort_view first) (sort_view second) }
-{
-    first == second
 }
 
 /// The word for a sort.

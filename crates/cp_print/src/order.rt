@@ -6,12 +6,12 @@ ghost use Rattle.cp_model.specs.Same.{same_node};
 ghost use Rattle.cp_model.specs.Skeleton.{skeleton_trace};
 ghost use Rattle.cp_sexpr.specs.View.{view};
 ghost use Rattle.cp_print.specs.Order.{nodes_counted, ordered_view, marks_before, in_order, any_between, covers, covered, all_covered, is_on_pair, is_on_pairs, nodes_on_pairs};
-ghost use Rattle.cp_model.specs.RunView.{node_view};
-ghost use Rattle.cp_skel.specs.View.{pair_view, strand_view, skeleton_view};
+ghost use Rattle.cp_strand.specs.View.{strand_view};
+ghost use Rattle.cp_skel.specs.View.{skeleton_view};
 
 use crate::items::node_form;
 use crate::making::{plain_list, two};
-use crate::marks::is_marked;
+use cp_names::is_marked;
 use cp_sexpr::Form;
 use cp_skel::{Leading, Node, OrderPair, Skeleton, Strand, StrandShape};
 use std::alloc::{AllocError, Global};
@@ -25,14 +25,14 @@ struct Ordered {
 
 /// Whether a node leads to the one that is asked about.
 fn leads(leading: &Leading, x: Node) -> bool
-    ensures { result ≡ reaches (length leading.now.pairs) leading.now.pairs (node_view x) leading.now.node }
+    ensures { result ≡ reaches (length leading.now.pairs) leading.now.pairs x leading.now.node }
 {
     leading.has(x)
 }
 
 /// Whether a node leads to the one that is asked about and is not this one.
 fn is_before(leading: &Leading, x: Node, y: Node) -> bool
-    ensures { result ≡ (not (same_node (node_view x) (node_view y)) && reaches (length leading.now.pairs) leading.now.pairs (node_view x) leading.now.node) }
+    ensures { result ≡ (not (same_node x y) && reaches (length leading.now.pairs) leading.now.pairs x leading.now.node) }
 {
     x != y && leads(leading, x)
 }
@@ -44,7 +44,7 @@ fn marks_before(
     nodes: &[Node],
     y: Node,
 ) -> Result<Vec<bool>, AllocError>
-    ensures { IfOk result (λ marks. marks.items ≡ marks_before (map pair_view pairs.now) (node_view y) (map node_view nodes.now)) }
+    ensures { IfOk result (λ marks. marks.items ≡ marks_before pairs.now y nodes.now) }
 {
     let leading = Leading::new(alloc, pairs, y)?;
     let mut marks = Vec::new(alloc);
@@ -56,7 +56,7 @@ fn marks_before(
 
 /// The nodes with what is before them.
 fn in_order(alloc: Global, pairs: &[OrderPair], nodes: &[Node]) -> Result<Vec<Ordered>, AllocError>
-    ensures { IfOk result (λ all. map ordered_view all.items ≡ map (in_order (map pair_view pairs.now) (map node_view nodes.now)) (map node_view nodes.now)) }
+    ensures { IfOk result (λ all. map ordered_view all.items ≡ map (in_order pairs.now nodes.now) nodes.now) }
 {
     let mut all = Vec::new(alloc);
     for node in nodes {
@@ -90,7 +90,7 @@ fn is_any_between(all: &[Ordered], number: usize, y: &Ordered) -> bool
 
 /// Whether y covers the node of this number, x, on another strand.
 fn is_covering(all: &[Ordered], number: usize, x: Node, y: &Ordered) -> bool
-    ensures { result ≡ covers (map ordered_view all.now) number (node_view x) (ordered_view y.now) }
+    ensures { result ≡ covers (map ordered_view all.now) number x (ordered_view y.now) }
 {
     x.strand != y.node.strand && is_marked(&y.before, number) && !is_any_between(all, number, y)
 }
@@ -103,7 +103,7 @@ fn add_covered(
     x: Node,
     forms: &mut Vec<Form>,
 ) -> Result<(), AllocError>
-    ensures { OnOk result (map view forms.new.items ≡ map view forms.old.items ++ covered (map ordered_view all.now) number (node_view x) (map ordered_view all.now)) }
+    ensures { OnOk result (map view forms.new.items ≡ map view forms.old.items ++ covered (map ordered_view all.now) number x (map ordered_view all.now)) }
 {
     for y in all {
         if is_covering(all, number, x, y) {
@@ -128,7 +128,7 @@ fn length_of(strand: &Strand) -> usize
 
 /// Appends the nodes of a strand.
 fn add_nodes_on(strand: usize, count: usize, nodes: &mut Vec<Node>) -> Result<(), AllocError>
-    ensures { OnOk result (map node_view nodes.new.items ≡ map node_view nodes.old.items ++ nodes_counted strand 0 count) }
+    ensures { OnOk result (nodes.new.items ≡ nodes.old.items ++ nodes_counted strand 0 count) }
 {
     for index in 0..count {
         nodes.push(Node { strand, index })?;
@@ -139,7 +139,7 @@ fn add_nodes_on(strand: usize, count: usize, nodes: &mut Vec<Node>) -> Result<()
 /// The nodes of these strands, by strand and index.
 #[tactic(auto, using(crate::proofs::Covering::nodes_are))]
 fn nodes_of(alloc: Global, strands: &[Strand]) -> Result<Vec<Node>, AllocError>
-    ensures { IfOk result (λ nodes. map node_view nodes.items ≡ nodes_from 0 (map strand_view strands.now)) }
+    ensures { IfOk result (λ nodes. nodes.items ≡ nodes_from 0 (map strand_view strands.now)) }
 {
     let mut nodes = Vec::new(alloc);
     for number in 0..strands.len() {
@@ -150,14 +150,14 @@ fn nodes_of(alloc: Global, strands: &[Strand]) -> Result<Vec<Node>, AllocError>
 
 /// Whether the node's strand is one of the pair's.
 fn is_on_pair(pair: &OrderPair, x: Node) -> bool
-    ensures { result ≡ is_on_pair (pair_view pair.now) (node_view x) }
+    ensures { result ≡ is_on_pair pair.now x }
 {
     x.strand == pair.earlier.strand || x.strand == pair.later.strand
 }
 
 /// Whether the node's strand is one of some pair's.
 fn is_on_pairs(pairs: &[OrderPair], x: Node) -> bool
-    ensures { result ≡ is_on_pairs (map pair_view pairs.now) (node_view x) }
+    ensures { result ≡ is_on_pairs pairs.now x }
 {
     for pair in pairs {
         if is_on_pair(pair, x) {
@@ -173,7 +173,7 @@ fn nodes_on_pairs(
     pairs: &[OrderPair],
     nodes: &[Node],
 ) -> Result<Vec<Node>, AllocError>
-    ensures { IfOk result (λ found. map node_view found.items ≡ nodes_on_pairs (map pair_view pairs.now) (map node_view nodes.now)) }
+    ensures { IfOk result (λ found. found.items ≡ nodes_on_pairs pairs.now nodes.now) }
 {
     let mut found = Vec::new(alloc);
     for node in nodes {
@@ -196,7 +196,7 @@ fn covered(alloc: Global, all: &[Ordered]) -> Result<Vec<Form>, AllocError>
 }
 
 /// The covering pairs between different strands, by first node and then by second.
-#[tactic(auto, using(crate::proofs::CPaired::covered_on_pairs))]
+#[tactic(auto, using(crate::proofs::NodesOnPairs::covered_on_pairs))]
 pub(crate) fn covering_pairs(alloc: Global, skeleton: &Skeleton) -> Result<Vec<Form>, AllocError>
     ensures { IfOk result (λ fs. map view fs.items ≡ covering_pairs (skeleton_view skeleton.now)) }
 {

@@ -12,8 +12,8 @@ ghost use Rattle.cp_print.specs.Writing.{ends_from, HasWritten, entry_forms, tre
 use crate::items::outcome_words;
 use crate::labels::label_form;
 use crate::making::{headed_list, numeral, word};
-use crate::names::{declarations, problem_names};
 use cp_load::{Input, Problem};
+use cp_names::problem_names;
 use cp_sexpr::{Form, write_top};
 use cp_skel::{Mark, Tree, TreeNode};
 use cp_term::Text;
@@ -111,8 +111,7 @@ fn put_tree(
     ensures ok { OnOk result (HasWritten out.old.items ends.old.items out.new.items ends.new.items (tree_forms (problem_view problem.now) (tree_view tree.now))) }
     ensures err { OnErr result (AppendsFront out.old.items out.new.items (text_of_forms (tree_forms (problem_view problem.now) (tree_view tree.now)))) }
 {
-    let variables = declarations(alloc, problem.skeleton.variables())?;
-    let names = problem_names(alloc, problem.declared, &variables)?;
+    let names = problem_names(alloc, problem.declared, problem.skeleton.variables())?;
     let status = status_form(alloc, tree)?;
     put_labels(alloc, &names, &tree.nodes, out, ends)?;
     put(&status, out, ends)?;

@@ -5,22 +5,18 @@ ghost use Rattle.cp_model.specs.Term.{atom_of_variable, apply_to_atom};
 ghost use Rattle.cp_language.specs.Names.{sort_text};
 ghost use Rattle.cp_language.specs.Printed.{variable, word, plain_list, atom_form};
 ghost use Rattle.cp_language.specs.Report.{strand_form};
-ghost use Rattle.cp_model.specs.Same.{same_sort};
 ghost use Rattle.cp_sexpr.specs.View.{view};
-ghost use Rattle.cp_skel.specs.View.{sort_view, declaration_view, strand_view, instance_view};
-ghost use Rattle.cp_print.specs.Marks.{AreMarksAmong, vars_by, maplets_by};
-ghost use Rattle.cp_model.specs.Strand.{variables_of_prefix};
+ghost use Rattle.cp_strand.specs.View.{sort_view, declaration_view, strand_view, instance_view};
+ghost use Rattle.cp_print.specs.MarkedForms.{vars_by, maplets_by};
 ghost use Rattle.cp_print.specs.Named.{named_in};
-ghost use Rattle.cp_print.specs.Sorts.{is_term_of_sort};
 
 use crate::making::{headed_list, numeral, one, plain_list, two, word};
-use crate::marks::{is_marked, marks_among};
-use crate::naming::{Naming, is_same_sort, name_of, sort_text};
+use crate::naming::{Naming, name_of, sort_text};
 use crate::terms::{atom_form, term_form};
-use crate::variables::{add_events, prefix_of};
+use cp_names::{is_marked, prefix_marks};
 use cp_sexpr::Form;
-use cp_skel::{Declaration, Instance, Role, Strand, StrandShape};
-use cp_term::{Shape, Sort, Term, Text, VarId};
+use cp_strand::{Declaration, Instance, Role, Strand, StrandShape, applied};
+use cp_term::{Sort, Term, Text, VarId, var};
 use std::alloc::{AllocError, Global};
 
 /// A variable by its name, with its sort.
@@ -53,20 +49,7 @@ pub(crate) fn vars(
     Ok(forms)
 }
 
-/// Whether a term is an atom of this sort.
-fn is_of_sort(term: &Term, sort: Sort) -> bool
-    ensures { result ≡ is_term_of_sort (sort_view sort) term.now }
-{
-    match term.shape() {
-        Shape::Variable(_, own) => is_same_sort(own, sort),
-        Shape::Ltk(..) => matches!(sort, Sort::Skey),
-        Shape::Inverse(_) | Shape::Pubk(..) => matches!(sort, Sort::Akey),
-        Shape::Tag(_) | Shape::Pair(..) | Shape::Encryption(..) => false,
-    }
-}
-
 /// What a variable of a role becomes under the terms of an instance.
-#[tactic(auto, using(crate::proofs::Values::value_there, crate::proofs::Values::value_differs, crate::proofs::Values::value_missing))]
 fn value_form(
     alloc: Global,
     naming: &Naming<'_>,
@@ -76,11 +59,9 @@ fn value_form(
 ) -> Result<Form, AllocError>
     ensures { IfOk result (λ f. view f ≡ atom_form (named_in naming.now) (apply_to_atom (substitution_by values.now) (atom_of_variable (variable (sort_view sort) number)))) }
 {
-    if number < values.len() && is_of_sort(&values[number], sort) {
-        atom_form(alloc, naming, &values[number])
-    } else {
-        naming.named(alloc, sort, VarId::numbered(number))
-    }
+    let variable = var(alloc, VarId::numbered(number), sort)?;
+    let value = applied(alloc, values, &variable)?;
+    atom_form(alloc, naming, &value)
 }
 
 /// What the variable of a role with this number becomes, beside its identifier.
@@ -119,16 +100,8 @@ fn maplets(
     Ok(forms)
 }
 
-/// For each variable of a role whether it occurs in the prefix of this height.
-fn prefix_marks(alloc: Global, role: &Role, height: usize) -> Result<Vec<bool>, AllocError>
-    ensures { IfOk result (λ marks. AreMarksAmong (variables_of_prefix role.now height) role.now.variables marks.items) }
-{
-    let mut variables = Vec::new(alloc);
-    add_events(prefix_of(role.trace(), height), &mut variables)?;
-    marks_among(alloc, role.variables(), &variables)
-}
-
-#[tactic(auto, using(crate::proofs::LabelParts::instance_maplets))]
+/// An instance as a form.
+#[tactic(auto, using(crate::proofs::ByMarks::instance_maplets))]
 fn instance_form(
     alloc: Global,
     naming: &Naming<'_>,

@@ -4,7 +4,7 @@ ghost use Rattle.std.specs.Option.{option_map};
 ghost use Rattle.cp_language.specs.Printed.{headed_list, name_items, symmetric_form, asymmetric_form, atom_form, spine, term_form};
 ghost use Rattle.cp_model.specs.Term.{ltk_term, akey_variable, pubk_term};
 ghost use Rattle.cp_sexpr.specs.View.{view, views};
-ghost use Rattle.cp_skel.specs.Atoms.{atom_of};
+ghost use Rattle.cp_strand.specs.Atoms.{atom_of};
 ghost use Rattle.cp_print.specs.Named.{named_in};
 ghost use Rattle.cp_print.specs.Parts.{as_one};
 

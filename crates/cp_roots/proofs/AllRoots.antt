@@ -6,7 +6,7 @@ use Rattle.cp_model.specs.Problem.{IsPointOfView}
 use Rattle.cp_term.specs.Table.{Declared}
 use Rattle.cp_skel.specs.View.{skeleton_view}
 use Rattle.cp_skel.specs.Data.{SkeletonData as Program}
-use Rattle.cp_normal.specs.Collapsing.{AreCollapses}
+use Rattle.cp_collapse.specs.Collapsing.{AreCollapses}
 use Rattle.cp_roots.specs.declared.root.Root.{Root as Made}
 use Rattle.cp_roots.specs.RootView.{root_view}
 use Rattle.cp_roots.specs.Roots.{Root, first_roots, AreRoots}
@@ -16,16 +16,20 @@ use Rattle.cp_roots.proofs.EachCollapse.{are_roots}
 use Rattle.cp_roots.proofs.RootsSoFar.{AreRootsOf}
 use Rattle.cp_roots.proofs.SoundRoots.{are_sound}
 
+-- What is promised of the roots of a problem.
+pub record AreAllRoots (protocol : Protocol) (k : Skeleton) (names : List Declared) (roots : List Made) : Type 0 where
+  pub exact : AreRoots k (map root_view roots)
+  pub sound : AreSound protocol k (map root_view roots)
+  pub variables : RootsHave names roots
+
 module _ (protocol : Protocol) (variables : List Declaration) (k : Skeleton) (sk : IsSkeleton protocol k) (own : IsPointOfView variables k) (collapses : List Program) (are : AreCollapses k (map skeleton_view collapses)) where
   module _ (names : List Declared) (start now : List Made) (first : AreFirstRoots k names start) (all : AreRootsOf collapses start now) where
     whole : map root_view now ≡ first_roots k first.forms ++ all.others
     whole = all.roots ∙ ap (λ (rs : List Root). rs ++ all.others) first.whole
 
-    pub all_exact : AreRoots k (map root_view now)
-    all_exact = are_roots variables k own first.forms (map skeleton_view collapses) all.others (map root_view now) first.are_forms are all.of_each whole
-
-    pub all_sound : AreSound protocol k (map root_view now)
-    all_sound = are_sound protocol variables k sk own first.forms (map skeleton_view collapses) all.others (map root_view now) first.are_forms are all.of_each whole
-
-    pub all_have : AllHave names collapses → RootsHave names now
-    all_have have = all.have names first.same_variables have
+    pub all_roots : AllHave names collapses → AreAllRoots protocol k names now
+    all_roots have = record {
+      exact = are_roots variables k own first.forms (map skeleton_view collapses) all.others (map root_view now) first.are_forms are all.of_each whole;
+      sound = are_sound protocol variables k sk own first.forms (map skeleton_view collapses) all.others (map root_view now) first.are_forms are all.of_each whole;
+      variables = all.have names first.same_variables have;
+    }

@@ -1,22 +1,25 @@
 -- A collapse of a problem carries a homomorphism from it.
-use Rattle.std.proofs.Common.{◌≡◌, ℕ, zero, suc, ◌<◌, ◌+◌, List, [], ◌∷◌, Some, length, map, refl, sym, ap, ap₂, ◌∙◌, subst, arith}
-use Rattle.cp_model.specs.Lists.{item_at, IsIn, here, there, one_step, more_steps}
-use Rattle.cp_model.specs.Term.{Sort, Variable, atom_of_variable, Term, atom_term, Substitution, apply_to_atom, apply_to}
+use Rattle.std.proofs.Common.{◌≡◌, ℕ, suc, ◌<◌, List, Some, length, map, sym, ap, ◌∙◌, subst, arith}
+use Rattle.cp_lists.proofs.Mapped.{map_alike}
+use Rattle.cp_lists.specs.Lists.{item_at, IsIn, one_step, more_steps}
+use Rattle.cp_model.specs.Term.{Variable, atom_of_variable, Term, atom_term, Substitution, apply_to_atom, apply_to}
 use Rattle.cp_model.specs.Strand.{Event, send, recv, Role, Declaration, Protocol}
-use Rattle.cp_model.specs.Bundle.{Node, node_at}
-use Rattle.cp_model.specs.Skeleton.{instance, listener, term_event_at, OrderPair, Skeleton, OrderStep, along_strand_of, along_pair, Before, IsOrderPair, IsSkeleton}
-use Rattle.cp_model.specs.Problem.{numbers_from, variable_terms, declared_sort, IsDeclared, IsPointOfView}
+use Rattle.cp_model.specs.Bundle.{node_at}
+use Rattle.cp_model.specs.declared.node.Node.{Node}
+use Rattle.cp_model.specs.Skeleton.{instance, listener, term_event_at, Skeleton, OrderStep, along_strand_of, along_pair, Before, IsOrderPair, IsSkeleton}
+use Rattle.cp_model.specs.declared.node.OrderPair.{OrderPair}
+use Rattle.cp_model.specs.Problem.{numbers_from, variable_terms, IsDeclared, IsPointOfView}
 use Rattle.cp_model.specs.Homomorphism.{GoesToInstance, IsHomomorphism, substitution_by, number_or, strand_in, map_from_problem, CarriesHomomorphism}
-use Rattle.cp_model.proofs.LawLists.{item_below, map_of_item}
+use Rattle.cp_lists.proofs.Items.{item_below, map_of_item, place_of}
 use Rattle.cp_model.proofs.LawStandings.{strand_of_event}
 use Rattle.cp_model.proofs.SingleMaps.{own_carries}
 use Rattle.cp_completeness.specs.Normal.{skeleton_under}
 use Rattle.cp_completeness.proofs.Mapped.{changed, carried_under}
-use Rattle.cp_normal.specs.Partitions.{place_in}
-use Rattle.cp_normal.specs.Collapsing.{IsCollapsed}
-use Rattle.cp_normal.proofs.Descending.{in_place}
-use Rattle.cp_normal.proofs.Lowest.{numbers_at, at_numbers}
-use Rattle.cp_normal.proofs.Merged.{merging_is_homomorphism}
+use Rattle.cp_model.proofs.DeclaredVariables.{declared_at}
+use Rattle.cp_collapse.specs.Partitions.{place_in}
+use Rattle.cp_collapse.specs.Collapsing.{IsCollapsed}
+use Rattle.cp_collapse.proofs.Lowest.{numbers_at, at_numbers}
+use Rattle.cp_collapse.proofs.Merged.{merging_is_homomorphism}
 
 -- ---- maps that agree on the strands that are there
 
@@ -63,21 +66,6 @@ module _ (k l : Skeleton) (f g : ℕ → ℕ) (terms : Substitution) (protocol :
 
 -- ---- the terms of declared variables
 
-variable_at : (n : ℕ) (ds : List Declaration) (i : ℕ) (sort : Sort) → declared_sort (item_at ds i) ≡ Some sort → item_at (variable_terms n ds) i ≡ Some (atom_term (atom_of_variable (record { sort = sort; number = n + i })))
-variable_at n [] i sort e = absurd (cc)
-variable_at n (d ∷ ds) zero sort e =
-    let p : d.sort ≡ sort = cc in
-    let q : n ≡ n + zero = omega arith in
-    ap₂ (λ (s : Sort) (m : ℕ). Some (atom_term (atom_of_variable (record { sort = s; number = m })))) p q
-variable_at n (d ∷ ds) (suc i) sort e =
-    let q : suc n + i ≡ n + suc i = omega arith in
-    subst (λ (m : ℕ). item_at (variable_terms (suc n) ds) i ≡ Some (atom_term (atom_of_variable (record { sort = sort; number = m })))) q (variable_at (suc n) ds i sort e)
-
-declared_at : (ds : List Declaration) (x : Variable) → IsDeclared ds x → item_at (variable_terms 0 ds) x.number ≡ Some (atom_term (atom_of_variable x))
-declared_at ds x is =
-    let q : 0 + x.number ≡ x.number = omega arith in
-    subst (λ (m : ℕ). item_at (variable_terms 0 ds) x.number ≡ Some (atom_term (atom_of_variable (record { sort = x.sort; number = m })))) q (variable_at 0 ds x.number x.sort is)
-
 -- Substitutions that give the declared variables the same terms agree on them.
 agree_declared : (ds : List Declaration) (f g : Substitution) → map (apply_to f) (variable_terms 0 ds) ≡ map (apply_to g) (variable_terms 0 ds) → (x : Variable) → IsDeclared ds x → apply_to_atom f (atom_of_variable x) ≡ apply_to_atom g (atom_of_variable x)
 agree_declared ds f g e x is =
@@ -88,10 +76,6 @@ agree_declared ds f g e x is =
     cc
 
 -- ---- the map of a collapse
-
-each_same : (f g : ℕ → ℕ) (ns : List ℕ) → ((n : ℕ) → IsIn n ns → f n ≡ g n) → map f ns ≡ map g ns
-each_same f g [] same = refl
-each_same f g (n ∷ ns) same = ap₂ ◌∷◌ (same n here) (each_same f g ns (λ m i. same m (there i)))
 
 module _ (protocol : Protocol) (variables : List Declaration) (k l : Skeleton) (p : List ℕ) (sk : IsSkeleton protocol k) (own : IsPointOfView variables k) (c : IsCollapsed k p l) where
   abbrev f : Substitution
@@ -125,7 +109,7 @@ module _ (protocol : Protocol) (variables : List Declaration) (k l : Skeleton) (
 
   listed_below : (s : ℕ) → IsIn s (numbers_from 0 k.strands) → s < length k.strands
   listed_below s i =
-      let r = in_place (numbers_from 0 k.strands) i in
+      let r = place_of i in
       let q = at_numbers 0 k.strands r.0 s r.1 in
       let less = q.0 in
       let e = q.1 in
@@ -136,7 +120,7 @@ module _ (protocol : Protocol) (variables : List Declaration) (k l : Skeleton) (
     homomorphism = by_its_map;
     strands =
         ap (map (strand_in l.from_problem.strands)) own.strands
-        ∙ each_same (strand_in l.from_problem.strands) (place_in p) (numbers_from 0 k.strands) (λ s i. sym (goes_to_place s (listed_below s i)))
+        ∙ map_alike (strand_in l.from_problem.strands) (place_in p) (numbers_from 0 k.strands) (λ s i. sym (goes_to_place s (listed_below s i)))
         ∙ sym from_strands;
     values = same_terms ∙ sym c.from_problem.values;
   }

@@ -1,15 +1,15 @@
 -- The roots that the normal forms of several collapses give, one collapse after the other.
 use Rattle.std.proofs.Common.{◌≡◌, ℕ, List, [], ◌∷◌, ◌++◌, map, refl, sym, ap, ◌∙◌, subst, append_assoc}
 use Rattle.std.proofs.lemmas.List.{append-nil}
-use Rattle.cp_model.specs.Lists.{IsIn, here, there}
+use Rattle.cp_lists.specs.Lists.{IsIn, here, there}
 use Rattle.cp_model.specs.Strand.{Declaration}
 use Rattle.cp_model.specs.Skeleton.{Skeleton}
 use Rattle.cp_model.specs.Tree.{by_collapse}
 use Rattle.cp_model.specs.Problem.{IsPointOfView}
-use Rattle.cp_model.proofs.LawLists.{in_append_left, in_append_right}
-use Rattle.cp_normal.specs.Partitions.{place_in}
-use Rattle.cp_normal.specs.Collapsing.{IsCollapse, AreCollapsesBy, no_collapses, collapse_by, AreCollapses}
-use Rattle.cp_roots.specs.FirstPlaces.{firsts}
+use Rattle.cp_lists.proofs.Members.{in_append_left, in_append_right}
+use Rattle.cp_collapse.specs.Partitions.{place_in}
+use Rattle.cp_collapse.specs.Collapsing.{IsCollapse, AreCollapsesBy, no_collapses, collapse_by, AreCollapses}
+use Rattle.cp_hom.specs.FirstPlaces.{firsts}
 use Rattle.cp_roots.specs.Roots.{Root, living, first_roots, AreFormsOfCollapses, no_collapses as none_of_none, forms_of_one, AreRoots}
 use Rattle.cp_roots.specs.Gathering.{AreNormalForms}
 use Rattle.cp_roots.proofs.Firsts.{firsts_of_places}

@@ -3,18 +3,18 @@ use Rattle.std.proofs.Common.{◌≡◌, ◌⊎◌, inl, inr, ℕ, zero, suc, �
 use Rattle.std.specs.List.{count_by}
 use Rattle.std.proofs.lemmas.Bool.{ltb-false}
 use Rattle.std.proofs.lemmas.List.Recursion.{is_count_by}
-use Rattle.cp_model.specs.Lists.{item_at}
+use Rattle.cp_lists.specs.Lists.{item_at}
 use Rattle.cp_model.specs.Term.{Substitution}
 use Rattle.cp_model.specs.Strand.{Role}
 use Rattle.cp_model.specs.Skeleton.{SkeletonStrand, instance, listener, Skeleton}
 use Rattle.cp_model.specs.Problem.{numbers_from}
-use Rattle.cp_model.proofs.LawLists.{item_there}
+use Rattle.cp_lists.proofs.Items.{item_there}
 use Rattle.cp_skel.specs.Events.{is_role_strand}
-use Rattle.cp_skel.specs.View.{strand_view}
-use Rattle.cp_skel.specs.Data.{StrandData as Strand}
-use Rattle.cp_normal.specs.Partitions.{IsPartition, finest}
-use Rattle.cp_normal.specs.Collapsing.{no_collapses, AreCollapses}
-use Rattle.cp_normal.proofs.Lowest.{at_numbers, numbers_length}
+use Rattle.cp_strand.specs.View.{strand_view}
+use Rattle.cp_strand.specs.Data.{StrandData as Strand}
+use Rattle.cp_collapse.specs.Partitions.{IsPartition, finest}
+use Rattle.cp_collapse.specs.Collapsing.{no_collapses, AreCollapses}
+use Rattle.cp_collapse.proofs.Lowest.{at_numbers, numbers_length}
 use Rattle.cp_roots.proofs.Firsts.{same_items}
 
 -- How many of the strands are instances.

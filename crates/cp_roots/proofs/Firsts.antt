@@ -1,14 +1,14 @@
 -- The first numbers that are equal to each, and the partition that they give where strands go to the places of blocks.
 use Rattle.std.proofs.Common.{◌≡◌, ℕ, zero, suc, ◌<◌, Bool, true, false, nat_eq, List, [], ◌∷◌, Some, length, map, refl, sym, ap, ◌∙◌, arith, eq-eqb, eqb-true}
 use Rattle.std.proofs.lemmas.List.{length-map}
-use Rattle.cp_model.specs.Lists.{item_at}
+use Rattle.cp_lists.specs.Lists.{item_at}
 use Rattle.cp_model.specs.Skeleton.{Skeleton}
 use Rattle.cp_model.specs.Problem.{numbers_from}
-use Rattle.cp_model.proofs.LawLists.{item_below, item_there, map_of_item}
-use Rattle.cp_normal.specs.Partitions.{lowest_before, place_in, IsPartition}
-use Rattle.cp_normal.proofs.Lowest.{numbers_at, numbers_length}
-use Rattle.cp_normal.proofs.Places.{own_entry, one_at_place, place_of_entry}
-use Rattle.cp_roots.specs.FirstPlaces.{first_of, firsts}
+use Rattle.cp_lists.proofs.Items.{item_below, item_there, map_of_item}
+use Rattle.cp_collapse.specs.Partitions.{lowest_before, place_in, IsPartition}
+use Rattle.cp_collapse.proofs.Lowest.{numbers_at, numbers_length}
+use Rattle.cp_collapse.proofs.Places.{own_entry, one_at_place, place_of_entry}
+use Rattle.cp_hom.specs.FirstPlaces.{first_of, firsts}
 
 -- ---- which is the first
 

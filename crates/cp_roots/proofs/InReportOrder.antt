@@ -1,25 +1,26 @@
 -- A skeleton whose assumptions stand in the order of a report says what it said before: the assumptions are the same.
 use Rattle.std.proofs.Common.{◌++◌, ℕ, List, length, refl, le_refl, ⊎_elim}
-use Rattle.cp_model.specs.Lists.{IsIn, one_step, more_steps}
+use Rattle.cp_lists.specs.Lists.{IsIn, one_step, more_steps}
 use Rattle.cp_model.specs.Term.{Variable, AtomTerm, Substitution}
 use Rattle.cp_model.specs.Strand.{Role, Declaration, Protocol}
-use Rattle.cp_model.specs.Bundle.{Node, Bundle}
-use Rattle.cp_model.specs.Skeleton.{UniqueAt, OrderPair, Skeleton, OrderStep, along_strand_of, along_pair, Before, IsOrderPair, IsOrigin, GivesAssumptions, IsSkeleton}
+use Rattle.cp_model.specs.Bundle.{Bundle}
+use Rattle.cp_model.specs.declared.node.Node.{Node}
+use Rattle.cp_model.specs.Skeleton.{UniqueAt, Skeleton, OrderStep, along_strand_of, along_pair, Before, IsOrderPair, IsOrigin, GivesAssumptions, IsSkeleton}
+use Rattle.cp_model.specs.declared.node.OrderPair.{OrderPair}
 use Rattle.cp_model.specs.Realising.{OriginatesAtTerm, KeepsAssumptions}
 use Rattle.cp_model.specs.Standing.{Standing, StandsIn, StandsApart}
 use Rattle.cp_model.specs.Homomorphism.{SkeletonMap, GoesToInstance, IsHomomorphism, map_from_problem, CarriesHomomorphism, FactorsThrough}
-use Rattle.cp_model.specs.Problem.{IsDeclared, variables_of_strands, variables_of_atoms, variables_of_uniques, variables_of_assumptions}
+use Rattle.cp_model.specs.Problem.{IsDeclared, variables_of_strands, variables_of_atoms, variables_of_uniques, variables_of_assumptions, HasDeclaredVariables}
 use Rattle.cp_model.specs.Given.{listed}
 use Rattle.cp_model.specs.Stated.{KeepsStated}
-use Rattle.cp_model.proofs.LawLists.{in_append, in_append_left}
+use Rattle.cp_lists.proofs.Members.{in_append, in_append_left}
 use Rattle.cp_model.proofs.StatedStays.{stated_stays}
 use Rattle.cp_completeness.specs.Normal.{SaysNoMore}
 use Rattle.cp_completeness.proofs.Weaker.{stands_too}
 use Rattle.cp_skel.proofs.EachOnce.{listed-non, listed-penetrator-non, listed-unique}
 use Rattle.cp_roots.specs.Roots.{in_report_order}
-use Rattle.cp_model.specs.Problem.{HasDeclaredVariables}
 use Rattle.cp_skel.proofs.UnderVariables.{atom_with, unique_with}
-use Rattle.cp_normal.proofs.VariablesOfCollapses.{non_declared, penetrator_non_declared, unique_declared}
+use Rattle.cp_collapse.proofs.VariablesOfCollapses.{non_declared, penetrator_non_declared, unique_declared}
 
 module _ (k : Skeleton) where
   -- ---- the same assumptions

@@ -1,18 +1,17 @@
 -- Normal forms that are put behind other roots.
 use Rattle.std.proofs.Common.{◌≡◌, ◌⊎◌, inl, inr, ℕ, List, [], ◌∷◌, ◌++◌, map, length, reverse, nat_eq, true, false, refl, sym, ap, ap₂, ◌∙◌, subst, append_assoc, arith, eq-eqb, eqb-true}
 use Rattle.std.proofs.lemmas.List.{reverse-append, reverse-reverse, map-append, append-nil}
-use Rattle.cp_model.specs.Lists.{IsIn, here, there}
+use Rattle.cp_lists.specs.Lists.{IsIn, here}
 use Rattle.cp_model.specs.Skeleton.{Skeleton}
 use Rattle.cp_model.specs.Tree.{Operation, by_problem, by_collapse}
-use Rattle.cp_model.proofs.LawLists.{in_append, in_append_left, in_append_right}
+use Rattle.cp_lists.proofs.Members.{in_append, in_append_left, in_append_right, from_reverse, only_item}
 use Rattle.cp_term.specs.Table.{Declared}
 use Rattle.cp_skel.specs.Trees.{operation_view}
 use Rattle.cp_skel.specs.View.{skeleton_view}
 use Rattle.cp_skel.specs.Data.{SkeletonData as Program}
 use Rattle.cp_skel.specs.declared.tree.Operation.{Operation as How}
-use Rattle.cp_normal.proofs.Descending.{only}
 use Rattle.cp_roots.specs.declared.root.Root.{Root}
-use Rattle.cp_roots.specs.FirstPlaces.{firsts}
+use Rattle.cp_hom.specs.FirstPlaces.{firsts}
 use Rattle.cp_roots.specs.RootView.{root_view}
 use Rattle.cp_roots.specs.Roots as plain
 use Rattle.cp_roots.specs.Roots.{in_report_order, living, first_roots}
@@ -33,7 +32,7 @@ have_more variables old new r e same have s i = by (in_append old (r ∷ []) (su
   where
     by : IsIn s old ⊎ IsIn s (r ∷ []) → s.skeleton.variables ≡ variables
     by (inl j) = have s j
-    by (inr j) = subst (λ (m : Root). m.skeleton.variables ≡ variables) (sym (only j)) same
+    by (inr j) = subst (λ (m : Root). m.skeleton.variables ≡ variables) (sym (only_item j)) same
 
 have_last : (variables : List Declared) (left rest : List Program) (k : Program) → left ≡ rest ++ k ∷ [] → AllHave variables left → k.variables ≡ variables
 have_last variables left rest k e have = have k (subst (IsIn k) (sym e) (in_append_right rest here))
@@ -41,16 +40,8 @@ have_last variables left rest k e have = have k (subst (IsIn k) (sym e) (in_appe
 have_front : (variables : List Declared) (left rest : List Program) (k : Program) → left ≡ rest ++ k ∷ [] → AllHave variables left → AllHave variables rest
 have_front variables left rest k e have m i = have m (subst (IsIn m) (sym e) (in_append_left (k ∷ []) i))
 
-pub back_again : {A : Type 0} (x : A) (xs : List A) → IsIn x (reverse xs) → IsIn x xs
-back_again x [] i = i
-back_again x (y ∷ ys) i = by (in_append (reverse ys) (y ∷ []) (subst (IsIn x) (reverse-append (y ∷ []) ys) i)) (back_again x ys)
-  where
-    by : IsIn x (reverse ys) ⊎ IsIn x (y ∷ []) → (IsIn x (reverse ys) → IsIn x ys) → IsIn x (y ∷ ys)
-    by (inl j) back = there (back j)
-    by (inr j) back = subst (λ z. IsIn z (y ∷ ys)) (sym (only j)) here
-
 pub have_reversed : (variables : List Declared) (all ks : List Program) → all ≡ reverse ks → AllHave variables ks → AllHave variables all
-have_reversed variables all ks e have k i = have k (back_again k ks (subst (IsIn k) e i))
+have_reversed variables all ks e have k i = have k (from_reverse ks (subst (IsIn k) e i))
 
 -- ---- one after the other
 

@@ -1,9 +1,9 @@
 -- The collapses of a problem, whose normal forms are put behind the first roots one after the other.
 use Rattle.std.proofs.Common.{◌≡◌, List, [], ◌∷◌, ◌++◌, map, reverse, refl, sym, ap, ◌∙◌, subst, append_assoc}
 use Rattle.std.proofs.lemmas.List.{reverse-reverse, append-nil}
-use Rattle.cp_model.specs.Lists.{IsIn, here}
+use Rattle.cp_lists.specs.Lists.{IsIn, here}
 use Rattle.cp_model.specs.Skeleton.{Skeleton}
-use Rattle.cp_model.proofs.LawLists.{in_append_left, in_append_right}
+use Rattle.cp_lists.proofs.Members.{in_append_left, in_append_right}
 use Rattle.cp_term.specs.Table.{Declared}
 use Rattle.cp_skel.specs.View.{skeleton_view}
 use Rattle.cp_skel.specs.Data.{SkeletonData as Program}

@@ -1,6 +1,7 @@
 -- What is true of the roots of a problem.
 use Rattle.std.proofs.Common.{◌≡◌, ◌⊎◌, inl, inr, ℕ, true, false, List, [], ◌∷◌, ◌++◌, Some, map, refl, sym, subst}
-use Rattle.cp_model.specs.Lists.{item_at, IsIn, here, there}
+use Rattle.cp_lists.proofs.Items.{place_of, at_place}
+use Rattle.cp_lists.specs.Lists.{item_at, IsIn, here, there}
 use Rattle.cp_model.specs.Strand.{Declaration, Protocol}
 use Rattle.cp_model.specs.Bundle.{Bundle, IsBundle}
 use Rattle.cp_model.specs.Skeleton.{Skeleton, IsSkeleton}
@@ -10,21 +11,19 @@ use Rattle.cp_model.specs.Homomorphism.{CarriesHomomorphism, FactorsThrough}
 use Rattle.cp_model.specs.Problem.{IsPointOfView}
 use Rattle.cp_model.specs.Stated.{KeepsStated}
 use Rattle.cp_model.specs.Tree.{Operation, by_problem, by_collapse}
-use Rattle.cp_model.proofs.LawLists.{in_append, in_append_left, in_append_right}
+use Rattle.cp_lists.proofs.Members.{in_append, in_append_left, in_append_right, in_cases, into_map, from_map}
 use Rattle.cp_model.proofs.SingleMaps.{own_carries}
 use Rattle.cp_model.proofs.StatedItself.{keeps_its_own}
-use Rattle.cp_completeness.proofs.Under.{in_map, factors_then}
+use Rattle.cp_completeness.proofs.Under.{factors_then}
 use Rattle.cp_normal.specs.Narrowing.{IsNormalFormOf}
-use Rattle.cp_normal.specs.Collapsing.{IsCollapse, AreCollapsesBy, no_collapses, collapse_by, AreCollapses}
-use Rattle.cp_normal.proofs.Descending.{in_place, at_place}
-use Rattle.cp_normal.proofs.Having.{in_cases, into_map}
+use Rattle.cp_collapse.specs.Collapsing.{IsCollapse, AreCollapsesBy, no_collapses, collapse_by, AreCollapses}
 use Rattle.cp_normal.proofs.Homomorphic.{form_carries}
 use Rattle.cp_normal.proofs.StatedForms.{form_keeps}
-use Rattle.cp_normal.proofs.StatedCollapse.{collapse_keeps}
+use Rattle.cp_collapse.proofs.StatedCollapse.{collapse_keeps}
 use Rattle.cp_normal.proofs.Keeping.{form_is_skeleton, normal_keeps_assumptions}
-use Rattle.cp_normal.proofs.CollapsesCover.{collapses_are_complete}
-use Rattle.cp_normal.proofs.MergedSkeletons.{merged_is_skeleton}
-use Rattle.cp_roots.specs.FirstPlaces.{firsts}
+use Rattle.cp_collapse.proofs.CollapsesCover.{collapses_are_complete}
+use Rattle.cp_collapse.proofs.MergedSkeletons.{merged_is_skeleton}
+use Rattle.cp_hom.specs.FirstPlaces.{firsts}
 use Rattle.cp_roots.specs.Roots.{Root, living, first_roots}
 use Rattle.cp_roots.specs.Sound.{StandsThroughRoot, AreSound}
 use Rattle.cp_roots.specs.Gathering.{AreNormalForms}
@@ -51,7 +50,7 @@ through_form : (protocol : Protocol) (k l : Skeleton) (rs : List Skeleton) (by :
     (b : Bundle) (h g : Standing) → IsBundle protocol b → StandsIn l b g → StandsApart l g → FactorsThrough k h l g → StandsThroughRoot k roots b h
 through_form protocol k l rs by roots sl f listed b h g is stands apart factors =
     let a = f.loses_none protocol sl b g is stands apart in
-    let n = in_place roots (listed (living by a.skeleton) (into_map (living by) a.listed)) in
+    let n = place_of (listed (living by a.skeleton) (into_map (living by) a.listed)) in
     record {
       number = n.0;
       root = living by a.skeleton;
@@ -81,7 +80,7 @@ module _ (protocol : Protocol) (variables : List Declaration) (k : Skeleton) (sk
 
   forms_are_sound : (l : Skeleton) (rs : List Skeleton) (by : Operation) → IsSkeleton protocol l → CarriesHomomorphism k l → KeepsStated k l → ((r : Skeleton) → IsIn r rs → IsNormalFormOf l r) → (root : Root) → IsIn root (map (living by) rs) → IsSoundRoot protocol k root
   forms_are_sound l rs by sl carries keeps forms root i =
-      let r = in_map (living by) rs root i in
+      let r = from_map (living by) rs i in
       subst (IsSoundRoot protocol k) r.2 (form_is_sound l r.0 by sl carries keeps (forms r.0 r.1))
 
   dead_is_sound : AreNormalForms k [] → IsSoundRoot protocol k (record { operation = by_problem; skeleton = k; dead = true })
@@ -123,7 +122,7 @@ module _ (protocol : Protocol) (variables : List Declaration) (k : Skeleton) (sk
 
   module _ (forms ls : List Skeleton) (others roots : List Root) (f : AreNormalForms k forms) (a : AreCollapses k ls) (each : AreOfEach ls others) (e : roots ≡ first_roots k forms ++ others) where
     root_is_sound : (i : ℕ) (root : Root) → item_at roots i ≡ Some root → IsSoundRoot protocol k root
-    root_is_sound i root at = either_is_sound root (first_roots k forms) others (first_are_sound forms f) (each_is_sound a.each others each) (subst (IsIn root) e (at_place roots i at))
+    root_is_sound i root at = either_is_sound root (first_roots k forms) others (first_are_sound forms f) (each_is_sound a.each others each) (subst (IsIn root) e (at_place roots i root at))
 
     first_listed : (r : Root) → IsIn r (map (living by_problem) forms) → IsIn r roots
     first_listed r i = subst (IsIn r) (sym e) (in_append_left others (among_first k forms r i))

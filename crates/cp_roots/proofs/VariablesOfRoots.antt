@@ -1,16 +1,15 @@
 -- The variables of the roots of a problem are declared.
 use Rattle.std.proofs.Common.{◌≡◌, ℕ, List, [], ◌∷◌, Some, map, subst, ⊎_elim}
-use Rattle.cp_model.specs.Lists.{item_at, IsIn, here, there}
+use Rattle.cp_lists.proofs.Items.{at_place}
+use Rattle.cp_lists.specs.Lists.{item_at, IsIn, here, there}
 use Rattle.cp_model.specs.Strand.{Declaration}
 use Rattle.cp_model.specs.Skeleton.{Skeleton}
 use Rattle.cp_model.specs.Tree.{Operation, by_problem, by_collapse}
-use Rattle.cp_model.proofs.LawLists.{in_append}
-use Rattle.cp_completeness.proofs.Under.{in_map}
-use Rattle.cp_normal.proofs.Strayed.{at_is_in}
+use Rattle.cp_lists.proofs.Members.{in_append, from_map}
 use Rattle.cp_roots.specs.Roots.{Root, living, first_roots, AreFormsOfCollapses, no_collapses, forms_of_one, AreRoots}
 use Rattle.cp_model.specs.Problem.{HasDeclaredVariables}
 use Rattle.cp_normal.proofs.VariablesOfForms.{forms_declared}
-use Rattle.cp_normal.proofs.VariablesOfCollapses.{collapses_declared}
+use Rattle.cp_collapse.proofs.VariablesOfCollapses.{collapses_declared}
 use Rattle.cp_roots.proofs.InReportOrder.{declared_listed}
 
 module _ (variables : List Declaration) where
@@ -22,7 +21,7 @@ module _ (variables : List Declaration) where
 
   living_declared : (by : Operation) (rs : List Skeleton) → AllDeclared rs → RootsDeclared (map (living by) rs)
   living_declared by rs all root i =
-      let m = in_map (living by) rs root i in
+      let m = from_map (living by) rs i in
       subst (λ (r : Root). HasDeclaredVariables variables r.skeleton) m.2 (declared_listed m.0 variables (all m.0 m.1))
 
   first_declared : (k : Skeleton) (forms : List Skeleton) → HasDeclaredVariables variables k → AllDeclared forms → RootsDeclared (first_roots k forms)
@@ -41,4 +40,4 @@ roots_declared variables k roots h are i root at =
     ⊎_elim
     (λ j. first_declared variables k are.forms h (forms_declared variables are.has_forms h) root j)
     (λ j. others_declared variables are.are_collapses.partitions are.collapses are.others are.of_collapses (collapses_declared variables k h are.are_collapses.partitions are.collapses are.are_collapses.each) root j)
-    (in_append (first_roots k are.forms) are.others (subst (IsIn root) are.whole (at_is_in roots i root at)))
+    (in_append (first_roots k are.forms) are.others (subst (IsIn root) are.whole (at_place roots i root at)))

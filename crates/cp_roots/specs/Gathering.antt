@@ -1,6 +1,6 @@
 -- The roots as the program gathers them: normal forms that are put behind other roots.
 use Rattle.std.specs.Prelude.{◌≡◌, List, ◌++◌, map}
-use Rattle.cp_model.specs.Lists.{IsIn}
+use Rattle.cp_lists.specs.Lists.{IsIn}
 use Rattle.cp_model.specs.Strand.{Protocol}
 use Rattle.cp_model.specs.Skeleton.{Skeleton, IsSkeleton}
 use Rattle.cp_model.specs.Tree.{Operation, by_collapse}
@@ -11,7 +11,7 @@ use Rattle.cp_skel.specs.Data.{SkeletonData as Program}
 use Rattle.cp_normal.specs.Exact.{HasForms}
 use Rattle.cp_normal.specs.Narrowing.{IsNormalFormOf}
 use Rattle.cp_roots.specs.declared.root.Root.{Root}
-use Rattle.cp_roots.specs.FirstPlaces.{firsts}
+use Rattle.cp_hom.specs.FirstPlaces.{firsts}
 use Rattle.cp_roots.specs.RootView.{root_view}
 use Rattle.cp_roots.specs.Roots.{living, first_roots}
 

@@ -1,5 +1,4 @@
 pub mod Roots
 pub mod Sound
 pub mod RootView
-pub mod FirstPlaces
 pub mod Gathering

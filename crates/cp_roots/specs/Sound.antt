@@ -1,6 +1,6 @@
 -- What is true of the roots of a problem: none of its standings is missed.
 use Rattle.std.specs.Prelude.{◌≡◌, ℕ, List, true, false, Some}
-use Rattle.cp_model.specs.Lists.{item_at}
+use Rattle.cp_lists.specs.Lists.{item_at}
 use Rattle.cp_model.specs.Strand.{Protocol}
 use Rattle.cp_model.specs.Bundle.{Bundle, IsBundle}
 use Rattle.cp_model.specs.Skeleton.{Skeleton, IsSkeleton}

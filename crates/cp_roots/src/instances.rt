@@ -1,7 +1,7 @@
 // Whether a skeleton has instances that may be identified.
 ghost use Rattle.std.specs.Prelude.{◌≡◌, count_by, nat_lt};
 ghost use Rattle.cp_skel.specs.Events.{is_role_strand};
-ghost use Rattle.cp_skel.specs.View.{strand_view};
+ghost use Rattle.cp_strand.specs.View.{strand_view};
 
 use cp_skel::{Strand, StrandShape};
 

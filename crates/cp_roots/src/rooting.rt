@@ -1,6 +1,6 @@
 // The roots of a problem.
 ghost use Rattle.std.specs.Prelude.{◌≡◌, map, IfOk};
-ghost use Rattle.cp_model.specs.Lists.{IsIn};
+ghost use Rattle.cp_lists.specs.Lists.{IsIn};
 ghost use Rattle.cp_model.specs.Problem.{IsPointOfView};
 ghost use Rattle.cp_model.specs.Skeleton.{IsSkeleton};
 ghost use Rattle.cp_skel.specs.Trees.{variables_view};

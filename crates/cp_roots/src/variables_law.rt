@@ -1,6 +1,6 @@
 // The law that the roots of a problem bring in no variables.
 ghost use Rattle.std.specs.Prelude.{◌≡◌, ℕ, List, Some};
-ghost use Rattle.cp_model.specs.Lists.{item_at};
+ghost use Rattle.cp_lists.specs.Lists.{item_at};
 ghost use Rattle.cp_model.specs.Strand.{Declaration};
 ghost use Rattle.cp_model.specs.Skeleton.{Skeleton};
 ghost use Rattle.cp_roots.specs.Roots.{Root, AreRoots};

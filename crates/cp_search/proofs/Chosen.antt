@@ -1,9 +1,7 @@
 -- Labels that are candidates are those of the roots that the program takes.
 use Rattle.std.proofs.Common.{◌≡◌, ◌⊎◌, inl, inr, ℕ, suc, List, [], ◌∷◌, Bool, true, false, length, map, take, Option, Some, None, refl, sym, ap, subst, ◌∙◌, arith}
-use Rattle.cp_model.specs.Lists.{item_at, IsIn, here}
-use Rattle.cp_model.specs.Bundle.{Node}
-use Rattle.cp_model.specs.RunView.{node_view}
-use Rattle.cp_model.specs.declared.strand.Node.{Node as Program}
+use Rattle.cp_lists.specs.Lists.{item_at, IsIn, here}
+use Rattle.cp_model.specs.declared.node.Node.{Node}
 use Rattle.cp_model.specs.Strand.{Declaration}
 use Rattle.cp_model.specs.Skeleton.{Skeleton}
 use Rattle.cp_model.specs.Realising.{AllDerivable}
@@ -49,13 +47,13 @@ or_derivable : (n : Node) {D : Type 0} → IsIn n [] ⊎ D → D
 or_derivable n (inl h) = elim h [ ]
 or_derivable n (inr d) = d
 
-none_listed : (k : Skeleton) (ns : List Program) → length ns ≡ 0 → ListsUnrealised k (map node_view ns) → AllDerivable k
+none_listed : (k : Skeleton) (ns : List Node) → length ns ≡ 0 → ListsUnrealised k ns → AllDerivable k
 none_listed k [] e lists n t at = or_derivable n (lists.others n t at)
 none_listed k (n ∷ ns) e lists m t at = absurd (omega (arith, e))
 
-nothing_unrealised : (k : Skeleton) (ns : List Program) → AllDerivable k → ListsUnrealised k (map node_view ns) → length ns ≡ 0
+nothing_unrealised : (k : Skeleton) (ns : List Node) → AllDerivable k → ListsUnrealised k ns → length ns ≡ 0
 nothing_unrealised k [] all lists = refl
-nothing_unrealised k (n ∷ ns) all lists = let u : IsUnrealisedAt k (node_view n) = (lists.each (node_view n)).0 here in absurd (u.underivable (all (node_view n) u.message u.reception))
+nothing_unrealised k (n ∷ ns) all lists = let u : IsUnrealisedAt k n = (lists.each n).0 here in absurd (u.underivable (all n u.message u.reception))
 
 module _ (limits : Limits) (js : List Judged) (i : ℕ) (j : Judged) (at : item_at js i ≡ Some j) (judged : IsJudged (take i (map judged_skeleton js)) j) where
   abbrev ks : List Skeleton

@@ -1,17 +1,15 @@
 -- Roots that are judged one after the other.
-use Rattle.std.proofs.Common.{◌≡◌, ◌⊎◌, inl, inr, ℕ, ◌+◌, ◌<◌, ◌≤◌, length, get_or, Option, Some, None, Bool, true, false, arith, List, [], ◌∷◌, ◌++◌, map, take, reverse, refl, sym, ap, ◌∙◌, subst}
-use Rattle.std.proofs.lemmas.List.{reverse-append, reverse-reverse, map-append, append-nil, append_assoc, take-append-le}
+use Rattle.std.proofs.Common.{◌≡◌, ◌⊎◌, inl, inr, ℕ, ◌+◌, ◌<◌, ◌≤◌, length, get_or, Option, Some, None, Bool, true, false, arith, List, [], ◌∷◌, ◌++◌, map, take, reverse, sym, ap, ◌∙◌, subst}
+use Rattle.std.proofs.lemmas.List.{reverse-append, reverse-reverse, map-append, append-nil, append_assoc, take-append-le, length-map}
 use Rattle.std.proofs.Math.Seq.{take-append_seam}
-use Rattle.cp_model.specs.Lists.{item_at, IsIn, here, there}
+use Rattle.cp_lists.proofs.Members.{item_is_in}
+use Rattle.cp_lists.specs.Lists.{item_at, IsIn}
 use Rattle.cp_model.specs.Skeleton.{Skeleton}
 use Rattle.cp_model.specs.Homomorphism.{Embeds}
 use Rattle.cp_hom.specs.Maps.{IsIsomorphic}
-use Rattle.cp_model.proofs.LawLists.{item_below, item_of_take, take_of_item}
-use Rattle.cp_skel.proofs.Items.{item-found, item-there, map-length}
+use Rattle.cp_lists.proofs.Items.{item_below, item_of_take, take_of_item, place_of, map_of_read, item_of_push}
 use Rattle.cp_term.proofs.CarriedTerms.{not_both}
-use Rattle.cp_hom.specs.Partition.{fingerprint_of}
-use Rattle.cp_hom.proofs.Listed.{in_item}
-use Rattle.cp_normal.proofs.Descending.{end_cases}
+use Rattle.cp_hom.specs.Partition.{partition_of}
 use Rattle.cp_shapes.proofs.Instances.{same_item}
 use Rattle.cp_roots.specs.declared.root.Root.{Root}
 use Rattle.cp_search.specs.Marks.{IsEarlierIsomorphic}
@@ -34,7 +32,7 @@ module _ (fact : ℕ → Type 0) (n : ℕ) (before : (k : ℕ) → k < n → fac
 
 module _ (js : List Judged) (i : ℕ) (other : Judged) (l : i < length js) (is : other ≡ get_or js i other) (k : Skeleton) where
   there_is : item_at (map judged_skeleton js) i ≡ Some (judged_skeleton other)
-  there_is = item-there judged_skeleton js i other l is
+  there_is = map_of_read judged_skeleton js i other l is
 
   pub copy_here : IsIsomorphic (judged_skeleton other) k → IsCopyAt (map judged_skeleton js) k i
   copy_here h = (judged_skeleton other, there_is, h)
@@ -43,17 +41,17 @@ module _ (js : List Judged) (i : ℕ) (other : Judged) (l : i < length js) (is :
   no_copy_here not h = not (subst (λ (x : Skeleton). IsIsomorphic x k) (same_item (map judged_skeleton js) i h.0 (judged_skeleton other) h.1 there_is) h.2)
 
   pub listed_here : IsIn other js
-  listed_here = item-found other js i other l is refl
+  listed_here = item_is_in js i other l is
 
   -- One with another fingerprint is no copy.
-  pub kept_apart : (first second : ℕ) (flag : Bool) → first ≡ fingerprint_of (judged_skeleton other) → second ≡ fingerprint_of k → flag ≡ false →
-      ((a b : Skeleton) → fingerprint_of a ≡ first → fingerprint_of b ≡ second → Embeds a b → flag ≡ true) → IsCopyAt (map judged_skeleton js) k i → ⊥
+  pub kept_apart : (first second : List (Option ℕ)) (flag : Bool) → first ≡ partition_of (judged_skeleton other) → second ≡ partition_of k → flag ≡ false →
+      ((a b : Skeleton) → partition_of a ≡ first → partition_of b ≡ second → Embeds a b → flag ≡ true) → IsCopyAt (map judged_skeleton js) k i → ⊥
   kept_apart first second flag e f q kept h = no_copy_here (λ same. not_both q (kept (judged_skeleton other) k (sym e) (sym f) same.0)) h
 
 pub copy_below : (js : List Judged) (k : Skeleton) (i n : ℕ) → length js ≤ n → IsCopyAt (map judged_skeleton js) k i → i < n
 copy_below js k i n l h =
     let m = item_below (map judged_skeleton js) i h.0 h.1 in
-    let e = map-length judged_skeleton js in
+    let e = length-map js judged_skeleton in
     omega (arith, l, m, e)
 
 -- ---- copies among all roots
@@ -87,11 +85,6 @@ module _ (ks : List Skeleton) (i : ℕ) (k : Skeleton) (at : item_at ks i ≡ So
 
 -- ---- one root after the other
 
-pub in_map : {A B : Type 0} (f : A → B) (xs : List A) (x : A) → IsIn x xs → IsIn (f x) (map f xs)
-in_map f (y ∷ xs) x here = here
-in_map f (y ∷ xs) x (there i) = there (in_map f xs x i)
-in_map f [] x i = elim i [ ]
-
 abbrev pub root_of : Judged → Root
 root_of j = j.root
 
@@ -110,8 +103,8 @@ module _ (roots left rest : List Root) (old : List Judged) (root : Root) (so_far
   is_next : map root_of old ++ root ∷ reverse rest ≡ roots
   is_next = ap (λ ys. map root_of old ++ ys) (sym (ap reverse popped ∙ reverse-append rest (root ∷ []))) ∙ so_far.whole
 
-  pub before_fingerprints : (given : List Judged) → given ≡ old → (j : Judged) → IsIn j given → j.fingerprint ≡ fingerprint_of (judged_skeleton j)
-  before_fingerprints given e j i = let at = in_item (subst (IsIn j) e i) in (so_far.each at.0 j at.1).fingerprint
+  pub before_fingerprints : (given : List Judged) → given ≡ old → (j : Judged) → IsIn j given → j.fingerprint ≡ partition_of (judged_skeleton j)
+  before_fingerprints given e j i = let at = place_of (subst (IsIn j) e i) in (so_far.each at.0 j at.1).fingerprint
 
   module _ (j : Judged) (same : j.root ≡ root) (given : List Judged) (given_is : given ≡ old) (judged : IsJudged (map judged_skeleton given) j) where
     roots_after : map root_of (old ++ j ∷ []) ++ reverse rest ≡ roots
@@ -124,23 +117,23 @@ module _ (roots left rest : List Root) (old : List Judged) (root : Root) (so_far
 
     before_last : take (length old) (map judged_skeleton (old ++ j ∷ [])) ≡ map judged_skeleton given
     before_last =
-        ap (λ (n : ℕ). take n (map judged_skeleton (old ++ j ∷ []))) (sym (map-length judged_skeleton old))
+        ap (λ (n : ℕ). take n (map judged_skeleton (old ++ j ∷ []))) (sym (length-map old judged_skeleton))
         ∙ (ap (take (length (map judged_skeleton old))) skeletons_after
         ∙ (take-append_seam (map judged_skeleton old) (judged_skeleton j ∷ []) ∙ ap (map judged_skeleton) (sym given_is)))
 
     before_others : (i : ℕ) → i < length old → take i (map judged_skeleton (old ++ j ∷ [])) ≡ take i (map judged_skeleton old)
     before_others i l =
         ap (take i) skeletons_after
-        ∙ take-append-le i (map judged_skeleton old) (judged_skeleton j ∷ []) (let e = map-length judged_skeleton old in omega (arith, l, e))
+        ∙ take-append-le i (map judged_skeleton old) (judged_skeleton j ∷ []) (let e = length-map old judged_skeleton in omega (arith, l, e))
 
-    each_after : (i : ℕ) (x : Judged) → ((i < length old) × (item_at old i ≡ Some x)) ⊎ ((i ≡ length old) × (j ≡ x)) → IsJudged (take i (map judged_skeleton (old ++ j ∷ []))) x
-    each_after i x (inl h) = subst (λ (ks : List Skeleton). IsJudged ks x) (sym (before_others i h.0)) (so_far.each i x h.1)
+    each_after : (i : ℕ) (x : Judged) → (item_at old i ≡ Some x) ⊎ ((i ≡ length old) × (j ≡ x)) → IsJudged (take i (map judged_skeleton (old ++ j ∷ []))) x
+    each_after i x (inl h) = subst (λ (ks : List Skeleton). IsJudged ks x) (sym (before_others i (item_below old i x h))) (so_far.each i x h)
     each_after i x (inr h) =
         subst (λ (n : ℕ). IsJudged (take n (map judged_skeleton (old ++ j ∷ []))) x) (sym h.0)
         (subst (λ (ks : List Skeleton). IsJudged ks x) (sym before_last) (subst (IsJudged (map judged_skeleton given)) h.1 judged))
 
     pub next_judged : (new : List Judged) → new ≡ old ++ j ∷ [] → AreJudgedSoFar roots rest new
-    next_judged new e = subst (AreJudgedSoFar roots rest) (sym e) (record { whole = roots_after; each = λ i x at. each_after i x (end_cases old j i x at) })
+    next_judged new e = subst (AreJudgedSoFar roots rest) (sym e) (record { whole = roots_after; each = λ i x at. each_after i x (item_of_push old j i x at) })
 
 pub all_judged : (roots left : List Root) (judged : List Judged) → AreJudgedSoFar roots left judged → left ≡ [] → map root_of judged ≡ roots
 all_judged roots left judged so_far done =

@@ -1,20 +1,18 @@
 -- Labels that are made one after the other, and the marks that they have.
 use Rattle.std.proofs.Common.{◌≡◌, ◌⊎◌, inl, inr, ℕ, suc, ◌+◌, ◌<◌, ◌≤◌, List, [], ◌∷◌, ◌++◌, length, map, drop, get_or, reverse, Bool, Option, None, Some, refl, sym, ap, subst, ◌∙◌, arith}
 use Rattle.std.specs.Prelude.{option_map}
-use Rattle.std.proofs.lemmas.List.{reverse-append, reverse-reverse, append-nil, append_assoc, length-map, drop_all}
-use Rattle.cp_model.specs.Lists.{item_at, IsIn, here, there}
+use Rattle.std.proofs.lemmas.List.{reverse-append, reverse-reverse, append-nil, append_assoc, length-map, drop_all, get_or_default, length_push}
+use Rattle.cp_lists.proofs.Members.{drop_read, into_map}
+use Rattle.cp_lists.specs.Lists.{item_at, IsIn, here, there}
 use Rattle.cp_model.specs.Strand.{Declaration}
 use Rattle.cp_model.specs.Skeleton.{Skeleton}
 use Rattle.cp_model.specs.Tree.{Label, Limits}
 use Rattle.cp_model.specs.Tree as tree
-use Rattle.cp_model.proofs.LawLists.{item_below, item_of_map, map_of_item}
+use Rattle.cp_lists.proofs.Items.{item_below, item_of_map, map_of_item, item_of_read, map_of_read, item_of_push, at_place}
 use Rattle.cp_skel.specs.Trees.{variables_view, label_view, mark_view}
 use Rattle.cp_skel.specs.declared.tree.Mark.{Mark}
 use Rattle.cp_skel.specs.declared.tree.Mark.TheVariants.{Shape, Dead, Seen, InstanceOf, LimitSteps, LimitStrands}
 use Rattle.cp_skel.specs.declared.tree.TreeNode.{TreeNode}
-use Rattle.cp_skel.proofs.Items.{item-drop, item-there}
-use Rattle.cp_hom.proofs.Listed.{item_again}
-use Rattle.cp_normal.proofs.Descending.{end_cases, length_with, at_place}
 use Rattle.cp_roots.specs.Roots.{Root}
 use Rattle.cp_roots.specs.RootView.{root_view}
 use Rattle.cp_search.specs.Marks.{IsEarlierIsomorphic, HasMark}
@@ -24,8 +22,7 @@ use Rattle.cp_search.specs.Marking.{candidates_from, AreMarked}
 use Rattle.cp_search.specs.Labelling.{IsLabelled, AreLabelled}
 use Rattle.cp_search.specs.declared.judging.Judged.{Judged}
 use Rattle.cp_roots.specs.declared.root.Root.{Root as Program}
-use Rattle.cp_search.proofs.Judgings.{in_map, root_of}
-use Rattle.cp_search.proofs.Marked.{item_at_index}
+use Rattle.cp_search.proofs.Judgings.{root_of}
 use Rattle.cp_search.proofs.Chosen.{IsChoice, chosen, choice}
 
 -- ---- labels one after the other
@@ -61,11 +58,11 @@ module _ (judged left rest : List Judged) (marks : List Mark) (old : List TreeNo
 
   pub next_label : (n : ℕ) (mark other : Mark) (label : TreeNode) → n ≡ length old → n < length marks → mark ≡ get_or marks n other →
       label_view label ≡ label_of (variables_view j.root.skeleton.variables) (judged_view j) (judged_nodes j) (mark_view mark) → IsLabelled marks (length old) j label
-  next_label n mark other label e l is same = record { mark = mark; at = ap (item_at marks) (sym e) ∙ item_at_index marks n mark l (is ∙ item_again marks n other mark l); same = same }
+  next_label n mark other label e l is same = record { mark = mark; at = ap (item_at marks) (sym e) ∙ item_of_read marks n mark l (is ∙ get_or_default marks n other mark l); same = same }
 
   module _ (label : TreeNode) (labelled : IsLabelled marks (length old) j label) where
-    each_after : (i : ℕ) (k : Judged) (l : TreeNode) → item_at judged i ≡ Some k → ((i < length old) × (item_at old i ≡ Some l)) ⊎ ((i ≡ length old) × (label ≡ l)) → IsLabelled marks i k l
-    each_after i k l at (inl h) = so_far.each i k l at h.1
+    each_after : (i : ℕ) (k : Judged) (l : TreeNode) → item_at judged i ≡ Some k → (item_at old i ≡ Some l) ⊎ ((i ≡ length old) × (label ≡ l)) → IsLabelled marks i k l
+    each_after i k l at (inl h) = so_far.each i k l at h
     each_after i k l at (inr h) =
         let e : Some k ≡ Some j = sym at ∙ (ap (item_at judged) h.0 ∙ next_at) in
         let same : j ≡ k = cc in
@@ -77,8 +74,8 @@ module _ (judged left rest : List Judged) (marks : List Mark) (old : List TreeNo
     next_labelled new e = subst (AreLabelledSoFar judged rest marks) (sym e) (record {
       first = so_far.first ++ j ∷ [];
       whole = is_next ∙ sym (append_assoc so_far.first (j ∷ []) (reverse rest));
-      count = length_with old label ∙ (ap suc so_far.count ∙ sym (length_with so_far.first j));
-      each = λ i k l at on. each_after i k l at (end_cases old label i l on);
+      count = length_push old label ∙ (ap (λ (n : ℕ). n + 1) so_far.count ∙ sym (length_push so_far.first j));
+      each = λ i k l at on. each_after i k l at (item_of_push old label i l on);
     })
 
 pub all_labelled : (judged left : List Judged) (marks : List Mark) (labels : List TreeNode) → AreLabelledSoFar judged left marks labels → left ≡ [] → AreLabelled judged marks labels
@@ -124,7 +121,7 @@ module _ (limits : Limits) (judged : List Judged) (marks : List Mark) (labels : 
       record {
         mark = mark_view h.mark;
         has = marked i j (mark_view h.mark) at (map_of_item mark_view marks i h.mark h.at);
-        same = sym l.2 ∙ (h.same ∙ ap (λ ds. label_of ds (judged_view j) (judged_nodes j) (mark_view h.mark)) (named j.root (in_map root_of judged j (at_place judged i at))));
+        same = sym l.2 ∙ (h.same ∙ ap (λ ds. label_of ds (judged_view j) (judged_nodes j) (mark_view h.mark)) (named j.root (into_map root_of (at_place judged i j at))));
       }
 
   same_count : length plain ≡ length judged
@@ -211,14 +208,14 @@ module _ (mark : Mark) where
 
   pub marked_here : (labels : List TreeNode) (i : ℕ) (l : TreeNode) → i < length labels → l ≡ get_or labels i l → l.mark ≡ Some mark → IsMarked (map label_view labels) (mark_view mark)
   marked_here labels i l lt is e =
-      (label_view l, at_place (map label_view labels) i (item-there label_view labels i l lt is), ap (option_map mark_view) e)
+      (label_view l, at_place (map label_view labels) i (label_view l) (map_of_read label_view labels i l lt is), ap (option_map mark_view) e)
 
   -- If some label has the mark, one of those from place i on does.
   abbrev pub IsAmongRest : List TreeNode → ℕ → Type 0
   IsAmongRest labels i = IsMarked (map label_view labels) (mark_view mark) → IsMarked (map label_view (drop i labels)) (mark_view mark)
 
   pub not_here : (labels : List TreeNode) (i : ℕ) (l : TreeNode) → i < length labels → l ≡ get_or labels i l → (l.mark ≡ Some mark → ⊥) → IsAmongRest labels i → IsAmongRest labels (i + 1)
-  not_here labels i l lt is other so_far h = without l (drop (i + 1) labels) other (subst HasIt (item-drop labels i l lt is) (so_far h))
+  not_here labels i l lt is other so_far h = without l (drop (i + 1) labels) other (subst HasIt (drop_read labels i l lt is) (so_far h))
 
   nowhere : HasIt [] → ⊥
   nowhere h = elim h.1 [ ]

@@ -2,18 +2,17 @@
 use Rattle.std.proofs.Common.{◌≡◌, ℕ, zero, suc, ◌+◌, ◌<◌, nat_lt, nat_eq, List, [], ◌∷◌, ◌++◌, Bool, true, false, if◌then◌else◌, length, map, drop, take, get_or, slice_index_or, Option, Some, None, refl, sym, ap, subst, ◌∙◌, arith, eqb-true, eq-eqb}
 use Rattle.std.proofs.lemmas.Bool.{ltb-true, ltb-false}
 use Rattle.std.specs.Prelude.{IfSome}
-use Rattle.cp_model.specs.Lists.{item_at, here}
-use Rattle.cp_model.specs.Bundle.{Node}
-use Rattle.cp_model.specs.RunView.{node_view}
-use Rattle.cp_model.specs.declared.strand.Node.{Node as Program}
+use Rattle.std.proofs.lemmas.List.{length-map}
+use Rattle.cp_lists.proofs.Members.{drop_read}
+use Rattle.cp_lists.specs.Lists.{item_at, here}
+use Rattle.cp_model.specs.declared.node.Node.{Node}
 use Rattle.cp_model.specs.Skeleton.{Skeleton}
 use Rattle.cp_model.specs.Derivable.{IsUnrealised}
 use Rattle.cp_model.specs.Tree.{Mark, dead, limit_steps, limit_strands, Limits}
-use Rattle.cp_model.proofs.LawLists.{item_below, item_there, map_of_item}
+use Rattle.cp_lists.proofs.Items.{item_below, item_there, map_of_item, item_of_read}
 use Rattle.cp_derive.specs.Unrealised.{ListsUnrealised, IsUnrealisedAt}
 use Rattle.cp_skel.specs.Trees.{mark_view}
 use Rattle.cp_skel.specs.declared.tree.Mark.{Mark as ProgramMark}
-use Rattle.cp_skel.proofs.Items.{item-drop, map-length}
 use Rattle.cp_term.proofs.CarriedTerms.{not_both}
 use Rattle.cp_shapes.specs.Shapes.{IsMarkOf, AreMarksOf}
 use Rattle.cp_shapes.proofs.Gathered.{AreTo, none_to, next_row}
@@ -54,9 +53,9 @@ unrealised_first k n ns lists =
     let u : IsUnrealisedAt k n = (lists.each n).0 here in
     record { node = n; message = u.message; reception = u.reception; underivable = u.underivable }
 
-some_unrealised : (k : Skeleton) (ns : List Program) → (length ns ≡ 0 → ⊥) → ListsUnrealised k (map node_view ns) → IsUnrealised k
+some_unrealised : (k : Skeleton) (ns : List Node) → (length ns ≡ 0 → ⊥) → ListsUnrealised k ns → IsUnrealised k
 some_unrealised k [] some lists = absurd (some refl)
-some_unrealised k (n ∷ ns) some lists = unrealised_first k (node_view n) (map node_view ns) lists
+some_unrealised k (n ∷ ns) some lists = unrealised_first k n ns lists
 
 -- ---- lists
 
@@ -76,9 +75,6 @@ index_at : (ns : List ℕ) (i n : ℕ) → item_at ns i ≡ Some n → slice_ind
 index_at [] i n e = absurd (cc)
 index_at (m ∷ ns) zero n e = let same : m ≡ n = cc in same
 index_at (m ∷ ns) (suc i) n e = index_at ns i n e
-
-pub item_at_index : {A : Type 0} (xs : List A) (i : ℕ) (x : A) → i < length xs → x ≡ get_or xs i x → item_at xs i ≡ Some x
-item_at_index xs i x l is = at_drop i xs x (drop (i + 1) xs) (item-drop xs i x l is)
 
 -- ---- marks
 
@@ -128,7 +124,7 @@ module _ (limits : Limits) (js : List Judged) where
 
       shape_place : (q : ℕ) → q < length (skeletons_of cs) → IsLabelAt cs q (slice_index_or numbers q 0)
       shape_place q l =
-          let c = item_there cs q (let e = map-length (λ (c : Candidate). c.skeleton) cs in omega (arith, l, e)) in
+          let c = item_there cs q (let e = length-map cs (λ (c : Candidate). c.skeleton) in omega (arith, l, e)) in
           record {
             candidate = c.0;
             at = c.1;
@@ -149,10 +145,10 @@ module _ (limits : Limits) (js : List Judged) where
 
   module _ (i place : ℕ) (j : Judged) (l : i < length js) (is : j ≡ get_or js i j) (old : List ProgramMark) (so_far : AreMarkedTo old place i) where
     at_place : item_at js i ≡ Some j
-    at_place = item_at_index js i j l is
+    at_place = item_of_read js i j l is
 
     split : drop i js ≡ j ∷ drop (i + 1) js
-    split = item-drop js i j l is
+    split = drop_read js i j l is
 
     number_on : suc i ≡ i + 1
     number_on = omega arith
@@ -184,7 +180,7 @@ module _ (limits : Limits) (js : List Judged) where
       place_within marks given g are =
           let p = item_below cs place _ placed in
           let c = are.count in
-          let m = map-length (λ (c : Candidate). c.skeleton) cs in
+          let m = length-map cs (λ (c : Candidate). c.skeleton) in
           let k : length given ≡ length (skeletons_of cs) = ap length g in
           omega (arith, p, c, m, k)
 
@@ -195,20 +191,20 @@ module _ (limits : Limits) (js : List Judged) where
       numbered None h numbers e = tt
       numbered (Some q) h numbers e =
           let l : q < length (skeletons_of cs) = h.holds.0.within in
-          let m = map-length (λ (c : Candidate). c.skeleton) cs in
-          let n = map-length (λ (c : Candidate). c.number) cs in
+          let m = length-map cs (λ (c : Candidate). c.skeleton) in
+          let n = length-map cs (λ (c : Candidate). c.number) in
           let k : length numbers ≡ length (map (λ (c : Candidate). c.number) cs) = ap length e in
           omega (arith, l, m, n, k)
 
       module _ (marks : List (Option ℕ)) (given : List Skeleton) (g : given ≡ skeletons_of cs) (are : AreMarksOf given marks) (o : Option ℕ) (o_within : place < length marks) (o_is : o ≡ get_or marks place o)
           (numbers : List ℕ) (numbers_are : numbers ≡ map (λ c. c.number) cs) where
         pub number_within : IfSome o (λ p. p < length numbers)
-        number_within = numbered o (mark_at marks given g are o (item_at_index marks place o o_within o_is)) numbers numbers_are
+        number_within = numbered o (mark_at marks given g are o (item_of_read marks place o o_within o_is)) numbers numbers_are
 
         pub next_candidate : AreJudged js → (mark : ProgramMark) → mark_view mark ≡ candidate_mark numbers o → (new : List ProgramMark) → new ≡ old ++ mark ∷ [] → AreMarkedTo new (place + 1) (i + 1)
         next_candidate all mark is_mark new e = record {
           next = ap (λ (n : ℕ). candidates_from n (drop (i + 1) js)) (sym number_on) ∙ sym (next_drop place cs _ _ behind);
           marked = next_row IsMarkAt mark_view old i mark so_far.marked
               (only (mark_view mark) (subst (HasMark limits (IsEarlierIsomorphic ks i) cs i (judged_skeleton j) j.root.dead) (sym is_mark)
-              (candidate_marked i j at_place (judged_here all) (waiting j is_one) place placed numbers numbers_are o (mark_at marks given g are o (item_at_index marks place o o_within o_is))))) new e;
+              (candidate_marked i j at_place (judged_here all) (waiting j is_one) place placed numbers numbers_are o (mark_at marks given g are o (item_of_read marks place o o_within o_is))))) new e;
         }

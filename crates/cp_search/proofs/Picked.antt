@@ -1,8 +1,8 @@
 -- Candidates among items, and where they stand.
 use Rattle.std.proofs.Common.{◌≡◌, inl, inr, ℕ, zero, suc, ◌+◌, ◌≤◌, List, [], ◌∷◌, Some, map, refl, sym, ap, ◌∙◌, arith}
-use Rattle.cp_model.specs.Lists.{item_at}
+use Rattle.cp_lists.specs.Lists.{item_at}
 use Rattle.cp_model.specs.Skeleton.{Skeleton}
-use Rattle.cp_model.proofs.LawLists.{map_of_item}
+use Rattle.cp_lists.proofs.Items.{map_of_item}
 use Rattle.cp_search.specs.Candidates.{Candidate, CandidatesFrom, skeletons_of, IsLabelAt}
 
 module _ {A : Type 0} (fact : A → Type 0) (skeleton : A → Skeleton) where

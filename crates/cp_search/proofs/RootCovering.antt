@@ -1,14 +1,13 @@
 -- The shapes of an unexpanded tree and its labels at a limit leave nothing out.
 use Rattle.std.proofs.Common.{◌≡◌, ℕ, zero, suc, List, [], ◌∷◌, map, Option, Some, None, refl, sym, ap, ◌∙◌, subst, lt_trans, Bool, true}
-use Rattle.cp_model.specs.Lists.{item_at, IsIn, here, there}
+use Rattle.cp_lists.specs.Lists.{item_at, IsIn, here, there}
 use Rattle.cp_model.specs.Strand.{Declaration, Protocol}
 use Rattle.cp_model.specs.Bundle.{Bundle, IsBundle}
 use Rattle.cp_model.specs.Skeleton.{Skeleton, IsSkeleton}
 use Rattle.cp_model.specs.Standing.{Standing, StandsIn, StandsApart}
 use Rattle.cp_model.specs.Homomorphism.{Embeds, Covers}
 use Rattle.cp_model.specs.Tree.{Mark, shape, dead, seen, instance_of, limit_steps, limit_strands, Label, Limits, if_shape, shapes_of, if_left, skeletons_left}
-use Rattle.cp_model.proofs.LawLists.{item_of_map, map_of_item}
-use Rattle.cp_hom.proofs.Listed.{in_item}
+use Rattle.cp_lists.proofs.Items.{item_of_map, map_of_item, place_of}
 use Rattle.cp_shapes.specs.Shapes.{IsLeast, EmbedsAt, IsInstanceWithin, IsShapeAt}
 use Rattle.cp_shapes.specs.Through.{StandsThrough}
 use Rattle.cp_shapes.proofs.Instances.{same_item, embeds_on}
@@ -86,7 +85,7 @@ module _ (protocol : Protocol) (variables : List Declaration) (k : Skeleton) (li
 
   ks_are_skeletons : (l : Skeleton) → IsIn l ks → IsSkeleton protocol l
   ks_are_skeletons l i =
-      let at = in_item i in
+      let at = place_of i in
       let m = item_of_map (λ (x : Label). x.skeleton) labels at.0 l at.1 in
       subst (IsSkeleton protocol) m.2 (are_skeletons protocol variables k limits roots labels sound are at.0 m.0 m.1)
 

@@ -1,10 +1,10 @@
 -- A limit is the outcome of an unexpanded tree only where it was reached.
 use Rattle.std.proofs.Common.{◌≡◌, ℕ, suc, List, [], ◌∷◌, Some, None, refl, sym, ap, ◌∙◌, arith}
-use Rattle.cp_model.specs.Lists.{item_at, IsIn}
+use Rattle.cp_lists.proofs.Items.{place_of}
+use Rattle.cp_lists.specs.Lists.{item_at, IsIn}
 use Rattle.cp_model.specs.Strand.{Declaration}
 use Rattle.cp_model.specs.Derivable.{IsUnrealised}
 use Rattle.cp_model.specs.Tree.{limit_steps, limit_strands, Label, Tree, Limits, is_expanded, expanded_count, IsOpen, ReachedSteps, ReachedStrands}
-use Rattle.cp_hom.proofs.Listed.{in_item}
 use Rattle.cp_roots.specs.Roots.{Root}
 use Rattle.cp_search.specs.Unexpanded.{AreLabelsOf, IsMarked}
 use Rattle.cp_search.proofs.RootMarks.{root_of, marked, steps_says, strands_says}
@@ -29,7 +29,7 @@ module _ (variables : List Declaration) (limits : Limits) (roots : List Root) (t
 
   pub reached_steps : limits.steps ≡ 0 → IsMarked tree.labels limit_steps → ReachedSteps limits tree
   reached_steps none m =
-      let p = in_item m.1 in
+      let p = place_of m.1 in
       let r = root_of variables limits roots tree.labels are p.0 m.0 p.1 in
       let s = steps_says limits _ are.candidates p.0 m.0.skeleton r.root.dead limit_steps (marked variables limits roots tree.labels are p.0 m.0 limit_steps r p.1 m.2) refl in
       record {
@@ -42,7 +42,7 @@ module _ (variables : List Declaration) (limits : Limits) (roots : List Root) (t
 
   pub reached_strands : (IsMarked tree.labels limit_steps → ⊥) → IsMarked tree.labels limit_strands → ReachedStrands limits tree
   reached_strands none m =
-      let p = in_item m.1 in
+      let p = place_of m.1 in
       let r = root_of variables limits roots tree.labels are p.0 m.0 p.1 in
       let s = strands_says limits _ are.candidates p.0 m.0.skeleton r.root.dead limit_strands (marked variables limits roots tree.labels are p.0 m.0 limit_strands r p.1 m.2) refl in
       record {

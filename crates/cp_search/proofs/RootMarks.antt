@@ -1,11 +1,11 @@
 -- What the labels of an unexpanded tree and their marks say of the roots.
 use Rattle.std.proofs.Common.{◌≡◌, ℕ, ◌<◌, ◌≤◌, List, length, map, Some, sym, ap, subst, false, Bool, ◌∙◌}
-use Rattle.cp_model.specs.Lists.{item_at}
+use Rattle.cp_lists.specs.Lists.{item_at}
 use Rattle.cp_model.specs.Strand.{Declaration}
 use Rattle.cp_model.specs.Skeleton.{Skeleton}
 use Rattle.cp_model.specs.Derivable.{IsUnrealised}
 use Rattle.cp_model.specs.Tree.{Mark, shape, limit_steps, limit_strands, Label, Limits}
-use Rattle.cp_model.proofs.LawLists.{item_below, item_there}
+use Rattle.cp_lists.proofs.Items.{item_below, item_there}
 use Rattle.cp_shapes.specs.Shapes.{IsShapeAt}
 use Rattle.cp_roots.specs.Roots.{Root}
 use Rattle.cp_search.specs.Candidates.{Candidate, IsCandidate, skeletons_of, IsLabelAt}

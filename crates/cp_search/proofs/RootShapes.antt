@@ -1,7 +1,7 @@
 -- The labels of an unexpanded tree carry homomorphisms from the problem, and keep what it states; its shapes are realised, and
 -- none embeds in another.
 use Rattle.std.proofs.Common.{◌≡◌, ◌≢◌, ℕ, List, Some, refl, sym, ap, subst, ◌∙◌}
-use Rattle.cp_model.specs.Lists.{item_at}
+use Rattle.cp_lists.specs.Lists.{item_at}
 use Rattle.cp_model.specs.Strand.{Declaration, Protocol}
 use Rattle.cp_model.specs.Skeleton.{Skeleton, IsSkeleton}
 use Rattle.cp_model.specs.Realising.{KeepsAssumptions}

@@ -1,7 +1,7 @@
 -- The tree of a problem when no label may be expanded, from its roots.
 use Rattle.std.proofs.Common.{◌≡◌, List, Result, Ok, Err, ap}
 use Rattle.std.specs.Result.{IfOk}
-use Rattle.cp_model.specs.Lists.{IsIn}
+use Rattle.cp_lists.specs.Lists.{IsIn}
 use Rattle.cp_term.specs.Table.{Declared}
 use Rattle.cp_skel.specs.Trees.{variables_view}
 use Rattle.cp_roots.specs.declared.root.Root as program

@@ -1,6 +1,6 @@
 -- The labels among which shapes are looked for.
 use Rattle.std.specs.Prelude.{◌≡◌, ◌≢◌, ◌⊎◌, ℕ, suc, List, [], ◌∷◌, map, Some}
-use Rattle.cp_model.specs.Lists.{item_at}
+use Rattle.cp_lists.specs.Lists.{item_at}
 use Rattle.cp_model.specs.Skeleton.{Skeleton}
 use Rattle.cp_model.specs.Realising.{AllDerivable}
 use Rattle.cp_model.specs.Tree.{dead, seen, Label}

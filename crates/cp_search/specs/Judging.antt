@@ -1,12 +1,11 @@
 -- Roots with what is found of each: its unrealised receptions, and the first earlier one that is isomorphic to it.
 use Rattle.std.specs.Prelude.{◌≡◌, ℕ, List, take, map, Option, Some, None}
-use Rattle.cp_model.specs.Lists.{item_at}
-use Rattle.cp_model.specs.Bundle.{Node}
-use Rattle.cp_model.specs.RunView.{node_view}
+use Rattle.cp_lists.specs.Lists.{item_at}
+use Rattle.cp_model.specs.declared.node.Node.{Node}
 use Rattle.cp_model.specs.Skeleton.{Skeleton}
 use Rattle.cp_hom.specs.Maps.{IsIsomorphic}
 use Rattle.cp_skel.specs.View.{skeleton_view}
-use Rattle.cp_hom.specs.Partition.{fingerprint_of}
+use Rattle.cp_hom.specs.Partition.{partition_of}
 use Rattle.cp_shapes.specs.Shapes.{IsLeast}
 use Rattle.cp_roots.specs.Roots.{Root}
 use Rattle.cp_roots.specs.RootView.{root_view}
@@ -29,11 +28,11 @@ abbrev pub judged_skeleton : Judged → Skeleton
 judged_skeleton j = skeleton_view j.root.skeleton
 
 abbrev pub judged_nodes : Judged → List Node
-judged_nodes j = map node_view j.unrealised.items
+judged_nodes j = j.unrealised.items
 
 -- What is found of a root is true, where these skeletons come before it.
 pub record IsJudged (before : List Skeleton) (j : Judged) : Type 0 where
-  pub fingerprint : j.fingerprint ≡ fingerprint_of (judged_skeleton j)
+  pub fingerprint : j.fingerprint ≡ partition_of (judged_skeleton j)
   pub unrealised : AreUnrealisedOf (judged_view j) (judged_nodes j)
   pub copy : FindsLeast (IsCopyAt before (judged_skeleton j)) j.copy
 

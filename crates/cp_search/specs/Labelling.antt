@@ -1,6 +1,6 @@
 -- Labels of roots that are not expanded.
 use Rattle.std.specs.Prelude.{◌≡◌, ℕ, List, length, Some}
-use Rattle.cp_model.specs.Lists.{item_at}
+use Rattle.cp_lists.specs.Lists.{item_at}
 use Rattle.cp_skel.specs.Trees.{variables_view, mark_view, label_view}
 use Rattle.cp_skel.specs.declared.tree.Mark.{Mark}
 use Rattle.cp_skel.specs.declared.tree.TreeNode.{TreeNode}

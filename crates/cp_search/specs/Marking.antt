@@ -1,6 +1,6 @@
 -- How the program marks roots.
 use Rattle.std.specs.Prelude.{◌≡◌, ◌==◌, nat_lt, ℕ, suc, List, [], ◌∷◌, length, map, Bool, true, false, if◌then◌else◌, slice_index_or, Option, Some, None}
-use Rattle.cp_model.specs.Lists.{item_at}
+use Rattle.cp_lists.specs.Lists.{item_at}
 use Rattle.cp_model.specs.Skeleton.{Skeleton}
 use Rattle.cp_model.specs.Tree.{Mark, shape, dead, seen, instance_of, limit_steps, limit_strands, Limits}
 use Rattle.cp_search.specs.Candidates.{Candidate}

@@ -1,8 +1,8 @@
 -- The tree of a problem when no label may be expanded: its labels are the roots.
 use Rattle.std.specs.Prelude.{◌≡◌, ℕ, List, [], length, map, true, false, Some, None}
-use Rattle.cp_model.specs.Lists.{item_at, IsIn}
+use Rattle.cp_lists.specs.Lists.{item_at, IsIn}
 use Rattle.cp_model.specs.Strand.{Declaration}
-use Rattle.cp_model.specs.Bundle.{Node}
+use Rattle.cp_model.specs.declared.node.Node.{Node}
 use Rattle.cp_model.specs.Skeleton.{Skeleton}
 use Rattle.cp_model.specs.Tree.{Mark, limit_steps, limit_strands, Outcome, complete, at_step_limit, at_strand_limit, Label, Tree, Limits}
 use Rattle.cp_roots.specs.Roots.{Root, AreRoots}

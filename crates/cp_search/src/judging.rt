@@ -1,16 +1,15 @@
 // Roots with what is found of each.
 ghost use Rattle.std.specs.Prelude.{◌≡◌, map, IfOk};
-ghost use Rattle.cp_model.specs.Lists.{IsIn};
+ghost use Rattle.cp_lists.specs.Lists.{IsIn};
 ghost use Rattle.cp_skel.specs.View.{skeleton_view};
-ghost use Rattle.cp_hom.specs.Partition.{fingerprint_of};
+ghost use Rattle.cp_hom.specs.Partition.{partition_of};
 ghost use Rattle.cp_roots.specs.RootView.{root_view};
-ghost use Rattle.cp_model.specs.RunView.{node_view};
 ghost use Rattle.cp_search.specs.Unexpanded.{AreUnrealisedOf};
 ghost use Rattle.cp_search.specs.Judging.{judged_skeleton, FindsLeast, IsCopyAt, IsJudged, AreJudged};
 ghost use Rattle.cp_search.specs.declared.judging.Judged as program;
 
 use cp_derive::unrealised;
-use cp_hom::{fingerprint, isomorphic, may_embed};
+use cp_hom::{Fingerprint, isomorphic};
 use cp_roots::Root;
 use cp_skel::{Node, Skeleton};
 use std::alloc::{AllocError, Global};
@@ -20,7 +19,7 @@ use std::alloc::{AllocError, Global};
 #[derive(Drop)]
 pub(crate) struct Judged {
     pub root: Root,
-    pub fingerprint: usize,
+    pub fingerprint: Fingerprint,
     pub copy: Option<usize>,
     pub unrealised: Vec<Node>,
 }
@@ -29,15 +28,15 @@ pub(crate) struct Judged {
 fn first_copy(
     alloc: Global,
     judged: &[Judged],
-    fingerprint: usize,
+    fingerprint: &Fingerprint,
     skeleton: &Skeleton,
 ) -> Result<Option<usize>, AllocError>
-    requires fingerprint { fingerprint ≡ fingerprint_of (skeleton_view skeleton.now) }
-    requires fingerprints { (j : program.Judged) → IsIn j judged.now → j.fingerprint ≡ fingerprint_of (judged_skeleton j) }
+    requires fingerprint { fingerprint.now ≡ partition_of (skeleton_view skeleton.now) }
+    requires fingerprints { (j : program.Judged) → IsIn j judged.now → j.fingerprint ≡ partition_of (judged_skeleton j) }
     ensures { IfOk result (FindsLeast (IsCopyAt (map judged_skeleton judged.now) (skeleton_view skeleton.now))) }
 {
     for (number, other) in judged.iter().enumerate() {
-        if !may_embed(other.fingerprint, fingerprint) {
+        if !other.fingerprint.may_embed(fingerprint) {
             continue;
         }
         if isomorphic(alloc, &other.root.skeleton, skeleton)? {
@@ -49,7 +48,7 @@ fn first_copy(
 
 /// The receptions of a root that are not realised; of one that is dead none are listed.
 fn unrealised_of(alloc: Global, root: &Root) -> Result<Vec<Node>, AllocError>
-    ensures { IfOk result (λ nodes. AreUnrealisedOf (root_view root.now) (map node_view nodes.items)) }
+    ensures { IfOk result (λ nodes. AreUnrealisedOf (root_view root.now) nodes.items) }
 {
     if root.dead {
         return Ok(Vec::new(alloc));
@@ -59,12 +58,12 @@ fn unrealised_of(alloc: Global, root: &Root) -> Result<Vec<Node>, AllocError>
 
 /// The root with what is found of it beside those before it.
 fn judge(alloc: Global, before: &[Judged], root: Root) -> Result<Judged, AllocError>
-    requires fingerprints { (j : program.Judged) → IsIn j before.now → j.fingerprint ≡ fingerprint_of (judged_skeleton j) }
+    requires fingerprints { (j : program.Judged) → IsIn j before.now → j.fingerprint ≡ partition_of (judged_skeleton j) }
     ensures root { IfOk result (λ j. j.root ≡ root) }
     ensures judged { IfOk result (IsJudged (map judged_skeleton before.now)) }
 {
-    let fingerprint = fingerprint(&root.skeleton);
-    let copy = first_copy(alloc, before, fingerprint, &root.skeleton)?;
+    let fingerprint = Fingerprint::of(alloc, &root.skeleton)?;
+    let copy = first_copy(alloc, before, &fingerprint, &root.skeleton)?;
     let unrealised = unrealised_of(alloc, &root)?;
     Ok(Judged {
         root,

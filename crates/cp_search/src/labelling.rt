@@ -1,6 +1,6 @@
 // The tree of roots that are not expanded.
 ghost use Rattle.std.specs.Prelude.{◌≡◌, ◌↔◌, List, length, map, Some, IsTrue, IfOk};
-ghost use Rattle.cp_model.specs.Lists.{IsIn};
+ghost use Rattle.cp_lists.specs.Lists.{IsIn};
 ghost use Rattle.cp_model.specs.Strand.{Declaration};
 ghost use Rattle.cp_skel.specs.Trees.{variables_view, limits_view, mark_view, outcome_view, label_view, tree_view};
 ghost use Rattle.cp_roots.specs.RootView.{root_view};

@@ -1,5 +1,6 @@
 -- Pieces one after another: each fold over pieces, at one piece more.
 use Rattle.std.proofs.Common.{◌≡◌, ℕ, ◌+◌, ◌-◌, ◌<◌, ◌≤◌, List, [], ◌∷◌, ◌++◌, length, take, refl, sym, ap, ◌∙◌, subst, arith, length-append}
+use Rattle.std.proofs.Math.Seq.{take-append_seam}
 use Rattle.cp_base.specs.declared.place.Place.{Place}
 use Rattle.cp_base.specs.declared.place.Code.{Code}
 use Rattle.cp_sexpr.specs.Pieces.{Piece, blank, comment, opening, closing, quoted, token, spelling, IsPiece, BeginsWith, IsCut, after_byte, place_after, after_piece, after_pieces}
@@ -38,14 +39,10 @@ shorter text p rest b =
     let n = length-spelling p b.piece in
     omega arith
 
-take_front : (front rest : List ℕ) → take (length front) (front ++ rest) ≡ front
-take_front [] rest = refl
-take_front (b ∷ front) rest = ap (λ t. b ∷ t) (take_front front rest)
-
 pub front_spelled : (text front rest : List ℕ) → text ≡ front ++ rest → take (length text - length rest) text ≡ front
 front_spelled text front rest e =
     let n : length text - length rest ≡ length front = omega (arith, ap length e ∙ length-append front rest) in
-    ap (λ k. take k text) n ∙ ap (take (length front)) e ∙ take_front front rest
+    ap (λ k. take k text) n ∙ ap (take (length front)) e ∙ take-append_seam front rest
 
 after_byte-line : (at : Place) (b : ℕ) → (after_byte at b).line ≤ at.line + 1
 after_byte-line at b = grind arith
@@ -53,32 +50,20 @@ after_byte-line at b = grind arith
 after_byte-col : (at : Place) (b : ℕ) → (after_byte at b).col ≤ at.col + 1
 after_byte-col at b = grind arith
 
-pub place_after-line : (at : Place) (t : List ℕ) → (place_after at t).line ≤ at.line + length t
-place_after-line at [] = omega arith
-place_after-line at (b ∷ t) =
-    let h = place_after-line (after_byte at b) t in
-    let k = after_byte-line at b in
-    omega arith
+-- A coordinate of places that one byte moves by at most one is moved by pieces by at most as much as they are long.
+module _ (of : Place → ℕ) (by_one : (at : Place) (b : ℕ) → of (after_byte at b) ≤ of at + 1) where
+  after_bytes : (at : Place) (t : List ℕ) → of (place_after at t) ≤ of at + length t
+  after_bytes at [] = omega arith
+  after_bytes at (b ∷ t) = omega (arith, after_bytes (after_byte at b) t, by_one at b)
 
-pub place_after-col : (at : Place) (t : List ℕ) → (place_after at t).col ≤ at.col + length t
-place_after-col at [] = omega arith
-place_after-col at (b ∷ t) =
-    let h = place_after-col (after_byte at b) t in
-    let k = after_byte-col at b in
-    omega arith
+  after_cut : (ps : List Piece) (at : Place) (text rest : List ℕ) → IsCut text ps rest → of (after_pieces at ps) + length rest ≤ of at + length text
+  after_cut [] at text rest c = let e = ap length c in omega arith
+  after_cut (p ∷ ps) at text rest c =
+      let e = ap length c.1.spelled ∙ length-append (spelling p) c.0 in
+      omega (arith, after_cut ps (after_piece at p) c.0 rest c.2, after_bytes at (spelling p), e)
 
 pub after_pieces-line : (ps : List Piece) (at : Place) (text rest : List ℕ) → IsCut text ps rest → (after_pieces at ps).line + length rest ≤ at.line + length text
-after_pieces-line [] at text rest c = let e = ap length c in omega arith
-after_pieces-line (p ∷ ps) at text rest c =
-    let h = after_pieces-line ps (after_piece at p) c.0 rest c.2 in
-    let k = place_after-line at (spelling p) in
-    let e = ap length c.1.spelled ∙ length-append (spelling p) c.0 in
-    omega arith
+after_pieces-line ps at text rest c = after_cut (λ at. at.line) after_byte-line ps at text rest c
 
 pub after_pieces-col : (ps : List Piece) (at : Place) (text rest : List ℕ) → IsCut text ps rest → (after_pieces at ps).col + length rest ≤ at.col + length text
-after_pieces-col [] at text rest c = let e = ap length c in omega arith
-after_pieces-col (p ∷ ps) at text rest c =
-    let h = after_pieces-col ps (after_piece at p) c.0 rest c.2 in
-    let k = place_after-col at (spelling p) in
-    let e = ap length c.1.spelled ∙ length-append (spelling p) c.0 in
-    omega arith
+after_pieces-col ps at text rest c = after_cut (λ at. at.col) after_byte-col ps at text rest c

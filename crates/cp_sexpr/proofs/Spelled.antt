@@ -1,9 +1,10 @@
 -- A text that is appended part by part.
-use Rattle.std.proofs.Common.{◌≡◌, ℕ, ◌+◌, ◌<◌, List, [], ◌∷◌, ◌++◌, length, get_or, drop, refl, sym, ap, ◌∙◌, append_assoc, Result, Ok, Err}
+use Rattle.std.proofs.Common.{◌≡◌, ℕ, Bool, true, false, ◌+◌, ◌<◌, List, [], ◌∷◌, ◌++◌, length, get_or, drop, refl, sym, ap, ◌∙◌, append_assoc, Result, Ok, Err}
 use Rattle.std.proofs.lemmas.List.{append-nil, drop_more}
 use Rattle.std.specs.Result.{OnErr}
-use Rattle.cp_sexpr.specs.Pieces.{space, open_parenthesis, close_parenthesis}
-use Rattle.cp_sexpr.specs.Spelling.{spelling, next_spelling, top_gap, next_top_spelling, AppendsFront}
+use Rattle.cp_sexpr.specs.Pieces.{open_parenthesis, close_parenthesis}
+use Rattle.cp_sexpr.specs.ListSpelling.{gap_before, next_by, first_by}
+use Rattle.cp_sexpr.specs.Spelling.{spelling, AppendsFront}
 use Rattle.cp_sexpr.specs.View.{view, views}
 use Rattle.cp_sexpr.specs.declared.form.Form as program
 
@@ -19,12 +20,15 @@ front_after old mid new a b text e f t =
 pub front_of_part : (old new a b text : List ℕ) → AppendsFront old new a → text ≡ a ++ b → AppendsFront old new text
 front_of_part old new a b text f t = (f.0, f.1 ++ b, t ∙ ap (λ s. s ++ b) f.2 ∙ append_assoc f.0 f.1 b, f.3)
 
-pub next_items : (items : List program.Form) (i : ℕ) (d : program.Form) → i < length items → next_spelling (views (drop i items)) ≡ space ∷ (spelling (view (get_or items i d)) ++ next_spelling (views (drop (i + 1) items)))
-next_items items i d h = ap (λ fs. next_spelling (views fs)) (drop_more items i d h)
+pub first_items : (is_top : Bool) (items others : List program.Form) (first : program.Form) → items ≡ first ∷ others →
+    first_by is_top (views items) ≡ spelling (view first) ++ next_by is_top (views others)
+first_items true items others first e = ap (λ fs. first_by true (views fs)) e
+first_items false items others first e = ap (λ fs. first_by false (views fs)) e
 
-pub next_top_items : (items : List program.Form) (i : ℕ) (d : program.Form) → i < length items
-    → next_top_spelling (views (drop i items)) ≡ top_gap (view (get_or items i d)) ++ (spelling (view (get_or items i d)) ++ next_top_spelling (views (drop (i + 1) items)))
-next_top_items items i d h = ap (λ fs. next_top_spelling (views fs)) (drop_more items i d h)
+pub next_items : (is_top : Bool) (items : List program.Form) (i : ℕ) (d : program.Form) → i < length items →
+    next_by is_top (views (drop i items)) ≡ gap_before is_top (view (get_or items i d)) ++ (spelling (view (get_or items i d)) ++ next_by is_top (views (drop (i + 1) items)))
+next_items true items i d h = ap (λ fs. next_by true (views fs)) (drop_more items i d h)
+next_items false items i d h = ap (λ fs. next_by false (views fs)) (drop_more items i d h)
 
 pub OnErr-from : {T E X : Type 0} (r : Result T E) → X → OnErr r X
 OnErr-from (Ok x) h = tt
@@ -36,21 +40,18 @@ OnErr-from (Err e) h = h
 pub list_front : (old mid new items : List ℕ) → mid ≡ old ++ open_parenthesis ∷ [] → AppendsFront mid new items → AppendsFront old new (open_parenthesis ∷ (items ++ close_parenthesis ∷ []))
 list_front old mid new items e f = front_after old mid new (open_parenthesis ∷ []) (items ++ close_parenthesis ∷ []) _ e (front_of_part mid new items (close_parenthesis ∷ []) _ f refl) refl
 
-list_inside : (old mid last items : List ℕ) → mid ≡ old ++ open_parenthesis ∷ [] → last ≡ mid ++ items → last ≡ old ++ (open_parenthesis ∷ items)
-list_inside old mid last items e f = f ∙ ap (λ s. s ++ items) e ∙ append_assoc old (open_parenthesis ∷ []) items
+-- the items that were appended, and what is left
+list_parts : (done rest items : List ℕ) → items ≡ done ++ rest → open_parenthesis ∷ (items ++ close_parenthesis ∷ []) ≡ (open_parenthesis ∷ done) ++ (rest ++ close_parenthesis ∷ [])
+list_parts done rest items e = ap (λ s. open_parenthesis ∷ s) (ap (λ s. s ++ close_parenthesis ∷ []) e ∙ append_assoc done rest (close_parenthesis ∷ []))
 
--- all but the closing parenthesis
-pub list_open : (old mid last items : List ℕ) → mid ≡ old ++ open_parenthesis ∷ [] → last ≡ mid ++ items → AppendsFront old last (open_parenthesis ∷ (items ++ close_parenthesis ∷ []))
-list_open old mid last items e f = (open_parenthesis ∷ items, close_parenthesis ∷ [], refl, list_inside old mid last items e f)
-
-pub list_whole : (old mid last new items : List ℕ) → mid ≡ old ++ open_parenthesis ∷ [] → last ≡ mid ++ items → new ≡ last ++ close_parenthesis ∷ []
-    → new ≡ old ++ open_parenthesis ∷ (items ++ close_parenthesis ∷ [])
-list_whole old mid last new items e f g = g ∙ ap (λ s. s ++ close_parenthesis ∷ []) (list_inside old mid last items e f) ∙ append_assoc old (open_parenthesis ∷ items) (close_parenthesis ∷ [])
-
--- ---- an item behind others
+pub list_stopped : (old now new done rest items : List ℕ) → now ≡ old ++ open_parenthesis ∷ done → items ≡ done ++ rest → new ≡ now →
+    AppendsFront old new (open_parenthesis ∷ (items ++ close_parenthesis ∷ []))
+list_stopped old now new done rest items e f g = (open_parenthesis ∷ done, rest ++ close_parenthesis ∷ [], list_parts done rest items f, g ∙ e)
 
 -- a front of the next item: what stands before it was appended
-pub item_front : (old now mid new done before item rest text : List ℕ) → now ≡ old ++ done → text ≡ done ++ (before ++ (item ++ rest)) → mid ≡ now ++ before → AppendsFront mid new item → AppendsFront old new text
-item_front old now mid new done before item rest text e t f a =
-    front_after old now new done (before ++ (item ++ rest)) text e
-    (front_after now mid new before (item ++ rest) (before ++ (item ++ rest)) f (front_of_part mid new item rest (item ++ rest) a refl) refl) t
+pub item_front : (old now mid new done before item rest items : List ℕ) → now ≡ old ++ open_parenthesis ∷ done → items ≡ done ++ (before ++ (item ++ rest)) →
+    mid ≡ now ++ before → AppendsFront mid new item → AppendsFront old new (open_parenthesis ∷ (items ++ close_parenthesis ∷ []))
+item_front old now mid new done before item rest items e t f a =
+    let part = front_after now mid new before (item ++ rest) (before ++ (item ++ rest)) f (front_of_part mid new item rest (item ++ rest) a refl) refl in
+    front_after old now new (open_parenthesis ∷ done) ((before ++ (item ++ rest)) ++ close_parenthesis ∷ []) _ e
+    (front_of_part now new (before ++ (item ++ rest)) (close_parenthesis ∷ []) _ part refl) (list_parts done (before ++ (item ++ rest)) items t)

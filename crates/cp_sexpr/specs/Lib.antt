@@ -3,6 +3,7 @@ pub mod View
 pub mod Pieces
 pub mod Reading
 pub mod Spelling
+pub mod ListSpelling
 pub mod Scanning
 pub mod Building
 pub mod ReadingBack

@@ -11,8 +11,27 @@ line_feed = 10
 abbrev pub space : ℕ
 space = 32
 
+-- a space, a tab, a line feed or a carriage return
+abbrev pub IsWhiteSpace : ℕ → Type 0
+IsWhiteSpace b = (b ≡ space) ⊎ ((b ≡ 9) ⊎ ((b ≡ line_feed) ⊎ (b ≡ 13)))
+
+-- any byte but a line feed
+abbrev pub IsCommentByte : ℕ → Type 0
+IsCommentByte b = b ≢ line_feed
+
 abbrev pub quote : ℕ
 quote = 34
+
+abbrev pub backslash : ℕ
+backslash = 92
+
+-- a visible byte or a space, but no quote or backslash
+abbrev pub IsStringByte : ℕ → Type 0
+IsStringByte b = (32 ≤ b) × (b ≤ 126) × (b ≢ quote) × (b ≢ backslash)
+
+-- a byte that is printed with ink
+abbrev pub IsVisible : ℕ → Type 0
+IsVisible b = (33 ≤ b) × (b ≤ 126)
 
 abbrev pub open_parenthesis : ℕ
 open_parenthesis = 40
@@ -23,28 +42,9 @@ close_parenthesis = 41
 abbrev pub semicolon : ℕ
 semicolon = 59
 
-abbrev pub backslash : ℕ
-backslash = 92
-
--- a space, a tab, a line feed or a carriage return
-abbrev pub IsWhiteSpace : ℕ → Type 0
-IsWhiteSpace b = (b ≡ space) ⊎ ((b ≡ 9) ⊎ ((b ≡ line_feed) ⊎ (b ≡ 13)))
-
--- a byte that is printed with ink
-abbrev pub IsVisible : ℕ → Type 0
-IsVisible b = (33 ≤ b) × (b ≤ 126)
-
 -- a visible byte that is no parenthesis, quote or semicolon
 abbrev pub IsTokenByte : ℕ → Type 0
 IsTokenByte b = (33 ≤ b) × (b ≤ 126) × (b ≢ open_parenthesis) × (b ≢ close_parenthesis) × (b ≢ quote) × (b ≢ semicolon)
-
--- a visible byte or a space, but no quote or backslash
-abbrev pub IsStringByte : ℕ → Type 0
-IsStringByte b = (32 ≤ b) × (b ≤ 126) × (b ≢ quote) × (b ≢ backslash)
-
--- any byte but a line feed
-abbrev pub IsCommentByte : ℕ → Type 0
-IsCommentByte b = b ≢ line_feed
 
 -- ---- pieces
 

@@ -1,8 +1,16 @@
 -- How the program cuts a text: words of its own steps, which no public contract cites.
 use Rattle.std.specs.Prelude.{ℕ, ◌<◌, ◌≤◌, List, length, slice_index}
 use Rattle.cp_sexpr.specs.Pieces as pieces
+use Rattle.cp_sexpr.specs.declared.piece.Kind.{Kind}
+use Rattle.cp_sexpr.specs.declared.piece.Kind.TheVariants as kinds
 use Rattle.cp_sexpr.specs.declared.piece.Piece.{Piece}
 use Rattle.cp_sexpr.specs.declared.piece.Piece.TheVariants.{Blank, Comment, Opening, Closing, Quoted, Token}
+
+-- the bytes of a kind
+abbrev pub IsOfKind : Kind → ℕ → Type 0
+IsOfKind kinds.Token = pieces.IsTokenByte
+IsOfKind kinds.String = pieces.IsStringByte
+IsOfKind kinds.Comment = pieces.IsCommentByte
 
 -- the first n bytes are of this kind, and the next is not
 pub record IsRun (P : ℕ → Type 0) (bytes : List ℕ) (n : ℕ) : Type 0 where

@@ -1,9 +1,9 @@
 // The pieces of a text.
 ghost use Rattle.std.specs.Prelude.{◌≡◌, ◌+◌, ◌<◌, ◌≤◌, ◌^◌, ℕ, [], ◌∷◌, List, length, IsTrue, ◌↔◌, IfOk, IfErr, MatchOption, IsAscii};
 ghost use Rattle.cp_base.specs.declared.place.Place.{Place as PlaceData};
-ghost use Rattle.cp_sexpr.specs.Pieces.{IsTokenByte, IsStringByte, IsCommentByte, BeginsWith, place_after, quote};
+ghost use Rattle.cp_sexpr.specs.Pieces.{BeginsWith, place_after, quote};
 ghost use Rattle.cp_sexpr.specs.Reading.{IsRefused};
-ghost use Rattle.cp_sexpr.specs.Scanning.{IsRun, piece_of};
+ghost use Rattle.cp_sexpr.specs.Scanning.{IsOfKind, IsRun, piece_of};
 
 use cp_base::{Code, Place, Refusal};
 use std::str;
@@ -19,45 +19,31 @@ pub(crate) enum Piece<'a> {
     Token(&'a str),
 }
 
-fn is_token_byte(b: u8) -> bool
-    ensures { IsTrue result ↔ IsTokenByte b }
-{
-    matches!(b, 33..=126) && !matches!(b, b'(' | b')' | b'"' | b';')
+/// The kinds of bytes that make a token, a string and a comment.
+#[derive(Clone, Copy)]
+enum Kind {
+    Token,
+    String,
+    Comment,
 }
 
-fn is_string_byte(b: u8) -> bool
-    ensures { IsTrue result ↔ IsStringByte b }
+fn is_of_kind(kind: Kind, b: u8) -> bool
+    ensures { IsTrue result ↔ IsOfKind kind b }
 {
-    matches!(b, 32..=126) && b != b'"' && b != b'\\'
+    match kind {
+        Kind::Token => matches!(b, 33..=126) && !matches!(b, b'(' | b')' | b'"' | b';'),
+        Kind::String => matches!(b, 32..=126) && b != b'"' && b != b'\\',
+        Kind::Comment => b != b'\n',
+    }
 }
 
-/// How many bytes of a token the bytes begin with.
-fn token_length(bytes: &[u8]) -> usize
-    ensures { IsRun IsTokenByte bytes.now result }
+/// How many bytes of a kind the bytes begin with.
+fn run_length(kind: Kind, bytes: &[u8]) -> usize
+    ensures { IsRun (IsOfKind kind) bytes.now result }
 {
     bytes
         .iter()
-        .position(|b| !is_token_byte(*b))
-        .unwrap_or(bytes.len())
-}
-
-/// How many bytes of a string the bytes begin with.
-fn string_length(bytes: &[u8]) -> usize
-    ensures { IsRun IsStringByte bytes.now result }
-{
-    bytes
-        .iter()
-        .position(|b| !is_string_byte(*b))
-        .unwrap_or(bytes.len())
-}
-
-/// How many bytes come before the end of the line.
-fn line_length(bytes: &[u8]) -> usize
-    ensures { IsRun IsCommentByte bytes.now result }
-{
-    bytes
-        .iter()
-        .position(|b| *b == b'\n')
+        .position(|b| !is_of_kind(kind, *b))
         .unwrap_or(bytes.len())
 }
 
@@ -101,7 +87,7 @@ fn string_piece(place: Place, bytes: &[u8]) -> Result<(Piece<'_>, &[u8]), Refusa
     ensures refused { IfErr result (λ r. (opened : List PlaceData) → IsRefused place opened bytes.now r) }
 {
     let (_, inside) = bytes.split_at(1);
-    let length = string_length(inside);
+    let length = run_length(Kind::String, inside);
     let (text, rest) = inside.split_at(length);
     let Some((byte, rest)) = rest.split_first() else {
         return Err(Refusal {
@@ -139,14 +125,14 @@ pub(crate) fn next_piece(place: Place, bytes: &[u8]) -> Result<Option<(Piece<'_>
     match *first {
         b' ' | b'\t' | b'\n' | b'\r' => Ok(Some((Piece::Blank(*first), rest))),
         b';' => {
-            let (text, rest) = rest.split_at(line_length(rest));
+            let (text, rest) = rest.split_at(run_length(Kind::Comment, rest));
             Ok(Some((Piece::Comment(text), rest)))
         }
         b'(' => Ok(Some((Piece::Opening, rest))),
         b')' => Ok(Some((Piece::Closing, rest))),
         b'"' => Ok(Some(string_piece(place, bytes)?)),
-        byte if is_token_byte(byte) => {
-            let (text, rest) = bytes.split_at(token_length(bytes));
+        byte if is_of_kind(Kind::Token, byte) => {
+            let (text, rest) = bytes.split_at(run_length(Kind::Token, bytes));
             Ok(Some((Piece::Token(text_of(text)), rest)))
         }
         _ => Err(Refusal {

@@ -1,8 +1,8 @@
 // From forms to text in normal spelling.
-ghost use Rattle.std.specs.Prelude.{◌≡◌, [], ◌∷◌, ◌++◌, OnOk, OnErr};
-ghost use Rattle.std.specs.Prelude.{decimal};
-ghost use Rattle.cp_sexpr.specs.Pieces.{quote, open_parenthesis, close_parenthesis};
-ghost use Rattle.cp_sexpr.specs.Spelling.{spelling, first_spelling, next_spelling, top_gap, first_top_spelling, next_top_spelling, top_text, top_spelling, AppendsFront};
+ghost use Rattle.std.specs.Prelude.{◌≡◌, [], ◌∷◌, ◌++◌, OnOk, OnErr, decimal};
+ghost use Rattle.cp_sexpr.specs.ListSpelling.{gap_before, list_spelling};
+ghost use Rattle.cp_sexpr.specs.Pieces.{quote};
+ghost use Rattle.cp_sexpr.specs.Spelling.{spelling, top_text, top_spelling, AppendsFront};
 ghost use Rattle.cp_sexpr.specs.View.{view, views};
 
 use crate::form::Form;
@@ -38,55 +38,40 @@ pub fn write(form: &Form, out: &mut Vec<u8>) -> Result<(), AllocError>
         Form::Symbol(_, text) => out.extend_from_slice(text.as_bytes()),
         Form::String(_, text) => write_string(text, out),
         Form::Number(_, number) => write_number(*number, out),
-        Form::List(_, items) => {
-            out.push(b'(')?;
-            write_items(items, out)?;
-            out.push(b')')?;
-            Ok(())
-        }
+        Form::List(_, items) => write_list(items, false, out),
     }
 }
 
-/// Appends the items of a list, with one space between them.
-#[cycle(write)]
-fn write_items(items: &[Form], out: &mut Vec<u8>) -> Result<(), AllocError>
-    ensures ok { OnOk result (out.new.items ≡ out.old.items ++ first_spelling (views items.now)) }
-    ensures err { OnErr result (AppendsFront out.old.items out.new.items (first_spelling (views items.now))) }
+/// What stands before an item that is not the first, in a top form or in another list.
+fn gap(is_top: bool, item: &Form) -> &'static [u8]
+    ensures { result.now ≡ gap_before is_top (view item.now) }
 {
-    let Some((first, others)) = items.split_first() else {
-        return Ok(());
-    };
-    write(first, out)?;
-    for item in others {
-        out.push(b' ')?;
-        write(item, out)?;
+    if !is_top {
+        return b" ";
     }
-    Ok(())
-}
-
-/// What stands before an item of a top form that is not its first.
-fn gap(item: &Form) -> &'static [u8]
-    ensures { result.now ≡ top_gap (view item.now) }
-{
     match item {
         Form::List(..) => b"\n  ",
         Form::Symbol(..) | Form::String(..) | Form::Number(..) => b" ",
     }
 }
 
-/// Appends the items of a top form.
-fn write_top_items(items: &[Form], out: &mut Vec<u8>) -> Result<(), AllocError>
-    ensures ok { OnOk result (out.new.items ≡ out.old.items ++ first_top_spelling (views items.now)) }
-    ensures err { OnErr result (AppendsFront out.old.items out.new.items (first_top_spelling (views items.now))) }
+/// Appends a list, which is a top form or another: its items in parentheses, with what stands between them.
+#[cycle(write)]
+fn write_list(items: &[Form], is_top: bool, out: &mut Vec<u8>) -> Result<(), AllocError>
+    ensures ok { OnOk result (out.new.items ≡ out.old.items ++ list_spelling is_top (views items.now)) }
+    ensures err { OnErr result (AppendsFront out.old.items out.new.items (list_spelling is_top (views items.now))) }
 {
+    out.push(b'(')?;
     let Some((first, others)) = items.split_first() else {
+        out.push(b')')?;
         return Ok(());
     };
     write(first, out)?;
     for item in others {
-        out.extend_from_slice(gap(item))?;
+        out.extend_from_slice(gap(is_top, item))?;
         write(item, out)?;
     }
+    out.push(b')')?;
     Ok(())
 }
 
@@ -99,12 +84,7 @@ fn write_top_text(form: &Form, out: &mut Vec<u8>) -> Result<(), AllocError>
         Form::Symbol(..) => write(form, out),
         Form::String(..) => write(form, out),
         Form::Number(..) => write(form, out),
-        Form::List(_, items) => {
-            out.push(b'(')?;
-            write_top_items(items, out)?;
-            out.push(b')')?;
-            Ok(())
-        }
+        Form::List(_, items) => write_list(items, true, out),
     }
 }
 

@@ -1,10 +1,10 @@
 -- Rows that tell what is a shape, and the first shape of a row.
 use Rattle.std.proofs.Common.{◌≡◌, ◌↔◌, ◌⊎◌, inl, inr, ℕ, ◌+◌, ◌<◌, ◌≤◌, List, [], ◌∷◌, Bool, true, false, nat_eq, if◌then◌else◌, length, drop, get_or, Option, Some, None, refl, sym, ap, subst, ◌∙◌, arith, eq-eqb, eqb-true}
-use Rattle.cp_model.specs.Lists.{item_at, IsIn, here, there}
+use Rattle.cp_lists.proofs.Members.{drop_read, item_is_in}
+use Rattle.cp_lists.specs.Lists.{item_at, IsIn, here, there}
 use Rattle.cp_model.specs.Skeleton.{Skeleton}
-use Rattle.cp_model.proofs.LawLists.{item_below, item_there}
+use Rattle.cp_lists.proofs.Items.{item_below, item_there}
 use Rattle.cp_shapes.specs.Shapes.{IsLeast, IsInstanceWithin, IsShapeAt, IsShapeOf, IsMarkOf}
-use Rattle.cp_skel.proofs.Items.{item-drop, item-found}
 use Rattle.std.proofs.lemmas.List.{drop_all}
 use Rattle.cp_shapes.specs.Rows.{IsRising, IsRowOf, AreRowsOf, is_empty_row, FindsShape}
 use Rattle.cp_shapes.proofs.Rising.{rising_behind}
@@ -154,11 +154,11 @@ module _ (ks : List Skeleton) (rows : List (List ℕ)) (are : AreRowsOf ks rows)
 
 module _ (ks : List Skeleton) (m : ℕ) (row : List ℕ) (is : IsRowOf ks m row) (i n : ℕ) (within : i < length row) (here_is : n ≡ get_or row i n) where
   split : drop i row ≡ n ∷ drop (i + 1) row
-  split = item-drop row i n within here_is
+  split = drop_read row i n within here_is
 
   pub found_first : ((k : ℕ) → IsShapeOf ks m k → IsIn k (drop i row)) → IsShapeAt ks n → IsLeast (IsShapeOf ks m) n
   found_first left shape = record {
-    holds = (shape, (is.listed n).0 (item-found n row i n within here_is refl));
+    holds = (shape, (is.listed n).0 (item_is_in row i n within here_is));
     least = λ k less h. before k less (subst (IsIn k) split (left k h));
   }
     where

@@ -1,12 +1,11 @@
 -- Rows and marks that are made one after the other.
-use Rattle.std.proofs.Common.{◌≡◌, ◌⊎◌, inl, inr, ℕ, zero, suc, ◌+◌, ◌<◌, ◌≤◌, List, [], ◌∷◌, ◌++◌, length, get_or, map, Vec, Option, Some, refl, sym, ap, subst, ◌∙◌, arith}
-use Rattle.std.proofs.lemmas.List.{map-append}
-use Rattle.cp_model.specs.Lists.{item_at}
+use Rattle.std.proofs.Common.{◌≡◌, ◌⊎◌, inl, inr, ℕ, ◌+◌, ◌<◌, ◌≤◌, List, [], ◌∷◌, ◌++◌, length, get_or, map, Vec, Option, Some, refl, sym, ap, subst, ◌∙◌, arith}
+use Rattle.std.proofs.lemmas.List.{map-append, length_push, length-map}
+use Rattle.cp_lists.specs.Lists.{item_at}
 use Rattle.cp_model.specs.Skeleton.{Skeleton}
 use Rattle.cp_shapes.specs.Shapes.{IsMarkOf, AreMarksOf}
 use Rattle.cp_shapes.specs.Rows.{IsRowOf, AreRowsOf, FindsShape, rows_view}
-use Rattle.cp_model.proofs.LawLists.{item_below}
-use Rattle.cp_skel.proofs.Items.{item-there, map-length}
+use Rattle.cp_lists.proofs.Items.{item_below, item_of_push, map_of_read}
 use Rattle.cp_shapes.proofs.Found.{found_marks}
 
 -- The items, n of them, are each so at their place.
@@ -14,27 +13,13 @@ pub record AreTo {A : Type 0} (fact : ℕ → A → Type 0) (xs : List A) (n : �
   pub count : length xs ≡ n
   pub each : (m : ℕ) (x : A) → item_at xs m ≡ Some x → fact m x
 
-at_end : {A : Type 0} (xs : List A) (y : A) (m : ℕ) (x : A) → item_at (xs ++ y ∷ []) m ≡ Some x → (item_at xs m ≡ Some x) ⊎ ((m ≡ length xs) × (y ≡ x))
-at_end [] y zero x e = inr (refl, cc)
-at_end [] y (suc m) x e = absurd (cc)
-at_end (z ∷ xs) y zero x e = inl e
-at_end (z ∷ xs) y (suc m) x e = one_on (at_end xs y m x e)
-  where
-    one_on : (item_at xs m ≡ Some x) ⊎ ((m ≡ length xs) × (y ≡ x)) → (item_at xs m ≡ Some x) ⊎ ((suc m ≡ suc (length xs)) × (y ≡ x))
-    one_on (inl h) = inl h
-    one_on (inr h) = inr (ap suc h.0, h.1)
-
-one_longer : {A : Type 0} (xs : List A) (y : A) → length (xs ++ y ∷ []) ≡ length xs + 1
-one_longer [] y = refl
-one_longer (x ∷ xs) y = let h = one_longer xs y in omega (arith, h)
-
 pub none_to : {A : Type 0} (fact : ℕ → A → Type 0) (xs : List A) → xs ≡ [] → AreTo fact xs 0
 none_to {A} fact xs e = subst (λ (ys : List A). AreTo fact ys 0) (sym e) (record { count = refl; each = λ m x at. absurd (cc) })
 
 pub next_to : {A : Type 0} (fact : ℕ → A → Type 0) (xs : List A) (n : ℕ) (y : A) → AreTo fact xs n → fact n y → (new : List A) → new ≡ xs ++ y ∷ [] → AreTo fact new (n + 1)
 next_to {A} fact xs n y so_far f new e = subst (λ (ys : List A). AreTo fact ys (n + 1)) (sym e) (record {
-  count = one_longer xs y ∙ ap (λ (m : ℕ). m + 1) so_far.count;
-  each = λ m x at. by m x (at_end xs y m x at);
+  count = length_push xs y ∙ ap (λ (m : ℕ). m + 1) so_far.count;
+  each = λ m x at. by m x (item_of_push xs y m x at);
 })
   where
     by : (m : ℕ) (x : A) → (item_at xs m ≡ Some x) ⊎ ((m ≡ length xs) × (y ≡ x)) → fact m x
@@ -55,7 +40,7 @@ all_rows ks rows n are e = record { count = are.count ∙ e; each = are.each }
 
 module _ {A : Type 0} (ks : List Skeleton) (rs slice whole : List (Vec ℕ A)) (are : AreRowsOf ks (rows_view rs)) (row : Vec ℕ A) (row_slice : List ℕ) (i : ℕ) where
   row_there : slice ≡ rs → i < length slice → row ≡ get_or slice i row → item_at (rows_view rs) i ≡ Some row.items
-  row_there e l is = subst (λ (xs : List (Vec ℕ A)). item_at (rows_view xs) i ≡ Some row.items) e (item-there (λ (r : Vec ℕ A). r.items) slice i row l is)
+  row_there e l is = subst (λ (xs : List (Vec ℕ A)). item_at (rows_view xs) i ≡ Some row.items) e (map_of_read (λ (r : Vec ℕ A). r.items) slice i row l is)
 
   within_ks : item_at (rows_view rs) i ≡ Some row.items → i < length ks
   within_ks at = let l : i < length (rows_view rs) = item_below (rows_view rs) i row.items at in let c = are.count in omega (arith, l, c)
@@ -74,4 +59,4 @@ all_marks ks marks n are e = record { count = are.count ∙ e; each = are.each }
 
 -- A loop over all items has come to their number.
 pub at_all : {A B : Type 0} (f : A → B) (xs : List A) (n : ℕ) → length xs ≤ n → n ≤ length xs → n ≡ length (map f xs)
-at_all f xs n l k = let e = map-length f xs in omega (arith, l, k, e)
+at_all f xs n l k = let e = length-map xs f in omega (arith, l, k, e)

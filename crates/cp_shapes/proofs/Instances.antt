@@ -1,9 +1,9 @@
 -- The order of candidates by which one is an instance of another.
 use Rattle.std.proofs.Common.{◌≡◌, ◌≢◌, ◌⊎◌, inl, inr, ℕ, ◌<◌, List, Some, sym, subst, arith, length, lt_trans}
-use Rattle.cp_model.specs.Lists.{item_at}
+use Rattle.cp_lists.specs.Lists.{item_at}
 use Rattle.cp_model.specs.Skeleton.{Skeleton}
 use Rattle.cp_model.specs.Homomorphism.{Embeds}
-use Rattle.cp_model.proofs.LawLists.{item_below, item_there}
+use Rattle.cp_lists.proofs.Items.{item_below, item_there}
 use Rattle.cp_model.proofs.LawEmbeddings.{embeds_same, embeds_then}
 use Rattle.cp_shapes.specs.Shapes.{EmbedsAt, IsInstanceWithin, IsShapeAt}
 

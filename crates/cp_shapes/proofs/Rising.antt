@@ -1,18 +1,14 @@
 -- Rows that are made number by number, and what is first in them.
-use Rattle.std.proofs.Common.{◌≡◌, ◌↔◌, ◌⊎◌, inl, inr, ℕ, zero, suc, ◌+◌, ◌<◌, List, [], ◌∷◌, ◌++◌, drop, refl, sym, subst, arith}
-use Rattle.cp_model.specs.Lists.{IsIn, here, there}
+use Rattle.std.proofs.Common.{◌≡◌, ◌↔◌, ◌⊎◌, inl, inr, ℕ, zero, suc, ◌+◌, ◌<◌, List, [], ◌∷◌, ◌++◌, drop, sym, subst, arith}
+use Rattle.cp_lists.specs.Lists.{IsIn, here, there}
 use Rattle.cp_model.specs.Skeleton.{Skeleton}
-use Rattle.cp_model.proofs.LawLists.{in_append, in_append_left, in_append_right}
+use Rattle.cp_lists.proofs.Members.{in_append, in_append_left, in_append_right, only_item}
 use Rattle.cp_shapes.specs.Shapes.{IsInstanceWithin}
 use Rattle.cp_shapes.specs.Rows.{IsRising, IsRowOf}
 
-only_one : {A : Type 0} {x y : A} → IsIn x (y ∷ []) → x ≡ y
-only_one here = refl
-only_one (there i) = elim i [ ]
-
 below_end : (n m : ℕ) (ns : List ℕ) → n < m → ((k : ℕ) → IsIn k ns → n < k) → (k : ℕ) → IsIn k ns ⊎ IsIn k (m ∷ []) → n < k
 below_end n m ns l above k (inl i) = above k i
-below_end n m ns l above k (inr i) = subst (λ (x : ℕ). n < x) (sym (only_one i)) l
+below_end n m ns l above k (inr i) = subst (λ (x : ℕ). n < x) (sym (only_item i)) l
 
 pub rising_with : (ns : List ℕ) (m : ℕ) → IsRising ns → ((n : ℕ) → IsIn n ns → n < m) → IsRising (ns ++ m ∷ [])
 rising_with [] m r below = ((λ k i. elim i [ ]), tt)
@@ -59,7 +55,7 @@ module _ (ks : List Skeleton) (m n : ℕ) (row : List ℕ) (so_far : IsRowTo ks 
   module _ (is : IsInstanceWithin ks m n) where
     now_before : (k : ℕ) → IsIn k row ⊎ IsIn k (n ∷ []) → (k < n + 1) × IsInstanceWithin ks m k
     now_before k (inl i) = let h = (so_far.listed k).0 i in (let l : k < n = h.0 in omega (arith, l), h.1)
-    now_before k (inr i) = let e : k ≡ n = only_one i in (omega (arith, e), subst (IsInstanceWithin ks m) (sym e) is)
+    now_before k (inr i) = let e : k ≡ n = only_item i in (omega (arith, e), subst (IsInstanceWithin ks m) (sym e) is)
 
     now_listed : (k : ℕ) → (k < n) ⊎ (k ≡ n) → IsInstanceWithin ks m k → IsIn k (row ++ n ∷ [])
     now_listed k (inl l) h = in_append_left (n ∷ []) ((so_far.listed k).1 (l, h))

@@ -1,16 +1,15 @@
 -- What stands through a candidate stands through a shape.
 use Rattle.std.proofs.Common.{ℕ, ◌<◌, List, length, Option, Some, None, subst, arith}
-use Rattle.cp_model.specs.Lists.{IsIn}
+use Rattle.cp_lists.specs.Lists.{IsIn}
 use Rattle.cp_model.specs.Strand.{Protocol}
 use Rattle.cp_model.specs.Bundle.{Bundle}
 use Rattle.cp_model.specs.Skeleton.{Skeleton, IsSkeleton}
 use Rattle.cp_model.specs.Standing.{Standing}
 use Rattle.cp_model.specs.Homomorphism.{Embeds}
 use Rattle.cp_model.specs.Composition.{through}
-use Rattle.cp_model.proofs.LawLists.{item_below, item_there}
+use Rattle.cp_lists.proofs.Items.{item_below, item_there, at_place}
 use Rattle.cp_model.proofs.LawStandings.{standing_through}
 use Rattle.cp_completeness.proofs.Embedded.{apart_through, factors_after}
-use Rattle.cp_hom.proofs.Listed.{item_in}
 use Rattle.cp_shapes.specs.Shapes.{EmbedsAt, IsShapeAt, IsMarkOf, AreMarksOf}
 use Rattle.cp_shapes.specs.Through.{StandsThrough}
 use Rattle.cp_shapes.proofs.Instances.{embeds_itself, same_item}
@@ -35,7 +34,7 @@ stands_within protocol problem ks b h are n m e st =
       skeleton = e.first;
       at = e.at_first;
       standing = through into.0 st.standing;
-      stands = standing_through protocol e.first st.skeleton into.0 b st.standing (are e.first (item_in ks n e.first e.at_first)) (are st.skeleton (item_in ks m st.skeleton st.at)) into.1.homomorphism st.stands;
+      stands = standing_through protocol e.first st.skeleton into.0 b st.standing (are e.first (at_place ks n e.first e.at_first)) (are st.skeleton (at_place ks m st.skeleton st.at)) into.1.homomorphism st.stands;
       apart = apart_through e.first st.skeleton into.0 st.standing into.1 st.apart;
       factors = factors_after problem e.first st.skeleton into.0 h st.standing into.1 st.factors;
     }

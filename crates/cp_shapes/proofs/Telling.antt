@@ -1,14 +1,14 @@
 -- What an embedding that was looked for tells of an instance.
-use Rattle.std.proofs.Common.{◌≡◌, ◌↔◌, ◌⊎◌, inl, inr, ℕ, zero, suc, ◌<◌, ◌≤◌, List, [], ◌∷◌, Bool, true, false, not, length, map, slice_index_or, Option, Some, None, refl, sym, ap, subst, ◌∙◌, arith}
+use Rattle.std.proofs.Common.{◌≡◌, ◌↔◌, ◌⊎◌, inl, inr, ℕ, zero, suc, ◌<◌, ◌≤◌, List, [], ◌∷◌, Bool, true, false, not, length, map, get_or, Option, Some, None, refl, sym, ap, subst, ◌∙◌, arith}
 use Rattle.std.specs.Prelude.{IfSome, IfNone}
 use Rattle.std.specs.Option.{is_some}
-use Rattle.cp_model.specs.Lists.{item_at}
+use Rattle.std.proofs.lemmas.List.{length-map}
+use Rattle.cp_lists.specs.Lists.{item_at}
 use Rattle.cp_model.specs.Skeleton.{Skeleton}
 use Rattle.cp_model.specs.Homomorphism.{SkeletonMap, IsEmbedding, Embeds}
 use Rattle.cp_hom.specs.Maps.{map_view}
 use Rattle.cp_hom.specs.declared.mapping.Map.{Map}
-use Rattle.cp_hom.specs.Partition.{fingerprint_of}
-use Rattle.cp_skel.proofs.Items.{map-length}
+use Rattle.cp_hom.specs.Partition.{partition_of}
 use Rattle.cp_term.proofs.CarriedTerms.{not_both}
 use Rattle.cp_shapes.specs.Shapes.{EmbedsAt, IsInstanceWithin}
 use Rattle.cp_shapes.proofs.Instances.{same_item, embeds_first_within}
@@ -69,20 +69,22 @@ module _ (ks : List Skeleton) (m n : ℕ) (km kn : Skeleton) (at_m : item_at ks 
 
 -- ---- fingerprints
 
-mapped_at : {A : Type 0} (f : A → Skeleton) (xs : List A) (n : ℕ) (k : Skeleton) → item_at (map f xs) n ≡ Some k → slice_index_or (map (λ x. fingerprint_of (f x)) xs) n 0 ≡ fingerprint_of k
-mapped_at f [] n k e = absurd (cc)
-mapped_at f (x ∷ xs) zero k e = let q : f x ≡ k = cc in ap fingerprint_of q
-mapped_at f (x ∷ xs) (suc n) k e = mapped_at f xs n k e
+partition_read : {A : Type 0} (f : A → Skeleton) (xs : List A) (n : ℕ) (k : Skeleton) (p : List (Option ℕ)) → item_at (map f xs) n ≡ Some k → p ≡ get_or (map (λ x. partition_of (f x)) xs) n p → partition_of k ≡ p
+partition_read f [] n k p e is = absurd (cc)
+partition_read f (x ∷ xs) zero k p e is = let q : f x ≡ k = cc in sym (is ∙ ap partition_of q)
+partition_read f (x ∷ xs) (suc n) k p e is = partition_read f xs n k p e is
 
 -- A candidate with another fingerprint is no instance.
-pub kept_apart : {A : Type 0} (f : A → Skeleton) (xs : List A) (fingerprints : List ℕ) (m n : ℕ) (flag : Bool) → fingerprints ≡ map (λ x. fingerprint_of (f x)) xs → flag ≡ false →
-    ((a b : Skeleton) → fingerprint_of a ≡ slice_index_or fingerprints n 0 → fingerprint_of b ≡ slice_index_or fingerprints m 0 → Embeds a b → flag ≡ true) → IsInstanceWithin (map f xs) m n → ⊥
-kept_apart f xs fingerprints m n flag e q kept h =
-    let of : (i : ℕ) (k : Skeleton) → item_at (map f xs) i ≡ Some k → fingerprint_of k ≡ slice_index_or fingerprints i 0 = (λ i k at. sym (ap (λ (ns : List ℕ). slice_index_or ns i 0) e ∙ mapped_at f xs i k at)) in
-    not_both q (kept h.embeds.first h.embeds.second (of n h.embeds.first h.embeds.at_first) (of m h.embeds.second h.embeds.at_second) h.embeds.embeds)
+pub kept_apart : {A : Type 0} (f : A → Skeleton) (xs : List A) (fingerprints : List (List (Option ℕ))) (m n : ℕ) (first second : List (Option ℕ)) (flag : Bool) → fingerprints ≡ map (λ x. partition_of (f x)) xs →
+    first ≡ get_or fingerprints n first → second ≡ get_or fingerprints m second → flag ≡ false →
+    ((a b : Skeleton) → partition_of a ≡ first → partition_of b ≡ second → Embeds a b → flag ≡ true) → IsInstanceWithin (map f xs) m n → ⊥
+kept_apart f xs fingerprints m n first second flag e first_is second_is q kept h =
+    let of : (i : ℕ) (k : Skeleton) (p : List (Option ℕ)) → item_at (map f xs) i ≡ Some k → p ≡ get_or fingerprints i p → partition_of k ≡ p =
+    (λ i k p at is. partition_read f xs i k p at (is ∙ ap (λ (ps : List (List (Option ℕ))). get_or ps i p) e)) in
+    not_both q (kept h.embeds.first h.embeds.second (of n h.embeds.first first h.embeds.at_first first_is) (of m h.embeds.second second h.embeds.at_second second_is) h.embeds.embeds)
 
 pub instance_below : {A : Type 0} (f : A → Skeleton) (xs : List A) (m i n : ℕ) → length xs ≤ n → IsInstanceWithin (map f xs) m i → i < n
 instance_below f xs m i n l h =
     let k : i < length (map f xs) = embeds_first_within (map f xs) i m h.embeds in
-    let e : length (map f xs) ≡ length xs = map-length f xs in
+    let e : length (map f xs) ≡ length xs = length-map xs f in
     omega (arith, k, e, l)

@@ -1,6 +1,6 @@
 -- For each candidate those of which it is an instance.
 use Rattle.std.specs.Prelude.{◌≡◌, ◌↔◌, ℕ, ◌<◌, List, [], ◌∷◌, length, map, Vec, ◌==◌, Bool, false, Option, Some, None}
-use Rattle.cp_model.specs.Lists.{item_at, IsIn}
+use Rattle.cp_lists.specs.Lists.{item_at, IsIn}
 use Rattle.cp_model.specs.Skeleton.{Skeleton}
 use Rattle.cp_shapes.specs.Shapes.{IsLeast, IsInstanceWithin, IsShapeOf}
 

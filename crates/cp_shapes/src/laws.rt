@@ -1,6 +1,6 @@
 // Laws on shapes: each stands as the contract of a function that does nothing.
 ghost use Rattle.std.specs.Prelude.{◌≡◌, ◌≢◌, ℕ, ◌<◌, List, length, Option};
-ghost use Rattle.cp_model.specs.Lists.{IsIn};
+ghost use Rattle.cp_lists.specs.Lists.{IsIn};
 ghost use Rattle.cp_model.specs.Strand.{Protocol};
 ghost use Rattle.cp_model.specs.Bundle.{Bundle};
 ghost use Rattle.cp_model.specs.Skeleton.{Skeleton, IsSkeleton};

@@ -1,6 +1,6 @@
 // What each candidate is, by those of which it is an instance.
 ghost use Rattle.std.specs.Prelude.{◌≡◌, ℕ, List, map, IfOk};
-ghost use Rattle.cp_model.specs.Lists.{item_at};
+ghost use Rattle.cp_lists.specs.Lists.{item_at};
 ghost use Rattle.cp_model.specs.Skeleton as model;
 ghost use Rattle.cp_skel.specs.View.{skeleton_view};
 ghost use Rattle.cp_shapes.specs.Shapes.{AreMarksOf};

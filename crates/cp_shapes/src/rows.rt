@@ -1,23 +1,23 @@
 // For each candidate those of which it is an instance.
 ghost use Rattle.std.specs.Prelude.{◌≡◌, ◌↔◌, ◌<◌, length, map, IsTrue, IfOk};
 ghost use Rattle.cp_skel.specs.View.{skeleton_view};
-ghost use Rattle.cp_hom.specs.Partition.{fingerprint_of};
+ghost use Rattle.cp_hom.specs.Partition.{partition_of};
 ghost use Rattle.cp_shapes.specs.Shapes.{IsInstanceWithin};
 ghost use Rattle.cp_shapes.specs.Rows.{IsRowOf, AreRowsOf, rows_view};
 
-use cp_hom::{embed, fingerprint, may_embed};
+use cp_hom::{Fingerprint, embed};
 use cp_skel::Skeleton;
 use std::alloc::{AllocError, Global};
 
 /// The fingerprints of the candidates.
-fn fingerprints(alloc: Global, candidates: &[&Skeleton]) -> Result<Vec<usize>, AllocError>
-    ensures { IfOk result (λ numbers. numbers.items ≡ map (λ k. fingerprint_of (skeleton_view k.now)) candidates.now) }
+fn fingerprints(alloc: Global, candidates: &[&Skeleton]) -> Result<Vec<Fingerprint>, AllocError>
+    ensures { IfOk result (λ fingerprints. fingerprints.items ≡ map (λ k. partition_of (skeleton_view k.now)) candidates.now) }
 {
-    let mut numbers = Vec::new(alloc);
+    let mut fingerprints = Vec::new(alloc);
     for candidate in candidates {
-        numbers.push(fingerprint(candidate))?;
+        fingerprints.push(Fingerprint::of(alloc, candidate)?)?;
     }
-    Ok(numbers)
+    Ok(fingerprints)
 }
 
 /// Whether a candidate is an instance of another: this embeds in it, and it does not embed in this or this comes first.
@@ -48,17 +48,17 @@ fn is_instance(
 fn row_of(
     alloc: Global,
     candidates: &[&Skeleton],
-    fingerprints: &[usize],
+    fingerprints: &[Fingerprint],
     instance: usize,
 ) -> Result<Vec<usize>, AllocError>
-    requires fingerprints { fingerprints.now ≡ map (λ k. fingerprint_of (skeleton_view k.now)) candidates.now }
+    requires fingerprints { fingerprints.now ≡ map (λ k. partition_of (skeleton_view k.now)) candidates.now }
     requires within { instance < length candidates.now }
     ensures { IfOk result (λ row. IsRowOf (map (λ k. skeleton_view k.now) candidates.now) instance row.items) }
 {
-    let own = fingerprints[instance];
+    let own = &fingerprints[instance];
     let mut row = Vec::new(alloc);
     for shape in 0..candidates.len() {
-        if !may_embed(fingerprints[shape], own) {
+        if !fingerprints[shape].may_embed(own) {
             continue;
         }
         if !is_instance(alloc, candidates, instance, shape)? {

@@ -1,18 +1,24 @@
--- A skeleton that is changed goes on to carry the homomorphism from its problem, and to keep what that states itself.
-use Rattle.std.proofs.Common.{◌≡◌, ◌≢◌, ◌⊎◌, inl, inr, ℕ, zero, suc, ◌<◌, ◌≤◌, List, [], ◌∷◌, ◌++◌, map, length, refl, sym, ap, ◌∙◌, subst, le_trans, le_refl, arith}
+-- A skeleton that is changed goes on to carry the homomorphism from its problem, to keep what that states itself, and to be
+-- sound.
+use Rattle.std.proofs.Common.{◌≡◌, ◌≢◌, ◌⊎◌, inl, inr, ℕ, zero, suc, ◌<◌, ◌≤◌, List, [], ◌∷◌, ◌++◌, map, length, refl, sym, ap, ◌∙◌, subst, le_trans, le_refl, lt_of_lt_of_le, arith}
 use Rattle.std.specs.Prelude.{Some}
-use Rattle.cp_model.specs.Lists.{item_at, IsIn, there, one_step, more_steps}
+use Rattle.cp_lists.specs.Lists.{item_at, IsIn, there, one_step, more_steps}
 use Rattle.cp_model.specs.Term.{AtomTerm, Term, Substitution, apply_to, apply_to_atom, AgreeOnTerms}
 use Rattle.cp_model.specs.Strand.{Role, Protocol, variables_of_prefix}
-use Rattle.cp_model.specs.Bundle.{Node, node_at}
-use Rattle.cp_model.specs.Skeleton.{SkeletonStrand, instance, listener, UniqueAt, Assumptions, OrderPair, FromProblem, Skeleton, OrderStep, along_strand_of, along_pair, Before, IsOrderPair, IsOrigin, GivesAssumptions, IsSkeleton}
+use Rattle.cp_model.specs.Bundle.{node_at}
+use Rattle.cp_model.specs.declared.node.Node.{Node}
+use Rattle.cp_model.specs.Skeleton.{SkeletonStrand, instance, listener, UniqueAt, Assumptions, FromProblem, Skeleton, OrderStep, along_strand_of, along_pair, Before, IsOrderPair, IsOrigin, GivesAssumptions, IsSkeleton}
+use Rattle.cp_model.specs.declared.node.OrderPair.{OrderPair}
 use Rattle.cp_model.specs.Homomorphism.{SkeletonMap, mapped, GoesToInstance, IsHomomorphism, substitution_by, strand_in, map_from_problem, CarriesHomomorphism}
 use Rattle.cp_model.specs.Stated.{KeepsStated}
-use Rattle.cp_model.proofs.LawLists.{in_append_left, variables_of_higher, item_below, item_there}
-use Rattle.cp_model.proofs.StatedStays.{stated_stays}
+use Rattle.cp_lists.proofs.Members.{in_append_left}
+use Rattle.cp_model.proofs.LawPrefixes.{variables_of_higher}
+use Rattle.cp_lists.proofs.Items.{item_below, item_there}
+use Rattle.cp_model.proofs.StatedStays.{HasAssumptionsOf, own_stays, stated_stays}
 use Rattle.cp_skel.specs.Given.{AddsOnce}
-use Rattle.cp_skel.specs.Changing.{AddsListener, IsClosedPrefix, AddsStrand, CanExtend, Extends}
+use Rattle.cp_skel.specs.Changing.{AddsListener, AddsStrand, CanExtend, Extends}
 use Rattle.cp_skel.specs.Ordered.{IsOrdered, ordered_by, DiffersInOrder}
+use Rattle.cp_skel.specs.Sound.{DeclaresItsVariables, IsSound}
 use Rattle.cp_skel.proofs.Grown.{Grows}
 use Rattle.cp_skel.proofs.OrderKept.{more_ordered}
 use Rattle.cp_skel.proofs.StaySkeletons.{stays, appended-grows, extended-grows}
@@ -66,13 +72,13 @@ module _ (problem old new : Skeleton) (more : SaysMore old new) (carries : Carri
         values = subst (λ (p : FromProblem). map (apply_to (substitution_by p.values)) problem.from_problem.values ≡ p.values) back carries.values;
       }
 
--- ---- what the problem states itself
+-- ---- what a skeleton has from its problem
 
 all_below : (m n : ℕ) → ((s : ℕ) → s < m → s < n) → m ≤ n
 all_below zero n h = omega arith
 all_below (suc m) n h = let l : m < n = h m (omega arith) in omega (arith, l)
 
-module _ (problem old new : Skeleton) (more : SaysMore old new) where
+module _ (old new : Skeleton) (more : SaysMore old new) where
   strand_too : (s : ℕ) (st : SkeletonStrand) → item_at old.strands s ≡ Some st → s < length new.strands
   strand_too s (instance role height terms) at = let r = more.instances s role height terms at in item_below new.strands s (instance role r.0 r.1) r.2
   strand_too s (listener t) at = item_below new.strands s (listener t) (more.listeners s t at)
@@ -80,8 +86,22 @@ module _ (problem old new : Skeleton) (more : SaysMore old new) where
   as_many : length old.strands ≤ length new.strands
   as_many = all_below (length old.strands) (length new.strands) (λ s below. let st = item_there old.strands s below in strand_too s st.0 st.1)
 
-  pub keeps_stated : KeepsStated problem old → KeepsStated problem new
-  keeps_stated = stated_stays problem old new (sym more.from_problem) as_many (record { non = more.non; penetrator_non = more.penetrator_non; unique = more.unique }) more.ordered
+  has_assumptions : HasAssumptionsOf old new
+  has_assumptions = record { non = more.non; penetrator_non = more.penetrator_non; unique = more.unique }
+
+  pub keeps_stated : (problem : Skeleton) → KeepsStated problem old → KeepsStated problem new
+  keeps_stated problem = stated_stays problem old new (sym more.from_problem) as_many has_assumptions more.ordered
+
+  -- A sound skeleton that says more than it did, and is one over a protocol whose roles declare their variables, is sound.
+  pub sound_on : (protocol : Protocol) → ((role : Role) → IsIn role protocol.roles → DeclaresItsVariables role) → IsSkeleton protocol new → IsSound old → IsSound new
+  sound_on protocol declared skeleton s = record {
+    protocol = protocol;
+    declared = declared;
+    skeleton = skeleton;
+    in_range = λ n i. lt_of_lt_of_le (s.in_range n (subst (λ (f : FromProblem). IsIn n f.strands) more.from_problem i)) as_many;
+    assumed = own_stays old new (sym more.from_problem) has_assumptions s.assumed;
+    ordered = λ p i. more.ordered p.earlier p.later (s.ordered p (subst (λ (f : FromProblem). IsIn p f.pairs) more.from_problem i));
+  }
 
 -- ---- strands more, and a longer one
 
@@ -90,7 +110,7 @@ module _ (old new : Skeleton) (grows : Grows old new) where
   step_too (along_strand_of {s = s} {i = i} {e = e} at) = along_strand_of (grows.events (node_at s (suc i)) e at)
   step_too (along_pair {p = p} i) = along_pair (subst (IsIn p) (sym grows.pairs) i)
 
-  before_too : {x y : Node} → Before old x y → Before new x y
+  pub before_too : {x y : Node} → Before old x y → Before new x y
   before_too (one_step s) = one_step (step_too s)
   before_too (more_steps s p) = more_steps (step_too s) (before_too p)
 

@@ -1,15 +1,15 @@
 -- Skeletons with a strand more, and with a longer strand, as they are made.
 use Rattle.std.proofs.Common.{◌≡◌, ◌≢◌, ℕ, zero, suc, ◌<◌, ◌≤◌, List, [], ◌∷◌, ◌++◌, length, set, map, refl, sym, ap, ◌∙◌, subst, arith}
 use Rattle.std.specs.Prelude.{Some}
-use Rattle.cp_model.specs.Lists.{item_at}
+use Rattle.cp_lists.specs.Lists.{item_at}
 use Rattle.cp_model.specs.Term.{Term, AgreeOnTerms}
 use Rattle.cp_model.specs.Strand.{Role, variables_of_prefix}
 use Rattle.cp_model.specs.Skeleton.{SkeletonStrand, instance, Assumptions, Skeleton}
 use Rattle.cp_model.specs.Homomorphism.{substitution_by}
 use Rattle.cp_skel.specs.Given.{AddsGiven}
 use Rattle.cp_skel.specs.Joining.{joined}
-use Rattle.cp_skel.specs.Occurring.{prefix_variables, is_added, added_variables, AreTermsFor, terms_of}
-use Rattle.cp_skel.specs.Valued.{valued}
+use Rattle.cp_strand.specs.Occurring.{prefix_variables, is_added, added_variables, AreTermsFor, terms_of}
+use Rattle.cp_strand.specs.Valued.{valued}
 use Rattle.cp_skel.specs.Changing.{AddsStrand, CanExtend, Extends, IsClosedPrefix}
 use Rattle.cp_skel.proofs.ValuedTerms.{value-terms, all-added, keeps-terms}
 

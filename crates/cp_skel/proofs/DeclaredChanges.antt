@@ -1,16 +1,17 @@
 -- Skeletons that are changed have declared variables, where what is added has.
 use Rattle.std.proofs.Common.{◌≡◌, ◌≢◌, ◌⊎◌, inl, inr, ℕ, zero, suc, List, [], ◌∷◌, ◌++◌, length, refl, sym, ap, ◌∙◌, subst, ⊎_elim, arith, Bool, true, false}
 use Rattle.std.specs.Prelude.{Some}
-use Rattle.cp_model.specs.Lists.{item_at, IsIn, here, there}
+use Rattle.cp_lists.specs.Lists.{item_at, IsIn, here, there}
 use Rattle.cp_model.specs.Term.{Sort, Variable, AtomTerm, Term, atom_term, atom_of_variable, variables_of_atom, variables_of, Substitution, apply_to_atom}
 use Rattle.cp_model.specs.Strand.{Declaration, Role, prefix_of, variables_of_trace, variables_of_prefix}
-use Rattle.cp_model.specs.Skeleton.{SkeletonStrand, instance, listener, skeleton_trace, UniqueAt, Assumptions, OrderPair, FromProblem, Skeleton}
+use Rattle.cp_model.specs.Skeleton.{SkeletonStrand, instance, listener, skeleton_trace, UniqueAt, Assumptions, FromProblem, Skeleton}
+use Rattle.cp_model.specs.declared.node.OrderPair.{OrderPair}
 use Rattle.cp_model.specs.Same.{has_variable}
 use Rattle.cp_model.specs.Problem.{declared_sort, IsDeclared, variables_of_strands, variables_of_atoms, variables_of_uniques, variables_of_assumptions, HasDeclaredVariables}
-use Rattle.cp_model.proofs.LawLists.{in_append, in_append_left, in_append_right}
+use Rattle.cp_lists.proofs.Members.{in_append, in_append_left, in_append_right}
 use Rattle.cp_skel.specs.Changing.{AddsListener, IsClosedPrefix, AddsStrand, Extends}
 use Rattle.cp_skel.specs.Given.{IsGivenFrom, IsOriginFrom, AddsOnce, AddsGiven}
-use Rattle.cp_skel.specs.Occurring.{prefix_variables, added_variables, terms_of}
+use Rattle.cp_strand.specs.Occurring.{prefix_variables, added_variables, terms_of}
 use Rattle.cp_skel.specs.Ordered.{ordered_by}
 use Rattle.cp_skel.proofs.GivenParts.{has-in, in-has}
 use Rattle.cp_skel.proofs.PrefixVariables.{in-prefix, in-added}

@@ -1,11 +1,11 @@
 -- The variables of a prefix are among those of the whole trace.
 use Rattle.std.proofs.Common.{ℕ, zero, suc, List, [], ◌∷◌, ◌++◌, take, ◌⊎◌, inl, inr}
-use Rattle.cp_model.specs.Lists.{IsIn}
+use Rattle.cp_lists.specs.Lists.{IsIn}
 use Rattle.cp_model.specs.Term.{Variable, Term, variables_of}
 use Rattle.cp_model.specs.Strand.{Event, payload, Role, Protocol, variables_of_trace}
 use Rattle.cp_model.specs.Skeleton.{Skeleton, IsSkeleton}
 use Rattle.cp_model.specs.Problem.{IsDeclared}
-use Rattle.cp_model.proofs.LawLists.{in_append, in_append_left, in_append_right}
+use Rattle.cp_lists.proofs.Members.{in_append, in_append_left, in_append_right}
 use Rattle.cp_skel.specs.DeclaredPrefixes.{HasDeclaredPrefixes}
 
 in-either : (xs ys zs : List Variable) (x : Variable) → IsIn x xs ⊎ IsIn x ys → (IsIn x ys → IsIn x zs) → IsIn x (xs ++ zs)

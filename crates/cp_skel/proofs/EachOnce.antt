@@ -1,42 +1,19 @@
 -- Lists that are gathered so that each item stands once, and the order in which a report lists assumptions.
-use Rattle.std.proofs.Common.{◌≡◌, List, [], ◌∷◌, ◌++◌, Bool, true, false, ◌&&◌, if◌then◌else◌, refl, sym, ap, ◌∙◌, subst, ◌⊎◌, inl, inr, ⊎_elim, append_assoc}
+use Rattle.std.proofs.Common.{◌≡◌, List, [], ◌∷◌, ◌++◌, Bool, true, false, if◌then◌else◌, refl, sym, ap, ◌∙◌, subst, ◌⊎◌, inl, inr, ⊎_elim, append_assoc}
 use Rattle.std.specs.Cmp.{both_ways as same_by}
 use Rattle.std.specs.List.{filter}
-use Rattle.std.proofs.lemmas.Bool.{and_parts, and_from, or_cases, or_left, or_right, both_ways, false_from_ne_true}
+use Rattle.std.proofs.lemmas.Bool.{both_ways, false_from_ne_true}
 use Rattle.std.proofs.lemmas.List.{append-nil}
 use Rattle.std.proofs.lemmas.List.Elements.{filter-append}
-use Rattle.cp_model.specs.Lists.{IsIn, here, there}
-use Rattle.cp_model.specs.Term.{AtomTerm}
-use Rattle.cp_model.specs.Skeleton.{UniqueAt, Assumptions, Skeleton}
-use Rattle.cp_model.specs.Same.{same_atom, same_node}
+use Rattle.cp_lists.specs.Lists.{IsIn, here, there}
+use Rattle.cp_model.specs.Skeleton.{Assumptions, Skeleton}
 use Rattle.cp_model.specs.Given.{has_atom, atoms_onto, has_unique, uniques_onto, given_non, given_penetrator_non, given_uniques, with_given, listed}
-use Rattle.cp_model.proofs.LawLists.{in_append, in_append_left, in_append_right}
-use Rattle.cp_model.proofs.SameTests.{atom_is, same_atom_itself, node_is, is_node}
+use Rattle.cp_lists.proofs.Members.{in_append, in_append_left, in_append_right, into_filter, from_filter}
+use Rattle.cp_model.proofs.Gathered.{IsGathering, onto-append, onto-keeps, onto-takes, onto-only, atoms, uniques}
 use Rattle.cp_skel.specs.Given.{IsEachOnce, AddsOnce, HasEachOnce}
 use Rattle.cp_skel.proofs.Once.{once-append, none-in, only, adds-none, adds-known, adds-one, adds-then}
 
 -- ---- what is kept of a list
-
-in-filter : {A : Type 0} (p : A → Bool) (xs : List A) (v : A) → IsIn v xs → p v ≡ true → IsIn v (filter p xs)
-in-filter p [] v i e = elim i [ ]
-in-filter p (x ∷ xs) v here e = subst (λ b. IsIn x (if b then x ∷ filter p xs else filter p xs)) (sym e) here
-in-filter p (x ∷ xs) v (there i) e = by_test (p x) (in-filter p xs v i e)
-  where
-    by_test : (b : Bool) → IsIn v (filter p xs) → IsIn v (if b then x ∷ filter p xs else filter p xs)
-    by_test true j = there j
-    by_test false j = j
-
-at-head : {A : Type 0} (p : A → Bool) (xs : List A) (x v : A) → p x ≡ true → IsIn v (x ∷ filter p xs) → (IsIn v (filter p xs) → IsIn v xs × (p v ≡ true)) → IsIn v (x ∷ xs) × (p v ≡ true)
-at-head p xs x v e here rest = (here, e)
-at-head p xs x v e (there j) rest = (there (rest j).0, (rest j).1)
-
-by-test : {A : Type 0} (p : A → Bool) (xs : List A) (x v : A) (b : Bool) → p x ≡ b → IsIn v (if b then x ∷ filter p xs else filter p xs) → (IsIn v (filter p xs) → IsIn v xs × (p v ≡ true)) → IsIn v (x ∷ xs) × (p v ≡ true)
-by-test p xs x v true e j rest = at-head p xs x v e j rest
-by-test p xs x v false e j rest = (there (rest j).0, (rest j).1)
-
-filter-in : {A : Type 0} (p : A → Bool) (xs : List A) (v : A) → IsIn v (filter p xs) → IsIn v xs × (p v ≡ true)
-filter-in p [] v i = elim i [ ]
-filter-in p (x ∷ xs) v i = by-test p xs x v (p x) refl i (λ j. filter-in p xs v j)
 
 filter-all : {A : Type 0} (p : A → Bool) (xs : List A) → ((v : A) → IsIn v xs → p v ≡ true) → filter p xs ≡ xs
 filter-all p [] h = refl
@@ -48,46 +25,7 @@ first-or-later y x xs (there i) = inr i
 
 -- ---- gathering
 
--- The one tells whether an item is in a list, and the other puts items behind a list, each that is not there yet.
-pub record IsGathering {A : Type 0} (has : List A → A → Bool) (onto : List A → List A → List A) : Type 0 where
-  pub found : (xs : List A) (v : A) → has xs v ≡ true → IsIn v xs
-  pub finds : (xs : List A) (v : A) → IsIn v xs → has xs v ≡ true
-  pub ends : (before : List A) → onto before [] ≡ before
-  pub goes : (before : List A) (v : A) (vs : List A) → onto before (v ∷ vs) ≡ onto (if has before v then before else before ++ v ∷ []) vs
-
 module _ {A : Type 0} {has : List A → A → Bool} {onto : List A → List A → List A} (g : IsGathering has onto) where
-  pub onto-append : (before xs ys : List A) → onto before (xs ++ ys) ≡ onto (onto before xs) ys
-  onto-append before [] ys = ap (λ b. onto b ys) (sym (g.ends before))
-  onto-append before (x ∷ xs) ys =
-      g.goes before x (xs ++ ys) ∙ onto-append (if has before x then before else before ++ x ∷ []) xs ys ∙ ap (λ b. onto b ys) (sym (g.goes before x xs))
-
-  step-keeps : (before : List A) (x v : A) (b : Bool) → IsIn v before → IsIn v (if b then before else before ++ x ∷ [])
-  step-keeps before x v true i = i
-  step-keeps before x v false i = in_append_left (x ∷ []) i
-
-  pub onto-keeps : (before xs : List A) (v : A) → IsIn v before → IsIn v (onto before xs)
-  onto-keeps before [] v i = subst (IsIn v) (sym (g.ends before)) i
-  onto-keeps before (x ∷ xs) v i = subst (IsIn v) (sym (g.goes before x xs)) (onto-keeps (if has before x then before else before ++ x ∷ []) xs v (step-keeps before x v (has before x) i))
-
-  step-takes : (before : List A) (x : A) (b : Bool) → has before x ≡ b → IsIn x (if b then before else before ++ x ∷ [])
-  step-takes before x true e = g.found before x e
-  step-takes before x false e = in_append_right before here
-
-  pub onto-takes : (before xs : List A) (v : A) → IsIn v xs → IsIn v (onto before xs)
-  onto-takes before [] v i = elim i [ ]
-  onto-takes before (x ∷ xs) v here = subst (IsIn x) (sym (g.goes before x xs)) (onto-keeps (if has before x then before else before ++ x ∷ []) xs x (step-takes before x (has before x) refl))
-  onto-takes before (x ∷ xs) v (there i) = subst (IsIn v) (sym (g.goes before x xs)) (onto-takes (if has before x then before else before ++ x ∷ []) xs v i)
-
-  step-only : (before xs : List A) (x v : A) (b : Bool) → IsIn v (if b then before else before ++ x ∷ []) ⊎ IsIn v xs → IsIn v before ⊎ IsIn v (x ∷ xs)
-  step-only before xs x v true (inl i) = inl i
-  step-only before xs x v false (inl i) = ⊎_elim (λ j. inl j) (λ j. inr (subst (λ y. IsIn y (x ∷ xs)) (sym (only v x j)) here)) (in_append before (x ∷ []) i)
-  step-only before xs x v b (inr i) = inr (there i)
-
-  pub onto-only : (before xs : List A) (v : A) → IsIn v (onto before xs) → IsIn v before ⊎ IsIn v xs
-  onto-only before [] v i = inl (subst (IsIn v) (g.ends before) i)
-  onto-only before (x ∷ xs) v i =
-      step-only before xs x v (has before x) (onto-only (if has before x then before else before ++ x ∷ []) xs v (subst (IsIn v) (g.goes before x xs) i))
-
   pub onto-known : (before xs : List A) → ((v : A) → IsIn v xs → IsIn v before) → onto before xs ≡ before
   onto-known before [] h = g.ends before
   onto-known before (x ∷ xs) h =
@@ -160,9 +98,9 @@ module _ {A : Type 0} {has : List A → A → Bool} {onto : List A → List A �
   known-between : (p : A → Bool) (before acc xs : List A) (x : A) → IsIn x acc → onto before (filter p (acc ++ xs)) ≡ onto before (filter p (acc ++ x ∷ xs))
   known-between p before acc xs x i =
       let all = onto before (filter p acc) in
-      ap (onto before) (filter-append p acc xs) ∙ onto-append before (filter p acc) (filter p xs)
-      ∙ known-first p all xs x (p x) refl (λ e. onto-takes before (filter p acc) x (in-filter p acc x i e))
-      ∙ sym (onto-append before (filter p acc) (filter p (x ∷ xs))) ∙ ap (onto before) (sym (filter-append p acc (x ∷ xs)))
+      ap (onto before) (filter-append p acc xs) ∙ onto-append g before (filter p acc) (filter p xs)
+      ∙ known-first p all xs x (p x) refl (λ e. onto-takes g before (filter p acc) x (into_filter p acc i e))
+      ∙ sym (onto-append g before (filter p acc) (filter p (x ∷ xs))) ∙ ap (onto before) (sym (filter-append p acc (x ∷ xs)))
 
   kept-next : (p : A → Bool) (before acc xs : List A) (x : A) (b : Bool) → has acc x ≡ b → onto before (filter p ((if b then acc else acc ++ x ∷ []) ++ xs)) ≡ onto before (filter p (acc ++ x ∷ xs))
   kept-next p before acc xs x true e = known-between p before acc xs x (g.found acc x e)
@@ -177,17 +115,17 @@ module _ {A : Type 0} {has : List A → A → Bool} {onto : List A → List A �
 
   pub listed-stated : (own given old : List A) → onto [] (filter (has old) (onto own given) ++ old) ≡ onto [] (filter (has old) (own ++ given) ++ old)
   listed-stated own given old =
-      onto-append [] (filter (has old) (onto own given)) old ∙ ap (λ b. onto b old) (kept-onto (has old) [] own given) ∙ sym (onto-append [] (filter (has old) (own ++ given)) old)
+      onto-append g [] (filter (has old) (onto own given)) old ∙ ap (λ b. onto b old) (kept-onto (has old) [] own given) ∙ sym (onto-append g [] (filter (has old) (own ++ given)) old)
 
   listed-in : (stated old : List A) (v : A) → IsIn v (onto [] (filter (has old) stated ++ old)) → IsIn v old
   listed-in stated old v i =
       ⊎_elim (λ j. absurd (none-in j))
-      (λ j. ⊎_elim (λ k. g.found old v (filter-in (has old) stated v k).1) (λ k. k) (in_append (filter (has old) stated) old j))
-      (onto-only [] (filter (has old) stated ++ old) v i)
+      (λ j. ⊎_elim (λ k. g.found old v (from_filter (has old) stated k).1) (λ k. k) (in_append (filter (has old) stated) old j))
+      (onto-only g [] (filter (has old) stated ++ old) v i)
 
   same-each-once : (stated old : List A) → HasEachOnce old (onto [] (filter (has old) stated ++ old))
   same-each-once stated old = record {
-    same = λ v. (listed-in stated old v, λ i. onto-takes [] (filter (has old) stated ++ old) v (in_append_right (filter (has old) stated) i));
+    same = λ v. (listed-in stated old v, λ i. onto-takes g [] (filter (has old) stated ++ old) v (in_append_right (filter (has old) stated) i));
     once = once-onto [] (filter (has old) stated ++ old) tt;
   }
 
@@ -203,21 +141,21 @@ module _ {A : Type 0} {has : List A → A → Bool} {onto : List A → List A �
   onto-twice : (kept old : List A) → onto [] (kept ++ onto [] (kept ++ old)) ≡ onto [] (kept ++ old)
   onto-twice kept old =
       let first = onto [] kept in
-      onto-append [] kept (onto [] (kept ++ old)) ∙ onto-onto first [] (kept ++ old) ∙ onto-append first kept old
-      ∙ ap (λ b. onto b old) (onto-known first kept (λ v i. onto-takes [] kept v i)) ∙ sym (onto-append [] kept old)
+      onto-append g [] kept (onto [] (kept ++ old)) ∙ onto-onto first [] (kept ++ old) ∙ onto-append g first kept old
+      ∙ ap (λ b. onto b old) (onto-known first kept (λ v i. onto-takes g [] kept v i)) ∙ sym (onto-append g [] kept old)
 
   -- What is listed is listed again as it is.
   listed-again : (stated old : List A) → onto [] (filter (has (onto [] (filter (has old) stated ++ old))) stated ++ onto [] (filter (has old) stated ++ old)) ≡ onto [] (filter (has old) stated ++ old)
   listed-again stated old =
       let new = onto [] (filter (has old) stated ++ old) in
-      ap (λ xs. onto [] (xs ++ new)) (λ i. filter (λ v. same-test new old v (listed-in stated old v) (λ j. onto-takes [] (filter (has old) stated ++ old) v (in_append_right (filter (has old) stated) j)) i) stated)
+      ap (λ xs. onto [] (xs ++ new)) (λ i. filter (λ v. same-test new old v (listed-in stated old v) (λ j. onto-takes g [] (filter (has old) stated ++ old) v (in_append_right (filter (has old) stated) j)) i) stated)
       ∙ onto-twice (filter (has old) stated) old
 
   pub listed-loaded : (own given : List A) → IsEachOnce own → onto [] (filter (has (onto own given)) (own ++ given) ++ onto own given) ≡ onto own given
   listed-loaded own given once =
       let old = onto own given in
-      ap (λ ys. onto [] (ys ++ old)) (filter-all (has old) (own ++ given) (λ v i. g.finds old v (⊎_elim (onto-keeps own given v) (onto-takes own given v) (in_append own given i))))
-      ∙ onto-append [] (own ++ given) old ∙ ap (λ b. onto b old) (onto-append [] own given ∙ ap (λ b. onto b given) (onto-new [] own once (λ v i j. none-in j)))
+      ap (λ ys. onto [] (ys ++ old)) (filter-all (has old) (own ++ given) (λ v i. g.finds old v (⊎_elim (onto-keeps g own given v) (onto-takes g own given v) (in_append own given i))))
+      ∙ onto-append g [] (own ++ given) old ∙ ap (λ b. onto b old) (onto-append g [] own given ∙ ap (λ b. onto b given) (onto-new [] own once (λ v i j. none-in j)))
       ∙ onto-known old old (λ v i. i)
 
   -- A loop over what is stated keeps the items that are among the old ones.
@@ -226,7 +164,7 @@ module _ {A : Type 0} {has : List A → A → Bool} {onto : List A → List A �
     taken b e = ap (λ c. onto xs (if c then v ∷ filter (has old) rest else filter (has old) rest)) (sym e) ∙ ap (λ l. onto xs (filter (has old) l)) (sym next) ∙ so-far
 
     pub kept-taken : IsIn v old → ws ≡ onto xs (v ∷ []) → onto ws (filter (has old) rest) ≡ all
-    kept-taken i e = ap (λ l. onto l (filter (has old) rest)) e ∙ sym (onto-append xs (v ∷ []) (filter (has old) rest)) ∙ taken true (g.finds old v i)
+    kept-taken i e = ap (λ l. onto l (filter (has old) rest)) e ∙ sym (onto-append g xs (v ∷ []) (filter (has old) rest)) ∙ taken true (g.finds old v i)
 
     pub kept-left : (IsIn v old → ⊥) → ws ≡ xs → onto ws (filter (has old) rest) ≡ all
     kept-left apart e = ap (λ l. onto l (filter (has old) rest)) e ∙ taken false (is-new old v apart)
@@ -234,46 +172,7 @@ module _ {A : Type 0} {has : List A → A → Bool} {onto : List A → List A �
   pub kept-end : (old stated left xs new : List A) → left ≡ [] → onto xs (filter (has old) left) ≡ onto [] (filter (has old) stated) → new ≡ onto xs old
       → new ≡ onto [] (filter (has old) stated ++ old)
   kept-end old stated left xs new end so-far e =
-      e ∙ ap (λ l. onto l old) (sym (g.ends xs) ∙ ap (λ l. onto xs (filter (has old) l)) (sym end) ∙ so-far) ∙ sym (onto-append [] (filter (has old) stated) old)
-
--- ---- values, and unique values with their origins
-
-atom-found : (xs : List AtomTerm) (v : AtomTerm) → has_atom xs v ≡ true → IsIn v xs
-atom-found [] v e = absurd (cc)
-atom-found (x ∷ xs) v e =
-    ⊎_elim (λ h. subst (λ y. IsIn y (x ∷ xs)) (atom_is x v h) here) (λ h. there (atom-found xs v h)) (or_cases (same_atom x v) (has_atom xs v) e)
-
-finds-atom : (xs : List AtomTerm) (v : AtomTerm) → IsIn v xs → has_atom xs v ≡ true
-finds-atom [] v i = elim i [ ]
-finds-atom (x ∷ xs) v here = or_left (same_atom v v) (has_atom xs v) (same_atom_itself v)
-finds-atom (x ∷ xs) v (there i) = or_right (same_atom x v) (has_atom xs v) (finds-atom xs v i)
-
-pub atoms : IsGathering has_atom atoms_onto
-atoms = record { found = atom-found; finds = finds-atom; ends = λ before. refl; goes = λ before v vs. refl }
-
-unique-is : (u w : UniqueAt) → (same_atom u.value w.value && same_node u.origin w.origin) ≡ true → u ≡ w
-unique-is u w e =
-    let h = and_parts (same_atom u.value w.value) (same_node u.origin w.origin) e in
-    let v : u.value ≡ w.value = atom_is u.value w.value h.0 in
-    let o : u.origin ≡ w.origin = node_is u.origin w.origin h.1 in
-    λ i. record { value = v i; origin = o i }
-
-unique-itself : (u : UniqueAt) → (same_atom u.value u.value && same_node u.origin u.origin) ≡ true
-unique-itself u = and_from (same_atom u.value u.value) (same_node u.origin u.origin) (same_atom_itself u.value) (is_node u.origin u.origin refl)
-
-unique-found : (us : List UniqueAt) (u : UniqueAt) → has_unique us u ≡ true → IsIn u us
-unique-found [] u e = absurd (cc)
-unique-found (w ∷ us) u e =
-    ⊎_elim (λ h. subst (λ y. IsIn y (w ∷ us)) (unique-is w u h) here) (λ h. there (unique-found us u h))
-    (or_cases (same_atom w.value u.value && same_node w.origin u.origin) (has_unique us u) e)
-
-finds-unique : (us : List UniqueAt) (u : UniqueAt) → IsIn u us → has_unique us u ≡ true
-finds-unique [] u i = elim i [ ]
-finds-unique (w ∷ us) u here = or_left (same_atom u.value u.value && same_node u.origin u.origin) (has_unique us u) (unique-itself u)
-finds-unique (w ∷ us) u (there i) = or_right (same_atom w.value u.value && same_node w.origin u.origin) (has_unique us u) (finds-unique us u i)
-
-pub uniques : IsGathering has_unique uniques_onto
-uniques = record { found = unique-found; finds = finds-unique; ends = λ before. refl; goes = λ before u us. refl }
+      e ∙ ap (λ l. onto l old) (sym (g.ends xs) ∙ ap (λ l. onto xs (filter (has old) l)) (sym end) ∙ so-far) ∙ sym (onto-append g [] (filter (has old) stated) old)
 
 -- ---- whole assumptions
 

@@ -1,16 +1,17 @@
 -- What is in the list of a skeleton's events, and the loops that make it.
 use Rattle.std.proofs.Common.{ℕ, zero, suc, ◌+◌, ◌<◌, Bool, true, false, List, [], ◌∷◌, ◌++◌, length, drop, append_assoc, add-one, Option, Some, None, ◌≡◌, ◌⊎◌, inl, inr, refl, sym, subst, ap, ◌∙◌, arith}
 use Rattle.std.specs.Prelude.{option_map}
-use Rattle.cp_model.specs.Lists.{item_at, IsIn, here, there}
+use Rattle.cp_lists.specs.Lists.{item_at, IsIn, here, there}
 use Rattle.cp_model.specs.Term.{Term}
 use Rattle.cp_model.specs.Strand.{Event}
-use Rattle.cp_model.specs.Bundle.{Node, node_at}
+use Rattle.cp_model.specs.Bundle.{node_at}
+use Rattle.cp_model.specs.declared.node.Node.{Node}
 use Rattle.cp_model.specs.Skeleton.{SkeletonStrand, instance, listener, skeleton_trace, skeleton_trace_or_none, term_event_at, Skeleton}
 use Rattle.cp_model.specs.Derivable.{IsOnInstance}
-use Rattle.cp_skel.specs.View.{event_view}
-use Rattle.cp_skel.specs.declared.protocol.Event.{Event as ProgramEvent}
+use Rattle.cp_strand.specs.View.{event_view}
+use Rattle.cp_strand.specs.declared.protocol.Event.{Event as ProgramEvent}
 use Rattle.cp_skel.specs.Events.{Occurrence, is_role_strand, occurrences_on, occurrences_from, events_of}
-use Rattle.cp_skel.proofs.Composing.{in_either, in_front, in_back}
+use Rattle.cp_lists.proofs.Members.{in_append, in_append_left, in_append_right}
 
 -- ---- the loops that list them
 
@@ -106,7 +107,7 @@ later_among s x xs o h = record { place = suc h.place; strand = h.strand; number
 pub stands_among : (s : ℕ) (xs : List SkeletonStrand) (o : Occurrence) → IsIn o (occurrences_from s xs) → StandsAmong s xs o
 stands_among s [] o h = elim h [ ]
 stands_among s (x ∷ xs) o h =
-    elim (in_either (occurrences_on s 0 (is_role_strand x) (skeleton_trace x)) (occurrences_from (suc s) xs) h) [
+    elim (in_append (occurrences_on s 0 (is_role_strand x) (skeleton_trace x)) (occurrences_from (suc s) xs) h) [
       | inl i ↦ first_among s x xs o (stands_on s 0 (is_role_strand x) (skeleton_trace x) o i)
       | inr i ↦ later_among s x xs o (stands_among (suc s) xs o i)
     ]
@@ -120,13 +121,13 @@ among_stands s zero (y ∷ xs) x i e h at =
     let place : 0 + i ≡ i = omega arith in
     subst (λ n. IsIn (record { node = node_at n i; event = e; by_role = is_role_strand x }) (occurrences_from s (y ∷ xs))) (sym number)
     (subst (λ z. IsIn (record { node = node_at s i; event = e; by_role = is_role_strand x }) (occurrences_from s (z ∷ xs))) (sym same)
-    (in_front (occurrences_on s 0 (is_role_strand x) (skeleton_trace x)) (occurrences_from (suc s) xs)
+    (in_append_left (occurrences_from (suc s) xs)
     (subst (λ n. IsIn (record { node = node_at s n; event = e; by_role = is_role_strand x }) (occurrences_on s 0 (is_role_strand x) (skeleton_trace x))) place
     (on_stands s 0 i (is_role_strand x) (skeleton_trace x) e at))))
 among_stands s (suc j) (y ∷ xs) x i e h at =
     let number : s + suc j ≡ suc s + j = omega arith in
     subst (λ n. IsIn (record { node = node_at n i; event = e; by_role = is_role_strand x }) (occurrences_from s (y ∷ xs))) (sym number)
-    (in_back (occurrences_on s 0 (is_role_strand y) (skeleton_trace y)) (occurrences_from (suc s) xs) (among_stands (suc s) j xs x i e h at))
+    (in_append_right (occurrences_on s 0 (is_role_strand y) (skeleton_trace y)) (among_stands (suc s) j xs x i e h at))
 
 -- ---- in a skeleton
 

@@ -1,13 +1,13 @@
 -- What strands give, and what is forgotten with one of them.
 use Rattle.std.proofs.Common.{◌≡◌, ◌≢◌, ◌↔◌, ◌⊎◌, inl, inr, ℕ, zero, suc, ◌+◌, ◌<◌, List, [], ◌∷◌, ◌++◌, map, take, length, get_or, refl, sym, ap, ◌∙◌, subst, Some, None, arith}
 use Rattle.std.proofs.lemmas.List.{map_more}
-use Rattle.cp_model.specs.Lists.{item_at, IsIn}
+use Rattle.cp_lists.specs.Lists.{item_at, IsIn}
 use Rattle.cp_model.specs.Term.{AtomTerm, Substitution}
 use Rattle.cp_model.specs.Strand.{Role}
 use Rattle.cp_model.specs.Skeleton.{SkeletonStrand, instance}
-use Rattle.cp_model.proofs.LawLists.{in_append, in_append_left}
+use Rattle.cp_lists.proofs.Members.{in_append, in_append_left}
 use Rattle.cp_skel.specs.Given.{IsGivenFrom, AddsOnce}
-use Rattle.cp_skel.proofs.Items.{item-there}
+use Rattle.cp_strand.proofs.Items.{item-there}
 use Rattle.cp_skel.specs.Kinds.{IsInFirstAlone}
 use Rattle.cp_skel.specs.Deleting.{LeavesOut, all_left, is_gone, is_left, GivesFrom, IsGivenAt, IsGivenElsewhere, IsForgotten}
 

@@ -3,18 +3,19 @@ use Rattle.std.proofs.Common.{◌≡◌, ℕ, ◌<◌, nat_lt, List, [], ◌∷�
 use Rattle.std.specs.Prelude.{◌==◌, Option, Some, None}
 use Rattle.std.proofs.lemmas.Bool.Decides.{nat_tests}
 use Rattle.std.proofs.lemmas.List.{append-nil}
-use Rattle.cp_model.specs.Lists.{IsIn, here, there}
+use Rattle.cp_lists.specs.Lists.{IsIn, here, there}
 use Rattle.cp_model.specs.Term.{Sort, text_sort, datum_sort, name_sort, skey_sort, akey_sort, Variable, AtomTerm, atom_term, variables_of_atom, Substitution, apply_to_atom}
 use Rattle.cp_model.specs.Strand.{OriginatesInTerms, Role, variables_of_prefix, Applies, AppliesAt}
 use Rattle.cp_model.specs.Bundle.{node_at}
 use Rattle.cp_model.specs.Skeleton.{instance, UniqueAt, Assumptions}
 use Rattle.cp_model.specs.Same.{same_sort, has_variable, has_variables, origin_in}
 use Rattle.cp_model.specs.Given.{atoms_onto, uniques_onto, applying, unique_if_below, applying_uniques}
-use Rattle.cp_model.proofs.LawLists.{in_append, in_append_left, in_append_right}
+use Rattle.cp_lists.proofs.Members.{in_append, in_append_left, in_append_right}
 use Rattle.cp_model.proofs.SameTests.{origin_found, finds_origin}
 use Rattle.cp_skel.specs.Given.{IsGivenFrom, IsGivenNon, IsGivenPenetratorNon, IsOriginFrom, IsGivenUnique, AddsOnce, AddsGiven, with_given_from}
 use Rattle.cp_skel.proofs.Once.{adds-same, none-in, only}
-use Rattle.cp_skel.proofs.EachOnce.{atoms, uniques, adds-onto, first-or-later}
+use Rattle.cp_model.proofs.Gathered.{atoms, uniques}
+use Rattle.cp_skel.proofs.EachOnce.{adds-onto, first-or-later}
 
 -- ---- tests on variables
 

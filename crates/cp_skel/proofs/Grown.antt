@@ -1,12 +1,14 @@
 -- A skeleton with more strands or longer ones, and the same pairs: its order has no cycle either.
 use Rattle.std.proofs.Common.{◌≡◌, ℕ, suc, ◌<◌, refl, ◌∙◌, subst, ◌⊎◌, inl, inr, arith}
 use Rattle.std.specs.Prelude.{Option, Some, None}
-use Rattle.cp_model.specs.Lists.{item_at, IsIn, one_step, more_steps}
+use Rattle.cp_lists.specs.Lists.{item_at, IsIn, one_step, more_steps}
 use Rattle.cp_model.specs.Term.{Term, Substitution}
 use Rattle.cp_model.specs.Strand.{Event, send, Role}
-use Rattle.cp_model.specs.Bundle.{Node, node_at}
-use Rattle.cp_model.specs.Skeleton.{instance, skeleton_trace_or_none, term_event_at, UniqueAt, OrderPair, Skeleton, OrderStep, along_strand_of, along_pair, Before, IsOrderPair, IsOrigin}
-use Rattle.cp_model.proofs.LawLists.{item_before}
+use Rattle.cp_model.specs.Bundle.{node_at}
+use Rattle.cp_model.specs.declared.node.Node.{Node}
+use Rattle.cp_model.specs.Skeleton.{instance, skeleton_trace_or_none, term_event_at, UniqueAt, Skeleton, OrderStep, along_strand_of, along_pair, Before, IsOrderPair, IsOrigin}
+use Rattle.cp_model.specs.declared.node.OrderPair.{OrderPair}
+use Rattle.cp_lists.proofs.Items.{item_before}
 
 -- What was there is there, and the instances are of the same roles.
 pub record Grows (old new : Skeleton) : Type 0 where

@@ -1,8 +1,9 @@
 -- The numbers of strands where one is gone.
 use Rattle.std.proofs.Common.{◌≡◌, ◌≢◌, ℕ, zero, suc, ◌-◌, ◌<◌, ◌≤◌, List, [], ◌∷◌, map, refl, sym, ap, ◌∙◌, arith}
 use Rattle.std.specs.List.{remove}
-use Rattle.cp_model.specs.Lists.{item_at}
-use Rattle.cp_model.specs.Bundle.{Node, node_at}
+use Rattle.cp_lists.specs.Lists.{item_at}
+use Rattle.cp_model.specs.Bundle.{node_at}
+use Rattle.cp_model.specs.declared.node.Node.{Node}
 use Rattle.cp_model.specs.Skeleton.{SkeletonStrand, skeleton_trace_or_none, term_event_at}
 use Rattle.cp_skel.specs.Deleting.{renumbered, node_renumbered}
 

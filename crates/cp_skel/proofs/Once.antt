@@ -1,8 +1,8 @@
 -- Lists that grow by what is missing in them.
 use Rattle.std.proofs.Common.{◌≡◌, List, [], ◌∷◌, ◌++◌, refl, sym, ap, ◌∙◌, subst, ◌⊎◌, inl, inr, append_assoc}
 use Rattle.std.proofs.lemmas.List.{append-nil}
-use Rattle.cp_model.specs.Lists.{IsIn, here, there}
-use Rattle.cp_model.proofs.LawLists.{in_append, in_append_left, in_append_right}
+use Rattle.cp_lists.specs.Lists.{IsIn, here, there}
+use Rattle.cp_lists.proofs.Members.{in_append, in_append_left, in_append_right}
 use Rattle.cp_skel.specs.Given.{IsEachOnce, AddsOnce}
 
 either : {A B C : Type 0} → (A → C) → (B → C) → A ⊎ B → C

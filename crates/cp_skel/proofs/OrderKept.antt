@@ -1,16 +1,17 @@
 -- A skeleton whose pairs are replaced by such as order in the same way, and one with a pair that closes no cycle.
 use Rattle.std.proofs.Common.{◌≡◌, ◌≢◌, ◌↔◌, ◌⊎◌, inl, inr, ℕ, ◌≤◌, List, ◌∷◌, Bool, true, false, refl, sym, ap, subst, arith}
 use Rattle.std.specs.Prelude.{Some}
-use Rattle.cp_model.specs.Lists.{IsIn, here, there, one_step, more_steps}
+use Rattle.cp_lists.specs.Lists.{IsIn, here, there, one_step, more_steps}
 use Rattle.cp_model.specs.Strand.{send, recv}
-use Rattle.cp_model.specs.Bundle.{Node}
-use Rattle.cp_model.specs.Skeleton.{term_event_at, IsNodeOf, OrderPair, Skeleton, OrderStep, along_strand_of, along_pair, Before, IsOrderPair}
+use Rattle.cp_model.specs.declared.node.Node.{Node}
+use Rattle.cp_model.specs.Skeleton.{term_event_at, IsNodeOf, Skeleton, OrderStep, along_strand_of, along_pair, Before, IsOrderPair}
+use Rattle.cp_model.specs.declared.node.OrderPair.{OrderPair}
 use Rattle.cp_model.specs.Order.{IsAtOrAfter, LeadsTo, on_strand}
-use Rattle.cp_model.proofs.LawLists.{steps_append}
+use Rattle.cp_lists.proofs.Reached.{steps_append}
 use Rattle.cp_model.proofs.LawOrder.{before_by_pairs}
-use Rattle.cp_skel.specs.Closed.{IsComposedOf, KeepsOrder}
+use Rattle.cp_order.specs.Closed.{IsComposedOf, KeepsOrder}
 use Rattle.cp_skel.specs.Ordered.{IsOrdered, ordered_by}
-use Rattle.cp_skel.proofs.AlongPairs.{pair_led}
+use Rattle.cp_order.proofs.AlongPairs.{pair_led}
 
 -- ---- questions to an order
 

@@ -1,22 +1,25 @@
 -- The order of a skeleton without one of its strands is that of the others.
-use Rattle.std.proofs.Common.{◌≡◌, ◌≢◌, ◌↔◌, ◌⊎◌, inl, inr, ℕ, suc, ◌<◌, ◌≤◌, List, [], Some, Bool, true, false, refl, sym, ap, ◌∙◌, subst, arith}
+use Rattle.std.proofs.Common.{◌≡◌, ◌≢◌, ◌↔◌, ◌⊎◌, inl, inr, ℕ, suc, ◌<◌, ◌≤◌, List, Some, Bool, true, false, refl, sym, ap, ◌∙◌, subst, arith}
 use Rattle.std.specs.Prelude.{◌==◌, nat_lt}
 use Rattle.std.specs.List.{remove}
 use Rattle.std.proofs.lemmas.Bool.Decides.{nat_tests}
-use Rattle.cp_model.specs.Lists.{IsIn, one_step, more_steps}
-use Rattle.cp_model.specs.Bundle.{Node, node_at}
+use Rattle.cp_lists.specs.Lists.{IsIn, one_step, more_steps}
+use Rattle.cp_model.specs.Bundle.{node_at}
+use Rattle.cp_model.specs.declared.node.Node.{Node}
 use Rattle.cp_model.specs.Term.{Term}
 use Rattle.cp_model.specs.Strand.{send, recv}
-use Rattle.cp_model.specs.Skeleton.{term_event_at, IsNodeOf, OrderPair, Skeleton, OrderStep, along_strand_of, along_pair, Before, IsOrderPair}
+use Rattle.cp_model.specs.Skeleton.{term_event_at, IsNodeOf, Skeleton, OrderStep, along_strand_of, along_pair, Before, IsOrderPair}
+use Rattle.cp_model.specs.declared.node.OrderPair.{OrderPair}
 use Rattle.cp_model.specs.Order.{IsAtOrAfter, LeadsTo, on_strand, over_pair}
-use Rattle.cp_model.proofs.LawLists.{in_append, in_append_left, in_append_right, steps_append}
+use Rattle.cp_lists.proofs.Members.{in_append, in_append_left, in_append_right}
+use Rattle.cp_lists.proofs.Reached.{steps_append}
 use Rattle.cp_model.proofs.LawOrder.{before_leads, leads_before}
-use Rattle.cp_skel.specs.Closed.{KeepsOrder}
+use Rattle.cp_order.specs.Closed.{KeepsOrder}
 use Rattle.cp_skel.specs.Ordered.{IsOrdered, ordered_by}
 use Rattle.cp_skel.specs.Deleting.{node_renumbered, renumbered, pair_renumbered, IsPairOn, KeepsOrderOfOthers}
 use Rattle.cp_skel.specs.Bridging.{bridge, bridges, IsWithoutStrand}
 use Rattle.cp_skel.proofs.Numbering.{node_restored, node_again, renumbered_apart, event_without, event_kept}
-use Rattle.cp_skel.proofs.AlongPairs.{after_leads}
+use Rattle.cp_model.proofs.Reaching.{after_leads}
 use Rattle.cp_skel.proofs.OrderKept.{kept_ordered, kept_before}
 use Rattle.cp_skel.proofs.PairsWithout.{in_left, was_left, in_bridges, of_bridges, IsBridge, WasLeft, through_says, says_through}
 

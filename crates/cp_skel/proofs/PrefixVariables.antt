@@ -2,12 +2,12 @@
 use Rattle.std.proofs.Common.{◌≡◌, ℕ, zero, suc, ◌+◌, List, [], ◌∷◌, refl, sym, ap, ◌∙◌, subst, arith, ◌⊎◌, inl, inr, ◌↔◌, Bool, true, false, ◌&&◌, not, cond}
 use Rattle.std.specs.Prelude.{Some}
 use Rattle.std.specs.List.{filter}
-use Rattle.cp_model.specs.Lists.{item_at, IsIn, here, there}
+use Rattle.cp_lists.specs.Lists.{item_at, IsIn, here, there}
 use Rattle.cp_model.specs.Term.{Variable}
 use Rattle.cp_model.specs.Strand.{Declaration, Role, variables_of_prefix}
 use Rattle.cp_model.specs.Problem.{declared_sort, IsDeclared}
 use Rattle.cp_model.specs.Same.{has_variable}
-use Rattle.cp_skel.specs.Occurring.{declared_variables, prefix_variables, is_added, added_variables}
+use Rattle.cp_strand.specs.Occurring.{declared_variables, prefix_variables, is_added, added_variables}
 use Rattle.cp_skel.proofs.GivenParts.{has-in, in-has}
 
 -- ---- filters

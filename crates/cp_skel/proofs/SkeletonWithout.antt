@@ -1,7 +1,7 @@
 -- A skeleton over a protocol stays one without one of its strands.
-use Rattle.std.proofs.Common.{◌≡◌, ◌≢◌, ℕ, Some, refl, sym, ap, ◌∙◌, subst}
+use Rattle.std.proofs.Common.{◌≡◌, ◌≢◌, ℕ, List, Some, refl, sym, ap, ◌∙◌, subst}
 use Rattle.std.specs.List.{remove}
-use Rattle.cp_model.specs.Lists.{item_at, IsIn}
+use Rattle.cp_lists.specs.Lists.{item_at, IsIn}
 use Rattle.cp_model.specs.Term.{AtomTerm, Substitution, apply_to_atom}
 use Rattle.cp_model.specs.Strand.{Role, Protocol, Applies, AppliesAt}
 use Rattle.cp_model.specs.Bundle.{node_at}
@@ -39,32 +39,26 @@ module _ (protocol : Protocol) (d : ℕ) (old new : Skeleton) (was : IsSkeleton 
     gave : GivesAssumptions old (restored d s) role height terms
     gave = was.given (restored d s) role height terms (strand_was s role height terms here)
 
+    elsewhere : (stated : Role → List AtomTerm) (v : AtomTerm) → IsIn v (stated role) → Applies role height v → IsGivenElsewhere stated old.strands d (apply_to_atom terms v)
+    elsewhere stated v m a = record {
+      number = restored d s;
+      other = restored_other d s;
+      gives = record {
+        strand = instance role height terms;
+        there_is = strand_was s role height terms here;
+        gives = record { role = role; height = height; terms = terms; is_instance = refl; given = record { atom = v; listed = m; applies = a; same = refl } };
+      };
+    }
+
     non : (v : AtomTerm) → IsIn v role.non_originating → Applies role height v → IsIn (apply_to_atom terms v) new.assumptions.non_originating
     non v m a =
-        let elsewhere : IsGivenElsewhere (λ r. r.non_originating) old.strands d (apply_to_atom terms v) = record {
-          number = restored d s;
-          other = restored_other d s;
-          gives = record {
-            strand = instance role height terms;
-            there_is = strand_was s role height terms here;
-            gives = record { role = role; height = height; terms = terms; is_instance = refl; given = record { atom = v; listed = m; applies = a; same = refl } };
-          };
-        } in
-        in_left (IsForgottenNon old d) as_it_is old.assumptions.non_originating new.assumptions.non_originating (apply_to_atom terms v) kept.non (gave.non v m a) (λ f. f.alone elsewhere)
+        in_left (IsForgottenNon old d) as_it_is old.assumptions.non_originating new.assumptions.non_originating (apply_to_atom terms v) kept.non (gave.non v m a)
+        (λ f. f.alone (elsewhere (λ r. r.non_originating) v m a))
 
     penetrator_non : (v : AtomTerm) → IsIn v role.penetrator_non_originating → Applies role height v → IsIn (apply_to_atom terms v) new.assumptions.penetrator_non_originating
     penetrator_non v m a =
-        let elsewhere : IsGivenElsewhere (λ r. r.penetrator_non_originating) old.strands d (apply_to_atom terms v) = record {
-          number = restored d s;
-          other = restored_other d s;
-          gives = record {
-            strand = instance role height terms;
-            there_is = strand_was s role height terms here;
-            gives = record { role = role; height = height; terms = terms; is_instance = refl; given = record { atom = v; listed = m; applies = a; same = refl } };
-          };
-        } in
         in_left (IsForgottenPenetratorNon old d) as_it_is old.assumptions.penetrator_non_originating new.assumptions.penetrator_non_originating (apply_to_atom terms v) kept.penetrator_non
-        (gave.penetrator_non v m a) (λ f. f.alone elsewhere)
+        (gave.penetrator_non v m a) (λ f. f.alone (elsewhere (λ r. r.penetrator_non_originating) v m a))
 
     unique : (v : AtomTerm) (i : ℕ) → IsIn v role.uniquely_originating → AppliesAt role height v i →
         IsIn (record { value = apply_to_atom terms v; origin = node_at s i }) new.assumptions.uniquely_originating

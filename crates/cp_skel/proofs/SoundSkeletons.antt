@@ -2,26 +2,29 @@
 use Rattle.std.proofs.Common.{◌≡◌, ℕ, List, [], ◌∷◌, ◌++◌, refl, sym, ap, subst}
 use Rattle.std.specs.Prelude.{Some, Result, Ok, Err, OnOk, OnErr}
 use Rattle.std.specs.List.{remove}
-use Rattle.cp_model.specs.Lists.{item_at, IsIn, here, there}
+use Rattle.cp_lists.specs.Lists.{item_at, IsIn, here, there}
 use Rattle.cp_model.specs.Term.{Term, Substitution}
 use Rattle.cp_model.specs.Strand.{Role, Protocol, IsHeight}
-use Rattle.cp_model.specs.Skeleton.{SkeletonStrand, instance, listener, UniqueAt, OrderPair, Skeleton, Before, IsOrderPair, Assumptions, FromProblem, IsOrigin, GivesAssumptions, IsSkeleton}
+use Rattle.cp_model.specs.Skeleton.{SkeletonStrand, instance, listener, UniqueAt, Skeleton, Before, IsOrderPair, Assumptions, FromProblem, IsOrigin, GivesAssumptions, IsSkeleton}
+use Rattle.cp_model.specs.declared.node.Node.{Node}
+use Rattle.cp_model.specs.declared.node.OrderPair.{OrderPair}
 use Rattle.cp_model.specs.Given.{listed}
-use Rattle.cp_skel.specs.Changing.{AddsListener, AddsStrand, CanExtend, Extends}
-use Rattle.cp_skel.specs.Closed.{KeepsOrder}
-use Rattle.cp_skel.specs.Data.{StrandData, SkeletonData, skeleton_of}
+use Rattle.cp_skel.specs.Changing.{AddsListener, AddsStrand, CanExtend, Extends, IsClosedPrefix}
+use Rattle.cp_order.specs.Closed.{KeepsOrder}
+use Rattle.cp_strand.specs.Data.{StrandData}
+use Rattle.cp_skel.specs.Data.{SkeletonData, skeleton_of}
 use Rattle.cp_skel.specs.View.{skeleton_view}
 use Rattle.cp_term.specs.Table.{Declared}
-use Rattle.cp_skel.specs.Deleting.{ForgetsAssumptions}
+use Rattle.cp_skel.specs.Deleting.{ForgetsAssumptions, KeepsFromProblem, KeepsOrderOfOthers}
 use Rattle.cp_skel.specs.Ordered.{IsOrdered, ordered_by}
-use Rattle.cp_skel.specs.Changing.{IsClosedPrefix}
 use Rattle.cp_skel.specs.DeclaredPrefixes.{HasDeclaredPrefixes}
 use Rattle.cp_skel.specs.Sound.{DeclaresItsVariables, IsSound}
 use Rattle.cp_skel.proofs.DeclaredRoles.{in-trace, declared_prefixes}
-use Rattle.cp_skel.proofs.Carrying.{ordered_is_skeleton}
+use Rattle.cp_skel.proofs.Carrying.{sound_on, listener_says_more, strand_says_more, extended_says_more, extension_fits, reordered_says_more, before_too, before_wider, ordered_is_skeleton}
+use Rattle.cp_skel.proofs.FromProblemWithout.{in_range_without, assumed_without, ordered_without}
 use Rattle.cp_skel.proofs.Grown.{Grows, pairs-stay, origin-stays, cycles-stay-out}
 use Rattle.cp_skel.proofs.EachOnce.{listed-non, listed-penetrator-non, listed-unique}
-use Rattle.cp_skel.proofs.OrderKept.{more_ordered, kept_ordered}
+use Rattle.cp_skel.proofs.OrderKept.{more_ordered, kept_ordered, kept_before}
 use Rattle.cp_skel.proofs.SkeletonWithout.{skeleton_kept}
 use Rattle.cp_skel.proofs.StaySkeletons.{listener-stays-skeleton, strand-stays-skeleton, extended-stays-skeleton}
 
@@ -46,7 +49,7 @@ pub sound_longer : (k : Skeleton) (s : ℕ) (role : Role) (before height : ℕ) 
 sound_longer k s role before height terms is at x i = is.declared role (is.skeleton.of_role s role before terms at) x (in-trace height role.trace x i)
 
 pub listener_sound : (t : Term) (old new : Skeleton) → IsSound old → AddsListener t old new → IsSound new
-listener_sound t old new s a = record { protocol = s.protocol; declared = s.declared; skeleton = listener-stays-skeleton s.protocol t old new s.skeleton a }
+listener_sound t old new s a = sound_on old new (listener_says_more t old new a) s.protocol s.declared (listener-stays-skeleton s.protocol t old new s.skeleton a) s
 
 pub with_listener_sound : (k : Skeleton) (t : Term) (strands : List SkeletonStrand) → strands ≡ k.strands ++ listener t ∷ [] → IsSound k → IsSound (record k { strands = strands })
 with_listener_sound k t strands behind s = listener_sound t k (record k { strands = strands }) s (ap (λ ss. record k { strands = ss }) behind)
@@ -70,21 +73,32 @@ declared_with role protocol own others r here = own
 declared_with role protocol own others r (there i) = others r i
 
 pub strand_sound : (role : Role) (height : ℕ) (values : List Term) (old new : Skeleton) → IsHeight role height → DeclaresItsVariables role → IsSound old → AddsStrand role height values old new → IsSound new
-strand_sound role height values old new reached own s a = record {
-  protocol = with_role role s.protocol;
-  declared = declared_with role s.protocol own s.declared;
-  skeleton = strand-stays-skeleton (with_role role s.protocol) role height values old new here reached (over_more role s.protocol old s.skeleton) a;
-}
+strand_sound role height values old new reached own s a =
+    sound_on old new (strand_says_more role height values old new a) (with_role role s.protocol) (declared_with role s.protocol own s.declared)
+    (strand-stays-skeleton (with_role role s.protocol) role height values old new here reached (over_more role s.protocol old s.skeleton) a) s
 
 pub extended_sound : (s height : ℕ) (values : List Term) (old new : Skeleton) → CanExtend old s height values → IsSound old → Extends s height values old new → IsSound new
-extended_sound s height values old new can is e = record { protocol = is.protocol; declared = is.declared; skeleton = extended-stays-skeleton is.protocol s height values old new can is.skeleton e }
+extended_sound s height values old new can is e =
+    sound_on old new (extended_says_more s height values old new e (extension_fits s height values old new e can)) is.protocol is.declared
+    (extended-stays-skeleton is.protocol s height values old new can is.skeleton e) is
 
-pub deleted_sound : (d : ℕ) (old new : Skeleton) → IsSound old → new.strands ≡ remove old.strands d → ForgetsAssumptions d old new.assumptions → IsOrdered new → IsSound new
-deleted_sound d old new s strands forgets ordered = record { protocol = s.protocol; declared = s.declared; skeleton = skeleton_kept s.protocol d old new s.skeleton strands forgets ordered }
+-- Without a strand to which no strand of the problem goes.
+pub deleted_sound : (d : ℕ) (old new : Skeleton) → IsSound old → (IsIn d old.from_problem.strands → ⊥) → new.strands ≡ remove old.strands d → ForgetsAssumptions d old new.assumptions →
+    KeepsFromProblem d old.from_problem new.from_problem → IsOrdered new → KeepsOrderOfOthers d old new → IsSound new
+deleted_sound d old new s no_image strands forgets from ordered others = record {
+  protocol = s.protocol;
+  declared = s.declared;
+  skeleton = skeleton_kept s.protocol d old new s.skeleton strands forgets ordered;
+  in_range = in_range_without d old new from strands no_image s.in_range;
+  assumed = assumed_without d old new from forgets s.assumed;
+  ordered = ordered_without d old new from others s.ordered;
+}
 
--- With other pairs, where these are an order.
-pub reordered_sound : (k : Skeleton) (pairs : List OrderPair) → IsSound k → IsOrdered (ordered_by k pairs) → IsSound (ordered_by k pairs)
-reordered_sound k pairs s ordered = record { protocol = s.protocol; declared = s.declared; skeleton = ordered_is_skeleton s.protocol k s.skeleton pairs ordered }
+-- With other pairs, where these are an order in which what was before a node still is.
+pub reordered_sound : (k : Skeleton) (pairs : List OrderPair) → IsSound k → IsOrdered (ordered_by k pairs) → ((x y : Node) → Before k x y → Before (ordered_by k pairs) x y) → IsSound (ordered_by k pairs)
+reordered_sound k pairs s ordered before =
+    sound_on k (ordered_by k pairs) (reordered_says_more k (ordered_by k pairs) (record { strands = refl; assumptions = refl; from_problem = refl }) before) s.protocol s.declared
+    (ordered_is_skeleton s.protocol k s.skeleton pairs ordered) s
 
 -- ---- with its assumptions in the order of the report
 
@@ -123,12 +137,19 @@ listed_sound k s =
         origins = λ u i. listed_origin k ordered u (is.origins u (((listed-unique k).same u).0 i));
         given = λ n role height terms at. listed_gives k ordered n role height terms (is.given n role height terms at);
       };
+      in_range = s.in_range;
+      assumed = record {
+        non = λ v i. ((listed-non k).same _).1 (s.assumed.non v i);
+        penetrator_non = λ v i. ((listed-penetrator-non k).same _).1 (s.assumed.penetrator_non v i);
+        unique = λ u i. ((listed-unique k).same _).1 (s.assumed.unique u i);
+      };
+      ordered = λ p i. before_too k (with_listed k) (same_strands k) (s.ordered p i);
     }
 
 -- ---- with an order that was closed, or where that failed
 
 pub closed_sound : {E : Type 0} (k : Skeleton) (new : List OrderPair) (result : Result (Unit {0}) E) → OnOk result (KeepsOrder k.pairs new) → OnErr result (new ≡ k.pairs) → IsSound k → IsSound (ordered_by k new)
-closed_sound k new (Ok u) keeps same s = reordered_sound k new s (kept_ordered k (sound_ordered k s) new keeps)
+closed_sound k new (Ok u) keeps same s = reordered_sound k new s (kept_ordered k (sound_ordered k s) new keeps) (λ x y. (kept_before k (sound_ordered k s) new keeps x y).1)
 closed_sound k new (Err e) keeps same s = subst (λ ps. IsSound (ordered_by k ps)) (sym same) s
 
 -- with a pair more, or pairs that order as that does
@@ -136,3 +157,4 @@ pub added_sound : (k : Skeleton) (p : OrderPair) (new : List OrderPair) → IsOr
 added_sound k p new pair free keeps s =
     let more : IsOrdered (ordered_by k (p ∷ k.pairs)) = more_ordered k p (sound_ordered k s) pair free in
     reordered_sound k new s (kept_ordered (ordered_by k (p ∷ k.pairs)) more new keeps)
+    (λ x y b. (kept_before (ordered_by k (p ∷ k.pairs)) more new keeps x y).1 (before_wider k (p ∷ k.pairs) (λ q i. there i) b))

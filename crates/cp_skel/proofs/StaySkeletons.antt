@@ -1,15 +1,19 @@
 -- Skeletons over a protocol stay so, with a strand more and with a longer strand.
 use Rattle.std.proofs.Common.{◌≡◌, ◌≢◌, ℕ, zero, suc, ◌<◌, ◌≤◌, List, [], ◌∷◌, ◌++◌, length, refl, sym, ap, ◌∙◌, subst, ◌⊎◌, inl, inr, arith}
 use Rattle.std.specs.Prelude.{Option, Some, None}
-use Rattle.cp_model.specs.Lists.{item_at, IsIn}
+use Rattle.cp_lists.specs.Lists.{item_at, IsIn}
 use Rattle.cp_model.specs.Term.{Term, Substitution, apply_to, apply_to_atom}
 use Rattle.cp_model.specs.Strand.{Event, send, event_map, Role, Protocol, prefix_of, IsHeight}
-use Rattle.cp_model.specs.Bundle.{Node, node_at}
+use Rattle.cp_model.specs.Bundle.{node_at}
+use Rattle.cp_model.specs.declared.node.Node.{Node}
 use Rattle.cp_model.specs.Skeleton.{SkeletonStrand, instance, listener, skeleton_trace, skeleton_trace_or_none, term_event_at, UniqueAt, Skeleton, IsOrigin, GivesAssumptions, IsSkeleton}
-use Rattle.cp_model.proofs.LawLists.{in_append, in_append_left, item_of_take, take_of_item, item_of_map, map_of_item}
+use Rattle.cp_lists.proofs.Members.{in_append, in_append_left}
+use Rattle.cp_lists.proofs.Items.{item_of_take, take_of_item, item_of_map, map_of_item}
+use Rattle.cp_model.proofs.LawPrefixes.{in_trace}
+use Rattle.cp_model.proofs.LawTerms.{carried_under}
+use Rattle.cp_model.proofs.LawAgreement.{agree_event}
 use Rattle.cp_skel.specs.Given.{IsGivenUnique, AddsOnce, AddsGiven}
 use Rattle.cp_skel.specs.Changing.{AddsListener, AddsStrand, CanExtend, Extends}
-use Rattle.cp_skel.proofs.Agreeing.{carried_under, in_event, agree_event}
 use Rattle.cp_skel.proofs.Grown.{Grows, pairs-stay, origin-stays, cycles-stay-out}
 
 -- ---- what each strand must be
@@ -175,7 +179,7 @@ module _ (s height : ℕ) (values : List Term) (old new : Skeleton) (higher : (b
       let le : x.before ≤ height = higher x.before x.role x.old_terms x.was_instance in
       let lt : i < x.before = below.0 in
       let there : item_at (prefix_of x.role height) i ≡ Some d = take_of_item height x.role.trace i d (omega (arith, le, lt)) below.1 in
-      let agree = agree_event x.old_terms x.terms d (λ y p. x.keeps y (in_event (prefix_of x.role x.before) i d y r.1 p)) in
+      let agree = agree_event x.old_terms x.terms d (λ y p. x.keeps y (in_trace (prefix_of x.role x.before) i d y r.1 p)) in
       map_of_item (event_map (apply_to x.terms)) (prefix_of x.role height) i d there ∙ ap Some (sym agree ∙ r.2)
 
   events-at : (n : Node) (e : Event Term) → (n.strand ≡ s) ⊎ (n.strand ≢ s) → term_event_at old.strands n ≡ Some e → term_event_at new.strands n ≡ Some e

@@ -5,37 +5,18 @@ use Rattle.std.proofs.lemmas.List.{append-nil}
 use Rattle.cp_model.specs.Term.{AtomTerm, atom_term, variables_of_atom, Substitution, apply_to_atom}
 use Rattle.cp_model.specs.Strand.{Role, OriginatesInTerms, variables_of_prefix}
 use Rattle.cp_model.specs.Bundle.{node_at}
+use Rattle.cp_model.specs.Homomorphism.{substitution_by}
 use Rattle.cp_model.specs.Skeleton.{SkeletonStrand, instance, listener, UniqueAt, Assumptions}
 use Rattle.cp_model.specs.Same.{has_variables, origin_in}
 use Rattle.cp_model.specs.Given.{atoms_onto, uniques_onto, applying, unique_if_below, applying_uniques, given_non, given_penetrator_non, given_uniques}
 use Rattle.cp_model.proofs.SameTests.{origin_found, finds_origin}
 use Rattle.cp_skel.specs.Given.{with_given_from}
-use Rattle.cp_skel.specs.View.{strand_view}
-use Rattle.cp_skel.specs.Data.{StrandData}
-use Rattle.cp_skel.proofs.Items.{item-drop}
-use Rattle.cp_skel.proofs.EachOnce.{atoms, uniques, onto-append}
+use Rattle.cp_strand.specs.View.{strand_view}
+use Rattle.cp_strand.specs.Data.{InstanceData, StrandData}
+use Rattle.cp_strand.proofs.Items.{item-drop}
+use Rattle.cp_model.proofs.Gathered.{onto-append, atoms, uniques}
 
--- ---- the atoms of a role that apply
-
-module _ (role : Role) (height : ℕ) (terms : Substitution) (vs : List AtomTerm) (n : ℕ) (us ws all : List AtomTerm)
-    (v : AtomTerm) (lt : n < length vs) (is : v ≡ get_or vs n v) (h : atoms_onto us (applying role height terms (drop n vs)) ≡ all) where
-  whole : (b : Bool) → b ≡ has_variables (variables_of_prefix role height) (variables_of_atom v) → atoms_onto us (applying role height terms (drop n vs))
-      ≡ atoms_onto us (if b then apply_to_atom terms v ∷ applying role height terms (drop (n + 1) vs) else applying role height terms (drop (n + 1) vs))
-  whole b e =
-      ap (λ ls. atoms_onto us (applying role height terms ls)) (item-drop vs n v lt is)
-      ∙ ap (λ c. atoms_onto us (if c then apply_to_atom terms v ∷ applying role height terms (drop (n + 1) vs) else applying role height terms (drop (n + 1) vs))) (sym e)
-
-  pub atom-applies : true ≡ has_variables (variables_of_prefix role height) (variables_of_atom v) → ws ≡ atoms_onto us (apply_to_atom terms v ∷ [])
-      → atoms_onto ws (applying role height terms (drop (n + 1) vs)) ≡ all
-  atom-applies e g =
-      ap (λ xs. atoms_onto xs (applying role height terms (drop (n + 1) vs))) g
-      ∙ sym (onto-append atoms us (apply_to_atom terms v ∷ []) (applying role height terms (drop (n + 1) vs))) ∙ sym (whole true e) ∙ h
-
-  pub atom-left : false ≡ has_variables (variables_of_prefix role height) (variables_of_atom v) → ws ≡ us
-      → atoms_onto ws (applying role height terms (drop (n + 1) vs)) ≡ all
-  atom-left e g = ap (λ xs. atoms_onto xs (applying role height terms (drop (n + 1) vs))) g ∙ sym (whole false e) ∙ h
-
--- ---- those that originate
+-- ---- where the atoms of roles originate
 
 no-place : (role : Role) (v : AtomTerm) → ((i : ℕ) → OriginatesInTerms role.trace (atom_term v) i → ⊥) → origin_in role.trace (atom_term v) ≡ None
 no-place role v none = by_place (origin_in role.trace (atom_term v)) refl
@@ -50,35 +31,67 @@ at-height i height le = grind (arith, nat_tests)
 under-height : (i height : ℕ) → i < height → nat_lt i height ≡ true
 under-height i height lt = grind (arith, nat_tests)
 
-module _ (role : Role) (height : ℕ) (terms : Substitution) (s : ℕ) (vs : List AtomTerm) (n : ℕ) (us all : List UniqueAt)
-    (v : AtomTerm) (lt : n < length vs) (is : v ≡ get_or vs n v) (h : uniques_onto us (applying_uniques role height terms s (drop n vs)) ≡ all) where
-  abbrev rest : List UniqueAt
-  rest = applying_uniques role height terms s (drop (n + 1) vs)
+-- ---- what the role of an instance gives it
 
-  given-here : (o : Option ℕ) → origin_in role.trace (atom_term v) ≡ o → uniques_onto us (unique_if_below height s (apply_to_atom terms v) o ++ rest) ≡ all
-  given-here o e =
-      ap (λ p. uniques_onto us (unique_if_below height s (apply_to_atom terms v) p ++ rest)) (sym e)
-      ∙ sym (ap (λ ls. uniques_onto us (applying_uniques role height terms s ls)) (item-drop vs n v lt is)) ∙ h
+module _ (k : InstanceData) where
+  abbrev role : Role
+  role = k.role
 
-  pub none-originates : ((i : ℕ) → OriginatesInTerms role.trace (atom_term v) i → ⊥) → uniques_onto us (applying_uniques role height terms s (drop (n + 1) vs)) ≡ all
-  none-originates none = given-here None (no-place role v none)
+  abbrev height : ℕ
+  height = k.height
 
-  below-or-not : (i : ℕ) (b : Bool) → nat_lt i height ≡ b → OriginatesInTerms role.trace (atom_term v) i
-      → uniques_onto us ((if b then record { value = apply_to_atom terms v; origin = node_at s i } ∷ [] else []) ++ rest) ≡ all
-  below-or-not i b e o =
-      ap (λ c. uniques_onto us ((if c then record { value = apply_to_atom terms v; origin = node_at s i } ∷ [] else []) ++ rest)) (sym e)
-      ∙ given-here (Some i) (finds_origin role.trace (atom_term v) i o)
+  abbrev terms : Substitution
+  terms = substitution_by k.values
 
-  pub late-originates : (i : ℕ) → OriginatesInTerms role.trace (atom_term v) i → height ≤ i → uniques_onto us (applying_uniques role height terms s (drop (n + 1) vs)) ≡ all
-  late-originates i o le = below-or-not i false (at-height i height le) o
+  -- Its atoms that apply.
+  module _ (vs : List AtomTerm) (n : ℕ) (us ws all : List AtomTerm)
+      (v : AtomTerm) (lt : n < length vs) (is : v ≡ get_or vs n v) (h : atoms_onto us (applying role height terms (drop n vs)) ≡ all) where
+    whole : (b : Bool) → b ≡ has_variables (variables_of_prefix role height) (variables_of_atom v) → atoms_onto us (applying role height terms (drop n vs))
+        ≡ atoms_onto us (if b then apply_to_atom terms v ∷ applying role height terms (drop (n + 1) vs) else applying role height terms (drop (n + 1) vs))
+    whole b e =
+        ap (λ ls. atoms_onto us (applying role height terms ls)) (item-drop vs n v lt is)
+        ∙ ap (λ c. atoms_onto us (if c then apply_to_atom terms v ∷ applying role height terms (drop (n + 1) vs) else applying role height terms (drop (n + 1) vs))) (sym e)
 
-  pub one-originates : (i : ℕ) → OriginatesInTerms role.trace (atom_term v) i → i < height → (value : AtomTerm) → value ≡ apply_to_atom terms v
-      → (ws : List UniqueAt) → ws ≡ uniques_onto us (record { value = value; origin = node_at s i } ∷ [])
-      → uniques_onto ws (applying_uniques role height terms s (drop (n + 1) vs)) ≡ all
-  one-originates i o below value e ws g =
-      ap (λ xs. uniques_onto xs rest) (g ∙ ap (λ w. uniques_onto us (record { value = w; origin = node_at s i } ∷ [])) e)
-      ∙ sym (onto-append uniques us (record { value = apply_to_atom terms v; origin = node_at s i } ∷ []) rest)
-      ∙ below-or-not i true (under-height i height below) o
+    pub atom-applies : true ≡ has_variables (variables_of_prefix role height) (variables_of_atom v) → ws ≡ atoms_onto us (apply_to_atom terms v ∷ [])
+        → atoms_onto ws (applying role height terms (drop (n + 1) vs)) ≡ all
+    atom-applies e g =
+        ap (λ xs. atoms_onto xs (applying role height terms (drop (n + 1) vs))) g
+        ∙ sym (onto-append atoms us (apply_to_atom terms v ∷ []) (applying role height terms (drop (n + 1) vs))) ∙ sym (whole true e) ∙ h
+
+    pub atom-left : false ≡ has_variables (variables_of_prefix role height) (variables_of_atom v) → ws ≡ us
+        → atoms_onto ws (applying role height terms (drop (n + 1) vs)) ≡ all
+    atom-left e g = ap (λ xs. atoms_onto xs (applying role height terms (drop (n + 1) vs))) g ∙ sym (whole false e) ∙ h
+
+  -- Those that originate.
+  module _ (s : ℕ) (vs : List AtomTerm) (n : ℕ) (us all : List UniqueAt)
+      (v : AtomTerm) (lt : n < length vs) (is : v ≡ get_or vs n v) (h : uniques_onto us (applying_uniques role height terms s (drop n vs)) ≡ all) where
+    abbrev rest : List UniqueAt
+    rest = applying_uniques role height terms s (drop (n + 1) vs)
+
+    given-here : (o : Option ℕ) → origin_in role.trace (atom_term v) ≡ o → uniques_onto us (unique_if_below height s (apply_to_atom terms v) o ++ rest) ≡ all
+    given-here o e =
+        ap (λ p. uniques_onto us (unique_if_below height s (apply_to_atom terms v) p ++ rest)) (sym e)
+        ∙ sym (ap (λ ls. uniques_onto us (applying_uniques role height terms s ls)) (item-drop vs n v lt is)) ∙ h
+
+    pub none-originates : ((i : ℕ) → OriginatesInTerms role.trace (atom_term v) i → ⊥) → uniques_onto us (applying_uniques role height terms s (drop (n + 1) vs)) ≡ all
+    none-originates none = given-here None (no-place role v none)
+
+    below-or-not : (i : ℕ) (b : Bool) → nat_lt i height ≡ b → OriginatesInTerms role.trace (atom_term v) i
+        → uniques_onto us ((if b then record { value = apply_to_atom terms v; origin = node_at s i } ∷ [] else []) ++ rest) ≡ all
+    below-or-not i b e o =
+        ap (λ c. uniques_onto us ((if c then record { value = apply_to_atom terms v; origin = node_at s i } ∷ [] else []) ++ rest)) (sym e)
+        ∙ given-here (Some i) (finds_origin role.trace (atom_term v) i o)
+
+    pub late-originates : (i : ℕ) → OriginatesInTerms role.trace (atom_term v) i → height ≤ i → uniques_onto us (applying_uniques role height terms s (drop (n + 1) vs)) ≡ all
+    late-originates i o le = below-or-not i false (at-height i height le) o
+
+    pub one-originates : (i : ℕ) → OriginatesInTerms role.trace (atom_term v) i → i < height → (value : AtomTerm) → value ≡ apply_to_atom terms v
+        → (ws : List UniqueAt) → ws ≡ uniques_onto us (record { value = value; origin = node_at s i } ∷ [])
+        → uniques_onto ws (applying_uniques role height terms s (drop (n + 1) vs)) ≡ all
+    one-originates i o below value e ws g =
+        ap (λ xs. uniques_onto xs rest) (g ∙ ap (λ w. uniques_onto us (record { value = w; origin = node_at s i } ∷ [])) e)
+        ∙ sym (onto-append uniques us (record { value = apply_to_atom terms v; origin = node_at s i } ∷ []) rest)
+        ∙ below-or-not i true (under-height i height below) o
 
 -- ---- strand by strand
 

@@ -1,12 +1,13 @@
 -- The variables of terms under substitutions, and of lists of strands and assumptions.
 use Rattle.std.proofs.Common.{◌≡◌, ◌⊎◌, inl, inr, ℕ, zero, suc, List, [], ◌∷◌, Some, map, refl, subst, ⊎_elim}
-use Rattle.cp_model.specs.Lists.{item_at, IsIn, here, there}
+use Rattle.cp_lists.specs.Lists.{item_at, IsIn, here, there}
 use Rattle.cp_model.specs.Term.{name_sort, skey_sort, akey_sort, text_sort, datum_sort, Variable, SymmetricTerm, skey_variable, ltk_term, akey_variable, pubk_term, KeyTerm, symmetric_term, asymmetric_term, AtomTerm, text_variable, datum_variable, name_variable, key_term, atom_of_variable, Term, tag_term, atom_term, pair_term, enc_term, variables_of_symmetric, variables_of_key, variables_of_atom, variables_of, IsCarriedByTerm, itself_term, in_left_term, in_right_term, in_plaintext_term, Substitution, apply_to_symmetric, apply_to_key, apply_to_atom, apply_to}
 use Rattle.cp_model.specs.Strand.{Event, send, recv, payload, event_map, Role, prefix_of, variables_of_trace, Applies, AppliesAt}
 use Rattle.cp_model.specs.Skeleton.{SkeletonStrand, skeleton_trace, UniqueAt}
 use Rattle.cp_model.specs.Problem.{variables_of_strands, variables_of_atoms, variables_of_uniques}
-use Rattle.cp_model.proofs.LawLists.{in_append, in_append_left, in_append_right, take_of_item}
-use Rattle.cp_skel.proofs.Agreeing.{in_event as in_events}
+use Rattle.cp_lists.proofs.Members.{in_append, in_append_left, in_append_right}
+use Rattle.cp_lists.proofs.Items.{take_of_item}
+use Rattle.cp_model.proofs.LawPrefixes.{in_trace as in_events}
 
 -- What holds of the variables of what a substitution gives the variables of a term holds of those of the term under it.
 module _ (P : Variable → Type 0) (s : Substitution) where

@@ -2,15 +2,15 @@
 use Rattle.std.proofs.Common.{◌≡◌, ℕ, zero, suc, ◌+◌, ◌≤◌, List, [], ◌∷◌, refl, sym, ap, ◌∙◌, subst, ◌⊎◌, inl, inr, arith, Bool, true, false, ◌&&◌, not, if◌then◌else◌, cond}
 use Rattle.std.specs.Prelude.{Option, Some, None, drop}
 use Rattle.std.specs.List.{filter}
-use Rattle.cp_model.specs.Lists.{item_at}
+use Rattle.cp_lists.specs.Lists.{item_at}
 use Rattle.cp_model.specs.Term.{Sort, Variable, Term, atom_of_variable, apply_to_atom, AgreeOnTerms}
 use Rattle.cp_model.specs.Strand.{Declaration, Role, variables_of_prefix}
 use Rattle.cp_model.specs.Problem.{declared_sort, IsDeclared}
 use Rattle.cp_model.specs.Homomorphism.{substitution_by}
-use Rattle.cp_model.proofs.LawLists.{variables_of_higher}
+use Rattle.cp_model.proofs.LawPrefixes.{variables_of_higher}
 use Rattle.cp_model.specs.Same.{has_variable}
-use Rattle.cp_skel.specs.Occurring.{declared_variables, prefix_variables, is_added, added_variables, AreTermsFor, terms_of}
-use Rattle.cp_skel.specs.Valued.{term_or, valued}
+use Rattle.cp_strand.specs.Occurring.{declared_variables, prefix_variables, is_added, added_variables, AreTermsFor, terms_of}
+use Rattle.cp_strand.specs.Valued.{term_or, valued}
 use Rattle.cp_skel.specs.Changing.{IsClosedPrefix}
 use Rattle.cp_skel.proofs.GivenParts.{in-has}
 use Rattle.cp_skel.proofs.Placed.{placed, stays}

@@ -1,6 +1,6 @@
 -- Pairs that lead through a strand, and the pairs of a skeleton without it.
 use Rattle.std.specs.Prelude.{◌≡◌, ◌==◌, ◌&&◌, nat_le, not, Bool, true, false, ℕ, List, [], ◌∷◌, ◌++◌}
-use Rattle.cp_model.specs.Skeleton.{OrderPair}
+use Rattle.cp_model.specs.declared.node.OrderPair.{OrderPair}
 use Rattle.cp_skel.specs.Deleting.{node_renumbered, pair_renumbered, IsPairOn, LeavesOut}
 
 -- The first pair leads to strand number d, and the second from there on to a strand other than where the first began.

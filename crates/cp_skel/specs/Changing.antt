@@ -1,12 +1,12 @@
 -- Skeletons with a strand more, and with a longer strand.
 use Rattle.std.specs.Prelude.{◌≡◌, ◌≢◌, ℕ, ◌≤◌, List, [], ◌∷◌, ◌++◌, Some, length}
-use Rattle.cp_model.specs.Lists.{item_at, IsIn}
+use Rattle.cp_lists.specs.Lists.{item_at, IsIn}
 use Rattle.cp_model.specs.Term.{Variable, Term, Substitution, AgreeOnTerms}
 use Rattle.cp_model.specs.Strand.{Role, variables_of_prefix}
 use Rattle.cp_model.specs.Skeleton.{instance, listener, Skeleton}
 use Rattle.cp_model.specs.Problem.{IsDeclared}
 use Rattle.cp_skel.specs.Given.{AddsGiven}
-use Rattle.cp_skel.specs.Occurring.{prefix_variables, added_variables, AreTermsFor, terms_of}
+use Rattle.cp_strand.specs.Occurring.{prefix_variables, added_variables, AreTermsFor, terms_of}
 
 -- The new skeleton is the old with a listener on t behind its strands.
 abbrev pub AddsListener : Term → Skeleton → Skeleton → Type 0

@@ -1,28 +1,16 @@
--- Strands and skeletons as contracts see those of the program: plain data, with lists of terms in place of
--- substitutions. What they mean is in View.
-use Rattle.std.specs.Prelude.{◌≡◌, ◌⊎◌, ℕ, ◌==◌, if◌then◌else◌, List, refl}
-use Rattle.std.specs.Coded.{Coded, code_by, coded_ℕ, coded_list, coded×, coded⊎}
-use Rattle.std.proofs.Common.{inl, inr}
+-- Skeletons as contracts see those of the program: plain data, with lists of terms in place of substitutions. What they
+-- mean is in View.
+use Rattle.std.specs.Prelude.{◌≡◌, ℕ, ◌==◌, if◌then◌else◌, List, refl}
+use Rattle.std.specs.Coded.{Coded, code_by, coded_ℕ, coded_list, coded×}
 use Rattle.cp_model.specs.Term.{AtomTerm, Term}
-use Rattle.cp_model.specs.Strand.{Declaration, Event, send, recv, Role, Protocol}
-use Rattle.cp_model.specs.Bundle.{Node}
-use Rattle.cp_model.specs.Skeleton.{UniqueAt, Assumptions, OrderPair, FromProblem}
-use Rattle.cp_term.specs.Code.{coded_atom, coded_term, coded_sort}
+use Rattle.cp_model.specs.declared.node.Node.{Node}
+use Rattle.cp_model.specs.Skeleton.{UniqueAt, Assumptions, FromProblem}
+use Rattle.cp_model.specs.declared.node.OrderPair.{OrderPair}
+use Rattle.cp_term.specs.Code.{coded_atom, coded_term}
 use Rattle.cp_term.specs.Table.{Declared}
 use Rattle.cp_term.specs.declared.variable.Sort as program
 use Rattle.cp_term.specs.declared.variable.Sort.TheVariants as sorts
-
--- An instance of a role, of some height, with a term for each of the role's variables.
-pub record InstanceData : Type 0 where
-  pub role : Role
-  pub height : ℕ
-  pub values : List Term
-
--- A strand: an instance of a role, of some height, with a term for each of the role's variables; or a listener to a
--- message.
-pub data StrandData : Type 0 where
-  instance_data : Role → ℕ → List Term → StrandData
-  listener_data : Term → StrandData
+use Rattle.cp_strand.specs.Data.{StrandData, coded_atoms, coded_strand}
 
 -- A skeleton with its table of variables, its strands, the pairs of its order, its assumptions, and the way from its
 -- problem.
@@ -39,59 +27,6 @@ skeleton_of variables strands order assumptions from_problem =
     record { variables = variables; strands = strands; order = order; assumptions = assumptions; from_problem = from_problem }
 
 -- ---- how such data are told apart
-
-abbrev coded_declaration : Coded Declaration
-coded_declaration = code_by (List ℕ × _) (coded× (coded_list coded_ℕ) coded_sort) (λ d. (d.identifier, d.sort)) (λ p. record { identifier = p.0; sort = p.1 }) (λ d. refl)
-
-abbrev event_parts : Event Term → Term ⊎ Term
-event_parts (send t) = inl t
-event_parts (recv t) = inr t
-
-abbrev event_from : Term ⊎ Term → Event Term
-event_from (inl t) = send t
-event_from (inr t) = recv t
-
-pub event_back : (e : Event Term) → event_from (event_parts e) ≡ e
-event_back (send t) = refl
-event_back (recv t) = refl
-
-abbrev coded_event : Coded (Event Term)
-coded_event = code_by (Term ⊎ Term) (coded⊎ coded_term coded_term) event_parts event_from event_back
-
-abbrev coded_atoms : Coded (List AtomTerm)
-coded_atoms = coded_list coded_atom
-
-abbrev pub coded_role : Coded Role
-coded_role =
-    code_by ((List ℕ × List Declaration) × (List (Event Term) × (List AtomTerm × (List AtomTerm × List AtomTerm))))
-    (coded× (coded× (coded_list coded_ℕ) (coded_list coded_declaration)) (coded× (coded_list coded_event) (coded× coded_atoms (coded× coded_atoms coded_atoms))))
-    (λ r. ((r.name, r.variables), (r.trace, (r.non_originating, (r.penetrator_non_originating, r.uniquely_originating)))))
-    (λ p. record { name = p.0.0; variables = p.0.1; trace = p.1.0; non_originating = p.1.1.0; penetrator_non_originating = p.1.1.1.0; uniquely_originating = p.1.1.1.1 })
-    (λ r. refl)
-
-abbrev pub coded_protocol : Coded Protocol
-coded_protocol = code_by (List ℕ × List Role) (coded× (coded_list coded_ℕ) (coded_list coded_role)) (λ p. (p.name, p.roles)) (λ q. record { name = q.0; roles = q.1 }) (λ p. refl)
-
-abbrev pub coded_instance : Coded InstanceData
-coded_instance =
-    code_by (Role × (ℕ × List Term)) (coded× coded_role (coded× coded_ℕ (coded_list coded_term))) (λ i. (i.role, (i.height, i.values)))
-    (λ p. record { role = p.0; height = p.1.0; values = p.1.1 })
-    (λ i. refl)
-
-abbrev strand_parts : StrandData → (Role × (ℕ × List Term)) ⊎ Term
-strand_parts (instance_data role height values) = inl (role, (height, values))
-strand_parts (listener_data t) = inr t
-
-abbrev strand_from : (Role × (ℕ × List Term)) ⊎ Term → StrandData
-strand_from (inl p) = instance_data p.0 p.1.0 p.1.1
-strand_from (inr t) = listener_data t
-
-pub strand_back : (s : StrandData) → strand_from (strand_parts s) ≡ s
-strand_back (instance_data role height values) = refl
-strand_back (listener_data t) = refl
-
-abbrev pub coded_strand : Coded StrandData
-coded_strand = code_by ((Role × (ℕ × List Term)) ⊎ Term) (coded⊎ (coded× coded_role (coded× coded_ℕ (coded_list coded_term))) coded_term) strand_parts strand_from strand_back
 
 abbrev coded_node : Coded Node
 coded_node = code_by (ℕ × ℕ) (coded× coded_ℕ coded_ℕ) (λ n. (n.strand, n.index)) (λ p. record { strand = p.0; index = p.1 }) (λ n. refl)

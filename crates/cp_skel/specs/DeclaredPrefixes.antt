@@ -1,6 +1,6 @@
 -- Skeletons whose roles declare the variables of the prefixes that stand in them.
 use Rattle.std.specs.Prelude.{◌≡◌, ℕ, Some}
-use Rattle.cp_model.specs.Lists.{item_at}
+use Rattle.cp_lists.specs.Lists.{item_at}
 use Rattle.cp_model.specs.Term.{Substitution}
 use Rattle.cp_model.specs.Strand.{Role}
 use Rattle.cp_model.specs.Skeleton.{instance, Skeleton}

@@ -2,10 +2,10 @@
 use Rattle.std.specs.Prelude.{ℕ, suc, Bool, true, false, List, [], ◌∷◌, ◌++◌}
 use Rattle.cp_model.specs.Term.{Term}
 use Rattle.cp_model.specs.Strand.{Event}
-use Rattle.cp_model.specs.Bundle.{Node, node_at}
+use Rattle.cp_model.specs.Bundle.{node_at}
+use Rattle.cp_model.specs.declared.node.Node.{Node}
 use Rattle.cp_model.specs.Skeleton.{SkeletonStrand, instance, listener, skeleton_trace, Skeleton}
-use Rattle.cp_model.specs.RunView.{node_view}
-use Rattle.cp_skel.specs.View.{event_view}
+use Rattle.cp_strand.specs.View.{event_view}
 use Rattle.cp_skel.specs.declared.events.Occurrence as program
 
 -- An event, the node where it stands, and whether a role strand is there.
@@ -15,7 +15,7 @@ pub record Occurrence : Type 0 where
   pub by_role : Bool
 
 abbrev pub occurrence_view : program.Occurrence → Occurrence
-occurrence_view o = record { node = node_view o.node; event = event_view o.event; by_role = o.by_role }
+occurrence_view o = record { node = o.node; event = event_view o.event; by_role = o.by_role }
 
 -- The strand is an instance of a role.
 abbrev pub is_role_strand : SkeletonStrand → Bool

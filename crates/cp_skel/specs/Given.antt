@@ -1,6 +1,6 @@
 -- What roles give to the assumptions of skeletons, and lists that grow by what is missing in them.
 use Rattle.std.specs.Prelude.{◌≡◌, ◌↔◌, ℕ, List, [], ◌∷◌, ◌++◌}
-use Rattle.cp_model.specs.Lists.{IsIn}
+use Rattle.cp_lists.specs.Lists.{IsIn}
 use Rattle.cp_model.specs.Term.{AtomTerm, Substitution, apply_to_atom}
 use Rattle.cp_model.specs.Strand.{Role, Applies, AppliesAt}
 use Rattle.cp_model.specs.Bundle.{node_at}

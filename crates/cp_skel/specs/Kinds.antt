@@ -1,7 +1,7 @@
 -- The kinds of assumptions that are atoms alone.
 use Rattle.std.specs.Prelude.{List}
 use Rattle.cp_model.specs.Term.{AtomTerm}
-use Rattle.cp_model.specs.Lists.{IsIn}
+use Rattle.cp_lists.specs.Lists.{IsIn}
 use Rattle.cp_model.specs.Strand.{Role}
 use Rattle.cp_skel.specs.declared.forgetting.Kind.{Kind}
 use Rattle.cp_skel.specs.declared.forgetting.Kind.TheVariants.{NonOriginating, PenetratorNonOriginating}

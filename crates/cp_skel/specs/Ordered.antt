@@ -1,8 +1,9 @@
 -- Ordered skeletons, and changes of their order.
 use Rattle.std.specs.Prelude.{◌≡◌, List}
-use Rattle.cp_model.specs.Lists.{IsIn}
-use Rattle.cp_model.specs.Bundle.{Node}
-use Rattle.cp_model.specs.Skeleton.{OrderPair, Skeleton, Before, IsOrderPair}
+use Rattle.cp_lists.specs.Lists.{IsIn}
+use Rattle.cp_model.specs.declared.node.Node.{Node}
+use Rattle.cp_model.specs.Skeleton.{Skeleton, Before, IsOrderPair}
+use Rattle.cp_model.specs.declared.node.OrderPair.{OrderPair}
 use Rattle.cp_skel.specs.Data.{SkeletonData}
 
 -- Each pair of the skeleton goes from a transmission to a reception of another strand, and its order has no cycle.

@@ -3,8 +3,8 @@ use Rattle.std.specs.Prelude.{List, map, option_map}
 use Rattle.cp_model.specs.Strand as strand
 use Rattle.cp_model.specs.Tree as tree
 use Rattle.cp_term.specs.Table.{Declared}
-use Rattle.cp_model.specs.RunView.{node_view}
-use Rattle.cp_skel.specs.View.{sort_view, skeleton_view}
+use Rattle.cp_strand.specs.View.{sort_view}
+use Rattle.cp_skel.specs.View.{skeleton_view}
 use Rattle.cp_skel.specs.declared.tree.Limits.{Limits}
 use Rattle.cp_skel.specs.declared.tree.Operation.{Operation}
 use Rattle.cp_skel.specs.declared.tree.Operation.TheVariants as operations
@@ -28,8 +28,8 @@ limits_view l = record { steps = l.steps; strands = l.strands }
 
 abbrev pub operation_view : Operation → tree.Operation
 operation_view operations.Problem = tree.by_problem
-operation_view (operations.Contracted n) = tree.by_contraction (node_view n)
-operation_view (operations.Displaced n) = tree.by_displacement (node_view n)
+operation_view (operations.Contracted n) = tree.by_contraction n
+operation_view (operations.Displaced n) = tree.by_displacement n
 operation_view (operations.AddedStrand s) = tree.by_added_strand s
 operation_view (operations.AddedListener s) = tree.by_added_listener s
 operation_view (operations.Collapsed ps) = tree.by_collapse ps.items
@@ -49,7 +49,7 @@ outcome_view outcomes.LimitSteps = tree.at_step_limit
 outcome_view outcomes.LimitStrands = tree.at_strand_limit
 
 abbrev pub test_view : Test → tree.Test
-test_view t = record { node = node_view t.node; critical = t.term }
+test_view t = record { node = t.node; critical = t.term }
 
 abbrev pub label_view : TreeNode → tree.Label
 label_view l = record {
@@ -57,7 +57,7 @@ label_view l = record {
   operation = operation_view l.operation;
   variables = variables_view l.skeleton.variables;
   skeleton = skeleton_view l.skeleton;
-  unrealised = map node_view l.unrealised.items;
+  unrealised = l.unrealised.items;
   test = option_map test_view l.test;
   escape = l.patterns.items;
   children = l.children.items;

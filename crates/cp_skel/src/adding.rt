@@ -2,11 +2,11 @@
 ghost use Rattle.std.specs.Prelude.{◌≡◌, ◌∷◌, [], map, OnOk};
 ghost use Rattle.cp_model.specs.Given.{with_given};
 ghost use Rattle.cp_skel.specs.Given.{with_given_from};
-ghost use Rattle.cp_skel.specs.View.{instance_view, strand_view};
+ghost use Rattle.cp_strand.specs.View.{instance_view, strand_view};
 
 use crate::assumptions::Assumptions;
 use crate::giving::lacking;
-use crate::strand::{Instance, Strand, StrandShape};
+use cp_strand::{Instance, Strand, StrandShape};
 use std::alloc::{AllocError, Global};
 
 /// Adds what the role of an instance, which is the strand of this number, gives.

@@ -1,11 +1,9 @@
 // What skeletons assume.
 ghost use Rattle.std.specs.Prelude.{◌≡◌, IfOk, OnOk, OnErr};
-ghost use Rattle.cp_model.specs.RunView.{node_view};
 ghost use Rattle.cp_skel.specs.Joining.{joined};
 
-use crate::atom::Atom;
-use crate::copying::{copy_atoms, copy_uniques};
 use cp_model::Node;
+use cp_strand::{Atom, Same, copy_atoms};
 use std::alloc::{AllocError, Global};
 use std::marker::Model;
 
@@ -24,15 +22,13 @@ impl Model for UniqueAt {
 
     ghost coded = { coded_unique };
 
-    ghost use Rattle.cp_model.specs.RunView.{node_view};
-
-    ghost view = { λ u. record { value = u.value; origin = node_view u.origin } };
+    ghost view = { λ u. record { value = u.value; origin = u.origin } };
 }
 
 impl UniqueAt {
     /// This value with this recorded origin.
     pub fn new(value: Atom, origin: Node) -> UniqueAt
-        ensures { result ≡ record { value = value; origin = node_view origin } }
+        ensures { result ≡ record { value = value; origin = origin } }
     {
         UniqueAt { value, origin }
     }
@@ -46,7 +42,7 @@ impl UniqueAt {
 
     /// The recorded origin.
     pub fn origin(&self) -> Node
-        ensures { node_view result ≡ self.now.origin }
+        ensures { result ≡ self.now.origin }
     {
         self.origin
     }
@@ -59,6 +55,20 @@ impl UniqueAt {
             value: self.value.copy()?,
             origin: self.origin,
         })
+    }
+}
+
+impl Clone for UniqueAt {
+    ghost is_clone = { λ u v. v ≡ u };
+
+    fn clone(&self) -> Result<UniqueAt, AllocError> {
+        self.copy()
+    }
+}
+
+impl Same for UniqueAt {
+    fn is_same(&self, other: &UniqueAt) -> bool {
+        self.value().same(other.value()) && self.origin() == other.origin()
     }
 }
 
@@ -134,7 +144,7 @@ impl Assumptions {
         Ok(Assumptions {
             non_originating: copy_atoms(alloc, &self.non_originating)?,
             penetrator_non_originating: copy_atoms(alloc, &self.penetrator_non_originating)?,
-            uniquely_originating: copy_uniques(alloc, &self.uniquely_originating)?,
+            uniquely_originating: Vec::from_clones(alloc, &self.uniquely_originating)?,
         })
     }
 

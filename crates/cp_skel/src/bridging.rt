@@ -1,17 +1,16 @@
 // The pairs of a skeleton where a strand is gone.
 ghost use Rattle.std.specs.Prelude.{◌≡◌, ◌++◌, map, IfOk, OnOk};
-ghost use Rattle.cp_skel.specs.View.{pair_view};
 ghost use Rattle.cp_skel.specs.Deleting.{pair_renumbered, IsPairOn, LeavesOut};
 ghost use Rattle.cp_skel.specs.Bridging.{is_through, bridge, bridges_from, bridges, IsWithoutStrand};
 
-use crate::renumbering::{node_renumbered, pairs_left};
+use crate::renumbering::{left_without, node_renumbered};
 use crate::skeleton::OrderPair;
 use std::alloc::{AllocError, Global};
 
 /// Whether the first pair leads to the strand, and the second from there on to a strand other than where the first
 /// began.
 fn is_through(gone: usize, into: OrderPair, out: OrderPair) -> bool
-    ensures { result ≡ is_through gone (pair_view into) (pair_view out) }
+    ensures { result ≡ is_through gone into out }
 {
     into.later.strand == gone
         && out.earlier.strand == gone
@@ -21,7 +20,7 @@ fn is_through(gone: usize, into: OrderPair, out: OrderPair) -> bool
 
 /// From where the first pair begins to where the second ends.
 fn bridge(gone: usize, into: OrderPair, out: OrderPair) -> OrderPair
-    ensures { pair_view result ≡ bridge gone (pair_view into) (pair_view out) }
+    ensures { result ≡ bridge gone into out }
 {
     OrderPair {
         earlier: node_renumbered(gone, into.earlier),
@@ -36,8 +35,8 @@ fn add_bridges_from(
     pairs: &[OrderPair],
     found: &mut Vec<OrderPair>,
 ) -> Result<(), AllocError>
-    ensures { OnOk result (map pair_view found.new.items
-        ≡ map pair_view found.old.items ++ bridges_from gone (pair_view into) (map pair_view pairs.now)) }
+    ensures { OnOk result (found.new.items
+        ≡ found.old.items ++ bridges_from gone into pairs.now) }
 {
     for out in pairs {
         if !is_through(gone, into, *out) {
@@ -54,8 +53,8 @@ fn add_bridges(
     pairs: &[OrderPair],
     found: &mut Vec<OrderPair>,
 ) -> Result<(), AllocError>
-    ensures { OnOk result (map pair_view found.new.items
-        ≡ map pair_view found.old.items ++ bridges gone (map pair_view pairs.now) (map pair_view pairs.now)) }
+    ensures { OnOk result (found.new.items
+        ≡ found.old.items ++ bridges gone pairs.now pairs.now) }
 {
     for into in pairs {
         add_bridges_from(gone, *into, pairs, found)?;
@@ -70,9 +69,9 @@ pub(crate) fn pairs_without(
     gone: usize,
     pairs: &[OrderPair],
 ) -> Result<Vec<OrderPair>, AllocError>
-    ensures { IfOk result (λ v. IsWithoutStrand gone (map pair_view pairs.now) (map pair_view v.items)) }
+    ensures { IfOk result (λ v. IsWithoutStrand gone pairs.now v.items) }
 {
-    let mut found = pairs_left(alloc, gone, pairs)?;
+    let mut found = left_without(alloc, gone, pairs)?;
     add_bridges(gone, pairs, &mut found)?;
     Ok(found)
 }

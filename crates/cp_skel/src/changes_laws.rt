@@ -1,9 +1,10 @@
 // Laws of what skeletons keep when they are changed: each stands as the contract of a function that does nothing.
 ghost use Rattle.std.specs.Prelude.{ℕ, ◌≤◌, ◌∷◌, List};
-ghost use Rattle.cp_model.specs.Bundle.{Node};
+ghost use Rattle.cp_model.specs.declared.node.Node.{Node};
 ghost use Rattle.cp_model.specs.Term.{Term};
 ghost use Rattle.cp_model.specs.Strand.{Role, Protocol};
-ghost use Rattle.cp_model.specs.Skeleton.{OrderPair, Skeleton, Before, IsOrderPair, IsSkeleton};
+ghost use Rattle.cp_model.specs.Skeleton.{Skeleton, Before, IsOrderPair, IsSkeleton};
+ghost use Rattle.cp_model.specs.declared.node.OrderPair.{OrderPair};
 ghost use Rattle.cp_model.specs.Homomorphism.{CarriesHomomorphism};
 ghost use Rattle.cp_model.specs.Stated.{KeepsStated};
 ghost use Rattle.cp_skel.specs.Changing.{AddsListener, IsClosedPrefix, AddsStrand, CanExtend, Extends};

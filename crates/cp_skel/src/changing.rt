@@ -1,16 +1,14 @@
 // Strands that are added to skeletons, and strands that grow.
 ghost use Rattle.std.specs.Prelude.{◌≡◌, length, IfOk, OnOk, OnErr};
 ghost use Rattle.cp_model.specs.Strand.{IsHeight};
-ghost use Rattle.cp_skel.specs.Occurring.{prefix_variables, AreTermsFor};
+ghost use Rattle.cp_strand.specs.Occurring.{prefix_variables, AreTermsFor};
 ghost use Rattle.cp_skel.specs.Changing.{AddsListener, AddsStrand, CanExtend, Extends};
 ghost use Rattle.cp_skel.specs.Sound.{DeclaresItsVariables};
 ghost use Rattle.cp_skel.specs.View.{skeleton_view};
 
 use crate::giving::missing;
-use crate::protocol::Role;
 use crate::skeleton::Skeleton;
-use crate::strand::{Strand, StrandShape};
-use crate::valuing::instance_of;
+use cp_strand::{Role, Strand, StrandShape, instance_of};
 use cp_term::Term;
 use std::alloc::{AllocError, Global};
 use std::rc::Rc;
@@ -21,7 +19,7 @@ impl Skeleton {
     pub fn add_listener(&mut self, alloc: Global, message: Term) -> Result<usize, AllocError>
         ensures number { IfOk result (λ s. s ≡ length (skeleton_view self.old).strands) }
         ensures changed { OnOk result (AddsListener message (skeleton_view self.old) (skeleton_view self.new)) }
-        ensures unchanged { OnErr result (skeleton_view self.new ≡ skeleton_view self.old) }
+        ensures unchanged { OnErr result (self.new ≡ self.old) }
         ensures variables { self.new.variables ≡ self.old.variables }
     {
         let listener = Strand::listener(alloc, message)?;
@@ -46,7 +44,7 @@ impl Skeleton {
         requires values { AreTermsFor (prefix_variables role.now.value height) values.now }
         ensures number { IfOk result (λ s. s ≡ length (skeleton_view self.old).strands) }
         ensures changed { OnOk result (AddsStrand role.now.value height values.now (skeleton_view self.old) (skeleton_view self.new)) }
-        ensures unchanged { OnErr result (skeleton_view self.new ≡ skeleton_view self.old) }
+        ensures unchanged { OnErr result (self.new ≡ self.old) }
         ensures variables { self.new.variables ≡ self.old.variables }
     {
         let number = self.strands.len();
@@ -73,7 +71,7 @@ impl Skeleton {
     ) -> Result<(), AllocError>
         requires { CanExtend (skeleton_view self.old) strand height values.now }
         ensures changed { OnOk result (Extends strand height values.now (skeleton_view self.old) (skeleton_view self.new)) }
-        ensures unchanged { OnErr result (skeleton_view self.new ≡ skeleton_view self.old) }
+        ensures unchanged { OnErr result (self.new ≡ self.old) }
         ensures variables { self.new.variables ≡ self.old.variables }
     {
         let StrandShape::Instance(old) = self.strands[strand].shape() else {

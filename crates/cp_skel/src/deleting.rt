@@ -1,19 +1,19 @@
 // Skeletons without one of their strands.
 ghost use Rattle.std.specs.Prelude.{◌≡◌, ◌<◌, length, IfOk, OnOk, OnErr};
 ghost use Rattle.std.specs.List.{remove};
-ghost use Rattle.cp_model.specs.Lists.{IsIn};
-ghost use Rattle.cp_skel.specs.Closed.{IsClosed};
+ghost use Rattle.cp_lists.specs.Lists.{IsIn};
+ghost use Rattle.cp_order.specs.Closed.{IsClosed};
 ghost use Rattle.cp_skel.specs.View.{skeleton_view};
 ghost use Rattle.cp_skel.specs.Deleting.{ForgetsAssumptions, KeepsFromProblem, KeepsOrderOfOthers};
 
 use crate::assumptions::Assumptions;
 use crate::bridging::pairs_without;
-use crate::copying::{copy_atoms, copy_terms};
 use crate::forgetting::assumptions_without;
 use crate::from_problem::FromProblem;
-use crate::order::Order;
-use crate::renumbering::{pairs_left, strands_renumbered, uniques_left};
+use crate::renumbering::{left_without, strands_renumbered};
 use crate::skeleton::Skeleton;
+use cp_order::Order;
+use cp_strand::{copy_atoms, copy_terms};
 use std::alloc::{AllocError, Global};
 
 /// The way from the problem where a strand is gone.
@@ -28,13 +28,13 @@ fn from_problem_without(
     let assumptions = Assumptions::new(
         copy_atoms(alloc, own.non_originating())?,
         copy_atoms(alloc, own.penetrator_non_originating())?,
-        uniques_left(alloc, gone, own.uniquely_originating())?,
+        left_without(alloc, gone, own.uniquely_originating())?,
     );
     Ok(FromProblem::new(
         strands_renumbered(alloc, gone, from.strands())?,
         copy_terms(alloc, from.values())?,
         assumptions,
-        pairs_left(alloc, gone, from.pairs())?,
+        left_without(alloc, gone, from.pairs())?,
     ))
 }
 

@@ -2,11 +2,11 @@
 ghost use Rattle.std.specs.Prelude.{◌≡◌, ◌++◌, length, map, IfOk, OnOk};
 ghost use Rattle.cp_model.specs.Skeleton.{skeleton_trace};
 ghost use Rattle.cp_skel.specs.Events.{occurrence_view, is_role_strand, occurrences_on, events_of};
-ghost use Rattle.cp_skel.specs.View.{strand_view, skeleton_view};
+ghost use Rattle.cp_strand.specs.View.{strand_view};
+ghost use Rattle.cp_skel.specs.View.{skeleton_view};
 
-use crate::protocol::Event;
 use crate::skeleton::{Node, Skeleton};
-use crate::strand::{Strand, StrandShape};
+use cp_strand::{Event, Strand, StrandShape};
 use std::alloc::{AllocError, Global};
 
 /// An event of a skeleton, the node where it stands, and whether a role strand is there and no listener.

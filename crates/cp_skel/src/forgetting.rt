@@ -1,18 +1,17 @@
 // The assumptions that a skeleton has without one of its strands.
 ghost use Rattle.std.specs.Prelude.{◌≡◌, ◌↔◌, ◌⊎◌, ◌++◌, ◌<◌, length, map, IsTrue, IfOk};
 ghost use Rattle.cp_model.specs.Term.{AtomTerm};
-ghost use Rattle.cp_model.specs.Lists.{IsIn};
-ghost use Rattle.cp_skel.specs.View.{strand_view, skeleton_view};
+ghost use Rattle.cp_lists.specs.Lists.{IsIn};
+ghost use Rattle.cp_strand.specs.View.{strand_view};
+ghost use Rattle.cp_skel.specs.View.{skeleton_view};
 ghost use Rattle.cp_skel.specs.Deleting.{LeavesOut, as_it_is, GivesFrom, IsGivenAt, IsGivenElsewhere, IsForgotten, ForgetsAssumptions};
 ghost use Rattle.cp_skel.specs.Kinds.{stated_as, IsInFirstAlone};
 
 use crate::assumptions::Assumptions;
-use crate::atom::Atom;
-use crate::giving::{has_atom, missing_atoms};
-use crate::protocol::Role;
-use crate::renumbering::uniques_left;
+use crate::giving::missing_atoms;
+use crate::renumbering::left_without;
 use crate::skeleton::Skeleton;
-use crate::strand::{Strand, StrandShape};
+use cp_strand::{Atom, Role, Strand, StrandShape, has_atom};
 use std::alloc::{AllocError, Global};
 
 /// The kinds of assumptions that are atoms alone.
@@ -143,7 +142,7 @@ pub(crate) fn assumptions_without(
         had.penetrator_non_originating(),
         own.penetrator_non_originating(),
     )?;
-    let uniquely_originating = uniques_left(alloc, gone, had.uniquely_originating())?;
+    let uniquely_originating = left_without(alloc, gone, had.uniquely_originating())?;
     Ok(Assumptions::new(
         non_originating,
         penetrator_non_originating,

@@ -1,10 +1,9 @@
 // The way from a problem to a skeleton.
 ghost use Rattle.std.specs.Prelude.{◌≡◌, map, IfOk};
-ghost use Rattle.cp_skel.specs.View.{pair_view};
 
 use crate::assumptions::Assumptions;
-use crate::copying::copy_terms;
 use crate::skeleton::OrderPair;
+use cp_strand::copy_terms;
 use cp_term::Term;
 use std::alloc::{AllocError, Global};
 use std::marker::Model;
@@ -28,13 +27,12 @@ impl Model for FromProblem {
     ghost coded = { coded_from_problem };
 
     ghost use Rattle.std.specs.Prelude.{map};
-    ghost use Rattle.cp_skel.specs.View.{pair_view};
 
     ghost view = { λ p. record {
       strands = p.strands.items;
       values = p.values.items;
       assumptions = p.assumptions;
-      pairs = map pair_view p.pairs.items;
+      pairs = p.pairs.items;
     } };
 }
 
@@ -47,7 +45,7 @@ impl FromProblem {
         assumptions: Assumptions,
         pairs: Vec<OrderPair>,
     ) -> FromProblem
-        ensures { result ≡ record { strands = strands.items; values = values.items; assumptions = assumptions; pairs = map pair_view pairs.items } }
+        ensures { result ≡ record { strands = strands.items; values = values.items; assumptions = assumptions; pairs = pairs.items } }
     {
         FromProblem {
             strands,
@@ -80,7 +78,7 @@ impl FromProblem {
 
     /// The images of the pairs that the problem itself states.
     pub fn pairs(&self) -> &[OrderPair]
-        ensures { map pair_view result.now ≡ self.now.pairs }
+        ensures { result.now ≡ self.now.pairs }
     {
         &self.pairs
     }

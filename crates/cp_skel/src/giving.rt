@@ -1,106 +1,23 @@
 // The assumptions that roles give to their instances.
-ghost use Rattle.std.specs.Prelude.{◌≡◌, ◌↔◌, ◌∷◌, [], ◌++◌, map, IsTrue, IfSome, IfNone, IfOk, OnOk, ℕ};
-ghost use Rattle.cp_model.specs.Lists.{IsIn};
-ghost use Rattle.cp_model.specs.Term.{apply_to_atom};
-ghost use Rattle.cp_model.specs.Strand.{OriginatesInTerms};
+ghost use Rattle.std.specs.Prelude.{◌≡◌, ◌↔◌, ◌∷◌, [], ◌++◌, IsTrue, IfOk, OnOk};
+ghost use Rattle.cp_lists.specs.Lists.{IsIn};
 ghost use Rattle.cp_model.specs.Homomorphism.{substitution_by};
 ghost use Rattle.cp_model.specs.Given.{applying, applying_uniques, atoms_onto, uniques_onto};
 ghost use Rattle.cp_skel.specs.Given.{AddsGiven, with_given_from};
 ghost use Rattle.cp_skel.specs.Joining.{joined};
-ghost use Rattle.cp_skel.specs.View.{event_view, instance_view};
+ghost use Rattle.cp_strand.specs.View.{instance_view};
 
-use crate::applying::applied;
 use crate::assumptions::{Assumptions, UniqueAt};
-use crate::atom::Atom;
-use crate::occurring::{all_occur, prefix_of};
-use crate::protocol::Event;
+use crate::gathered::push_missing;
 use crate::skeleton::Node;
-use crate::strand::Instance;
-use cp_term::{Term, carries};
+use cp_strand::{Atom, Instance, all_occur, applied_atom, has, origin, prefix_of};
 use std::alloc::{AllocError, Global};
-
-/// The place among events at which a term originates, if it does.
-pub fn origin(events: &[Event], value: &Term) -> Option<usize>
-    ensures some { IfSome result (λ i. OriginatesInTerms (map event_view events.now) value.now i) }
-    ensures none { IfNone result ((i : ℕ) → OriginatesInTerms (map event_view events.now) value.now i → ⊥) }
-{
-    for (index, event) in events.iter().enumerate() {
-        if carries(event.payload(), value) {
-            return match event {
-                Event::Send(_) => Some(index),
-                Event::Receive(_) => None,
-            };
-        }
-    }
-    None
-}
-
-/// An atom of a role under the terms of an instance. The error is that memory ran out.
-pub fn applied_atom(alloc: Global, values: &[Term], atom: &Atom) -> Result<Atom, AllocError>
-    ensures { IfOk result (λ a. a ≡ apply_to_atom (substitution_by values.now) atom.now) }
-{
-    match Atom::new(applied(alloc, values, atom.as_term())?) {
-        Some(atom) => Ok(atom),
-        None => unreachable!(),
-    }
-}
-
-/// Whether the atom is one of these.
-pub fn has_atom(atoms: &[Atom], atom: &Atom) -> bool
-    ensures { IsTrue result ↔ IsIn atom.now atoms.now }
-{
-    for other in atoms {
-        if other.same(atom) {
-            return true;
-        }
-    }
-    false
-}
-
-/// Whether one unique value with its origin is the other.
-fn is_same_unique(first: &UniqueAt, second: &UniqueAt) -> bool
-    ensures { IsTrue result ↔ (first.now ≡ second.now) }
-{
-    first.value().same(second.value()) && first.origin() == second.origin()
-}
 
 /// Whether the unique value, with this origin, is one of these.
 pub fn has_unique(uniques: &[UniqueAt], unique: &UniqueAt) -> bool
     ensures { IsTrue result ↔ IsIn unique.now uniques.now }
 {
-    for other in uniques {
-        if is_same_unique(other, unique) {
-            return true;
-        }
-    }
-    false
-}
-
-/// Puts an atom behind more, if it is neither there nor among the others.
-fn push_missing(old: &[Atom], more: &mut Vec<Atom>, atom: Atom) -> Result<(), AllocError>
-    ensures { OnOk result (old.now ++ more.new.items ≡ atoms_onto (old.now ++ more.old.items) (atom ∷ [])) }
-{
-    if has_atom(old, &atom) || has_atom(more, &atom) {
-        return Ok(());
-    }
-    more.push(atom)?;
-    Ok(())
-}
-
-/// Puts a unique value behind more, if it is neither there nor among the others.
-fn push_missing_unique(
-    old: &[UniqueAt],
-    more: &mut Vec<UniqueAt>,
-    unique: UniqueAt,
-) -> Result<(), AllocError>
-    ensures { OnOk result (old.now ++ more.new.items
-        ≡ uniques_onto (old.now ++ more.old.items) (unique ∷ [])) }
-{
-    if has_unique(old, &unique) || has_unique(more, &unique) {
-        return Ok(());
-    }
-    more.push(unique)?;
-    Ok(())
+    has(uniques, unique)
 }
 
 /// Those of these atoms of its role that apply to an instance, under its terms, and are not among others, each once.
@@ -147,7 +64,7 @@ fn missing_uniques(
         }
         let value = applied_atom(alloc, instance.values(), atom)?;
         let origin = Node { strand, index };
-        push_missing_unique(old, &mut more, UniqueAt::new(value, origin))?;
+        push_missing(old, &mut more, UniqueAt::new(value, origin))?;
     }
     Ok(more)
 }

@@ -1,7 +1,7 @@
 // Laws of the changes to skeletons: each stands as the contract of a function that does nothing.
 ghost use Rattle.std.specs.Prelude.{◌≡◌, ◌↔◌, ℕ, List, IsTrue};
 ghost use Rattle.std.specs.List.{remove};
-ghost use Rattle.cp_model.specs.Lists.{IsIn};
+ghost use Rattle.cp_lists.specs.Lists.{IsIn};
 ghost use Rattle.cp_model.specs.Term.{Variable, AtomTerm, Term};
 ghost use Rattle.cp_model.specs.Strand.{Role, Protocol, variables_of_trace, variables_of_prefix, IsHeight};
 ghost use Rattle.cp_model.specs.Skeleton.{UniqueAt, Skeleton, IsSkeleton};
@@ -10,7 +10,7 @@ ghost use Rattle.cp_model.specs.Same.{has_variable};
 ghost use Rattle.cp_model.specs.Given.{atoms_onto, uniques_onto, listed_atoms, listed_uniques, listed};
 ghost use Rattle.cp_skel.specs.DeclaredPrefixes.{HasDeclaredPrefixes};
 ghost use Rattle.cp_skel.specs.Given.{IsEachOnce, HasEachOnce};
-ghost use Rattle.cp_skel.specs.Occurring.{prefix_variables, added_variables};
+ghost use Rattle.cp_strand.specs.Occurring.{prefix_variables, added_variables};
 ghost use Rattle.cp_skel.specs.Ordered.{IsOrdered};
 ghost use Rattle.cp_skel.specs.Deleting.{ForgetsAssumptions};
 ghost use Rattle.cp_skel.specs.Changing.{AddsListener, AddsStrand, CanExtend, Extends};

@@ -1,12 +1,11 @@
 // The order of a skeleton's nodes.
 ghost use Rattle.std.specs.Prelude.{◌≡◌, ◌↔◌, ◌∷◌, map, true, false, IsTrue, IfOk, OnOk, OnErr};
-ghost use Rattle.cp_model.specs.Bundle.{Node as PlainNode};
+ghost use Rattle.cp_model.specs.declared.node.Node.{Node as PlainNode};
 ghost use Rattle.cp_model.specs.Skeleton.{IsNodeOf, Before, IsOrderPair};
-ghost use Rattle.cp_skel.specs.Closed.{IsClosed};
+ghost use Rattle.cp_order.specs.Closed.{IsClosed};
 ghost use Rattle.cp_skel.specs.Ordered.{ordered_by, ChangesOrderOnly};
 ghost use Rattle.cp_skel.specs.Sound.{IsSound};
-ghost use Rattle.cp_model.specs.RunView.{node_view};
-ghost use Rattle.cp_skel.specs.View.{pair_view, skeleton_view};
+ghost use Rattle.cp_skel.specs.View.{skeleton_view};
 
 use crate::skeleton::{Node, OrderPair, Skeleton};
 use std::alloc::{AllocError, Global};
@@ -19,8 +18,8 @@ impl Skeleton {
         alloc: Global,
         pairs: Vec<OrderPair>,
     ) -> Result<Skeleton, AllocError>
-        requires { IsSound (ordered_by (skeleton_view self) (map pair_view pairs.items)) }
-        ensures { IfOk result (λ k. k ≡ record self { order = map pair_view pairs.items }) }
+        requires { IsSound (ordered_by (skeleton_view self) pairs.items) }
+        ensures { IfOk result (λ k. k ≡ record self { order = pairs.items }) }
     {
         let order = self.order.with_pairs(alloc, pairs)?;
         self.order = order;
@@ -28,17 +27,17 @@ impl Skeleton {
     }
 
     /// Whether n is before m in the skeleton's order. After `order_close`, and what the calls of this crate and normalising
-    /// and collapsing make of the skeleton then, this takes one pass over the closed pairs. Both nodes have to be there.
+    /// and collapsing make of the skeleton then, this is looked up. Both nodes have to be there.
     pub fn before(&self, n: Node, m: Node) -> bool
-        requires first { IsNodeOf (skeleton_view self.now).strands (node_view n) }
-        requires second { IsNodeOf (skeleton_view self.now).strands (node_view m) }
-        ensures exact { IsTrue result ↔ Before (skeleton_view self.now) (node_view n) (node_view m) }
+        requires first { IsNodeOf (skeleton_view self.now).strands n }
+        requires second { IsNodeOf (skeleton_view self.now).strands m }
+        ensures exact { IsTrue result ↔ Before (skeleton_view self.now) n m }
     {
         n != m && self.order.leads_to(n, m)
     }
 
-    /// Closes the order: what is before what stays the same, and is then found in one pass over the pairs. The error is
-    /// that memory ran out; then nothing changes.
+    /// Closes the order: what is before what stays the same, and is then looked up. The error is that memory ran out;
+    /// then nothing changes.
     pub fn order_close(&mut self, alloc: Global) -> Result<(), AllocError>
         ensures rest { OnOk result (ChangesOrderOnly self.old self.new) }
         ensures before { OnOk result ((x y : PlainNode) → Before (skeleton_view self.new) x y ↔ Before (skeleton_view self.old) x y) }
@@ -52,12 +51,12 @@ impl Skeleton {
     /// pair would close a cycle, it changes nothing and answers false. The error is that memory ran out; then nothing
     /// changes.
     pub fn add_order(&mut self, alloc: Global, n: Node, m: Node) -> Result<bool, AllocError>
-        requires pair { IsOrderPair (skeleton_view self.old) (record { earlier = node_view n; later = node_view m }) }
-        ensures refused { IfOk result (λ added. (added ≡ false) ↔ Before (skeleton_view self.old) (node_view m) (node_view n)) }
+        requires pair { IsOrderPair (skeleton_view self.old) (record { earlier = n; later = m }) }
+        ensures refused { IfOk result (λ added. (added ≡ false) ↔ Before (skeleton_view self.old) m n) }
         ensures same { IfOk result (λ added. added ≡ false → self.new ≡ self.old) }
         ensures rest { IfOk result (λ added. added ≡ true → ChangesOrderOnly self.old self.new) }
         ensures before { IfOk result (λ added. added ≡ true → (x y : PlainNode)
-            → Before (skeleton_view self.new) x y ↔ Before (ordered_by (skeleton_view self.old) (record { earlier = node_view n; later = node_view m } ∷ (skeleton_view self.old).pairs)) x y) }
+            → Before (skeleton_view self.new) x y ↔ Before (ordered_by (skeleton_view self.old) (record { earlier = n; later = m } ∷ (skeleton_view self.old).pairs)) x y) }
         ensures unchanged { OnErr result (self.new ≡ self.old) }
     {
         if self.order.leads_to_with_memory(alloc, m, n)? {

@@ -1,66 +1,12 @@
 // Where terms originate in skeletons.
-ghost use Rattle.std.specs.Prelude.{◌≡◌, ◌↔◌, IsTrue, map};
-ghost use Rattle.cp_model.specs.Lists.{item_at};
+ghost use Rattle.std.specs.Prelude.{◌≡◌, ◌↔◌, IsTrue};
+ghost use Rattle.cp_lists.specs.Lists.{item_at};
 ghost use Rattle.cp_model.specs.Strand.{OriginatesInTerms};
-ghost use Rattle.cp_model.specs.Skeleton.{skeleton_trace, skeleton_trace_or_none};
-ghost use Rattle.cp_model.specs.Homomorphism.{substitution_by};
-ghost use Rattle.cp_skel.specs.View.{event_view, instance_view, strand_view, skeleton_view};
-ghost use Rattle.cp_skel.specs.Originating.{IsCarriedByOne, OriginatesUnder};
+ghost use Rattle.cp_model.specs.Skeleton.{skeleton_trace_or_none};
+ghost use Rattle.cp_skel.specs.View.{skeleton_view};
 
-use crate::applying::event_at;
-use crate::comparing::carries_under;
-use crate::protocol::Event;
 use crate::skeleton::{Node, Skeleton};
-use crate::strand::{Instance, Strand, StrandShape};
 use cp_term::Term;
-
-/// Whether one of a role's events becomes one that carries the term.
-fn is_carried_by_one(values: &[Term], events: &[Event], t: &Term) -> bool
-    ensures { IsTrue result ↔ IsCarriedByOne (substitution_by values.now) (map event_view events.now) t.now }
-{
-    for event in events {
-        if carries_under(values, event.payload(), t) {
-            return true;
-        }
-    }
-    false
-}
-
-/// Whether the term originates at a place of a role's events as they become, counted from 0.
-fn originates_under(values: &[Term], events: &[Event], index: usize, t: &Term) -> bool
-    ensures { IsTrue result ↔ OriginatesUnder (substitution_by values.now) (map event_view events.now) t.now index }
-{
-    let Some(event) = event_at(events, index) else {
-        return false;
-    };
-    match event {
-        Event::Send(message) => {
-            carries_under(values, message, t) && !is_carried_by_one(values, &events[..index], t)
-        }
-        Event::Receive(_) => false,
-    }
-}
-
-impl Instance {
-    /// Whether the term originates at a place of the instance, counted from 0.
-    fn originates(&self, index: usize, t: &Term) -> bool
-        ensures { IsTrue result ↔ OriginatesInTerms (skeleton_trace (instance_view self.now)) t.now index }
-    {
-        index < self.height() && originates_under(self.values(), self.role().trace(), index, t)
-    }
-}
-
-impl Strand {
-    /// Whether the term originates at a place of the strand, counted from 0: on a listener nothing does.
-    fn originates(&self, index: usize, t: &Term) -> bool
-        ensures { IsTrue result ↔ OriginatesInTerms (skeleton_trace (strand_view self.now)) t.now index }
-    {
-        match self.shape() {
-            StrandShape::Instance(instance) => instance.originates(index, t),
-            StrandShape::Listener(_) => false,
-        }
-    }
-}
 
 impl Skeleton {
     /// Whether the term originates at the node: the event there is a transmission that carries it, and no earlier event

@@ -1,7 +1,5 @@
 // Nodes, pairs and recorded origins where a strand is gone.
-ghost use Rattle.std.specs.Prelude.{◌≡◌, ◌↔◌, map, IsTrue, IfOk};
-ghost use Rattle.cp_model.specs.RunView.{node_view};
-ghost use Rattle.cp_skel.specs.View.{pair_view};
+ghost use Rattle.std.specs.Prelude.{◌≡◌, ◌↔◌, ℕ, map, IsTrue, IfOk};
 ghost use Rattle.cp_skel.specs.Deleting.{renumbered, node_renumbered, pair_renumbered, unique_renumbered, IsPairOn, IsOriginOn, LeavesOut};
 
 use crate::assumptions::UniqueAt;
@@ -17,7 +15,7 @@ pub(crate) fn renumbered(gone: usize, strand: usize) -> usize
 
 /// The node once a strand is gone.
 pub(crate) fn node_renumbered(gone: usize, node: Node) -> Node
-    ensures { node_view result ≡ node_renumbered gone (node_view node) }
+    ensures { result ≡ node_renumbered gone node }
 {
     Node {
         strand: renumbered(gone, node.strand),
@@ -25,20 +23,53 @@ pub(crate) fn node_renumbered(gone: usize, node: Node) -> Node
     }
 }
 
-/// Whether one of the pair's nodes is on the strand.
-fn is_pair_on(gone: usize, pair: OrderPair) -> bool
-    ensures { IsTrue result ↔ IsPairOn gone (pair_view pair) }
-{
-    pair.earlier.strand == gone || pair.later.strand == gone
+/// What stands at nodes: it goes with a strand, or is renumbered once a strand is gone.
+pub(crate) trait AtNodes {
+    /// It stands on the strand.
+    ghost goes: { ℕ → Self → Type 0 };
+
+    /// What it is once the strand is gone.
+    ghost form: { ℕ → Self → Self };
+
+    /// Whether it stands on the strand.
+    fn is_on(&self, strand: usize) -> bool
+        ensures { IsTrue result ↔ goes strand self.now };
+
+    /// What it is once a strand is gone.
+    fn without(&self, gone: usize) -> Result<Self, AllocError>
+        ensures { IfOk result (λ x. x ≡ form gone self.now) };
 }
 
-/// The pair once a strand is gone.
-fn pair_renumbered(gone: usize, pair: OrderPair) -> OrderPair
-    ensures { pair_view result ≡ pair_renumbered gone (pair_view pair) }
-{
-    OrderPair {
-        earlier: node_renumbered(gone, pair.earlier),
-        later: node_renumbered(gone, pair.later),
+impl AtNodes for OrderPair {
+    ghost goes = { IsPairOn };
+
+    ghost form = { pair_renumbered };
+
+    fn is_on(&self, strand: usize) -> bool {
+        self.earlier.strand == strand || self.later.strand == strand
+    }
+
+    fn without(&self, gone: usize) -> Result<OrderPair, AllocError> {
+        Ok(OrderPair {
+            earlier: node_renumbered(gone, self.earlier),
+            later: node_renumbered(gone, self.later),
+        })
+    }
+}
+
+impl AtNodes for UniqueAt {
+    ghost goes = { IsOriginOn };
+
+    ghost form = { unique_renumbered };
+
+    fn is_on(&self, strand: usize) -> bool {
+        self.origin().strand == strand
+    }
+
+    fn without(&self, gone: usize) -> Result<UniqueAt, AllocError> {
+        let value = self.value().copy()?;
+        let origin = node_renumbered(gone, self.origin());
+        Ok(UniqueAt::new(value, origin))
     }
 }
 
@@ -57,40 +88,20 @@ pub(crate) fn strands_renumbered(
     Ok(left)
 }
 
-/// The pairs that have no node on the strand.
-pub(crate) fn pairs_left(
+/// What does not stand on the strand, once it is gone.
+pub(crate) fn left_without<T: AtNodes + Drop>(
     alloc: Global,
     gone: usize,
-    pairs: &[OrderPair],
-) -> Result<Vec<OrderPair>, AllocError>
-    ensures { IfOk result (λ v. LeavesOut (IsPairOn gone) (pair_renumbered gone) (map pair_view pairs.now) (map pair_view v.items)) }
+    items: &[T],
+) -> Result<Vec<T>, AllocError>
+    ensures { IfOk result (λ v. LeavesOut (T.goes gone) (T.form gone) items.now v.items) }
 {
     let mut left = Vec::new(alloc);
-    for pair in pairs {
-        if is_pair_on(gone, *pair) {
+    for item in items {
+        if item.is_on(gone) {
             continue;
         }
-        left.push(pair_renumbered(gone, *pair))?;
-    }
-    Ok(left)
-}
-
-/// The unique values whose recorded origin is not on the strand.
-pub(crate) fn uniques_left(
-    alloc: Global,
-    gone: usize,
-    uniques: &[UniqueAt],
-) -> Result<Vec<UniqueAt>, AllocError>
-    ensures { IfOk result (λ v. LeavesOut (IsOriginOn gone) (unique_renumbered gone) uniques.now v.items) }
-{
-    let mut left = Vec::new(alloc);
-    for unique in uniques {
-        if unique.origin().strand == gone {
-            continue;
-        }
-        let value = unique.value().copy()?;
-        let origin = node_renumbered(gone, unique.origin());
-        left.push(UniqueAt::new(value, origin))?;
+        left.push(item.without(gone)?)?;
     }
     Ok(left)
 }

@@ -6,25 +6,19 @@ ghost use Rattle.cp_skel.specs.View.{skeleton_view};
 
 use crate::assumptions::Assumptions;
 use crate::from_problem::FromProblem;
-use crate::order::Order;
-use crate::strand::Strand;
-pub use cp_model::Node;
+pub use cp_model::{Node, OrderPair};
+use cp_order::Order;
+use cp_strand::Strand;
 use cp_term::VarTable;
 use std::alloc::{AllocError, Global};
 use std::marker::Model;
-
-/// A pair of the order: the earlier node comes before the later one. In a skeleton they are a transmission and a
-/// reception of different strands.
-#[derive(Clone, Copy, Debug, PartialEq, Eq)]
-pub struct OrderPair {
-    pub earlier: Node,
-    pub later: Node,
-}
 
 /// A skeleton: its variables, those of its problem and those that were made on the way to it; strands, the order of their
 /// nodes beside the order of each strand, assumptions, and the way from the problem. Each is sound: its instances are of
 /// heights of their roles, which declare the variables of their events; its pairs go from a transmission to a reception of
 /// another strand, and its order has no cycle; its recorded origins are ones; and what its strands' roles give is assumed.
+/// Each entry of its map from the problem is one of its strands; and what the problem states itself it keeps: these
+/// assumptions are among its own, and these pairs are in its order.
 #[derive(Drop)]
 pub struct Skeleton {
     pub(crate) variables: VarTable,
@@ -51,7 +45,7 @@ impl Model for Skeleton {
 }
 
 impl Skeleton {
-    /// The skeleton of these parts.
+    /// The skeleton of these parts, which have to be sound.
     pub fn new(
         variables: VarTable,
         strands: Vec<Strand>,

@@ -1,9 +1,10 @@
 // Laws on the variables of skeletons that are changed: each stands as the contract of a function that does nothing.
 ghost use Rattle.std.specs.Prelude.{ℕ, List, ◌++◌};
-ghost use Rattle.cp_model.specs.Lists.{IsIn};
+ghost use Rattle.cp_lists.specs.Lists.{IsIn};
 ghost use Rattle.cp_model.specs.Term.{Variable, Term, variables_of};
 ghost use Rattle.cp_model.specs.Strand.{Declaration, Role};
-ghost use Rattle.cp_model.specs.Skeleton.{OrderPair, Skeleton};
+ghost use Rattle.cp_model.specs.Skeleton.{Skeleton};
+ghost use Rattle.cp_model.specs.declared.node.OrderPair.{OrderPair};
 ghost use Rattle.cp_model.specs.Problem.{IsDeclared, HasDeclaredVariables};
 ghost use Rattle.cp_skel.specs.Changing.{AddsListener, IsClosedPrefix, AddsStrand, Extends};
 ghost use Rattle.cp_skel.specs.Ordered.{ordered_by};

@@ -1,15 +1,16 @@
 -- A history of all nodes is a bundle: the links by look-up, the numbering from the oldest event to the newest.
-use Rattle.std.proofs.Common.{◌≡◌, ℕ, zero, suc, ◌<◌, List, [], ◌∷◌, length, map, Option, Some, None, refl, sym, ap, ◌∙◌, subst, ◌⊎◌, inl, inr}
-use Rattle.cp_model.specs.Lists.{item_at, IsIn, there, one_step, more_steps}
+use Rattle.std.proofs.Common.{◌++◌, ◌≡◌, ℕ, zero, suc, ◌<◌, List, [], ◌∷◌, length, map, Option, Some, None, refl, sym, ap, ◌∙◌, subst, ◌⊎◌, inl, inr}
+use Rattle.cp_lists.specs.Lists.{item_at, IsIn, there, one_step, more_steps}
 use Rattle.cp_model.specs.Message.{Message}
 use Rattle.cp_model.specs.Term.{value_of}
 use Rattle.cp_model.specs.Strand.{Event, send, recv, event_map, Protocol, prefix_of, Strand, trace_of}
-use Rattle.cp_model.specs.Bundle.{Node, node_at, trace_or_none, event_at, IsListing, AreOfProtocol, Bundle, BundleStep, along_strand, along_link, Precedes, IsBundle}
+use Rattle.cp_model.specs.Bundle.{node_at, trace_or_none, event_at, IsListing, AreOfProtocol, Bundle, BundleStep, along_strand, along_link, Precedes, IsBundle}
+use Rattle.cp_model.specs.declared.node.Node.{Node}
 use Rattle.cp_model.specs.Skeleton.{SkeletonStrand, instance, listener, skeleton_trace, skeleton_trace_or_none, IsNodeOf, Skeleton}
-use Rattle.cp_model.proofs.LawLists.{item_below}
-use Rattle.cp_model.proofs.LawOrigins.{place_of}
-use Rattle.cp_model.proofs.SingleTraces.{map_at, at_map, trace_after}
-use Rattle.cp_soundness.proofs.Lists.{with_last, still_there, last_or_there, same_node_or_not, head_or_behind, at_head}
+use Rattle.cp_lists.proofs.Items.{item_below, place_of, map_of_item, item_of_map, item_still, item_of_push}
+use Rattle.cp_model.proofs.LawEvents.{trace_after}
+use Rattle.cp_lists.proofs.Members.{head_or_behind, at_head}
+use Rattle.cp_soundness.proofs.SameNodes.{same_node_or_not}
 use Rattle.cp_soundness.proofs.Histories.{Entry, IsAfter, after_previous, after_sender, EntryStep, entry_step, Leads, HasHappened, HappenedFor, Chain, came_after, came_for, before_both}
 use Rattle.cp_soundness.proofs.States.{own_values, strand_for, home, IsStrandOf, for_strand, for_derivation, IsEventOf, State}
 
@@ -42,15 +43,15 @@ sender_of k (f ∷ es) c e h = of (head_or_behind h) (λ h'. sender_of k es c.1 
 -- The events from the oldest to the newest.
 abbrev pub oldest_first : List Entry → List Entry
 oldest_first [] = []
-oldest_first (e ∷ es) = with_last (oldest_first es) e
+oldest_first (e ∷ es) = oldest_first es ++ e ∷ []
 
-in_last : {A : Type 0} {x : A} (xs : List A) (y : A) → (x ≡ y) ⊎ IsIn x xs → IsIn x (with_last xs y)
+in_last : {A : Type 0} {x : A} (xs : List A) (y : A) → (x ≡ y) ⊎ IsIn x xs → IsIn x (xs ++ y ∷ [])
 in_last [] y (inl e) = at_head e
 in_last [] y (inr h) = elim h [ ]
 in_last {x = x} (z ∷ xs) y (inl e) = there (in_last xs y (inl e))
 in_last {x = x} (z ∷ xs) y (inr h) = of (head_or_behind h) (λ h'. in_last xs y (inr h'))
   where
-    of : (x ≡ z) ⊎ IsIn x xs → (IsIn x xs → IsIn x (with_last xs y)) → IsIn x (z ∷ with_last xs y)
+    of : (x ≡ z) ⊎ IsIn x xs → (IsIn x xs → IsIn x (xs ++ y ∷ [])) → IsIn x (z ∷ xs ++ y ∷ [])
     of (inl e) f = at_head e
     of (inr h') f = there (f h')
 
@@ -58,13 +59,13 @@ listed_oldest : (es : List Entry) {e : Entry} → IsIn e es → IsIn e (oldest_f
 listed_oldest [] h = elim h [ ]
 listed_oldest (f ∷ es) {e} h = of (head_or_behind h) (λ h'. listed_oldest es h')
   where
-    of : (e ≡ f) ⊎ IsIn e es → (IsIn e es → IsIn e (oldest_first es)) → IsIn e (with_last (oldest_first es) f)
+    of : (e ≡ f) ⊎ IsIn e es → (IsIn e es → IsIn e (oldest_first es)) → IsIn e (oldest_first es ++ f ∷ [])
     of (inl q) r = in_last (oldest_first es) f (inl q)
     of (inr h') r = in_last (oldest_first es) f (inr (r h'))
 
 oldest_listed : (es : List Entry) (i : ℕ) {e : Entry} → item_at (oldest_first es) i ≡ Some e → IsIn e es
 oldest_listed [] i h = absurd (cc)
-oldest_listed (f ∷ es) i {e} h = of (last_or_there (oldest_first es) f i h) (λ h'. oldest_listed es i h')
+oldest_listed (f ∷ es) i {e} h = of (item_of_push (oldest_first es) f i _ h) (λ h'. oldest_listed es i h')
   where
     of : (item_at (oldest_first es) i ≡ Some e) ⊎ ((i ≡ length (oldest_first es)) × (f ≡ e)) → (item_at (oldest_first es) i ≡ Some e → IsIn e es) → IsIn e (f ∷ es)
     of (inl h') r = there (r h')
@@ -73,7 +74,7 @@ oldest_listed (f ∷ es) i {e} h = of (last_or_there (oldest_first es) f i h) (�
 -- A node has one place.
 one_place : (k : Skeleton) (es : List Entry) → Chain k es → (i j : ℕ) {e f : Entry} → item_at (oldest_first es) i ≡ Some e → item_at (oldest_first es) j ≡ Some f → e.node ≡ f.node → i ≡ j
 one_place k [] c i j p q same = absurd (cc)
-one_place k (x ∷ es) c i j {e} {f} p q same = of (last_or_there (oldest_first es) x i p) (last_or_there (oldest_first es) x j q) (λ p' q'. one_place k es c.1 i j p' q' same)
+one_place k (x ∷ es) c i j {e} {f} p q same = of (item_of_push (oldest_first es) x i _ p) (item_of_push (oldest_first es) x j _ q) (λ p' q'. one_place k es c.1 i j p' q' same)
   where
     of : (item_at (oldest_first es) i ≡ Some e) ⊎ ((i ≡ length (oldest_first es)) × (x ≡ e)) → (item_at (oldest_first es) j ≡ Some f) ⊎ ((j ≡ length (oldest_first es)) × (x ≡ f)) →
         (item_at (oldest_first es) i ≡ Some e → item_at (oldest_first es) j ≡ Some f → i ≡ j) → i ≡ j
@@ -88,15 +89,15 @@ EarlierPlace es j x = (i : ℕ) × (e : Entry) × (i < j) × (item_at (oldest_fi
 
 earlier_place : (k : Skeleton) (es : List Entry) → Chain k es → (j : ℕ) (f : Entry) → item_at (oldest_first es) j ≡ Some f → (x : Node) → IsAfter f x → EarlierPlace es j x
 earlier_place k [] c j f h x a = absurd (cc)
-earlier_place k (y ∷ es) c j f h x a = of (last_or_there (oldest_first es) y j h) (λ h'. earlier_place k es c.1 j f h' x a)
+earlier_place k (y ∷ es) c j f h x a = of (item_of_push (oldest_first es) y j _ h) (λ h'. earlier_place k es c.1 j f h' x a)
   where
     of : (item_at (oldest_first es) j ≡ Some f) ⊎ ((j ≡ length (oldest_first es)) × (y ≡ f)) → (item_at (oldest_first es) j ≡ Some f → EarlierPlace es j x) → EarlierPlace (y ∷ es) j x
-    of (inl h') r = let p = r h' in (p.0, p.1, p.2, still_there (oldest_first es) y p.0 p.3, p.4)
+    of (inl h') r = let p = r h' in (p.0, p.1, p.2, item_still (oldest_first es) (y ∷ []) p.0 _ p.3, p.4)
     of (inr q) r =
         let p = came_for k y es c.0.came (subst (λ z. IsAfter z x) (sym q.1) a) in
         let place = place_of (listed_oldest es p.listed) in
         let below : place.0 < length (oldest_first es) = item_below (oldest_first es) place.0 p.entry place.1 in
-        (place.0, p.entry, subst (λ n. place.0 < n) (sym q.0) below, still_there (oldest_first es) y place.0 place.1, p.same)
+        (place.0, p.entry, subst (λ n. place.0 < n) (sym q.0) below, item_still (oldest_first es) (y ∷ []) place.0 _ place.1, p.same)
 
 event_of : (strands : List Strand) {n : Node} {e : Event Message} → IsEventOf strands n e → event_at strands n ≡ Some e
 event_of strands {n} {e} h = subst (λ o. item_at (trace_or_none o) n.index ≡ Some e) (sym h.listed) h.event
@@ -120,7 +121,7 @@ module _ (k : Skeleton) (ns : List Node) (all : (n : Node) → IsNodeOf k.strand
       home_taken : (ss : SkeletonStrand) → item_at k.strands n.strand ≡ Some ss → item_at (trace_of (strand_for ss)) n.index ≡ Some e → IsIn (home ss n) ns
       home_taken (instance role height terms) on at =
           let es = subst (λ es. item_at es n.index ≡ Some e) (trace_after own_values terms (prefix_of role height)) at in
-          let r = at_map (event_map (value_of own_values)) (skeleton_trace (instance role height terms)) n.index es in
+          let r = item_of_map (event_map (value_of own_values)) (skeleton_trace (instance role height terms)) n.index _ es in
           all n (r.0, subst (λ o. item_at (skeleton_trace_or_none o) n.index ≡ Some r.0) (sym on) r.1)
       home_taken (listener t) on at = all (node_at n.strand 0) (recv t, subst (λ o. item_at (skeleton_trace_or_none o) 0 ≡ Some (recv t)) (sym on) refl)
 
@@ -168,16 +169,16 @@ module _ (k : Skeleton) (ns : List Node) (all : (n : Node) → IsNodeOf k.strand
     each = λ n e h.
         let r = each_happened n e h in
         let p = place_of (listed_oldest st.entries r.listed) in
-        let q = map_at (λ (x : Entry). x.node) (oldest_first st.entries) p.0 p.1 in
+        let q = map_of_item (λ (x : Entry). x.node) (oldest_first st.entries) p.0 _ p.1 in
         at_place the_bundle.order p.0 (q ∙ ap Some r.same);
     only = λ n h.
         let p = place_of h in
-        let r = at_map (λ (x : Entry). x.node) (oldest_first st.entries) p.0 p.1 in
+        let r = item_of_map (λ (x : Entry). x.node) (oldest_first st.entries) p.0 _ p.1 in
         let ev = event_of st.strands (st.events r.0 (oldest_listed st.entries p.0 r.1)) in
         (r.0.event, subst (λ x. event_at st.strands x ≡ Some r.0.event) r.2 ev);
     once = λ i j n p q.
-        let a = at_map (λ (x : Entry). x.node) (oldest_first st.entries) i p in
-        let b = at_map (λ (x : Entry). x.node) (oldest_first st.entries) j q in
+        let a = item_of_map (λ (x : Entry). x.node) (oldest_first st.entries) i _ p in
+        let b = item_of_map (λ (x : Entry). x.node) (oldest_first st.entries) j _ q in
         one_place k st.entries st.chain i j a.1 b.1 (a.2 ∙ sym b.2);
   }
     where
@@ -188,8 +189,8 @@ module _ (k : Skeleton) (ns : List Node) (all : (n : Node) → IsNodeOf k.strand
 
   rises : (x y : Node) (i j : ℕ) → BundleStep the_bundle x y → item_at the_bundle.order i ≡ Some x → item_at the_bundle.order j ≡ Some y → i < j
   rises x y i j s p q =
-      let a = at_map (λ (z : Entry). z.node) (oldest_first st.entries) i p in
-      let b = at_map (λ (z : Entry). z.node) (oldest_first st.entries) j q in
+      let a = item_of_map (λ (z : Entry). z.node) (oldest_first st.entries) i _ p in
+      let b = item_of_map (λ (z : Entry). z.node) (oldest_first st.entries) j _ q in
       let after = is_after s b.0 (oldest_listed st.entries j b.1) b.2 in
       let r = earlier_place k st.entries st.chain j b.0 b.1 x after in
       let same : i ≡ r.0 = one_place k st.entries st.chain i r.0 a.1 r.3 (a.2 ∙ sym r.4) in

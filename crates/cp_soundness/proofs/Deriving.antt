@@ -1,13 +1,15 @@
 -- What is derivable at a node of a skeleton can be sent for it.
 use Rattle.std.proofs.Common.{◌≡◌, ℕ, Bool, true, false, List, Some, refl, sym, ap, ◌∙◌, subst, inl, inr}
-use Rattle.cp_model.specs.Lists.{item_at, IsIn}
+use Rattle.cp_lists.specs.Lists.{item_at, IsIn}
 use Rattle.cp_model.specs.Message.{Key, inverse, Message, tag, atom, pair, enc}
 use Rattle.cp_model.specs.Term.{KeyTerm, symmetric_term, asymmetric_term, inverse_term, Term, value_of, value_of_atom, value_of_key, PairTerm, akey_variable, pubk_term, Substitution}
 use Rattle.cp_model.specs.Strand.{Event, send, recv, event_map, Role, prefix_of, create_tag, create_atom, pairing, splitting, encryption, decryption, key_message, trace_of}
-use Rattle.cp_model.specs.Bundle.{Node, node_at}
+use Rattle.cp_model.specs.Bundle.{node_at}
+use Rattle.cp_model.specs.declared.node.Node.{Node}
 use Rattle.cp_model.specs.Skeleton.{SkeletonStrand, instance, skeleton_trace, skeleton_trace_or_none, term_event_at, Skeleton, Before}
 use Rattle.cp_model.specs.Derivable.{IsOnInstance, DerivableAt, a_tag, an_atom, sent_before, paired, left_of, right_of, encrypted, decrypted}
-use Rattle.cp_model.proofs.SingleTraces.{map_at, trace_after}
+use Rattle.cp_lists.proofs.Items.{map_of_item}
+use Rattle.cp_model.proofs.LawEvents.{trace_after}
 use Rattle.cp_soundness.proofs.Histories.{Entry, entry_at, AtOrBefore, SentFor, AreKept, sent_kept}
 use Rattle.cp_soundness.proofs.States.{own_values, strand_for, home, State}
 use Rattle.cp_soundness.proofs.Strands.{Created, Added, create, add}
@@ -33,7 +35,7 @@ pub image_event : (role : Role) (height : ℕ) (terms : Substitution) (i : ℕ) 
     item_at (trace_of (strand_for (instance role height terms))) i ≡ Some (event_map (value_of own_values) e)
 image_event role height terms i e h =
     subst (λ es. item_at es i ≡ Some (event_map (value_of own_values) e)) (sym (trace_after own_values terms (prefix_of role height)))
-    (map_at (event_map (value_of own_values)) (skeleton_trace (instance role height terms)) i h)
+    (map_of_item (event_map (value_of own_values)) (skeleton_trace (instance role height terms)) i _ h)
 
 -- The event at a node of a strand.
 pub event_on : (k : Skeleton) (n : Node) (s : SkeletonStrand) (e : Event Term) → item_at k.strands n.strand ≡ Some s → term_event_at k.strands n ≡ Some e → item_at (skeleton_trace s) n.index ≡ Some e

@@ -1,23 +1,20 @@
 -- The example meets the premises of the law.
-use Rattle.std.proofs.Common.{◌≡◌, ℕ, zero, suc, ◌+◌, ◌<◌, [], ◌∷◌, Some, refl, sym, ap, ◌∙◌, subst, le_refl, lt_trans, lt_irrefl, arith}
-use Rattle.cp_model.specs.Lists.{item_at, IsIn, here, there, one_step, more_steps}
-use Rattle.cp_model.specs.Term.{AtomTerm, text_variable, Term, atom_term, IsCarriedByTerm, itself_term, in_left_term, in_right_term, in_plaintext_term, Substitution, apply_to_atom, unchanged}
+use Rattle.std.proofs.Common.{◌≡◌, ℕ, zero, suc, ◌+◌, ◌<◌, Some, refl, sym, ap, ◌∙◌, subst, le_refl, lt_trans, lt_irrefl, arith}
+use Rattle.cp_lists.specs.Lists.{item_at, IsIn, here, one_step, more_steps}
+use Rattle.cp_model.specs.Term.{AtomTerm, text_variable, Term, atom_term, IsCarriedByTerm, itself_term, in_left_term, in_plaintext_term, Substitution, unchanged}
 use Rattle.cp_model.specs.Strand.{send, recv, Role, IsHeight}
-use Rattle.cp_model.specs.Bundle.{Node, node_at}
-use Rattle.cp_model.specs.Skeleton.{SkeletonStrand, instance, skeleton_trace, skeleton_trace_or_none, term_event_at, UniqueAt, OrderStep, along_strand_of, along_pair, Before, IsOrderPair, IsOrigin, GivesAssumptions, IsSkeleton}
+use Rattle.cp_model.specs.Bundle.{node_at}
+use Rattle.cp_model.specs.declared.node.Node.{Node}
+use Rattle.cp_model.specs.Skeleton.{SkeletonStrand, instance, skeleton_trace, skeleton_trace_or_none, term_event_at, UniqueAt, OrderStep, along_strand_of, along_pair, Before, IsOrderPair, GivesAssumptions, IsSkeleton}
 use Rattle.cp_model.specs.Derivable.{DerivableAt, sent_before}
 use Rattle.cp_model.specs.Realising.{OriginatesAtTerm, KeepsAssumptions, AllDerivable}
-use Rattle.cp_model.specs.Example.{example_inverse, example_role, example_protocol, example_assumptions}
+use Rattle.cp_model.specs.Example.{example_role, example_protocol}
+use Rattle.cp_lists.proofs.Members.{only_item}
+use Rattle.cp_model.proofs.StrandParts.{same_instance}
+use Rattle.cp_model.proofs.SingleExample.{not_carried, example_gives, example_origin}
 use Rattle.cp_model.proofs.SingleTraces.{only_place}
 use Rattle.cp_soundness.specs.Heard.{heard_term, heard_pair, heard_skeleton}
-use Rattle.cp_soundness.proofs.Lists.{same_node}
-
-only_item : {A : Type 0} {x y : A} → IsIn x (y ∷ []) → x ≡ y
-only_item here = refl
-only_item (there h) = elim h [ ]
-
-no_item : {A : Type 0} {x : A} → IsIn x [] → ⊥
-no_item h = elim h [ ]
+use Rattle.cp_soundness.proofs.SameNodes.{same_node}
 
 -- Each step of the order goes to a node whose two numbers have a greater sum.
 step_rises : {x y : Node} → OrderStep heard_skeleton x y → x.strand + x.index < y.strand + y.index
@@ -32,27 +29,16 @@ path_rises (more_steps s h) = lt_trans (step_rises s) (path_rises h)
 abbrev own_instance : SkeletonStrand
 own_instance = instance example_role 1 unchanged
 
-instance_at : (s : ℕ) (role : Role) (height : ℕ) (terms : Substitution) → item_at heard_skeleton.strands s ≡ Some (instance role height terms) →
-    (s ≡ 0) × (example_role ≡ role) × (1 ≡ height) × (unchanged ≡ terms)
-instance_at zero role height terms e = (refl, cc, cc, cc)
+instance_at : (s : ℕ) (role : Role) (height : ℕ) (terms : Substitution) → item_at heard_skeleton.strands s ≡ Some (instance role height terms) → s ≡ 0
+instance_at zero role height terms e = refl
 instance_at (suc zero) role height terms e = absurd (cc)
 instance_at (suc (suc s)) role height terms e = absurd (cc)
 
 each_instance : (P : ℕ → Role → ℕ → Substitution → Type 0) → P 0 example_role 1 unchanged →
     (s : ℕ) (role : Role) (height : ℕ) (terms : Substitution) → item_at heard_skeleton.strands s ≡ Some (instance role height terms) → P s role height terms
-each_instance P p s role height terms e =
-    let r = instance_at s role height terms e in
-    subst (λ x. P x role height terms) (sym r.0) (subst (λ x. P 0 x height terms) r.1 (subst (λ x. P 0 example_role x terms) r.2 (subst (λ x. P 0 example_role 1 x) r.3 p)))
-
-given : GivesAssumptions heard_skeleton 0 example_role 1 unchanged
-given = record {
-  non = λ v h a. subst (λ x. IsIn (apply_to_atom unchanged x) example_assumptions.non_originating) (sym (only_item h)) here;
-  penetrator_non = λ v h a. absurd (no_item h);
-  unique = λ v i h a.
-      let e : i ≡ 0 = omega (arith, a.1) in
-      subst (λ x. IsIn (record { value = apply_to_atom unchanged x; origin = node_at 0 i }) example_assumptions.uniquely_originating) (sym (only_item h))
-      (subst (λ x. IsIn (record { value = text_variable 0; origin = node_at 0 x }) example_assumptions.uniquely_originating) (sym e) here);
-}
+each_instance P p zero role height terms e = same_instance (P 0) e p
+each_instance P p (suc zero) role height terms e = absurd (cc)
+each_instance P p (suc (suc s)) role height terms e = absurd (cc)
 
 pub is_skeleton : IsSkeleton example_protocol heard_skeleton
 is_skeleton = record {
@@ -66,26 +52,14 @@ is_skeleton = record {
     between_strands = λ e. absurd (omega arith);
   });
   no_cycle = λ n h. lt_irrefl (n.strand + n.index) (path_rises h);
-  origins = λ u h. subst (IsOrigin heard_skeleton) (sym (only_item h)) (record {
-    role = example_role;
-    height = 1;
-    terms = unchanged;
-    on_instance = refl;
-    sent = heard_term;
-    transmission = refl;
-    carried = in_plaintext_term (in_left_term itself_term);
-  });
-  given = each_instance (λ s role height terms. GivesAssumptions heard_skeleton s role height terms) given;
+  origins = example_origin heard_skeleton refl refl;
+  given = each_instance (λ s role height terms. GivesAssumptions heard_skeleton s role height terms) (example_gives heard_skeleton refl);
 }
-
-not_carried : IsCarriedByTerm (atom_term example_inverse) heard_term → ⊥
-not_carried (in_plaintext_term (in_left_term h)) = elim h [ ]
-not_carried (in_plaintext_term (in_right_term h)) = elim h [ ]
 
 -- An origin is at the one event of the instance.
 origin_at : (v : AtomTerm) (n : Node) → OriginatesAtTerm heard_skeleton v n → (n ≡ node_at 0 0) × IsCarriedByTerm (atom_term v) heard_term
 origin_at v n o =
-    let s = (instance_at n.strand o.0.role o.0.height o.0.terms o.0.on_instance).0 in
+    let s = (instance_at n.strand o.0.role o.0.height o.0.terms o.0.on_instance) in
     let t : item_at (skeleton_trace own_instance) n.index ≡ Some (send o.1.sent) = subst (λ a. item_at (skeleton_trace_or_none (item_at heard_skeleton.strands a)) n.index ≡ Some (send o.1.sent)) s o.1.transmission in
     let r = only_place (send heard_term) n.index t in
     let q = r.1 in

@@ -1,12 +1,13 @@
 -- Histories: the events of a bundle that is being made, the newest first.
 use Rattle.std.proofs.Common.{◌≡◌, ◌≢◌, ℕ, suc, ◌<◌, arith, List, [], ◌∷◌, refl, sym, ap, subst, ◌⊎◌, inl, inr}
-use Rattle.cp_model.specs.Lists.{IsIn, here, there, Steps, one_step, more_steps}
+use Rattle.cp_lists.specs.Lists.{IsIn, here, there, Steps, one_step, more_steps}
 use Rattle.cp_model.specs.Message.{Message}
 use Rattle.cp_model.specs.Strand.{Event, send, recv}
-use Rattle.cp_model.specs.Bundle.{Node, node_at}
+use Rattle.cp_model.specs.Bundle.{node_at}
+use Rattle.cp_model.specs.declared.node.Node.{Node}
 use Rattle.cp_model.specs.Skeleton.{Skeleton, Before}
-use Rattle.cp_model.proofs.LawLists.{steps_append}
-use Rattle.cp_soundness.proofs.Lists.{of_each}
+use Rattle.cp_lists.proofs.Reached.{steps_append}
+use Rattle.cp_lists.proofs.Members.{of_each}
 
 -- One event: its node in the bundle, the event there, of a reception the node that its message comes from, and the
 -- node of the skeleton for which it happens.

@@ -1,15 +1,18 @@
 -- The strands that are made keep the assumptions.
 use Rattle.std.proofs.Common.{◌≡◌, ℕ, zero, suc, List, [], ◌∷◌, Option, Some, None, refl, sym, ap, ◌∙◌, subst, ◌⊎◌, inl, inr, arith}
-use Rattle.cp_model.specs.Lists.{item_at, IsIn}
+use Rattle.cp_lists.specs.Lists.{item_at, IsIn}
 use Rattle.cp_model.specs.Message.{Atom, Message, tag, atom, pair, enc, IsCarriedBy, itself, in_left, in_right, in_plaintext}
 use Rattle.cp_model.specs.Term.{AtomTerm, atom_term, Substitution, apply_to_atom, Assignment, value_of, value_of_atom, after}
 use Rattle.cp_model.specs.Strand.{send, recv, OriginatesIn, OriginatesInTerms, Role, Protocol, prefix_of, Penetrator, create_tag, create_atom, pairing, splitting, encryption, decryption, hearing, penetrator_trace, Strand, regular, trace_of}
-use Rattle.cp_model.specs.Bundle.{Node, node_at, trace_or_none, OriginatesAt, KeepsNon, KeepsPenetratorNon, KeepsUnique, KeepsRole, AreOfProtocol}
+use Rattle.cp_model.specs.Bundle.{node_at, trace_or_none, OriginatesAt, KeepsNon, KeepsPenetratorNon, KeepsUnique, KeepsRole, AreOfProtocol}
+use Rattle.cp_model.specs.declared.node.Node.{Node}
 use Rattle.cp_model.specs.Skeleton.{SkeletonStrand, instance, listener, skeleton_trace, skeleton_trace_or_none, UniqueAt, Skeleton, IsSkeleton}
 use Rattle.cp_model.specs.Derivable.{IsSecret}
 use Rattle.cp_model.specs.Realising.{OriginatesAtTerm, KeepsAssumptions}
-use Rattle.cp_model.proofs.SingleValues.{same_atom, value_after_atom}
-use Rattle.cp_model.proofs.SingleTraces.{trace_after, origin_of_value, origin_of_term}
+use Rattle.cp_model.proofs.SingleValues.{same_atom}
+use Rattle.cp_model.proofs.LawTerms.{atom_after}
+use Rattle.cp_model.proofs.SingleTraces.{origin_of_value, origin_of_term}
+use Rattle.cp_model.proofs.LawEvents.{trace_after}
 use Rattle.cp_model.proofs.SingleBundle.{own_number, own_numbers_distinct}
 use Rattle.cp_soundness.proofs.States.{own_values, strand_for, IsAllowed, IsStrandOf, for_strand, for_derivation, State}
 
@@ -162,7 +165,7 @@ module _ (k : Skeleton) (ns : List Node) (st : State k ns) where
         keeps_role s role height terms on =
             let given = is.given s role height terms on in
             record {
-              non = λ v h a. subst (λ m. KeepsNon st.strands (atom m)) (sym (value_after_atom own_values terms v)) (keeps_non (apply_to_atom terms v) (given.non v h a));
-              penetrator_non = λ v h a. subst (λ m. KeepsPenetratorNon st.strands (atom m)) (sym (value_after_atom own_values terms v)) (keeps_penetrator_non (apply_to_atom terms v) (given.penetrator_non v h a));
-              unique = λ v i h a. subst (λ m. KeepsUnique st.strands (atom m) (node_at s i)) (sym (value_after_atom own_values terms v)) (keeps_unique (record { value = apply_to_atom terms v; origin = node_at s i }) (given.unique v i h a));
+              non = λ v h a. subst (λ m. KeepsNon st.strands (atom m)) (sym (atom_after own_values terms v)) (keeps_non (apply_to_atom terms v) (given.non v h a));
+              penetrator_non = λ v h a. subst (λ m. KeepsPenetratorNon st.strands (atom m)) (sym (atom_after own_values terms v)) (keeps_penetrator_non (apply_to_atom terms v) (given.penetrator_non v h a));
+              unique = λ v i h a. subst (λ m. KeepsUnique st.strands (atom m) (node_at s i)) (sym (atom_after own_values terms v)) (keeps_unique (record { value = apply_to_atom terms v; origin = node_at s i }) (given.unique v i h a));
             }

@@ -1,4 +1,4 @@
-pub mod Lists
+pub mod SameNodes
 pub mod Sorted
 pub mod Histories
 pub mod States

@@ -1,17 +1,20 @@
 -- The nodes of a skeleton are taken one after another, in order.
 use Rattle.std.proofs.Common.{◌≡◌, ℕ, zero, suc, List, [], ◌∷◌, Some, map, refl, sym, ap, ◌∙◌, subst, ◌⊎◌, inl, inr, arith}
-use Rattle.cp_model.specs.Lists.{item_at, IsIn, here, there, one_step, more_steps}
+use Rattle.cp_lists.specs.Lists.{item_at, IsIn, here, there, one_step, more_steps}
 use Rattle.cp_model.specs.Message.{Message, pair}
 use Rattle.cp_model.specs.Term.{Term, Substitution, value_of}
 use Rattle.cp_model.specs.Strand.{Event, send, recv, event_map, Role, Protocol, trace_of}
-use Rattle.cp_model.specs.Bundle.{Node, node_at}
-use Rattle.cp_model.specs.Skeleton.{SkeletonStrand, instance, listener, skeleton_trace, term_event_at, IsNodeOf, OrderPair, Skeleton, OrderStep, along_strand_of, Before, IsOrderPair, IsSkeleton}
+use Rattle.cp_model.specs.Bundle.{node_at}
+use Rattle.cp_model.specs.declared.node.Node.{Node}
+use Rattle.cp_model.specs.Skeleton.{SkeletonStrand, instance, listener, skeleton_trace, term_event_at, IsNodeOf, Skeleton, OrderStep, along_strand_of, Before, IsOrderPair, IsSkeleton}
+use Rattle.cp_model.specs.declared.node.OrderPair.{OrderPair}
 use Rattle.cp_model.specs.Realising.{AllDerivable}
 use Rattle.cp_model.specs.Standing.{image_of}
-use Rattle.cp_model.proofs.LawLists.{item_before, steps_append}
+use Rattle.cp_lists.proofs.Items.{item_before, map_of_item, item_of_map}
+use Rattle.cp_lists.proofs.Reached.{steps_append}
 use Rattle.cp_model.proofs.LawStandings.{strand_of_event}
-use Rattle.cp_model.proofs.SingleTraces.{map_at, at_map}
-use Rattle.cp_soundness.proofs.Lists.{same_node, head_or_behind, at_head, of_each}
+use Rattle.cp_lists.proofs.Members.{head_or_behind, at_head, of_each}
+use Rattle.cp_soundness.proofs.SameNodes.{same_node}
 use Rattle.cp_soundness.proofs.Histories.{Entry, entry_at, Leads, HasHappened, HappenedFor, SentFor, Chain, AreKept, has_kept, leads_kept, may_happen_at, HasComeTo}
 use Rattle.cp_soundness.proofs.States.{own_values, own_standing, strand_for, home, for_strand, IsEventOf, State}
 use Rattle.cp_soundness.proofs.Strands.{three, three_chained, each_of_three, into}
@@ -220,12 +223,12 @@ start : (k : Skeleton) → State k []
 start k = record {
   strands = map strand_for k.strands;
   entries = [];
-  own = λ s x h. map_at strand_for k.strands s h;
-  kinds = λ s x h. let r = at_map strand_for k.strands s h in for_strand r.1 r.2;
+  own = λ s x h. map_of_item strand_for k.strands s _ h;
+  kinds = λ s x h. let r = item_of_map strand_for k.strands s _ h in for_strand r.1 r.2;
   chain = tt;
   events = λ e h. elim h [ ];
   whole = λ s i x e none h at.
-      let r = at_map strand_for k.strands s h in
+      let r = item_of_map strand_for k.strands s _ h in
       let q : item_at k.strands s ≡ Some r.0 = r.1 in
       absurd (cc);
   homes = λ e s h at. elim h [ ];

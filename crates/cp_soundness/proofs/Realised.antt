@@ -1,17 +1,19 @@
 -- A skeleton of which all nodes have happened stands in the bundle, with no order beyond its own.
 use Rattle.std.proofs.Common.{◌≡◌, ◌≢◌, ℕ, zero, suc, List, Some, refl, sym, ap, ◌∙◌, subst, ◌⊎◌, inl, inr, le_refl, arith}
-use Rattle.cp_model.specs.Lists.{item_at, IsIn, one_step, more_steps}
+use Rattle.cp_lists.specs.Lists.{item_at, IsIn, one_step, more_steps}
 use Rattle.cp_model.specs.Message.{atom}
 use Rattle.cp_model.specs.Term.{Term, Substitution, value_of, value_of_atom, after}
 use Rattle.cp_model.specs.Strand.{Event, send, recv, Role, Protocol, event_map}
-use Rattle.cp_model.specs.Bundle.{Node, node_at, trace_or_none, KeepsUnique, Precedes}
+use Rattle.cp_model.specs.Bundle.{node_at, trace_or_none, KeepsUnique, Precedes}
+use Rattle.cp_model.specs.declared.node.Node.{Node}
 use Rattle.cp_model.specs.Skeleton.{SkeletonStrand, instance, listener, skeleton_trace, skeleton_trace_or_none, term_event_at, IsNodeOf, UniqueAt, Skeleton, OrderStep, along_strand_of, along_pair, Before, IsSkeleton}
 use Rattle.cp_model.specs.Realising.{AllDerivable, KeepsAssumptions}
 use Rattle.cp_model.specs.Standing.{image_of, StandsOnRegular, StandsIn, IsRealised}
-use Rattle.cp_model.proofs.LawLists.{item_before, steps_append}
+use Rattle.cp_lists.proofs.Items.{item_before}
+use Rattle.cp_lists.proofs.Reached.{steps_append}
 use Rattle.cp_model.proofs.LawStandings.{strand_of_event}
 use Rattle.cp_model.proofs.SingleBundle.{own_number, own_numbers_distinct}
-use Rattle.cp_soundness.proofs.Lists.{same_node}
+use Rattle.cp_soundness.proofs.SameNodes.{same_node}
 use Rattle.cp_soundness.proofs.Sorted.{IsUp, IsPair, step_cases, nodes_in_order}
 use Rattle.cp_soundness.proofs.Histories.{Entry, Leads, AtOrBefore, HasHappened}
 use Rattle.cp_soundness.proofs.States.{own_values, own_standing, home, State}

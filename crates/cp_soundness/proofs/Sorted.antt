@@ -1,12 +1,15 @@
 -- The nodes of a skeleton, each once, none before an earlier one of the list.
 use Rattle.std.proofs.Common.{◌≡◌, ◌≢◌, ℕ, zero, suc, ◌+◌, List, [], ◌∷◌, ◌++◌, Option, Some, None, refl, sym, ap, ◌∙◌, subst, ◌⊎◌, inl, inr, arith}
-use Rattle.cp_model.specs.Lists.{item_at, IsIn, here, there, Steps, one_step, more_steps}
+use Rattle.cp_lists.specs.Lists.{item_at, IsIn, here, there, Steps, one_step, more_steps}
 use Rattle.cp_model.specs.Term.{Term}
 use Rattle.cp_model.specs.Strand.{Event}
-use Rattle.cp_model.specs.Bundle.{Node, node_at}
-use Rattle.cp_model.specs.Skeleton.{SkeletonStrand, skeleton_trace, skeleton_trace_or_none, term_event_at, IsNodeOf, OrderPair, Skeleton, OrderStep, along_strand_of, along_pair, Before}
-use Rattle.cp_model.proofs.LawLists.{in_append, in_append_left, in_append_right, steps_append}
-use Rattle.cp_soundness.proofs.Lists.{same_number_or_not, same_node, same_node_or_not, head_or_behind, at_head}
+use Rattle.cp_model.specs.Bundle.{node_at}
+use Rattle.cp_model.specs.declared.node.Node.{Node}
+use Rattle.cp_model.specs.Skeleton.{SkeletonStrand, skeleton_trace, skeleton_trace_or_none, term_event_at, IsNodeOf, Skeleton, OrderStep, along_strand_of, along_pair, Before}
+use Rattle.cp_model.specs.declared.node.OrderPair.{OrderPair}
+use Rattle.cp_lists.proofs.Members.{in_append, in_append_left, in_append_right, head_or_behind, at_head}
+use Rattle.cp_lists.proofs.Reached.{steps_append}
+use Rattle.cp_soundness.proofs.SameNodes.{same_number_or_not, same_node, same_node_or_not}
 
 -- The newest first: no item has a step to one behind it, and each is there once.
 abbrev pub Sorted : (Node → Node → Type 0) → List Node → Type 0

@@ -1,15 +1,17 @@
 -- A bundle that is being made: its strands, and the history of those nodes of the skeleton that are taken.
-use Rattle.std.proofs.Common.{◌≡◌, ℕ, List, length, Option, Some, None, refl, sym, subst, ◌⊎◌, inl, inr, arith}
-use Rattle.cp_model.specs.Lists.{item_at, IsIn}
+use Rattle.std.proofs.Common.{◌∷◌, [], ◌++◌, le_refl, ◌≡◌, ℕ, List, length, Option, Some, None, refl, sym, subst, ◌⊎◌, inl, inr, arith}
+use Rattle.cp_lists.specs.Lists.{item_at, IsIn}
 use Rattle.cp_model.specs.Message.{Message}
 use Rattle.cp_model.specs.Term.{AtomTerm, Assignment, value_of, value_of_atom, after, atoms_by}
 use Rattle.cp_model.specs.Strand.{Event, Penetrator, create_atom, pairing, penetrator_trace, Strand, regular, penetrator, trace_of}
-use Rattle.cp_model.specs.Bundle.{Node, node_at}
-use Rattle.cp_model.specs.Skeleton.{SkeletonStrand, instance, listener, OrderPair, Skeleton}
+use Rattle.cp_model.specs.Bundle.{node_at}
+use Rattle.cp_model.specs.declared.node.Node.{Node}
+use Rattle.cp_model.specs.Skeleton.{SkeletonStrand, instance, listener, Skeleton}
+use Rattle.cp_model.specs.declared.node.OrderPair.{OrderPair}
 use Rattle.cp_model.specs.Derivable.{IsSecret}
 use Rattle.cp_model.specs.Standing.{Standing, image_on, image_of}
 use Rattle.cp_model.proofs.SingleBundle.{own_number}
-use Rattle.cp_soundness.proofs.Lists.{with_last, last_there, still_there, last_or_there, none_after}
+use Rattle.cp_lists.proofs.Items.{item_last, item_still, item_of_push, item_past}
 use Rattle.cp_soundness.proofs.Histories.{Entry, Leads, HasHappened, Chain, AreKept, has_kept, leads_kept, HasComeTo}
 
 -- Each variable has an atom of its own.
@@ -60,15 +62,15 @@ pub record State (k : Skeleton) (taken : List Node) : Type 0 where
   pub done : (n : Node) (ss : SkeletonStrand) (e : Event Message) → item_at k.strands n.strand ≡ Some ss → item_at (trace_of (strand_for ss)) n.index ≡ Some e → IsIn (home ss n) taken → HasHappened entries n
   pub woven : (p : OrderPair) → IsIn p k.pairs → IsIn p.later taken → Leads entries (image_of k own_standing p.earlier) (image_of k own_standing p.later)
 
-event_still : (strands : List Strand) (x : Strand) {n : Node} {e : Event Message} → IsEventOf strands n e → IsEventOf (with_last strands x) n e
-event_still strands x {n} h = record { on = h.on; listed = still_there strands x n.strand h.listed; event = h.event }
+event_still : (strands : List Strand) (x : Strand) {n : Node} {e : Event Message} → IsEventOf strands n e → IsEventOf (strands ++ x ∷ []) n e
+event_still strands x {n} h = record { on = h.on; listed = item_still strands (x ∷ []) n.strand _ h.listed; event = h.event }
 
 module _ (k : Skeleton) (taken : List Node) (st : State k taken) where
   -- no strand of the skeleton, and no event, is at the next free number
   no_own : (ss : SkeletonStrand) → item_at k.strands (length st.strands) ≡ Some ss → ⊥
   no_own ss h =
       let a = st.own (length st.strands) ss h in
-      let b = none_after st.strands in
+      let b = item_past st.strands (length st.strands) (le_refl _) in
       cc
 
   free : (o : Option SkeletonStrand) → item_at k.strands (length st.strands) ≡ o → item_at k.strands (length st.strands) ≡ None
@@ -79,7 +81,7 @@ module _ (k : Skeleton) (taken : List Node) (st : State k taken) where
   no_event e h q =
       let r = (st.events e h).listed in
       let a : item_at st.strands (length st.strands) ≡ Some (st.events e h).on = subst (λ n. item_at st.strands n ≡ Some (st.events e h).on) q r in
-      let b = none_after st.strands in
+      let b = item_past st.strands (length st.strands) (le_refl _) in
       cc
 
   pub come_to_free : (label : Node) → HasComeTo k st.entries (length st.strands) 0 label
@@ -94,13 +96,13 @@ module _ (k : Skeleton) (taken : List Node) (st : State k taken) where
       ((i : ℕ) (e : Event Message) → item_at (penetrator_trace p) i ≡ Some e → HasHappened es (node_at (length st.strands) i)) → (new : State k taken) × (new.entries ≡ es)
   with_strand p allowed es kept chain added has = (
     record {
-      strands = with_last st.strands (penetrator p);
+      strands = st.strands ++ penetrator p ∷ [];
       entries = es;
-      own = λ s ss h. still_there st.strands (penetrator p) s (st.own s ss h);
-      kinds = λ s x h. kind s x (last_or_there st.strands (penetrator p) s h);
+      own = λ s ss h. item_still st.strands (penetrator p ∷ []) s _ (st.own s ss h);
+      kinds = λ s x h. kind s x (item_of_push st.strands (penetrator p) s _ h);
       chain = chain;
       events = λ e h. event_of e (added e h);
-      whole = λ s i x e none h at. whole_of s i x e none at (last_or_there st.strands (penetrator p) s h);
+      whole = λ s i x e none h at. whole_of s i x e none at (item_of_push st.strands (penetrator p) s _ h);
       homes = λ e ss h at. home_of e ss at (added e h);
       done = λ n ss e at ev h. has_kept kept (st.done n ss e at ev h);
       woven = λ q h l. leads_kept kept (st.woven q h l);
@@ -112,11 +114,11 @@ module _ (k : Skeleton) (taken : List Node) (st : State k taken) where
       kind s x (inl h) = st.kinds s x h
       kind s x (inr h) = for_derivation (subst (λ n. item_at k.strands n ≡ None) (sym h.0) (free (item_at k.strands (length st.strands)) refl)) h.1 allowed
 
-      event_of : (e : Entry) → IsIn e st.entries ⊎ ((e.node.strand ≡ length st.strands) × (item_at (penetrator_trace p) e.node.index ≡ Some e.event)) → IsEventOf (with_last st.strands (penetrator p)) e.node e.event
+      event_of : (e : Entry) → IsIn e st.entries ⊎ ((e.node.strand ≡ length st.strands) × (item_at (penetrator_trace p) e.node.index ≡ Some e.event)) → IsEventOf (st.strands ++ penetrator p ∷ []) e.node e.event
       event_of e (inl h) = event_still st.strands (penetrator p) (st.events e h)
       event_of e (inr h) = record {
         on = penetrator p;
-        listed = subst (λ n. item_at (with_last st.strands (penetrator p)) n ≡ Some (penetrator p)) (sym h.0) (last_there st.strands (penetrator p));
+        listed = subst (λ n. item_at (st.strands ++ penetrator p ∷ []) n ≡ Some (penetrator p)) (sym h.0) (item_last st.strands (penetrator p));
         event = h.1;
       }
 

@@ -1,11 +1,12 @@
 -- Strands of the penetrator, each added with all its events.
 use Rattle.std.proofs.Common.{◌≡◌, ℕ, zero, suc, List, [], ◌∷◌, length, Some, refl, sym, ap, subst, ◌⊎◌, inl, inr}
-use Rattle.cp_model.specs.Lists.{item_at, IsIn, here, there, one_step}
+use Rattle.cp_lists.specs.Lists.{item_at, IsIn, here, there, one_step}
 use Rattle.cp_model.specs.Message.{Message}
 use Rattle.cp_model.specs.Strand.{Event, send, recv, Penetrator, penetrator_trace}
-use Rattle.cp_model.specs.Bundle.{Node, node_at}
+use Rattle.cp_model.specs.Bundle.{node_at}
+use Rattle.cp_model.specs.declared.node.Node.{Node}
 use Rattle.cp_model.specs.Skeleton.{Skeleton}
-use Rattle.cp_soundness.proofs.Lists.{of_each}
+use Rattle.cp_lists.proofs.Members.{of_each}
 use Rattle.cp_soundness.proofs.Histories.{Entry, entry_at, after_previous, after_sender, entry_step, Leads, HasHappened, SentFor, Chain, AreKept, sent_kept, may_come_next, HasComeTo, has_come_next}
 use Rattle.cp_soundness.proofs.States.{State, IsAllowed, come_to_free, with_strand}
 

@@ -1,16 +1,19 @@
 -- Nodes that have to precede a reception are woven into what leads to it: their message is paired with the one to be
 -- received, the pair is split, and the message is delivered from there.
 use Rattle.std.proofs.Common.{◌≡◌, ℕ, zero, suc, List, [], ◌∷◌, Some, refl, sym, ap, ◌∙◌, subst, ◌⊎◌, inl, inr}
-use Rattle.cp_model.specs.Lists.{item_at, IsIn, here, there, one_step, more_steps}
+use Rattle.cp_lists.specs.Lists.{item_at, IsIn, here, there, one_step, more_steps}
 use Rattle.cp_model.specs.Message.{Message, pair}
 use Rattle.cp_model.specs.Term.{Term, value_of}
 use Rattle.cp_model.specs.Strand.{send, recv, pairing, splitting}
-use Rattle.cp_model.specs.Bundle.{Node, node_at}
-use Rattle.cp_model.specs.Skeleton.{SkeletonStrand, instance, listener, term_event_at, OrderPair, Skeleton, along_strand_of, along_pair, Before, IsOrderPair}
+use Rattle.cp_model.specs.Bundle.{node_at}
+use Rattle.cp_model.specs.declared.node.Node.{Node}
+use Rattle.cp_model.specs.Skeleton.{SkeletonStrand, instance, listener, term_event_at, Skeleton, along_strand_of, along_pair, Before, IsOrderPair}
+use Rattle.cp_model.specs.declared.node.OrderPair.{OrderPair}
 use Rattle.cp_model.specs.Standing.{image_on, image_of}
-use Rattle.cp_model.proofs.LawLists.{steps_append}
+use Rattle.cp_lists.proofs.Reached.{steps_append}
 use Rattle.cp_model.proofs.LawStandings.{strand_of_event}
-use Rattle.cp_soundness.proofs.Lists.{same_node, same_node_or_not, head_or_behind}
+use Rattle.cp_lists.proofs.Members.{head_or_behind}
+use Rattle.cp_soundness.proofs.SameNodes.{same_node, same_node_or_not}
 use Rattle.cp_soundness.proofs.Histories.{Entry, entry_at, after_previous, EntryStep, entry_step, Leads, AtOrLeads, HasHappened, SentFor, AreKept, leads_kept}
 use Rattle.cp_soundness.proofs.States.{own_values, own_standing, home, State}
 use Rattle.cp_soundness.proofs.Strands.{add, into, along}

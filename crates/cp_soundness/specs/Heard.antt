@@ -2,7 +2,8 @@
 use Rattle.std.specs.Prelude.{[], ◌∷◌}
 use Rattle.cp_model.specs.Term.{text_variable, name_variable, Term, atom_term, pair_term, enc_term, unchanged}
 use Rattle.cp_model.specs.Bundle.{node_at}
-use Rattle.cp_model.specs.Skeleton.{instance, listener, OrderPair, Skeleton}
+use Rattle.cp_model.specs.Skeleton.{instance, listener, Skeleton}
+use Rattle.cp_model.specs.declared.node.OrderPair.{OrderPair}
 use Rattle.cp_model.specs.Problem.{variable_terms}
 use Rattle.cp_model.specs.Example.{example_key, example_role, example_assumptions}
 

@@ -1,13 +1,14 @@
 -- The positions of a term are those at which a term stands.
 use Rattle.std.proofs.Common.{Bool, true, false, List, [], ◌∷◌, ◌++◌, Some, ◌≡◌, ◌⊎◌, inl, inr, refl, sym, ap, ◌∙◌, subst}
-use Rattle.std.specs.Prelude.{◌↔◌}
-use Rattle.cp_model.specs.Lists.{IsIn, here, there}
-use Rattle.cp_model.specs.Term.{KeyTerm, Term, tag_term, atom_term, pair_term, enc_term, IsCarriedByTerm, itself_term, in_left_term, in_right_term, in_plaintext_term}
-use Rattle.cp_term.specs.Positions.{here_if, below, term_at, positions_where}
+use Rattle.std.specs.Prelude.{◌↔◌, option_and_then}
+use Rattle.cp_lists.specs.Lists.{IsIn, here, there}
+use Rattle.cp_lists.proofs.Members.{in_append_left, in_append_right, in_append}
+use Rattle.cp_model.specs.Term.{Term, tag_term, atom_term, pair_term, enc_term, IsCarriedByTerm, itself_term, in_left_term, in_right_term, in_plaintext_term}
+use Rattle.cp_term.specs.Positions.{part_at, here_if, below, term_at, positions_where}
 use Rattle.cp_term.specs.Preorder.{ComesBefore, AreInPreorder}
-use Rattle.cp_term.specs.Same.{is_same}
+use Rattle.cp_model.specs.Same.{same_term}
 use Rattle.cp_term.proofs.SameTerms.{same_Decides}
-use Rattle.cp_term.proofs.Listed.{in_here, is_here, in_first, in_second, in_either, is_below, in_below}
+use Rattle.cp_term.proofs.Listed.{in_here, is_here, is_below, in_below}
 use Rattle.cp_term.specs.declared.path.Step.{Step}
 use Rattle.cp_term.specs.declared.path.Step.TheVariants.{Left, Right, Plaintext}
 
@@ -18,26 +19,12 @@ Stands test t path = (u : Term) × (term_at t path ≡ Some u) × (test u ≡ tr
 stands_here : (test : Term → Bool) (t : Term) (path : List Step) → IsIn path (here_if (test t)) → Stands test t path
 stands_here test t path h = let e = in_here (test t) path h in (t, ap (term_at t) e.0, e.1)
 
-stands_left : (test : Term → Bool) (a b : Term) (path : List Step) → ((q : List Step) → IsIn q (positions_where test a) → Stands test a q) →
-    IsIn path (below Left (positions_where test a)) → Stands test (pair_term a b) path
-stands_left test a b path inner h =
-    let e = in_below Left (positions_where test a) path h in
-    let s = inner e.0 e.2 in
-    (s.0, ap (term_at (pair_term a b)) e.1 ∙ s.1, s.2)
-
-stands_right : (test : Term → Bool) (a b : Term) (path : List Step) → ((q : List Step) → IsIn q (positions_where test b) → Stands test b q) →
-    IsIn path (below Right (positions_where test b)) → Stands test (pair_term a b) path
-stands_right test a b path inner h =
-    let e = in_below Right (positions_where test b) path h in
-    let s = inner e.0 e.2 in
-    (s.0, ap (term_at (pair_term a b)) e.1 ∙ s.1, s.2)
-
-stands_plaintext : (test : Term → Bool) (a : Term) (k : KeyTerm) (path : List Step) → ((q : List Step) → IsIn q (positions_where test a) → Stands test a q) →
-    IsIn path (below Plaintext (positions_where test a)) → Stands test (enc_term a k) path
-stands_plaintext test a k path inner h =
-    let e = in_below Plaintext (positions_where test a) path h in
-    let s = inner e.0 e.2 in
-    (s.0, ap (term_at (enc_term a k)) e.1 ∙ s.1, s.2)
+stands_below : (test : Term → Bool) (s : Step) (t part : Term) (path : List Step) → part_at s t ≡ Some part →
+    ((q : List Step) → IsIn q (positions_where test part) → Stands test part q) → IsIn path (below s (positions_where test part)) → Stands test t path
+stands_below test s t part path at inner h =
+    let e = in_below s (positions_where test part) path h in
+    let u = inner e.0 e.2 in
+    (u.0, ap (term_at t) e.1 ∙ ap (option_and_then (λ p. term_at p e.0)) at ∙ u.1, u.2)
 
 either : {A B C : Type 0} → (A → C) → (B → C) → A ⊎ B → C
 either f g (inl a) = f a
@@ -48,12 +35,13 @@ stands test (tag_term bytes) path h = stands_here test (tag_term bytes) path h
 stands test (atom_term a) path h = stands_here test (atom_term a) path h
 stands test (pair_term a b) path h =
     either (stands_here test (pair_term a b) path)
-    (λ r. either (stands_left test a b path (λ q i. stands test a q i)) (stands_right test a b path (λ q i. stands test b q i))
-    (in_either (below Left (positions_where test a)) (below Right (positions_where test b)) r))
-    (in_either (here_if (test (pair_term a b))) (below Left (positions_where test a) ++ below Right (positions_where test b)) h)
+    (λ r. either (stands_below test Left (pair_term a b) a path refl (λ q i. stands test a q i))
+    (stands_below test Right (pair_term a b) b path refl (λ q i. stands test b q i))
+    (in_append (below Left (positions_where test a)) (below Right (positions_where test b)) r))
+    (in_append (here_if (test (pair_term a b))) (below Left (positions_where test a) ++ below Right (positions_where test b)) h)
 stands test (enc_term a k) path h =
-    either (stands_here test (enc_term a k) path) (stands_plaintext test a k path (λ q i. stands test a q i))
-    (in_either (here_if (test (enc_term a k))) (below Plaintext (positions_where test a)) h)
+    either (stands_here test (enc_term a k) path) (stands_below test Plaintext (enc_term a k) a path refl (λ q i. stands test a q i))
+    (in_append (here_if (test (enc_term a k))) (below Plaintext (positions_where test a)) h)
 
 listed_here : (test : Term → Bool) (t u : Term) → Some t ≡ Some u → test u ≡ true → test t ≡ true
 listed_here test t u e h = let same : t ≡ u = cc in ap test same ∙ h
@@ -61,14 +49,14 @@ listed_here test t u e h = let same : t ≡ u = cc in ap test same ∙ h
 listed : (test : Term → Bool) (t : Term) (path : List Step) (u : Term) → term_at t path ≡ Some u → test u ≡ true → IsIn path (positions_where test t)
 listed test (tag_term bytes) [] u e h = is_here _ (listed_here test (tag_term bytes) u e h)
 listed test (atom_term a) [] u e h = is_here _ (listed_here test (atom_term a) u e h)
-listed test (pair_term a b) [] u e h = in_first (here_if (test (pair_term a b))) _ (is_here _ (listed_here test (pair_term a b) u e h))
-listed test (enc_term a k) [] u e h = in_first (here_if (test (enc_term a k))) _ (is_here _ (listed_here test (enc_term a k) u e h))
+listed test (pair_term a b) [] u e h = in_append_left _ (is_here _ (listed_here test (pair_term a b) u e h))
+listed test (enc_term a k) [] u e h = in_append_left _ (is_here _ (listed_here test (enc_term a k) u e h))
 listed test (pair_term a b) (Left ∷ path) u e h =
-    in_second (here_if (test (pair_term a b))) _ (in_first (below Left (positions_where test a)) _ (is_below Left _ path (listed test a path u e h)))
+    in_append_right (here_if (test (pair_term a b))) (in_append_left _ (is_below Left _ path (listed test a path u e h)))
 listed test (pair_term a b) (Right ∷ path) u e h =
-    in_second (here_if (test (pair_term a b))) _ (in_second (below Left (positions_where test a)) _ (is_below Right _ path (listed test b path u e h)))
+    in_append_right (here_if (test (pair_term a b))) (in_append_right (below Left (positions_where test a)) (is_below Right _ path (listed test b path u e h)))
 listed test (enc_term a k) (Plaintext ∷ path) u e h =
-    in_second (here_if (test (enc_term a k))) _ (is_below Plaintext _ path (listed test a path u e h))
+    in_append_right (here_if (test (enc_term a k))) (is_below Plaintext _ path (listed test a path u e h))
 listed test (pair_term a b) (Plaintext ∷ path) u e h = cc
 listed test (enc_term a k) (Left ∷ path) u e h = cc
 listed test (enc_term a k) (Right ∷ path) u e h = cc
@@ -83,15 +71,15 @@ pub positions_found : (test : Term → Bool) (whole : Term) (path : List Step) �
     IsIn path (positions_where test whole) ↔ ((t : Term) × (term_at whole path ≡ Some t) × (test t ≡ true))
 positions_found test whole path = (stands test whole path, λ s. listed test whole path s.0 s.1 s.2)
 
-same_stands : (part whole : Term) (path : List Step) → Stands (is_same part) whole path → term_at whole path ≡ Some part
+same_stands : (part whole : Term) (path : List Step) → Stands (same_term part) whole path → term_at whole path ≡ Some part
 same_stands part whole path s = s.1 ∙ ap Some (sym ((same_Decides part s.0).0 s.2))
 
 -- A path is one of the positions of a part exactly where the part stands there.
-pub part_found : (part whole : Term) (paths : List (List Step)) → paths ≡ positions_where (is_same part) whole → (path : List Step) →
+pub part_found : (part whole : Term) (paths : List (List Step)) → paths ≡ positions_where (same_term part) whole → (path : List Step) →
     IsIn path paths ↔ (term_at whole path ≡ Some part)
 part_found part whole paths all path = (
-  λ h. same_stands part whole path (stands (is_same part) whole path (subst (IsIn path) all h)),
-  λ e. subst (IsIn path) (sym all) (listed (is_same part) whole path part e ((same_Decides part part).1 refl)),
+  λ h. same_stands part whole path (stands (same_term part) whole path (subst (IsIn path) all h)),
+  λ e. subst (IsIn path) (sym all) (listed (same_term part) whole path part e ((same_Decides part part).1 refl)),
 )
 
 -- What a term carries stands at a position, and the other way round.
@@ -126,7 +114,7 @@ carried_position whole part = (position_of part whole, λ r. carried_at part who
 order_joined : (ps qs : List (List Step)) → AreInPreorder ps → AreInPreorder qs → ((p q : List Step) → IsIn p ps → IsIn q qs → ComesBefore p q) → AreInPreorder (ps ++ qs)
 order_joined [] qs i j h = j
 order_joined (p ∷ ps) qs i j h =
-    (λ q m. either (i.0 q) (λ n. h p q here n) (in_either ps qs m), order_joined ps qs i.1 j (λ r q m n. h r q (there m) n))
+    (λ q m. either (i.0 q) (λ n. h p q here n) (in_append ps qs m), order_joined ps qs i.1 j (λ r q m n. h r q (there m) n))
 
 behind_step : (s : Step) (p q : List Step) (t : List Step) → t ≡ s ∷ q → ComesBefore p q → ComesBefore (s ∷ p) t
 behind_step s p q t e h = subst (ComesBefore (s ∷ p)) (sym e) (inr (refl, h))
@@ -157,10 +145,10 @@ positions_ordered test (pair_term a b) =
     (λ p q m n. either
     (λ l. let r = in_below Left _ q l in first_of_all p q r.0 Left (in_here _ p m).0 r.1)
     (λ l. let r = in_below Right _ q l in first_of_all p q r.0 Right (in_here _ p m).0 r.1)
-    (in_either (below Left (positions_where test a)) (below Right (positions_where test b)) n))
+    (in_append (below Left (positions_where test a)) (below Right (positions_where test b)) n))
 positions_ordered test (enc_term a k) =
     order_joined (here_if (test (enc_term a k))) (below Plaintext (positions_where test a)) (order_here _) (order_below Plaintext _ (positions_ordered test a))
     (λ p q m n. let r = in_below Plaintext _ q n in first_of_all p q r.0 Plaintext (in_here _ p m).0 r.1)
 
-pub paths_ordered : (part whole : Term) (paths : List (List Step)) → paths ≡ positions_where (is_same part) whole → AreInPreorder paths
-paths_ordered part whole paths all = subst AreInPreorder (sym all) (positions_ordered (is_same part) whole)
+pub paths_ordered : (part whole : Term) (paths : List (List Step)) → paths ≡ positions_where (same_term part) whole → AreInPreorder paths
+paths_ordered part whole paths all = subst AreInPreorder (sym all) (positions_ordered (same_term part) whole)

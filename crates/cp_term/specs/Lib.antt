@@ -7,7 +7,6 @@ pub mod Leaves
 pub mod Patterns
 pub mod Positions
 pub mod Preorder
-pub mod Same
 pub mod Shapes
 pub mod Size
 pub mod Spines

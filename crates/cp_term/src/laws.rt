@@ -1,10 +1,10 @@
 //! Laws of the definitions: each stands as the contract of a function that does nothing.
 ghost use Rattle.std.specs.Prelude.{◌≡◌, ◌↔◌, Bool, true, List, Some, IsTrue};
-ghost use Rattle.cp_model.specs.Lists.{IsIn};
+ghost use Rattle.cp_lists.specs.Lists.{IsIn};
 ghost use Rattle.cp_model.specs.Term.{Term, IsCarriedByTerm};
 ghost use Rattle.cp_term.specs.Positions.{term_at, positions_where};
 ghost use Rattle.cp_term.specs.Preorder.{AreInPreorder};
-ghost use Rattle.cp_term.specs.Same.{is_same};
+ghost use Rattle.cp_model.specs.Same.{same_term};
 ghost use Rattle.cp_term.specs.declared.path.Step.{Step};
 
 /// What a term carries stands at a position of it, and what stands at a position it carries.
@@ -25,5 +25,5 @@ pub fn positions_are_those_found()
 /// The test of equality passes exactly for equal terms.
 #[tactic(auto, using(crate::proofs::SameTerms::same_Decides))]
 pub fn test_of_equality()
-    ensures { (a b : Term) → IsTrue (is_same a b) ↔ (a ≡ b) }
+    ensures { (a b : Term) → IsTrue (same_term a b) ↔ (a ≡ b) }
 {}

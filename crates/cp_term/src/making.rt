@@ -9,7 +9,7 @@ ghost use Rattle.cp_term.specs.Variables.{variable_term, value_of_variable};
 
 use crate::term::{Node, Term};
 use crate::variable::{Sort, VarId};
-use cp_base::Text;
+use cp_base::{Text, copy_if_any};
 use std::alloc::{AllocError, Global};
 
 /// The tag with this text.
@@ -99,18 +99,6 @@ pub fn enc(alloc: Global, body: Term, key: Term) -> Result<Term, AllocError>
     Term::made(alloc, Node::Encryption(body, key))
 }
 
-fn copy_of(alloc: Global, purpose: &Option<Text>) -> Result<Option<Text>, AllocError>
-    ensures { IfOk result (λ p. p ≡ purpose.now) }
-{
-    match purpose {
-        None => Ok(None),
-        Some(text) => {
-            let text = Text::new(alloc, text.as_str())?;
-            Ok(Some(text))
-        }
-    }
-}
-
 /// The inverse of a key, which is a term of sort skey or akey: a symmetric key is its own.
 pub fn invert(alloc: Global, key: &Term) -> Result<Term, AllocError>
     requires { IsKey key.now }
@@ -123,7 +111,7 @@ pub fn invert(alloc: Global, key: &Term) -> Result<Term, AllocError>
         Node::SkeyVariable(_) | Node::Ltk(..) => key.copy(),
         Node::AkeyVariable(flag, id) => Term::made(alloc, Node::AkeyVariable(!*flag, *id)),
         Node::Pubk(flag, purpose, id) => {
-            let purpose = copy_of(alloc, purpose)?;
+            let purpose = copy_if_any(purpose)?;
             Term::made(alloc, Node::Pubk(!*flag, purpose, *id))
         }
         _ => unreachable!(),

@@ -1,6 +1,8 @@
 // Patterns.
-ghost use Rattle.std.specs.Prelude.{◌≡◌, [], ◌++◌, ◌∷◌, IfOk, OnOk, OnErr};
+ghost use Rattle.std.specs.Prelude.{◌≡◌, [], ◌++◌, ◌∷◌, map, IfOk, OnOk, OnErr};
+ghost use Rattle.cp_lists.specs.Lists.{IsIn};
 ghost use Rattle.cp_model.specs.Pattern.{IsPattern};
+ghost use Rattle.cp_model.specs.Term.{Variable, variables_of};
 ghost use Rattle.cp_term.specs.Patterns.{locals_of, pattern_by};
 
 use crate::term::Term;
@@ -69,12 +71,11 @@ impl Model for Pattern {
 
     ghost Value = { Plain };
 
+    ghost use Rattle.cp_model.specs.Pattern.{IsPattern};
     ghost use Rattle.cp_term.specs.Code.{coded_pattern};
+    ghost use Rattle.cp_term.specs.Patterns.{pattern_by};
 
     ghost coded = { coded_pattern };
-
-    ghost use Rattle.cp_model.specs.Pattern.{IsPattern};
-    ghost use Rattle.cp_term.specs.Patterns.{pattern_by};
 
     ghost view = { λ p. pattern_by p.term p.locals };
 
@@ -82,7 +83,8 @@ impl Model for Pattern {
 }
 
 impl Pattern {
-    /// The pattern of this term, whose variables with these numbers are local. That it is one is the caller's condition.
+    /// The pattern of this term, whose variables with these numbers are local. That it is one, so that each number is that
+    /// of a variable of the term, is the caller's condition.
     pub fn new(term: Term, locals: Locals) -> Pattern
         requires { IsPattern (pattern_by term locals) }
         ensures { result ≡ pattern_by term locals }
@@ -98,9 +100,11 @@ impl Pattern {
         &self.term
     }
 
-    /// The numbers of the local variables.
+    /// The numbers of the local variables. Each is a variable of the term.
     pub fn locals(&self) -> &[VarId]
-        ensures { locals_of self.now.term result.now ≡ self.now.locals }
+        ensures variables { locals_of self.now.term result.now ≡ self.now.locals }
+        ensures numbers { result.now ≡ map (λ x. x.number) self.now.locals }
+        ensures occur { (x : Variable) → IsIn x self.now.locals → IsIn x (variables_of self.now.term) }
     {
         self.locals.as_slice()
     }

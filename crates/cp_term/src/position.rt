@@ -2,11 +2,11 @@
 ghost use Rattle.std.specs.Prelude.{◌≡◌, ◌↔◌, ◌++◌, min, List, Some, IsTrue, IfOk, OnOk};
 ghost use Rattle.std.specs.Option.{option_copied};
 ghost use Rattle.cp_model.specs.Term.{IsCarriedByTerm};
-ghost use Rattle.cp_model.specs.Lists.{IsIn};
+ghost use Rattle.cp_lists.specs.Lists.{IsIn};
 ghost use Rattle.cp_term.specs.declared.path.Step.{Step as StepData};
 ghost use Rattle.cp_term.specs.Preorder.{AreInPreorder};
 ghost use Rattle.cp_term.specs.Positions.{depth_of, term_at, here_if, behind, positions_where};
-ghost use Rattle.cp_term.specs.Same.{is_same};
+ghost use Rattle.cp_model.specs.Same.{same_term};
 
 use crate::path::{Path, Step};
 use crate::term::{Node, Term};
@@ -53,7 +53,7 @@ pub fn at<'a>(whole: &'a Term, path: &Path) -> Option<&'a Term>
 /// Adds this path, where the term is the part.
 fn add_here(term: &Term, part: &Term, here: &Path, found: &mut Vec<Path>) -> Result<(), AllocError>
     ensures { OnOk result (found.new.items
-        ≡ found.old.items ++ behind here.now (here_if (is_same part.now term.now))) }
+        ≡ found.old.items ++ behind here.now (here_if (same_term part.now term.now))) }
 {
     if part.same(term) {
         let path = here.copy()?;
@@ -70,7 +70,7 @@ fn add_paths(
     found: &mut Vec<Path>,
 ) -> Result<(), AllocError>
     ensures added { OnOk result (found.new.items
-        ≡ found.old.items ++ behind here.old (positions_where (is_same part.now) whole.now)) }
+        ≡ found.old.items ++ behind here.old (positions_where (same_term part.now) whole.now)) }
     ensures back { OnOk result (here.new ≡ here.old) }
 {
     let start = here.len();
@@ -100,7 +100,7 @@ fn add_paths(
 
 /// The positions at which the whole carries the part, in preorder, left before right.
 pub fn paths_of(alloc: Global, whole: &Term, part: &Term) -> Result<Vec<Path>, AllocError>
-    ensures paths { IfOk result (λ v. v.items ≡ positions_where (is_same part.now) whole.now) }
+    ensures paths { IfOk result (λ v. v.items ≡ positions_where (same_term part.now) whole.now) }
     ensures found { IfOk result (λ v. (path : List StepData)
         → IsIn path v.items ↔ (term_at whole.now path ≡ Some part.now)) }
     ensures in_preorder { IfOk result (λ v. AreInPreorder v.items) }

@@ -4,23 +4,7 @@ ghost use Rattle.cp_term.specs.Layer.{term_of_node};
 ghost use Rattle.cp_term.specs.Leaves.{IsLeaf};
 
 use crate::term::{Node, Term};
-use cp_base::Text;
-
-fn same_text(a: &Text, b: &Text) -> bool
-    ensures { IsTrue result ↔ (a.now ≡ b.now) }
-{
-    a.as_str() == b.as_str()
-}
-
-fn same_purpose(a: &Option<Text>, b: &Option<Text>) -> bool
-    ensures { IsTrue result ↔ (a.now ≡ b.now) }
-{
-    match (a, b) {
-        (None, None) => true,
-        (Some(x), Some(y)) => same_text(x, y),
-        _ => false,
-    }
-}
+use cp_base::same_if_any;
 
 /// Whether a node without parts is the same as another node.
 fn same_leaf(leaf: &Node, other: &Node) -> bool
@@ -28,14 +12,14 @@ fn same_leaf(leaf: &Node, other: &Node) -> bool
     ensures { IsTrue result ↔ (term_of_node leaf.now ≡ term_of_node other.now) }
 {
     match (leaf, other) {
-        (Node::Tag(a), Node::Tag(b)) => same_text(a, b),
+        (Node::Tag(a), Node::Tag(b)) => a.same(b),
         (Node::TextVariable(x), Node::TextVariable(y)) => x == y,
         (Node::DatumVariable(x), Node::DatumVariable(y)) => x == y,
         (Node::NameVariable(x), Node::NameVariable(y)) => x == y,
         (Node::SkeyVariable(x), Node::SkeyVariable(y)) => x == y,
         (Node::AkeyVariable(f, x), Node::AkeyVariable(g, y)) => f == g && x == y,
         (Node::Ltk(a, b), Node::Ltk(c, d)) => a == c && b == d,
-        (Node::Pubk(f, p, x), Node::Pubk(g, q, y)) => f == g && x == y && same_purpose(p, q),
+        (Node::Pubk(f, p, x), Node::Pubk(g, q, y)) => f == g && x == y && same_if_any(p, q),
         _ => false,
     }
 }

@@ -124,6 +124,25 @@ fn or_copy(changed: Option<Term>, term: &Term) -> Result<Term, AllocError>
     }
 }
 
+/// What two parts have become, or none where neither is new.
+fn new_parts(
+    first: &Term,
+    second: &Term,
+    new_first: Option<Term>,
+    new_second: Option<Term>,
+) -> Result<Option<(Term, Term)>, AllocError>
+    ensures { IfOk result (λ parts. MatchOption parts
+        ((unwrap_or new_first first.now ≡ first.now) × (unwrap_or new_second second.now ≡ second.now))
+        (λ p. (p.0 ≡ unwrap_or new_first first.now) × (p.1 ≡ unwrap_or new_second second.now))) }
+{
+    if new_first.is_none() && new_second.is_none() {
+        return Ok(None);
+    }
+    let first = or_copy(new_first, first)?;
+    let second = or_copy(new_second, second)?;
+    Ok(Some((first, second)))
+}
+
 /// A new pair of what is new of its parts, or none where neither is.
 fn pair_of(
     alloc: Global,
@@ -135,13 +154,10 @@ fn pair_of(
     ensures { IfOk result (λ changed. unwrap_or changed (pair_term left.now right.now)
         ≡ pair_term (unwrap_or new_left left.now) (unwrap_or new_right right.now)) }
 {
-    if new_left.is_none() && new_right.is_none() {
-        return Ok(None);
+    match new_parts(left, right, new_left, new_right)? {
+        None => Ok(None),
+        Some((first, second)) => Ok(Some(pair(alloc, first, second)?)),
     }
-    let first = or_copy(new_left, left)?;
-    let second = or_copy(new_right, right)?;
-    let whole = pair(alloc, first, second)?;
-    Ok(Some(whole))
 }
 
 /// A new encryption of what is new of its parts, or none where neither is.
@@ -156,13 +172,10 @@ fn encryption_of(
     ensures { IfOk result (λ changed. (k j : KeyTerm) → key.now ≡ key_as_term k → unwrap_or new_key key.now ≡ key_as_term j
         → unwrap_or changed (enc_term body.now k) ≡ enc_term (unwrap_or new_body body.now) j) }
 {
-    if new_body.is_none() && new_key.is_none() {
-        return Ok(None);
+    match new_parts(body, key, new_body, new_key)? {
+        None => Ok(None),
+        Some((plain, under)) => Ok(Some(enc(alloc, plain, under)?)),
     }
-    let first = or_copy(new_body, body)?;
-    let second = or_copy(new_key, key)?;
-    let whole = enc(alloc, first, second)?;
-    Ok(Some(whole))
 }
 
 /// A new term of one on a spine, where its tail has become another or stayed, or none where it does not change.

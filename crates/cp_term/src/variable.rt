@@ -6,6 +6,7 @@ ghost use Rattle.cp_term.specs.Table.{roots, sorts};
 use cp_base::Text;
 use std::alloc::{AllocError, Global};
 use std::marker::Model;
+use std::rc::Rc;
 
 /// The sort of a variable: one of the five sorts of atoms.
 #[derive(Clone, Copy, Debug, PartialEq, Eq)]
@@ -51,18 +52,18 @@ impl VarId {
     }
 }
 
-/// What is kept of a variable: the identifier that it is named after, and its sort.
+/// What is kept of a variable: the identifier that it is named after, which copies of the table share, and its sort.
 #[derive(Drop)]
 struct Entry {
-    root: Text,
+    root: Rc<Text>,
     sort: Sort,
 }
 
 impl Entry {
-    fn copy(&self, alloc: Global) -> Result<Entry, AllocError>
+    fn copy(&self) -> Result<Entry, AllocError>
         ensures { IfOk result (λ e. declared_by e ≡ declared_by self.now) }
     {
-        let root = Text::new(alloc, self.root.as_str())?;
+        let root = self.root.clone()?;
         Ok(Entry {
             root,
             sort: self.sort,
@@ -75,7 +76,7 @@ fn copy_entries(alloc: Global, entries: &[Entry]) -> Result<Vec<Entry>, AllocErr
 {
     let mut copies = Vec::new(alloc);
     for entry in entries {
-        let copy = entry.copy(alloc)?;
+        let copy = entry.copy()?;
         copies.push(copy)?;
     }
     Ok(copies)
@@ -123,12 +124,14 @@ impl VarTable {
         ensures unchanged { OnErr result (self.new ≡ self.old) }
     {
         let number = self.entries.len();
-        let root = Text::new(*self.entries.allocator(), root)?;
+        let alloc = *self.entries.allocator();
+        let text = Text::new(alloc, root)?;
+        let root = Rc::new(alloc, text)?;
         self.entries.push(Entry { root, sort })?;
         Ok(VarId { number })
     }
 
-    /// The same variables again.
+    /// The same variables again. The two tables share the identifiers.
     pub fn copy(&self) -> Result<VarTable, AllocError>
         ensures { IfOk result (λ t. t ≡ self.now) }
     {

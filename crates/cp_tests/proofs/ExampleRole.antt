@@ -1,14 +1,14 @@
 -- The example has a prefix of one event and one of three, and terms for the variables of both.
 use Rattle.std.proofs.Common.{◌≡◌, ℕ, List, length, refl, sym, ap, ◌∙◌, subst, arith}
 use Rattle.std.specs.Prelude.{take}
-use Rattle.cp_model.specs.Lists.{item_at, IsIn, here, there}
+use Rattle.cp_lists.specs.Lists.{item_at, IsIn, here, there}
 use Rattle.cp_model.specs.Term.{Variable, Term}
 use Rattle.cp_model.specs.Strand.{Role, variables_of_trace, IsHeight}
 use Rattle.cp_model.specs.Skeleton.{instance, Skeleton}
 use Rattle.cp_model.specs.Problem.{IsDeclared}
 use Rattle.std.specs.List.{filter}
 use Rattle.cp_model.specs.Same.{has_variable}
-use Rattle.cp_skel.specs.Occurring.{is_added, declared_variables, prefix_variables, added_variables, AreTermsFor}
+use Rattle.cp_strand.specs.Occurring.{is_added, declared_variables, prefix_variables, added_variables, AreTermsFor}
 use Rattle.cp_skel.specs.Changing.{AddsStrand, CanExtend}
 use Rattle.cp_skel.specs.Sound.{DeclaresItsVariables}
 use Rattle.cp_tests.specs.Example.{example_variables, example_trace, IsExample, example_values, added_values}

@@ -1,35 +1,37 @@
--- A skeleton is sound whatever is said to come from its problem, and with its assumptions in another order, or twice.
-use Rattle.std.proofs.Common.{◌≡◌, ◌⊎◌, inl, inr, ⊎_elim, List, [], ◌∷◌, ◌++◌, reverse, refl, sym, ap, ◌∙◌, subst}
+-- A skeleton is sound with a shorter way from its problem, and with its assumptions in another order, or twice.
+use Rattle.std.proofs.Common.{◌≡◌, ◌⊎◌, inl, inr, ⊎_elim, ℕ, zero, suc, List, [], ◌∷◌, ◌++◌, take, reverse, refl, sym, ap, ◌∙◌, subst}
 use Rattle.std.proofs.lemmas.List.{reverse-append}
-use Rattle.cp_model.specs.Lists.{IsIn, here, there, one_step, more_steps}
-use Rattle.cp_model.specs.Bundle.{Node}
+use Rattle.cp_lists.specs.Lists.{IsIn, here, there}
+use Rattle.cp_model.specs.declared.node.Node.{Node}
 use Rattle.cp_model.specs.Term.{AtomTerm}
-use Rattle.cp_model.specs.Skeleton.{UniqueAt, OrderPair, Skeleton, FromProblem, Assumptions, OrderStep, along_strand_of, along_pair, Before}
-use Rattle.cp_model.proofs.LawLists.{in_append, in_append_right}
+use Rattle.cp_model.specs.Skeleton.{UniqueAt, Skeleton, FromProblem, Assumptions, Before}
+use Rattle.cp_model.specs.declared.node.OrderPair.{OrderPair}
+use Rattle.cp_lists.proofs.Members.{in_append, in_append_right}
 use Rattle.cp_skel.specs.Joining.{joined}
 use Rattle.cp_skel.proofs.Once.{only}
-use Rattle.cp_skel.specs.Data.{StrandData, SkeletonData, skeleton_of}
+use Rattle.cp_strand.specs.Data.{StrandData}
+use Rattle.cp_skel.specs.Data.{SkeletonData, skeleton_of}
 use Rattle.cp_skel.specs.Ordered.{ordered_by}
 use Rattle.cp_skel.specs.Sound.{IsSound}
 use Rattle.cp_skel.specs.View.{skeleton_view}
+use Rattle.cp_skel.proofs.Carrying.{before_too}
 use Rattle.cp_skel.proofs.SoundSkeletons.{parts_sound}
 use Rattle.cp_term.specs.Table.{Declared}
-use Rattle.cp_tests.specs.Rebuilt.{HasSame}
+use Rattle.cp_tests.specs.Rebuilt.{HasSame, IsShorterWay}
 
 abbrev with_other : Skeleton → Assumptions → FromProblem → Skeleton
 with_other k a f = record k { assumptions = a; from_problem = f }
 
 module _ (k : Skeleton) (a : Assumptions) (f : FromProblem) where
-  step_stays : (x y : Node) → OrderStep (with_other k a f) x y → OrderStep k x y
-  step_stays x y (along_strand_of e) = along_strand_of e
-  step_stays x y (along_pair m) = along_pair m
+  -- the order is the same
+  path_stays : {x y : Node} → Before (with_other k a f) x y → Before k x y
+  path_stays = before_too (with_other k a f) k (record { events = λ n e h. h; instances = λ s role height terms at. (height, terms, at); pairs = refl })
 
-  path_stays : (x y : Node) → Before (with_other k a f) x y → Before k x y
-  path_stays x y (one_step s) = one_step (step_stays x y s)
-  path_stays x z (more_steps {y} s r) = more_steps (step_stays x y s) (path_stays y z r)
+  path_too : {x y : Node} → Before k x y → Before (with_other k a f) x y
+  path_too = before_too k (with_other k a f) (record { events = λ n e h. h; instances = λ s role height terms at. (height, terms, at); pairs = refl })
 
-  pub rebuilt_sound : HasSame k.assumptions a → IsSound k → IsSound (with_other k a f)
-  rebuilt_sound same s =
+  pub rebuilt_sound : HasSame k.assumptions a → IsShorterWay k.from_problem f → IsSound k → IsSound (with_other k a f)
+  rebuilt_sound same way s =
       let is = s.skeleton in
       record {
         protocol = s.protocol;
@@ -44,7 +46,7 @@ module _ (k : Skeleton) (a : Assumptions) (f : FromProblem) where
             reception = o.reception;
             between_strands = o.between_strands;
           };
-          no_cycle = λ n b. is.no_cycle n (path_stays n n b);
+          no_cycle = λ n b. is.no_cycle n (path_stays b);
           origins = λ u i. let o = is.origins u (same.no_others u i) in record {
             role = o.role;
             height = o.height;
@@ -60,7 +62,30 @@ module _ (k : Skeleton) (a : Assumptions) (f : FromProblem) where
             unique = λ v m i j. same.unique _ (g.unique v m i j);
           };
         };
+        in_range = λ n i. s.in_range n (way.strands n i);
+        assumed = record {
+          non = λ v i. same.non v (s.assumed.non v (subst (λ (b : Assumptions). IsIn v b.non_originating) way.assumptions i));
+          penetrator_non = λ v i. same.penetrator_non v (s.assumed.penetrator_non v (subst (λ (b : Assumptions). IsIn v b.penetrator_non_originating) way.assumptions i));
+          unique = λ u i. same.unique u (s.assumed.unique u (subst (λ (b : Assumptions). IsIn u b.uniquely_originating) way.assumptions i));
+        };
+        ordered = λ p i. path_too (s.ordered p (subst (IsIn p) way.pairs i));
       }
+
+-- the same way is none that goes further
+pub same_way : (old new : FromProblem) → new ≡ old → IsShorterWay old new
+same_way old new e = subst (IsShorterWay old) (sym e) (record { strands = λ n i. i; assumptions = refl; pairs = refl })
+
+-- the first of the strands are some of them
+in_first : (n s : ℕ) (xs : List ℕ) → IsIn s (take n xs) → IsIn s xs
+in_first zero s [] i = elim i [ ]
+in_first zero s (x ∷ xs) i = elim i [ ]
+in_first (suc n) s [] i = elim i [ ]
+in_first (suc n) s (x ∷ xs) here = here
+in_first (suc n) s (x ∷ xs) (there i) = there (in_first n s xs i)
+
+-- a way to the first of the strands
+pub shorter_way : (count : ℕ) (old new : FromProblem) → new.strands ≡ take count old.strands → new.assumptions ≡ old.assumptions → new.pairs ≡ old.pairs → IsShorterWay old new
+shorter_way count old new strands assumptions pairs = record { strands = λ s i. in_first count s old.strands (subst (IsIn s) strands i); assumptions = assumptions; pairs = pairs }
 
 -- assumptions that are the same have the same members
 pub same_has : (old new : Assumptions) → new ≡ old → HasSame old new
@@ -104,9 +129,9 @@ joined_has own back again new non penetrator_non unique n p u bn bp bu a j =
 
 -- the skeleton of copies of its parts, but for these
 pub parts_again : (k : SkeletonData) (variables : List Declared) (strands : List StrandData) (order : List OrderPair) (a : Assumptions) (f : FromProblem)
-    → variables ≡ k.variables → strands ≡ k.strands → order ≡ k.order → HasSame k.assumptions a → IsSound (skeleton_view k) → IsSound (skeleton_view (skeleton_of variables strands order a f))
-parts_again k variables strands order a f v s o has is =
-    parts_sound (record k { assumptions = a; from_problem = f }) variables strands order a f v s o refl refl (rebuilt_sound (skeleton_view k) a f has is)
+    → variables ≡ k.variables → strands ≡ k.strands → order ≡ k.order → HasSame k.assumptions a → IsShorterWay k.from_problem f → IsSound (skeleton_view k) → IsSound (skeleton_view (skeleton_of variables strands order a f))
+parts_again k variables strands order a f v s o has way is =
+    parts_sound (record k { assumptions = a; from_problem = f }) variables strands order a f v s o refl refl (rebuilt_sound (skeleton_view k) a f has way is)
 
 -- the skeleton with its own pairs
 pub same_pairs : (k : Skeleton) (pairs : List OrderPair) → pairs ≡ k.pairs → IsSound k → IsSound (ordered_by k pairs)

@@ -1,7 +1,8 @@
--- Assumptions with the same members.
-use Rattle.cp_model.specs.Lists.{IsIn}
+-- Assumptions with the same members, and shorter ways from a problem.
+use Rattle.std.specs.Prelude.{◌≡◌, ℕ}
+use Rattle.cp_lists.specs.Lists.{IsIn}
 use Rattle.cp_model.specs.Term.{AtomTerm}
-use Rattle.cp_model.specs.Skeleton.{UniqueAt, Assumptions}
+use Rattle.cp_model.specs.Skeleton.{UniqueAt, Assumptions, FromProblem}
 
 -- The new assumptions have all of the old, and of unique values no others.
 pub record HasSame (old new : Assumptions) : Type 0 where
@@ -9,3 +10,9 @@ pub record HasSame (old new : Assumptions) : Type 0 where
   pub penetrator_non : (v : AtomTerm) → IsIn v old.penetrator_non_originating → IsIn v new.penetrator_non_originating
   pub unique : (u : UniqueAt) → IsIn u old.uniquely_originating → IsIn u new.uniquely_originating
   pub no_others : (u : UniqueAt) → IsIn u new.uniquely_originating → IsIn u old.uniquely_originating
+
+-- The new way goes to no other strands than the old, and has the same own assumptions and pairs.
+pub record IsShorterWay (old new : FromProblem) : Type 0 where
+  pub strands : (s : ℕ) → IsIn s new.strands → IsIn s old.strands
+  pub assumptions : new.assumptions ≡ old.assumptions
+  pub pairs : new.pairs ≡ old.pairs

@@ -3,11 +3,13 @@ ghost use Rattle.std.specs.Prelude.{◌≡◌, [], ◌∷◌, None, false, map, 
 ghost use Rattle.cp_model.specs.Term.{pubk_term, asymmetric_term, text_variable, atom_term, enc_term};
 ghost use Rattle.cp_term.specs.Keys.{name_of};
 ghost use Rattle.cp_tests.specs.Example.{example_variables, example_trace, IsExample, example_values, added_values};
-ghost use Rattle.cp_skel.specs.View.{declaration_view, event_view};
+ghost use Rattle.cp_skel.specs.Changing.{CanExtend};
+ghost use Rattle.cp_skel.specs.View.{skeleton_view};
+ghost use Rattle.cp_strand.specs.View.{declaration_view, event_view};
 
 use crate::stated::skeleton_of;
 use cp_model::Node;
-use cp_skel::{Atom, Declaration, Event, Protocol, Role, Skeleton, UniqueAt};
+use cp_skel::{Assumptions, Atom, Declaration, Event, Protocol, Role, Skeleton};
 use cp_term::{Sort, Term, Text, VarId, enc, invert, pair, pubk, var};
 use std::alloc::{AllocError, Global};
 use std::rc::Rc;
@@ -138,29 +140,47 @@ fn are_atoms(atoms: &[Atom], wanted: &[&Atom]) -> bool {
     atoms.len() == wanted.len() && atoms.iter().zip(wanted).all(|(a, b)| a.same(b))
 }
 
-fn is_unique(unique: Option<&UniqueAt>, value: &Atom, origin: Node) -> bool {
-    unique.is_some_and(|u| u.value().same(value) && u.origin() == origin)
-}
-
 fn node(strand: usize, index: usize) -> Node {
     Node { strand, index }
 }
 
-/// Whether the strands are so many, and the second and a third are as after a change, or as before it.
-fn is_as_changed(
-    alloc: Global,
-    k: &Skeleton,
-    strands: usize,
-    is_changed: bool,
-) -> Result<bool, Fail> {
-    let last = sealed(alloc, text(alloc, 13)?, 11)?;
-    Ok(
-        k.strands().len() == strands
-            && is_event(k, alloc, node(1, 0), &first(alloc, 12, 10, 11)?)?
-            && is_event(k, alloc, node(1, 2), &last)? == is_changed
-            && is_event(k, alloc, node(2, 0), &text(alloc, 14)?)? == is_changed
-            && k.assumptions().penetrator_non_originating().is_empty() != is_changed,
-    )
+/// Whether the second strand sends the first message.
+fn sends_first(alloc: Global, k: &Skeleton) -> Result<bool, Fail> {
+    let message = first(alloc, 12, 10, 11)?;
+    is_event(k, alloc, node(1, 0), &message)
+}
+
+/// Whether the second strand sends the last message.
+fn sends_last(alloc: Global, k: &Skeleton) -> Result<bool, Fail> {
+    let message = sealed(alloc, text(alloc, 13)?, 11)?;
+    is_event(k, alloc, node(1, 2), &message)
+}
+
+/// Whether the third strand hears the text of the listener that is added.
+fn hears_added(alloc: Global, k: &Skeleton) -> Result<bool, Fail> {
+    let message = text(alloc, 14)?;
+    is_event(k, alloc, node(2, 0), &message)
+}
+
+/// Whether the private key of b alone is non-originating.
+fn has_key(alloc: Global, assumptions: &Assumptions) -> Result<bool, Fail> {
+    let key = private_key(alloc, 11)?;
+    Ok(are_atoms(assumptions.non_originating(), &[&key]))
+}
+
+/// Whether n alone is not originated by the penetrator.
+fn has_n(alloc: Global, assumptions: &Assumptions) -> Result<bool, Fail> {
+    let n = atom(text(alloc, 13)?)?;
+    Ok(are_atoms(assumptions.penetrator_non_originating(), &[&n]))
+}
+
+/// Whether m alone originates uniquely, at the first node of the second strand.
+fn has_m(alloc: Global, assumptions: &Assumptions) -> Result<bool, Fail> {
+    let m = atom(text(alloc, 12)?)?;
+    Ok(match assumptions.uniquely_originating() {
+        [unique] => unique.value().same(&m) && unique.origin() == node(1, 0),
+        _ => false,
+    })
 }
 
 /// Whether the role has what it was made of.
@@ -192,52 +212,106 @@ fn parts_of_roles_and_protocols(rt: HostRuntime) -> Result<(), Fail> {
 
 const LISTENER: &str = "(defskeleton u (vars (t text)) (deflistener t))";
 
-#[test]
-fn a_strand_is_added_and_grows(rt: HostRuntime) -> Result<(), Fail> {
-    let alloc = rt.alloc();
+/// The skeleton of one listener.
+fn listening(alloc: Global) -> Result<Skeleton, Fail> {
+    skeleton_of(alloc, "(defprotocol u basic)", LISTENER)
+}
+
+/// Adds the initiator at height 1, and answers the number of its strand.
+fn add_initiator(alloc: Global, k: &mut Skeleton) -> Result<usize, Fail>
+    ensures { IfOk result (λ s. CanExtend (skeleton_view k.new) s 3 added_values) }
+{
     let role = initiator(alloc)?;
-    let mut skeleton = skeleton_of(alloc, "(defprotocol u basic)", LISTENER)?;
-    let strand = skeleton.add_strand(alloc, &role, 1, &values(alloc)?)?;
-    assert_eq!(rt; strand, 1);
-    assert!(rt; is_event(&skeleton, alloc, node(1, 0), &first(alloc, 12, 10, 11)?)?);
-    assert!(rt;
-        skeleton
-            .assumptions()
-            .penetrator_non_originating()
-            .is_empty()
-    );
-    skeleton.extend(alloc, strand, 3, &added(alloc)?)?;
-    assert!(rt; is_event(&skeleton, alloc, node(1, 0), &first(alloc, 12, 10, 11)?)?);
-    assert!(rt;
-        is_event(
-            &skeleton,
-            alloc,
-            node(1, 2),
-            &sealed(alloc, text(alloc, 13)?, 11)?
-        )?
-    );
-    let key = private_key(alloc, 11)?;
-    let n = atom(text(alloc, 13)?)?;
-    let assumptions = skeleton.assumptions();
-    assert!(rt; are_atoms(assumptions.non_originating(), &[&key]));
-    assert!(rt; are_atoms(assumptions.penetrator_non_originating(), &[&n]));
-    assert_eq!(rt; assumptions.uniquely_originating().len(), 1);
-    let m = atom(text(alloc, 12)?)?;
-    assert!(rt; is_unique(assumptions.uniquely_originating().first(), &m, node(1, 0)));
+    let values = values(alloc)?;
+    Ok(k.add_strand(alloc, &role, 1, &values)?)
+}
+
+/// Lets the initiator grow to height 3.
+fn grow(alloc: Global, k: &mut Skeleton, strand: usize) -> Result<(), AllocError>
+    requires { CanExtend (skeleton_view k.old) strand 3 added_values }
+{
+    let added = added(alloc)?;
+    k.extend(alloc, strand, 3, &added)
+}
+
+/// The skeleton of a listener and the initiator at height 3.
+fn grown(alloc: Global) -> Result<Skeleton, Fail> {
+    let mut k = listening(alloc)?;
+    let strand = add_initiator(alloc, &mut k)?;
+    grow(alloc, &mut k, strand)?;
+    Ok(k)
+}
+
+// Of the text n, which its prefix does not have yet, nothing is assumed.
+#[test]
+fn a_strand_is_added(rt: HostRuntime) -> Result<(), Fail> {
+    let mut k = listening(rt.alloc())?;
+    assert_eq!(rt; add_initiator(rt.alloc(), &mut k)?, 1);
+    assert!(rt; sends_first(rt.alloc(), &k)?);
+    assert!(rt; k.assumptions().penetrator_non_originating().is_empty());
     Ok(())
+}
+
+#[test]
+fn a_strand_grows(rt: HostRuntime) -> Result<(), Fail> {
+    let k = grown(rt.alloc())?;
+    assert!(rt; sends_first(rt.alloc(), &k)?);
+    assert!(rt; sends_last(rt.alloc(), &k)?);
+    Ok(())
+}
+
+#[test]
+fn what_a_strand_gives(rt: HostRuntime) -> Result<(), Fail> {
+    let k = grown(rt.alloc())?;
+    assert!(rt; has_key(rt.alloc(), k.assumptions())?);
+    assert!(rt; has_n(rt.alloc(), k.assumptions())?);
+    assert!(rt; has_m(rt.alloc(), k.assumptions())?);
+    Ok(())
+}
+
+/// Adds a listener on a text.
+fn add_listener(alloc: Global, k: &mut Skeleton) -> Result<(), AllocError> {
+    let message = text(alloc, 14)?;
+    k.add_listener(alloc, message)?;
+    Ok(())
+}
+
+/// Whether the second and a third strand are as after the change.
+fn is_changed(alloc: Global, k: &Skeleton) -> Result<bool, Fail> {
+    Ok(
+        k.strands().len() == 3
+            && !k.assumptions().penetrator_non_originating().is_empty()
+            && sends_last(alloc, k)?
+            && hears_added(alloc, k)?,
+    )
+}
+
+/// Whether there are two strands, the second as before the change.
+fn is_unchanged(alloc: Global, k: &Skeleton) -> Result<bool, Fail> {
+    Ok(
+        k.strands().len() == 2
+            && k.assumptions().penetrator_non_originating().is_empty()
+            && !sends_last(alloc, k)?
+            && !hears_added(alloc, k)?,
+    )
+}
+
+/// Changes the skeleton, and answers whether a copy that was made before stays.
+fn copy_stays(alloc: Global, k: &mut Skeleton, strand: usize) -> Result<bool, Fail>
+    requires { CanExtend (skeleton_view k.old) strand 3 added_values }
+{
+    let copy = k.copy(alloc)?;
+    grow(alloc, k, strand)?;
+    add_listener(alloc, k)?;
+    is_unchanged(alloc, &copy)
 }
 
 // A copy shares its strands with the skeleton; where that changes, the copy stays.
 #[test]
 fn a_copy_stays(rt: HostRuntime) -> Result<(), Fail> {
-    let alloc = rt.alloc();
-    let role = initiator(alloc)?;
-    let mut skeleton = skeleton_of(alloc, "(defprotocol u basic)", LISTENER)?;
-    let strand = skeleton.add_strand(alloc, &role, 1, &values(alloc)?)?;
-    let copy = skeleton.copy(alloc)?;
-    skeleton.extend(alloc, strand, 3, &added(alloc)?)?;
-    skeleton.add_listener(alloc, text(alloc, 14)?)?;
-    assert!(rt; is_as_changed(alloc, &skeleton, 3, true)?);
-    assert!(rt; is_as_changed(alloc, &copy, 2, false)?);
+    let mut k = listening(rt.alloc())?;
+    let strand = add_initiator(rt.alloc(), &mut k)?;
+    assert!(rt; copy_stays(rt.alloc(), &mut k, strand)?);
+    assert!(rt; is_changed(rt.alloc(), &k)?);
     Ok(())
 }

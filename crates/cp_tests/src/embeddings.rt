@@ -1,7 +1,7 @@
 // Embeddings of small skeletons that texts state, worked out by hand.
 use crate::rebuilt::with_way_of;
 use crate::stated::skeleton_of;
-use cp_hom::{Map, embed, isomorphic};
+use cp_hom::{Fingerprint, Map, embed, first_of, isomorphic};
 use cp_model::Node;
 use cp_skel::Skeleton;
 use cp_term::Shape;
@@ -42,7 +42,9 @@ fn over(alloc: Global, problem: &str, count: usize) -> Result<Skeleton, Fail> {
 }
 
 // Two problems, how many variables come from one, and whether the first embeds in the second and the second in the first.
-const ROWS: &[(&str, &str, usize, bool, bool)] = &[
+type Row = (&'static str, &'static str, usize, bool, bool);
+
+const ROWS: &[Row] = &[
     (ONE, TWO, 0, true, false),
     (TWO, TWO_ALIKE, 0, true, false),
     (SPEAKER_AND_CALLER, CALLER_AND_SPEAKER, 1, true, true),
@@ -51,17 +53,52 @@ const ROWS: &[(&str, &str, usize, bool, bool)] = &[
     (ONE, UNIQUE, 0, true, false),
 ];
 
+/// Whether the first skeleton embeds in the second.
+fn embeds(alloc: Global, a: &Skeleton, b: &Skeleton) -> Result<bool, AllocError> {
+    Ok(embed(alloc, a, b)?.is_some())
+}
+
+/// Whether the fingerprints of the two leave it open that the first embeds in the second.
+pub(crate) fn may_embed(alloc: Global, a: &Skeleton, b: &Skeleton) -> Result<bool, AllocError> {
+    let first = Fingerprint::of(alloc, a)?;
+    let second = Fingerprint::of(alloc, b)?;
+    Ok(first.may_embed(&second))
+}
+
+/// Whether the first skeleton embeds in the second as it should, and may embed where it does.
+fn goes(alloc: Global, a: &Skeleton, b: &Skeleton, wanted: bool) -> Result<bool, AllocError> {
+    Ok(embeds(alloc, a, b)? == wanted && (!wanted || may_embed(alloc, a, b)?))
+}
+
+/// Whether the skeletons of a row embed in each other as they should, and are isomorphic where both do.
+fn is_answered(alloc: Global, row: &Row, a: &Skeleton, b: &Skeleton) -> Result<bool, AllocError> {
+    Ok(
+        goes(alloc, a, b, row.3)?
+            && goes(alloc, b, a, row.4)?
+            && isomorphic(alloc, a, b)? == (row.3 && row.4),
+    )
+}
+
+/// Whether the row's answers are right.
+fn is_right(alloc: Global, row: &Row) -> Result<bool, Fail> {
+    let a = over(alloc, row.0, row.2)?;
+    let b = over(alloc, row.1, row.2)?;
+    Ok(is_answered(alloc, row, &a, &b)?)
+}
+
 #[test]
 fn embeddings(rt: HostRuntime) -> Result<(), Fail> {
-    let alloc = rt.alloc();
-    for &(first, second, count, there, back) in ROWS {
-        let a = over(alloc, first, count)?;
-        let b = over(alloc, second, count)?;
-        assert_eq!(rt; embed(alloc, &a, &b)?.is_some(), there, "{first}");
-        assert_eq!(rt; embed(alloc, &b, &a)?.is_some(), back, "{second}");
-        assert_eq!(rt; isomorphic(alloc, &a, &b)?, there && back, "{first}");
+    for row in ROWS {
+        assert!(rt; is_right(rt.alloc(), row)?, "{} and {}", row.0, row.1);
     }
     Ok(())
+}
+
+#[test]
+fn first_places(rt: HostRuntime) {
+    for (place, first) in [(4, 0), (7, 1), (5, 3)] {
+        assert_eq!(rt; first_of(&[4, 7, 4], place), first);
+    }
 }
 
 /// Whether the map leaves the first strand and sends variable 0, and no other, to text 1.

@@ -6,7 +6,8 @@ use cp_forms::{
     front_items, headed, is_out_of_profile, is_word, item_at, item_head, items_behind, last_item,
     later_items, list_items, place_of, sort_word, symbol, symbol_or_empty, term_head, top_head,
 };
-use cp_load::{Problem, Taken};
+use cp_load::Problem;
+use cp_scope::Taken;
 use cp_sexpr::{Form, write, write_top};
 use cp_term::{Sort, Text};
 use std::alloc::Global;

@@ -5,6 +5,8 @@
 #[cfg(test)]
 mod changing;
 #[cfg(test)]
+mod collapses;
+#[cfg(test)]
 mod derivations;
 #[cfg(test)]
 mod embeddings;
@@ -13,6 +15,8 @@ mod forms;
 #[cfg(test)]
 mod messages;
 #[cfg(test)]
+mod names;
+#[cfg(test)]
 mod normal_forms;
 #[cfg(test)]
 mod orders;
@@ -20,6 +24,8 @@ mod orders;
 mod rebuilt;
 #[cfg(test)]
 mod reports;
+#[cfg(test)]
+mod scopes;
 #[cfg(test)]
 mod skeletons;
 #[cfg(test)]

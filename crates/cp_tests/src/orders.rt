@@ -1,6 +1,5 @@
 // What leads to nodes, and orders of the nodes of two and three strands, worked out by hand.
 ghost use Rattle.std.specs.Prelude.{IfOk, IsTrue};
-ghost use Rattle.cp_model.specs.RunView.{node_view};
 ghost use Rattle.cp_model.specs.Skeleton.{IsOrderPair};
 ghost use Rattle.cp_skel.specs.View.{skeleton_view};
 
@@ -136,7 +135,7 @@ fn many_ways_through_a_closed_order(rt: HostRuntime) -> Result<(), Fail> {
 
 /// Whether a transmission stands at n, and a reception of another strand at m.
 fn may_be_ordered(alloc: Global, k: &Skeleton, n: Node, m: Node) -> Result<bool, AllocError>
-    ensures { IfOk result (λ is. IsTrue is → IsOrderPair (skeleton_view k.now) (record { earlier = node_view n; later = node_view m })) }
+    ensures { IfOk result (λ is. IsTrue is → IsOrderPair (skeleton_view k.now) (record { earlier = n; later = m })) }
 {
     if n.strand == m.strand {
         return Ok(false);

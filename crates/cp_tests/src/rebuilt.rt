@@ -1,7 +1,7 @@
 // Skeletons that are built again from their parts, with others in place of some.
 ghost use Rattle.std.specs.Prelude.{◌≡◌, take, reverse, IfOk};
 ghost use Rattle.cp_skel.specs.View.{skeleton_view};
-ghost use Rattle.cp_tests.specs.Rebuilt.{HasSame};
+ghost use Rattle.cp_tests.specs.Rebuilt.{HasSame, IsShorterWay};
 
 use cp_skel::{Assumptions, Atom, FromProblem, Skeleton, Strand, UniqueAt};
 use cp_term::Term;
@@ -18,14 +18,16 @@ fn shared(alloc: Global, strands: &[Strand]) -> Result<Vec<Strand>, AllocError>
     Ok(copies)
 }
 
-/// The skeleton with these assumptions, which are its own in any order and any number, and this way from a problem.
+/// The skeleton with these assumptions, which are its own in any order and any number, and this way from a problem, which is
+/// its own or a shorter one.
 fn rebuilt(
     alloc: Global,
     k: &Skeleton,
     assumptions: Assumptions,
     from_problem: FromProblem,
 ) -> Result<Skeleton, AllocError>
-    requires { HasSame k.now.assumptions assumptions }
+    requires assumptions { HasSame k.now.assumptions assumptions }
+    requires way { IsShorterWay k.now.from_problem from_problem }
     ensures { IfOk result (λ new. new ≡ record k.now { assumptions = assumptions; from_problem = from_problem }) }
 {
     k.is_sound();
@@ -38,12 +40,13 @@ fn rebuilt(
     ))
 }
 
-/// The skeleton with this way from a problem.
+/// The skeleton with this shorter way from a problem.
 fn on_another_way(
     alloc: Global,
     k: &Skeleton,
     from_problem: FromProblem,
 ) -> Result<Skeleton, AllocError>
+    requires { IsShorterWay k.now.from_problem from_problem }
     ensures { IfOk result (λ new. new ≡ record k.now { from_problem = from_problem }) }
 {
     let assumptions = k.assumptions().copy(alloc)?;
@@ -66,7 +69,8 @@ fn shorter(
     strands: usize,
     values: usize,
 ) -> Result<FromProblem, AllocError>
-    ensures { IfOk result (λ f. f.strands ≡ take strands way.now.strands) }
+    ensures strands { IfOk result (λ f. f.strands ≡ take strands way.now.strands) }
+    ensures way { IfOk result (IsShorterWay way.now) }
 {
     let terms = first_terms(alloc, way.values(), values)?;
     let mut numbers = Vec::from_slice(alloc, way.strands())?;

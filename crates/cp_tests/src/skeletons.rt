@@ -2,10 +2,11 @@
 use crate::stated::{joined, skeleton_of, terms_of};
 use cp_model::Node;
 use cp_skel::{
-    Assumptions, Atom, Event, Instance, Role, Skeleton, Strand, StrandShape, UniqueAt, add_atom,
-    add_atoms, add_given, add_unique, all_occur, applied, applied_atom, has_atom, has_unique,
-    is_same_role, listed, missing, occurs, origin, prefix_of,
+    Assumptions, Atom, Event, FromProblem, Instance, Role, Skeleton, Strand, StrandShape, UniqueAt,
+    add_atom, add_atoms, add_given, add_unique, all_occur, applied, applied_atom, has_atom,
+    has_unique, is_same_role, listed, missing, occurs, origin, prefix_of,
 };
+use cp_strand::{carries_under, copy_atoms, copy_terms, has, instance_of};
 use cp_term::{Sort, Term, VarId, pair, var};
 use std::alloc::{AllocError, Global};
 use std::rc::Rc;
@@ -19,6 +20,8 @@ const PROTOCOL: &str = "(defprotocol p basic (defrole init (vars (a b name) (m n
 const INITIATOR: &str =
     "(defskeleton p (vars (n m text) (b a name)) (defstrand init 2 (a a) (b b) (m m) (n n)))";
 
+const RESPONDER: &str = "(defskeleton p (vars) (defstrand resp 1))";
+
 fn node(strand: usize, index: usize) -> Node {
     Node { strand, index }
 }
@@ -30,8 +33,14 @@ fn atom(term: &Term) -> Result<Atom, Fail> {
     }
 }
 
+/// The private key of the name b.
+fn key_of_b(alloc: Global, variables: &str) -> Result<Atom, Fail> {
+    let mut keys = atoms(alloc, variables, &["(privk b)"])?;
+    Ok(keys.pop().ok_or("no key")?)
+}
+
 /// The atoms of these terms.
-fn atoms(alloc: Global, variables: &str, terms: &[&str]) -> Result<Vec<Atom>, Fail> {
+pub(crate) fn atoms(alloc: Global, variables: &str, terms: &[&str]) -> Result<Vec<Atom>, Fail> {
     let mut atoms = Vec::new(alloc);
     for term in &terms_of(alloc, variables, terms)? {
         atoms.push(atom(term)?)?;
@@ -39,45 +48,70 @@ fn atoms(alloc: Global, variables: &str, terms: &[&str]) -> Result<Vec<Atom>, Fa
     Ok(atoms)
 }
 
-#[test]
-fn atoms_each_once(rt: HostRuntime) -> Result<(), Fail> {
-    let alloc = rt.alloc();
-    let given = atoms(alloc, "(a b c name)", &["(privk a)", "(privk b)"])?;
+/// These atoms, added one by one and then all at once.
+fn added_twice(alloc: Global, given: &[Atom]) -> Result<Vec<Atom>, AllocError> {
     let mut held: Vec<Atom> = Vec::new(alloc);
-    for atom in &given {
+    for atom in given {
         add_atom(&mut held, atom.copy()?)?;
     }
-    add_atoms(&mut held, &given)?;
+    add_atoms(&mut held, given)?;
+    Ok(held)
+}
+
+/// The atoms that are added, each twice.
+fn two_atoms(alloc: Global) -> Result<Vec<Atom>, Fail> {
+    let given = atoms(alloc, "(a b c name)", &["(privk a)", "(privk b)"])?;
+    Ok(added_twice(alloc, &given)?)
+}
+
+#[test]
+fn atoms_each_once(rt: HostRuntime) -> Result<(), Fail> {
+    let held = two_atoms(rt.alloc())?;
     assert_eq!(rt; held.len(), 2);
-    for atom in &given {
+    for atom in &atoms(rt.alloc(), "(a b c name)", &["(privk a)", "(privk b)"])? {
         assert!(rt; has_atom(&held, atom));
     }
-    for other in &atoms(alloc, "(a b c name)", &["(privk c)", "(pubk a)"])? {
+    Ok(())
+}
+
+#[test]
+fn atoms_not_added(rt: HostRuntime) -> Result<(), Fail> {
+    let held = two_atoms(rt.alloc())?;
+    for other in &atoms(rt.alloc(), "(a b c name)", &["(privk c)", "(pubk a)"])? {
         assert!(rt; !has_atom(&held, other));
     }
-    for no_atom in &terms_of(
-        alloc,
-        "(n text) (k skey)",
-        &["(enc n k)", "(cat n k)", "\"n\""],
-    )? {
+    Ok(())
+}
+
+// No atoms: an encryption, a pair and a tag.
+const NO_ATOMS: &[&str] = &["(enc n k)", "(cat n k)", "\"n\""];
+
+#[test]
+fn terms_that_are_no_atoms(rt: HostRuntime) -> Result<(), Fail> {
+    for no_atom in &terms_of(rt.alloc(), "(n text) (k skey)", NO_ATOMS)? {
         assert!(rt; Atom::new(no_atom.copy()?).is_none());
     }
     Ok(())
 }
 
 /// The value with its origin at the first node of the strand.
-fn unique(value: &Atom, strand: usize) -> Result<UniqueAt, AllocError> {
+pub(crate) fn unique(value: &Atom, strand: usize) -> Result<UniqueAt, AllocError> {
     Ok(UniqueAt::new(value.copy()?, node(strand, 0)))
+}
+
+/// The value with its origin at strands 0, 0 and 1, each once.
+fn at_two_strands(alloc: Global, value: &Atom) -> Result<Vec<UniqueAt>, AllocError> {
+    let mut held: Vec<UniqueAt> = Vec::new(alloc);
+    for strand in [0, 0, 1] {
+        add_unique(&mut held, unique(value, strand)?)?;
+    }
+    Ok(held)
 }
 
 #[test]
 fn unique_values_each_once(rt: HostRuntime) -> Result<(), Fail> {
-    let alloc = rt.alloc();
-    for value in &atoms(alloc, "(n text)", &["n"])? {
-        let mut held: Vec<UniqueAt> = Vec::new(alloc);
-        for strand in [0, 0, 1] {
-            add_unique(&mut held, unique(value, strand)?)?;
-        }
+    for value in &atoms(rt.alloc(), "(n text)", &["n"])? {
+        let held = at_two_strands(rt.alloc(), value)?;
         assert_eq!(rt; held.len(), 2);
         assert!(rt; has_unique(&held, &unique(value, 1)?.copy()?));
         assert!(rt; !has_unique(&held, &unique(value, 2)?));
@@ -109,27 +143,96 @@ fn is_initiator(role: &Role, terms: &[Term], key: &Atom) -> bool {
         && origin(role.trace(), n).is_none()
 }
 
+/// The skeleton of the initiator.
+fn initiator(alloc: Global) -> Result<Skeleton, Fail> {
+    skeleton_of(alloc, PROTOCOL, INITIATOR)
+}
+
+/// Whether the first strands are instances of the same role.
+fn are_of_one_role(one: &Skeleton, other: &Skeleton) -> bool {
+    match (
+        first_instance(one.strands()),
+        first_instance(other.strands()),
+    ) {
+        (Some(one), Some(other)) => is_same_role(one.role(), other.role()),
+        _ => false,
+    }
+}
+
+#[test]
+fn same_roles(rt: HostRuntime) -> Result<(), Fail> {
+    let k = initiator(rt.alloc())?;
+    assert!(rt; are_of_one_role(&k, &k));
+    Ok(())
+}
+
+/// Whether the first strand of the problem is an instance of another role than the initiator.
+fn is_of_another_role(alloc: Global, problem: &str) -> Result<bool, Fail> {
+    let k = initiator(alloc)?;
+    let other = skeleton_of(alloc, PROTOCOL, problem)?;
+    Ok(first_instance(other.strands()).is_some() && !are_of_one_role(&k, &other))
+}
+
+#[test]
+fn other_roles(rt: HostRuntime) -> Result<(), Fail> {
+    assert!(rt; is_of_another_role(rt.alloc(), RESPONDER)?);
+    Ok(())
+}
+
+/// Whether the calls on the role of the first strand answer what was worked out.
+fn has_initiator(k: &Skeleton, terms: &[Term], key: &Atom) -> bool {
+    match first_instance(k.strands()) {
+        Some(first) => is_initiator(first.role(), terms, key),
+        None => false,
+    }
+}
+
+/// Whether the initiator is as worked out, with this private key.
+fn is_as_worked_out(alloc: Global, key: &Atom) -> Result<bool, Fail> {
+    let k = initiator(alloc)?;
+    let terms = terms_of(alloc, "(a b name) (m n text)", &["n", "m"])?;
+    Ok(has_initiator(&k, &terms, key))
+}
+
 #[test]
 fn roles(rt: HostRuntime) -> Result<(), Fail> {
-    let alloc = rt.alloc();
-    let k = skeleton_of(alloc, PROTOCOL, INITIATOR)?;
-    let other = skeleton_of(alloc, PROTOCOL, "(defskeleton p (vars) (defstrand resp 1))")?;
-    let first = first_instance(k.strands()).ok_or("no instance")?;
-    let second = first_instance(other.strands()).ok_or("no instance")?;
-    assert!(rt;
-        is_same_role(first.role(), first.role()) && !is_same_role(first.role(), second.role())
-    );
-    let terms = terms_of(alloc, "(a b name) (m n text)", &["n", "m"])?;
-    for key in &atoms(alloc, "(a b name)", &["(privk b)"])? {
-        assert!(rt; is_initiator(first.role(), &terms, key));
-        let applied = applied_atom(alloc, first.values(), key)?;
-        for wanted in &atoms(alloc, "(n m text) (b a name)", &["(privk b)"])? {
-            assert!(rt; applied.same(wanted));
-        }
+    for key in &atoms(rt.alloc(), "(a b name)", &["(privk b)"])? {
+        assert!(rt; is_as_worked_out(rt.alloc(), key)?);
     }
-    for key in &atoms(alloc, "(a b c name)", &["(privk c)"])? {
-        assert!(rt; !all_occur(prefix_of(first.role(), 3), key));
+    Ok(())
+}
+
+/// Whether the first strand is an instance of a role in whose first events not all of this occurs.
+fn lacks(k: &Skeleton, height: usize, key: &Atom) -> bool {
+    match first_instance(k.strands()) {
+        Some(first) => !all_occur(prefix_of(first.role(), height), key),
+        None => false,
     }
+}
+
+#[test]
+fn what_roles_lack(rt: HostRuntime) -> Result<(), Fail> {
+    let k = initiator(rt.alloc())?;
+    for key in &atoms(rt.alloc(), "(a b c name)", &["(privk c)"])? {
+        assert!(rt; lacks(&k, 3, key));
+    }
+    Ok(())
+}
+
+/// Whether the key becomes this one under the values of the first strand.
+fn becomes_key(alloc: Global, k: &Skeleton, key: &Atom, wanted: &Atom) -> Result<bool, AllocError> {
+    match first_instance(k.strands()) {
+        Some(first) => Ok(applied_atom(alloc, first.values(), key)?.same(wanted)),
+        None => Ok(false),
+    }
+}
+
+#[test]
+fn atoms_under_values(rt: HostRuntime) -> Result<(), Fail> {
+    let k = initiator(rt.alloc())?;
+    let key = key_of_b(rt.alloc(), "(a b name)")?;
+    let wanted = key_of_b(rt.alloc(), "(n m text) (b a name)")?;
+    assert!(rt; becomes_key(rt.alloc(), &k, &key, &wanted)?);
     Ok(())
 }
 
@@ -155,20 +258,77 @@ fn are_given(given: &Assumptions, wanted: &[Term]) -> bool {
         && third.origin() == node(0, 0)
 }
 
+/// What the initiator gives: the private key of b, and the texts n and m.
+fn given_terms(alloc: Global) -> Result<Vec<Term>, Fail> {
+    terms_of(alloc, "(n m text) (b a name)", &["(privk b)", "n", "m"])
+}
+
+/// Whether these are the assumptions, and those of a copy.
+fn are_given_and_copied(
+    alloc: Global,
+    given: &Assumptions,
+    wanted: &[Term],
+) -> Result<bool, AllocError> {
+    let again = given.copy(alloc)?;
+    Ok(are_given(given, wanted) && are_given(&again, wanted))
+}
+
 #[test]
 fn what_an_instance_gives(rt: HostRuntime) -> Result<(), Fail> {
-    let alloc = rt.alloc();
-    let wanted = terms_of(alloc, "(n m text) (b a name)", &["(privk b)", "n", "m"])?;
-    let k = skeleton_of(alloc, PROTOCOL, INITIATOR)?;
-    let instance = first_instance(k.strands()).ok_or("no instance")?;
-    assert!(rt; are_given(k.assumptions(), &wanted));
-    assert!(rt; are_given(&k.assumptions().copy(alloc)?, &wanted));
-    assert!(rt; are_given(&listed(alloc, &k)?, &wanted));
-    assert!(rt; are_given(&missing(alloc, 0, instance, &none_assumed(alloc))?, &wanted));
+    let k = initiator(rt.alloc())?;
+    let wanted = given_terms(rt.alloc())?;
+    assert!(rt; are_given_and_copied(rt.alloc(), k.assumptions(), &wanted)?);
+    Ok(())
+}
+
+/// Whether these are the assumptions that a report lists.
+fn are_listed(alloc: Global, k: &Skeleton, wanted: &[Term]) -> Result<bool, AllocError> {
+    let listed = listed(alloc, k)?;
+    Ok(are_given(&listed, wanted))
+}
+
+#[test]
+fn what_a_report_lists(rt: HostRuntime) -> Result<(), Fail> {
+    let k = initiator(rt.alloc())?;
+    let wanted = given_terms(rt.alloc())?;
+    assert!(rt; are_listed(rt.alloc(), &k, &wanted)?);
+    Ok(())
+}
+
+/// Whether these are what the first strand gives, where nothing is assumed.
+fn are_missing(alloc: Global, k: &Skeleton, wanted: &[Term]) -> Result<bool, AllocError> {
+    match first_instance(k.strands()) {
+        Some(instance) => {
+            let missing = missing(alloc, 0, instance, &none_assumed(alloc))?;
+            Ok(are_given(&missing, wanted))
+        }
+        None => Ok(false),
+    }
+}
+
+#[test]
+fn what_is_missing(rt: HostRuntime) -> Result<(), Fail> {
+    let k = initiator(rt.alloc())?;
+    let wanted = given_terms(rt.alloc())?;
+    assert!(rt; are_missing(rt.alloc(), &k, &wanted)?);
+    Ok(())
+}
+
+/// What the strands give, added twice.
+fn given_twice(alloc: Global, strands: &[Strand]) -> Result<Assumptions, AllocError> {
     let mut assumed = none_assumed(alloc);
     for _ in 0..2 {
-        add_given(alloc, k.strands(), &mut assumed)?;
+        add_given(alloc, strands, &mut assumed)?;
     }
+    Ok(assumed)
+}
+
+// What is given twice is added once.
+#[test]
+fn what_is_added(rt: HostRuntime) -> Result<(), Fail> {
+    let k = initiator(rt.alloc())?;
+    let wanted = given_terms(rt.alloc())?;
+    let assumed = given_twice(rt.alloc(), k.strands())?;
     assert!(rt; are_given(&assumed, &wanted));
     Ok(())
 }
@@ -186,17 +346,74 @@ const APPLIED: &[(&[&str], &str, &str)] = &[
     ),
 ];
 
+/// Whether the first of two terms becomes the second under the values.
+fn becomes(alloc: Global, values: &[Term], terms: &[Term]) -> Result<bool, AllocError> {
+    match terms {
+        [before, after] => Ok(applied(alloc, values, before)?.same(after)),
+        _ => Ok(false),
+    }
+}
+
+/// Whether the term becomes the other under these values.
+fn is_applied(alloc: Global, values: &[&str], term: &str, wanted: &str) -> Result<bool, Fail> {
+    let variables = "(n text) (a b name) (t text) (c name) (k j akey)";
+    let values = terms_of(alloc, variables, values)?;
+    let terms = terms_of(alloc, variables, &[term, wanted])?;
+    Ok(becomes(alloc, &values, &terms)?)
+}
+
 #[test]
 fn terms_under_values(rt: HostRuntime) -> Result<(), Fail> {
-    let alloc = rt.alloc();
-    let variables = "(n text) (a b name) (t text) (c name) (k j akey)";
     for &(values, term, wanted) in APPLIED {
-        let values = terms_of(alloc, variables, values)?;
-        let terms = terms_of(alloc, variables, &[term, wanted])?;
-        let [before, after] = terms.as_slice() else {
-            return Err(Fail::new("two terms"));
-        };
-        assert!(rt; applied(alloc, &values, before)?.same(after), "{term}");
+        assert!(rt; is_applied(rt.alloc(), values, term, wanted)?, "{term}");
+    }
+    Ok(())
+}
+
+// A term of a role, a term, and whether what the first becomes under the values t, c and c carries the second.
+const CARRIED: &[(&str, &str, bool)] = &[
+    ("(enc n (ltk a b))", "t", true),
+    ("(enc n (ltk a b))", "(enc t (ltk c c))", true),
+    ("(enc n (ltk a b))", "n", false),
+    ("(enc n (ltk a b))", "(ltk c c)", false),
+    ("(cat n a)", "c", true),
+];
+
+/// Whether it is as said that what the first of two terms becomes under the values carries the second.
+fn answers(values: &[Term], terms: &[Term], is_carried: bool) -> bool {
+    match terms {
+        [whole, part] => carries_under(values, whole, part) == is_carried,
+        _ => false,
+    }
+}
+
+#[test]
+fn carried_under_values(rt: HostRuntime) -> Result<(), Fail> {
+    let variables = "(n text) (a b name) (t text) (c name)";
+    let values = terms_of(rt.alloc(), variables, &["t", "c", "c"])?;
+    for &(whole, part, is_carried) in CARRIED {
+        let terms = terms_of(rt.alloc(), variables, &[whole, part])?;
+        assert!(rt; answers(&values, &terms, is_carried), "{whole} {part}");
+    }
+    Ok(())
+}
+
+#[test]
+fn copies_of_terms(rt: HostRuntime) -> Result<(), Fail> {
+    let terms = terms_of(rt.alloc(), "(n text) (a name)", &["n", "(cat n a)"])?;
+    let again = copy_terms(rt.alloc(), &terms)?;
+    assert_eq!(rt; again.len(), 2);
+    assert!(rt; again.iter().zip(&terms).all(|(one, other)| one.same(other)));
+    Ok(())
+}
+
+#[test]
+fn copies_of_atoms(rt: HostRuntime) -> Result<(), Fail> {
+    let atoms = atoms(rt.alloc(), "(n text) (a name)", &["n", "(privk a)"])?;
+    let again = copy_atoms(rt.alloc(), &atoms)?;
+    assert_eq!(rt; again.len(), 2);
+    for atom in &again {
+        assert!(rt; has(&atoms, atom));
     }
     Ok(())
 }
@@ -208,19 +425,37 @@ fn are_so_many(assumptions: &Assumptions, count: usize) -> bool {
         && assumptions.uniquely_originating().len() == count
 }
 
+/// Whether this is the way of one strand and four variables, with nothing else.
+fn is_way(way: &FromProblem) -> bool {
+    matches!(way.strands(), [0])
+        && way.values().len() == 4
+        && way.pairs().is_empty()
+        && are_so_many(way.assumptions(), 0)
+}
+
 // Of the problem's own assumptions there are none: its role gives them.
 #[test]
 fn the_way_from_a_problem(rt: HostRuntime) -> Result<(), Fail> {
-    let alloc = rt.alloc();
-    let k = skeleton_of(alloc, PROTOCOL, INITIATOR)?;
+    let k = initiator(rt.alloc())?;
     assert_eq!(rt; k.variables().len(), 4);
-    let way = k.from_problem().copy(alloc)?;
-    assert_eq!(rt; way.strands(), [0].as_slice());
-    assert_eq!(rt; way.values().len(), 4);
-    assert!(rt; way.pairs().is_empty() && are_so_many(way.assumptions(), 0));
-    let mut twice = k.assumptions().copy(alloc)?;
-    twice.append(k.assumptions().copy(alloc)?)?;
-    assert!(rt; are_so_many(&twice, 2) && are_so_many(k.assumptions(), 1));
+    let way = k.from_problem().copy(rt.alloc())?;
+    assert!(rt; is_way(&way));
+    Ok(())
+}
+
+/// The assumptions behind themselves.
+fn doubled(alloc: Global, assumptions: &Assumptions) -> Result<Assumptions, AllocError> {
+    let mut twice = assumptions.copy(alloc)?;
+    twice.append(assumptions.copy(alloc)?)?;
+    Ok(twice)
+}
+
+#[test]
+fn assumptions_behind_others(rt: HostRuntime) -> Result<(), Fail> {
+    let k = initiator(rt.alloc())?;
+    let twice = doubled(rt.alloc(), k.assumptions())?;
+    assert!(rt; are_so_many(&twice, 2));
+    assert!(rt; are_so_many(k.assumptions(), 1));
     Ok(())
 }
 
@@ -234,18 +469,64 @@ fn is_instance(strand: &Strand, height: usize, values: usize) -> bool {
     }
 }
 
-#[test]
-fn strands_by_themselves(rt: HostRuntime) -> Result<(), Fail> {
-    let alloc = rt.alloc();
-    let k = skeleton_of(alloc, PROTOCOL, STRANDS)?;
-    let instance = first_instance(k.strands()).ok_or("no instance")?;
-    assert!(rt; is_instance(&without_terms(alloc, instance.role())?, 2, 0));
-    for message in &terms_of(alloc, "(n text) (k skey)", &["(enc n k)"])? {
-        let listener = Strand::listener(alloc, message.copy()?)?;
-        assert!(rt;
-            matches!(listener.shape(), StrandShape::Listener(heard) if heard.same(message))
-        );
+/// The first strand's role as an instance without terms.
+fn first_without_terms(alloc: Global, k: &Skeleton) -> Result<Strand, Fail> {
+    match first_instance(k.strands()) {
+        Some(first) => Ok(without_terms(alloc, first.role())?),
+        None => Err(Fail::new("no instance")),
     }
+}
+
+#[test]
+fn instance_without_terms(rt: HostRuntime) -> Result<(), Fail> {
+    let k = skeleton_of(rt.alloc(), PROTOCOL, STRANDS)?;
+    let strand = first_without_terms(rt.alloc(), &k)?;
+    assert!(rt; is_instance(&strand, 2, 0));
+    Ok(())
+}
+
+/// Whether the strand is a listener on this message.
+fn hears(strand: &Strand, message: &Term) -> bool {
+    match strand.shape() {
+        StrandShape::Listener(heard) => heard.same(message),
+        StrandShape::Instance(_) => false,
+    }
+}
+
+#[test]
+fn listener_by_itself(rt: HostRuntime) -> Result<(), Fail> {
+    for message in &terms_of(rt.alloc(), "(n text) (k skey)", &["(enc n k)"])? {
+        let listener = Strand::listener(rt.alloc(), message.copy()?)?;
+        assert!(rt; hears(&listener, message));
+    }
+    Ok(())
+}
+
+/// The role of the first strand at a height, which gets the values for its own.
+fn at_height(alloc: Global, k: &Skeleton, height: usize) -> Result<Instance, Fail> {
+    let first = first_instance(k.strands()).ok_or("no instance")?;
+    let values = copy_terms(alloc, first.values())?;
+    Ok(instance_of(alloc, first.role(), 0, height, &[], &values)?)
+}
+
+/// Whether it is an instance of the first strand's role at height 1 with four values.
+fn is_of_first_role(k: &Skeleton, instance: &Instance) -> bool {
+    match first_instance(k.strands()) {
+        Some(first) => {
+            instance.height() == 1
+                && instance.values().len() == 4
+                && is_same_role(instance.role(), first.role())
+        }
+        None => false,
+    }
+}
+
+// The fourth variable occurs in the second event alone.
+#[test]
+fn instances_of_roles(rt: HostRuntime) -> Result<(), Fail> {
+    let k = initiator(rt.alloc())?;
+    let instance = at_height(rt.alloc(), &k, 1)?;
+    assert!(rt; is_of_first_role(&k, &instance));
     Ok(())
 }
 
@@ -273,16 +554,39 @@ fn is_done(event: &Option<Event>, done: &str, message: &Term) -> bool {
     }
 }
 
+/// Whether this is done with the message at this index of the strand and of its copy.
+fn is_done_at(
+    alloc: Global,
+    strand: &Strand,
+    index: usize,
+    done: &str,
+    message: &Term,
+) -> Result<bool, AllocError> {
+    let event = strand.event(alloc, index)?;
+    let again = strand.copy()?.event(alloc, index)?;
+    Ok(is_done(&event, done, message) && is_done(&again, done, message))
+}
+
+/// Whether this is done with the first of the messages on a strand of the skeleton.
+fn is_done_on(
+    alloc: Global,
+    k: &Skeleton,
+    at: Node,
+    done: &str,
+    messages: &[Term],
+) -> Result<bool, AllocError> {
+    match (k.strands().get(at.strand), messages.first()) {
+        (Some(strand), Some(message)) => is_done_at(alloc, strand, at.index, done, message),
+        _ => Ok(false),
+    }
+}
+
 #[test]
 fn events(rt: HostRuntime) -> Result<(), Fail> {
-    let alloc = rt.alloc();
-    let k = skeleton_of(alloc, PROTOCOL, STRANDS)?;
+    let k = skeleton_of(rt.alloc(), PROTOCOL, STRANDS)?;
     for &(strand, index, done, message) in EVENTS {
-        let strand = k.strands().get(strand).ok_or("no strand")?;
-        for message in &terms_of(alloc, "(t text) (c name)", &[message])? {
-            assert!(rt; is_done(&strand.event(alloc, index)?, done, message));
-            assert!(rt; is_done(&strand.copy()?.event(alloc, index)?, done, message));
-        }
+        let messages = terms_of(rt.alloc(), "(t text) (c name)", &[message])?;
+        assert!(rt; is_done_on(rt.alloc(), &k, node(strand, index), done, &messages)?);
     }
     Ok(())
 }
@@ -292,14 +596,18 @@ fn without_terms(alloc: Global, role: &Rc<Role>) -> Result<Strand, AllocError> {
     Strand::instance(alloc, Instance::new(role.clone()?, 2, Vec::new(alloc)))
 }
 
+/// Whether the strand sends the message at index 1.
+fn sends(alloc: Global, strand: &Strand, message: &Term) -> Result<bool, AllocError> {
+    let event = strand.event(alloc, 1)?;
+    Ok(is_done(&event, "send", message))
+}
+
 #[test]
 fn event_without_terms(rt: HostRuntime) -> Result<(), Fail> {
-    let alloc = rt.alloc();
-    let k = skeleton_of(alloc, PROTOCOL, STRANDS)?;
-    let instance = first_instance(k.strands()).ok_or("no instance")?;
-    let strand = without_terms(alloc, instance.role())?;
-    for message in &terms_of(alloc, "(n text) (a b name)", &["(enc n (ltk a b))"])? {
-        assert!(rt; is_done(&strand.event(alloc, 1)?, "send", message));
+    let k = skeleton_of(rt.alloc(), PROTOCOL, STRANDS)?;
+    let strand = first_without_terms(rt.alloc(), &k)?;
+    for message in &terms_of(rt.alloc(), "(n text) (a b name)", &["(enc n (ltk a b))"])? {
+        assert!(rt; sends(rt.alloc(), &strand, message)?);
     }
     Ok(())
 }
@@ -327,18 +635,26 @@ const ORIGINS: &[(usize, usize, &str, bool)] = &[
     (3, 0, "t", false),
 ];
 
+/// Whether all of these terms originate at the node, or none does.
+fn originate(k: &Skeleton, at: Node, terms: &[Term], originates: bool) -> bool {
+    for term in terms {
+        if k.originates(at, term) != originates {
+            return false;
+        }
+    }
+    true
+}
+
 #[test]
 fn origins(rt: HostRuntime) -> Result<(), Fail> {
-    let alloc = rt.alloc();
-    let k = skeleton_of(alloc, ORIGINATING, ORIGINATORS)?;
+    let k = skeleton_of(rt.alloc(), ORIGINATING, ORIGINATORS)?;
     for &(strand, index, term, originates) in ORIGINS {
-        for value in &terms_of(alloc, "(t m x z text) (j akey)", &[term])? {
-            assert_eq!(rt;
-                k.originates(node(strand, index), value),
-                originates,
-                "{term}"
-            );
-        }
+        let terms = terms_of(rt.alloc(), "(t m x z text) (j akey)", &[term])?;
+        assert_eq!(rt; terms.len(), 1);
+        assert!(rt;
+            originate(&k, node(strand, index), &terms, originates),
+            "{term}"
+        );
     }
     Ok(())
 }

@@ -1,8 +1,8 @@
 // What texts state, for the tests: forms, skeletons and terms; and what is printed of skeletons.
 ghost use Rattle.std.specs.Prelude.{◌≡◌, option_map, IfOk, IsTrue};
-ghost use Rattle.cp_model.specs.RunView.{node_view};
 ghost use Rattle.cp_model.specs.Skeleton.{IsNodeOf, term_event_at};
-ghost use Rattle.cp_skel.specs.View.{event_view, skeleton_view};
+ghost use Rattle.cp_strand.specs.View.{event_view};
+ghost use Rattle.cp_skel.specs.View.{skeleton_view};
 
 use cp_forms::{front_items, later_items};
 use cp_load::{Input, load};
@@ -67,7 +67,7 @@ pub(crate) fn skeleton_of(alloc: Global, protocol: &str, problem: &str) -> Resul
 
 /// The event at a node, if there is one.
 pub(crate) fn event_at(alloc: Global, k: &Skeleton, node: Node) -> Result<Option<Event>, AllocError>
-    ensures { IfOk result (λ e. option_map event_view e ≡ term_event_at (skeleton_view k.now).strands (node_view node)) }
+    ensures { IfOk result (λ e. option_map event_view e ≡ term_event_at (skeleton_view k.now).strands node) }
 {
     match k.strands().get(node.strand) {
         Some(strand) => strand.event(alloc, node.index),
@@ -78,7 +78,7 @@ pub(crate) fn event_at(alloc: Global, k: &Skeleton, node: Node) -> Result<Option
 /// Whether there is an event at a node.
 #[tactic(auto, using(crate::proofs::Nodes::there_where_some))]
 pub(crate) fn is_there(alloc: Global, k: &Skeleton, node: Node) -> Result<bool, AllocError>
-    ensures { IfOk result (λ there. IsTrue there → IsNodeOf (skeleton_view k.now).strands (node_view node)) }
+    ensures { IfOk result (λ there. IsTrue there → IsNodeOf (skeleton_view k.now).strands node) }
 {
     match event_at(alloc, k, node)? {
         Some(_) => Ok(true),
@@ -118,7 +118,7 @@ pub(crate) fn terms_of(alloc: Global, variables: &str, terms: &[&str]) -> Result
 }
 
 /// The label of a skeleton in a tree, as if it were the problem's.
-fn label(alloc: Global, skeleton: Skeleton) -> TreeNode {
+pub(crate) fn label(alloc: Global, skeleton: Skeleton) -> TreeNode {
     TreeNode {
         parent: None,
         operation: Operation::Problem,

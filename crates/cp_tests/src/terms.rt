@@ -120,7 +120,8 @@ fn keys(rt: HostRuntime) -> Result<(), Fail> {
     Ok(())
 }
 
-fn key_of_name(alloc: Global, purpose: Option<&str>) -> Result<Term, AllocError> {
+/// The public key of a name, which is variable 0, for a purpose or for none.
+pub(crate) fn key_of_name(alloc: Global, purpose: Option<&str>) -> Result<Term, AllocError> {
     pubk(alloc, purpose, variable(alloc, Sort::Name)?)
 }
 
@@ -138,7 +139,7 @@ fn keys_of_names(rt: HostRuntime) -> Result<(), Fail> {
 }
 
 /// The text 0 under the symmetric key 1, where that text is local.
-fn pattern(alloc: Global) -> Result<Pattern, AllocError> {
+pub(crate) fn pattern(alloc: Global) -> Result<Pattern, AllocError> {
     let text = VarId::numbered(0);
     let mut locals = Locals::new(alloc);
     locals.push(text)?;

@@ -1,14 +1,14 @@
 -- The answers of unification.
 use Rattle.std.proofs.Common.{◌≡◌, ◌<◌, ◌≤◌, ◌+◌, ℕ, List, [], ◌∷◌, ◌++◌, Option, Some, None, MatchOption, IfSome, IfNone, length, get_or, drop, sym, ap, ◌∙◌, subst}
 use Rattle.std.proofs.lemmas.List.{drop_all}
-use Rattle.cp_model.specs.Lists.{here, there}
+use Rattle.cp_lists.specs.Lists.{here, there}
 use Rattle.cp_model.specs.Message.{atom}
 use Rattle.cp_model.specs.Term.{Term, atom_term, atom_of_variable, variables_of_atom, variables_of, value_of_atom, value_of}
 use Rattle.cp_unify.specs.Bindings.{Binding, variable_of, MeetsBinding, variables_of_bindings}
 use Rattle.cp_unify.specs.Solved.{IsSolved, SolvesBeside, AreSolvedBut}
 use Rattle.cp_unify.specs.Unifiers.{AreAmong, IsMostGeneral, HasNoUnifier}
-use Rattle.cp_unify.proofs.Looked.{rest_at}
-use Rattle.cp_unify.proofs.Members.{in_none, in_left, in_right, among_append}
+use Rattle.cp_lists.proofs.Members.{not_in_none, in_append_left, in_append_right, drop_read}
+use Rattle.cp_unify.proofs.Members.{among_append}
 use Rattle.cp_unify.proofs.SolvedBindings.{factoring, idempotent_term, unified, solves, solvable}
 use Rattle.cp_unify.proofs.Steps.{one_variable}
 
@@ -21,7 +21,7 @@ already_solved s r e h = subst (λ (q : List Binding). AreSolvedBut s [] q) (sym
   sound = λ g m n. m;
   general = λ g m. (m, tt);
   within = λ x i. i;
-  rest_within = λ x i. absurd (in_none i);
+  rest_within = λ x i. absurd (not_in_none i);
 })
 
 pub solved_but_all : (s : List Binding) → AreSolvedBut s s []
@@ -29,7 +29,7 @@ solved_but_all s = record {
   solved = none_at_all;
   sound = λ g m n. n;
   general = λ g m. (tt, m);
-  within = λ x i. absurd (in_none i);
+  within = λ x i. absurd (not_in_none i);
   rest_within = λ x i. i;
 }
 
@@ -38,7 +38,7 @@ next_within : (s rest r : List Binding) (b : Binding) → AreSolvedBut s (b ∷ 
 next_within s rest r b h =
     let own : AreAmong (variables_of_atom (atom_of_variable (variable_of b))) (variables_of_bindings s) =
     one_variable (variable_of b).sort b.number (variables_of_bindings s) (h.rest_within (variable_of b) here) in
-    among_append _ _ _ own (among_append _ _ _ (λ x i. h.rest_within x (there (in_left x _ (variables_of_bindings rest) i))) h.within)
+    among_append _ _ _ own (among_append _ _ _ (λ x i. h.rest_within x (there (in_append_left (variables_of_bindings rest) i))) h.within)
 
 solved_but_fewer : (s rest r next : List Binding) (b : Binding) → AreSolvedBut s (b ∷ rest) r →
     SolvesBeside (atom_term (atom_of_variable (variable_of b))) (atom_term b.term) r next → AreSolvedBut s rest next
@@ -49,7 +49,7 @@ solved_but_fewer s rest r next b h k = record {
       let e' : MeetsBinding g b = cc in h.sound g p.0 (e', n);
   general = λ g m. let p = h.general g m in (k.general g p.0 (ap atom p.1.0), p.1.1);
   within = λ x i. next_within s rest r b h x (k.no_new x i);
-  rest_within = λ x i. h.rest_within x (there (in_right x (variables_of_atom b.term) _ i));
+  rest_within = λ x i. h.rest_within x (there (in_append_right (variables_of_atom b.term) i));
 }
 
 none_solved : (s rest r : List Binding) (b : Binding) → AreSolvedBut s (b ∷ rest) r →
@@ -60,12 +60,12 @@ none_solved s rest r b h k a c g m e = let p = h.general g m in k g p.0 (ap atom
 pub next_solved : (s r next : List Binding) (i : ℕ) (b : Binding) (left right : Term) → AreSolvedBut s (drop i s) r → i < length s → b ≡ get_or s i b →
     left ≡ atom_term (atom_of_variable (variable_of b)) → right ≡ atom_term b.term → SolvesBeside left right r next → AreSolvedBut s (drop (i + 1) s) next
 next_solved s r next i b left right h below read el er k =
-    solved_but_fewer s (drop (i + 1) s) r next b (subst (λ (t : List Binding). AreSolvedBut s t r) (rest_at s i b below read) h) (rw (← el, ← er) k)
+    solved_but_fewer s (drop (i + 1) s) r next b (subst (λ (t : List Binding). AreSolvedBut s t r) (drop_read s i b below read) h) (rw (← el, ← er) k)
 
 pub no_next : (s r : List Binding) (i : ℕ) (b : Binding) (left right : Term) → AreSolvedBut s (drop i s) r → i < length s → b ≡ get_or s i b →
     left ≡ atom_term (atom_of_variable (variable_of b)) → right ≡ atom_term b.term → HasNoUnifier left right r → (a c : Term) → HasNoUnifier a c s
 no_next s r i b left right h below read el er k =
-    none_solved s (drop (i + 1) s) r b (subst (λ (t : List Binding). AreSolvedBut s t r) (rest_at s i b below read) h)
+    none_solved s (drop (i + 1) s) r b (subst (λ (t : List Binding). AreSolvedBut s t r) (drop_read s i b below read) h)
     (λ g m e. k g m (ap (value_of g) el ∙ e ∙ sym (ap (value_of g) er)))
 
 all_solved : (s r : List Binding) (i : ℕ) → AreSolvedBut s (drop i s) r → length s ≤ i → AreSolvedBut s [] r
@@ -80,9 +80,9 @@ most_general s r answer a b h k = record {
   unifies = unified answer a b k.solved.met (λ g m. (k.sound g m).1);
   solves_given = solves answer s k.solved.met (λ g m. h.sound g (k.sound g m).0 tt);
   idempotent = idempotent_term answer k.solved.met;
-  no_new = λ x i. among_append (variables_of a) _ _ (λ y j. in_left y _ _ j)
-      (among_append (variables_of b) (variables_of_bindings r) _ (λ y j. in_right y (variables_of a) _ (in_left y _ _ j))
-      (λ y j. in_right y (variables_of a) _ (in_right y (variables_of b) _ (h.within y j)))) x (k.no_new x i);
+  no_new = λ x i. among_append (variables_of a) _ _ (λ y j. in_append_left _ j)
+      (among_append (variables_of b) (variables_of_bindings r) _ (λ y j. in_append_right (variables_of a) (in_append_left _ j))
+      (λ y j. in_append_right (variables_of a) (in_append_right (variables_of b) (h.within y j)))) x (k.no_new x i);
   later_to_earlier = k.solved.later_to_earlier;
 }
 

@@ -2,9 +2,9 @@
 use Rattle.std.proofs.Common.{◌≡◌, ◌≢◌, ◌⊎◌, inl, inr, ◌<◌, ◌≤◌, ◌+◌, ◌-◌, ◌==◌, ℕ, zero, suc, if◌then◌else◌, Bool, true, false, List, [], ◌∷◌, ◌++◌, length, get_or, set, take, drop, refl, sym, ap, ◌∙◌, subst, arith, length-drop}
 use Rattle.std.proofs.lemmas.List.{take_all, drop_all, get_or-set_same, get_or-set_other}
 use Rattle.std.proofs.lemmas.Bool.Decides.{eqb_tells}
+use Rattle.cp_lists.proofs.Members.{drop_read}
 use Rattle.cp_unify.specs.Bindings.{Binding}
 use Rattle.cp_unify.specs.Places.{BeginAt, ArePlaces, ArePlacesIfAny, IsBehind}
-use Rattle.cp_unify.proofs.Looked.{rest_at}
 
 -- A table with more zeros behind it tells the same.
 pub zero_pushed : (xs : List ℕ) (n : ℕ) → get_or (xs ++ 0 ∷ []) n 0 ≡ get_or xs n 0
@@ -58,7 +58,7 @@ pub places_before : (bs : List Binding) (old new : List ℕ) (start i : ℕ) (b 
     ((n : ℕ) → get_or new n 0 ≡ (if n == number then count else get_or old n 0)) → ArePlaces new (drop i bs)
 places_before bs old new start i b number count h at below read is counted put =
     places_more old new b (drop (i + 1) bs) (drop i bs) number count (subst (λ (s : ℕ). ArePlaces old (drop s bs)) at h) put
-    (rest_at bs i b below read) is (counted ∙ sym (length-drop i bs))
+    (drop_read bs i b below read) is (counted ∙ sym (length-drop i bs))
 
 pub count_within : (n count : ℕ) (bs : List Binding) → BeginAt n count bs → count ≤ length bs
 count_within n count [] h = omega arith

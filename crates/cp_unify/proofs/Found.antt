@@ -4,20 +4,21 @@ use Rattle.std.specs.Prelude.{nat_eq, nat_lt}
 use Rattle.std.specs.Cmp.Lexicographic.{pointwise}
 use Rattle.std.specs.Option.{option_eq}
 use Rattle.std.proofs.lemmas.Bool.{eqb-true, eqb-false, ltb-true, ltb-false}
-use Rattle.cp_model.specs.Lists.{IsIn, here, there}
+use Rattle.cp_lists.specs.Lists.{IsIn, here, there}
 use Rattle.cp_model.specs.Message.{KeyPair, pubk, asymmetric, key, tag}
 use Rattle.cp_model.specs.Term.{Sort, text_sort, datum_sort, name_sort, skey_sort, akey_sort, Variable, SymmetricTerm, skey_variable, ltk_term, PairTerm, akey_variable, pubk_term, KeyTerm, symmetric_term, asymmetric_term, AtomTerm, text_variable, datum_variable, name_variable, key_term, Term, tag_term, atom_term, pair_term, enc_term, variables_of_key, variables_of_atom, variables_of, Assignment, flag_of, value_of_key, value_of_atom, value_of}
 use Rattle.std.specs.Bool.{Decides}
 use Rattle.std.proofs.lemmas.Bool.Decides.{Decides-and}
 use Rattle.cp_model.proofs.LawTerms.{flag_last}
-use Rattle.cp_term.specs.Same.{same_flag}
+use Rattle.cp_model.specs.Same.{same_bool}
 use Rattle.cp_term.proofs.SameTerms.{bytes_Decides, flag_Decides, purpose_Decides}
 use Rattle.cp_unify.specs.Bindings.{Binding, sort_of, variable_of, MeetsBinding}
 use Rattle.cp_unify.specs.Unifiers.{IsBefore, AreAmong}
 use Rattle.cp_unify.specs.Differences.{first_of, between, between_names, difference_of_symmetric, akey_atom, difference_of_pairs, difference_of_keys, difference_of_atoms, difference_of}
 use Rattle.cp_unify.specs.declared.difference.Difference.{Difference}
 use Rattle.cp_unify.specs.declared.difference.Difference.TheVariants.{Same, Clash, Bind}
-use Rattle.cp_unify.proofs.Members.{in_cases, in_one, in_left, in_right, among_both}
+use Rattle.cp_lists.proofs.Members.{in_cases, only_item, in_append_left, in_append_right}
+use Rattle.cp_unify.proofs.Members.{among_both}
 
 -- Whatever meets an equation meets the binding, which is of one of the variables xs to a term of others of them, and
 -- of a later to an earlier one.
@@ -63,9 +64,9 @@ narrows_variable : (equal : Assignment → Type 0) (xs : List Variable) (b : Bin
 narrows_variable equal xs b y every variables less left right before = record {
   every = every;
   absent = λ h. let h' : IsIn (variable_of b) (y ∷ []) = subst (IsIn (variable_of b)) variables h in
-      let e : b.number ≡ y.number = ap (λ (x : Variable). x.number) (in_one h') in absurd (omega arith);
+      let e : b.number ≡ y.number = ap (λ (x : Variable). x.number) (only_item h') in absurd (omega arith);
   left = left;
-  right = λ x h. let h' : IsIn x (y ∷ []) = subst (IsIn x) variables h in subst (λ (z : Variable). IsIn z xs) (sym (in_one h')) right;
+  right = λ x h. let h' : IsIn x (y ∷ []) = subst (IsIn x) variables h in subst (λ (z : Variable). IsIn z xs) (sym (only_item h')) right;
   before = before;
 }
 
@@ -132,7 +133,7 @@ abbrev akey_at : ℕ → Variable
 akey_at n = record { sort = akey_sort; number = n }
 
 skey_not_in_names : {m a b : ℕ} → IsIn (skey_at m) (name_at a ∷ name_at b ∷ []) → ⊥
-skey_not_in_names h = elim (in_cases h) [ inl e ↦ skey_is_no_name e | inr i ↦ skey_is_no_name (in_one i) ]
+skey_not_in_names h = elim (in_cases h) [ inl e ↦ skey_is_no_name (sym e) | inr i ↦ skey_is_no_name (only_item i) ]
 
 ltk_found : (a b c d : ℕ) → AtomFinding (symmetric_atom (ltk_term a b)) (symmetric_atom (ltk_term c d)) (difference_of_symmetric (ltk_term a b) (ltk_term c d))
 ltk_found a b c d =
@@ -140,7 +141,7 @@ ltk_found a b c d =
     (λ e f. let e' : a ≡ c = cc in let f' : b ≡ d = cc in ap₂ (λ (m n : ℕ). symmetric_atom (ltk_term m n)) e' f')
     (λ g e. cc) (λ g e. cc)
     (among_both (name_at a ∷ []) (name_at c ∷ []) (name_at a ∷ name_at b ∷ []) (name_at c ∷ name_at d ∷ [])
-    (λ x h. in_left x _ (name_at b ∷ []) h) (λ x h. in_left x _ (name_at d ∷ []) h))
+    (λ x h. in_append_left (name_at b ∷ []) h) (λ x h. in_append_left (name_at d ∷ []) h))
     (among_both (name_at b ∷ []) (name_at d ∷ []) (name_at a ∷ name_at b ∷ []) (name_at c ∷ name_at d ∷ [])
     (λ x h. there h) (λ x h. there h))
     (names_found a c) (names_found b d)
@@ -158,7 +159,7 @@ symmetric_found (ltk_term a b) (skey_variable n) = record {
   every = λ g e. sym e;
   absent = λ h. skey_not_in_names h;
   left = there (there here);
-  right = λ x h. in_left _ _ _ h;
+  right = λ x h. in_append_left _ h;
   before = tt;
 }
 symmetric_found (ltk_term a b) (ltk_term c d) = ltk_found a b c d
@@ -183,13 +184,13 @@ sum_comm true false = refl
 sum_comm false true = refl
 sum_comm false false = refl
 
-sum_same : (f h : Bool) → same_flag f h ≡ true → flag_of f h ≡ false
+sum_same : (f h : Bool) → same_bool f h ≡ true → flag_of f h ≡ false
 sum_same true true e = refl
 sum_same false false e = refl
 sum_same true false e = cc
 sum_same false true e = cc
 
-sum_other : (f h : Bool) → same_flag f h ≡ false → flag_of f h ≡ true
+sum_other : (f h : Bool) → same_bool f h ≡ false → flag_of f h ≡ true
 sum_other true true e = cc
 sum_other false false e = cc
 sum_other true false e = refl
@@ -220,7 +221,7 @@ akeys_other f h sum m n true same apart =
     λ g e. own_inverse f h sum (g.akeys n) (subst (λ (k : ℕ). key (asymmetric (flag_of f (g.akeys k).0) (g.akeys k).1) ≡ key (asymmetric (flag_of h (g.akeys n).0) (g.akeys n).1)) (same refl) e)
 akeys_other f h sum m n false same apart = akeys_between f h true sum m n (λ e. absurd (apart refl e))
 
-akeys_choice : (f h : Bool) (m n : ℕ) (b : Bool) → same_flag f h ≡ b →
+akeys_choice : (f h : Bool) (m n : ℕ) (b : Bool) → same_bool f h ≡ b →
     AtomFinding (akey_atom f m) (akey_atom h n) (if b then between m (akey_atom false m) n (akey_atom false n)
     else (if m == n then Clash else between m (akey_atom true m) n (akey_atom true n)))
 akeys_choice f h m n true same =
@@ -247,23 +248,23 @@ names_choice f h p q a b true d =
 names_choice f h p q a b false d = λ g w. let e0 : f ≡ h = cc in let e1 : p ≡ q = cc in let e : false ≡ true = d.1 (e0, e1) in cc
 
 pairs_found : (f : Bool) (k : PairTerm) (h : Bool) (j : PairTerm) → AtomFinding (asymmetric_atom f k) (asymmetric_atom h j) (difference_of_pairs f k h j)
-pairs_found f (akey_variable m) h (akey_variable n) = akeys_choice f h m n (same_flag f h) refl
+pairs_found f (akey_variable m) h (akey_variable n) = akeys_choice f h m n (same_bool f h) refl
 pairs_found f (akey_variable m) h (pubk_term p a) = record {
   every = λ g e. name_key f h (g.akeys m) (pubk p (g.names a)) e;
-  absent = λ i. akey_is_no_name (in_one i);
+  absent = λ i. akey_is_no_name (only_item i);
   left = here;
   right = λ x i. there i;
   before = tt;
 }
 pairs_found f (pubk_term p a) h (akey_variable n) = record {
   every = λ g e. name_key h f (g.akeys n) (pubk p (g.names a)) (sym e);
-  absent = λ i. akey_is_no_name (in_one i);
+  absent = λ i. akey_is_no_name (only_item i);
   left = there here;
-  right = λ x i. in_left x _ (akey_at n ∷ []) i;
+  right = λ x i. in_append_left (akey_at n ∷ []) i;
   before = tt;
 }
 pairs_found f (pubk_term p a) h (pubk_term q b) =
-    names_choice f h p q a b (same_flag f h && option_eq (pointwise nat_eq) p q) (Decides-and _ _ (flag_Decides f h) (purpose_Decides p q))
+    names_choice f h p q a b (same_bool f h && option_eq (pointwise nat_eq) p q) (Decides-and _ _ (flag_Decides f h) (purpose_Decides p q))
 
 keys_found : (k j : KeyTerm) → AtomFinding (key_term k) (key_term j) (difference_of_keys k j)
 keys_found (symmetric_term k) (symmetric_term j) = symmetric_found k j
@@ -292,13 +293,13 @@ found (atom_term u) (atom_term v) =
     finding_within _ _ _ _ _ _ (difference_of_atoms u v) (λ e. ap atom_term e) (λ g e. cc) (λ x h. h) (atoms_found u v)
 found (pair_term a b) (pair_term c d) =
     finding_first _ _ _ _ _ _ _ _ _ (difference_of a c) (difference_of b d) (λ e f. ap₂ pair_term e f) (λ g e. cc) (λ g e. cc)
-    (among_both (variables_of a) (variables_of c) _ _ (λ x h. in_left x _ (variables_of b) h) (λ x h. in_left x _ (variables_of d) h))
-    (among_both (variables_of b) (variables_of d) _ _ (λ x h. in_right x (variables_of a) _ h) (λ x h. in_right x (variables_of c) _ h))
+    (among_both (variables_of a) (variables_of c) _ _ (λ x h. in_append_left (variables_of b) h) (λ x h. in_append_left (variables_of d) h))
+    (among_both (variables_of b) (variables_of d) _ _ (λ x h. in_append_right (variables_of a) h) (λ x h. in_append_right (variables_of c) h))
     (found a c) (found b d)
 found (enc_term a k) (enc_term b j) =
     finding_first _ _ _ _ _ _ _ _ _ (difference_of_keys k j) (difference_of a b)
     (λ e f. let e' : k ≡ j = cc in ap₂ enc_term f e') (λ g e. let e' : value_of_key g k ≡ value_of_key g j = cc in ap key e') (λ g e. cc)
-    (among_both (variables_of_key k) (variables_of_key j) _ _ (λ x h. in_right x (variables_of a) _ h) (λ x h. in_right x (variables_of b) _ h))
-    (among_both (variables_of a) (variables_of b) _ _ (λ x h. in_left x _ (variables_of_key k) h) (λ x h. in_left x _ (variables_of_key j) h))
+    (among_both (variables_of_key k) (variables_of_key j) _ _ (λ x h. in_append_right (variables_of a) h) (λ x h. in_append_right (variables_of b) h))
+    (among_both (variables_of a) (variables_of b) _ _ (λ x h. in_append_left (variables_of_key k) h) (λ x h. in_append_left (variables_of_key j) h))
     (keys_found k j) (found a b)
 found _ _ = λ g e. cc

@@ -1,33 +1,34 @@
 -- Looking a variable up in a list of bindings.
-use Rattle.std.proofs.Common.{◌≡◌, inl, inr, Option, MatchOption, ◌<◌, ◌≤◌, ◌+◌, ℕ, suc, Bool, true, false, if◌then◌else◌, Some, None, List, [], ◌∷◌, length, get_or, drop, refl, sym, ap, ◌∙◌, add-one, drop-cons}
+use Rattle.std.proofs.Common.{◌≡◌, inl, inr, Option, MatchOption, ◌<◌, ◌≤◌, ◌+◌, ℕ, Bool, true, false, if◌then◌else◌, Some, None, List, [], ◌∷◌, length, get_or, drop, refl, sym, ap, ◌∙◌, subst}
+use Rattle.std.specs.Bool.{Decides}
+use Rattle.std.specs.Option.{option_map}
 use Rattle.std.proofs.lemmas.List.{drop_all}
+use Rattle.cp_lists.proofs.Members.{drop_read}
 use Rattle.cp_model.specs.Term.{Sort, text_sort, datum_sort, name_sort, skey_sort, akey_sort, Variable, skey_variable, ltk_term, akey_variable, pubk_term, symmetric_term, asymmetric_term, AtomTerm, text_variable, datum_variable, name_variable, key_term, Term, tag_term, atom_term, pair_term, enc_term, atom_of_variable, apply_to}
 use Rattle.cp_model.proofs.LawTerms.{term_unchanged}
 use Rattle.cp_term.specs.Variables.{variable_term}
 use Rattle.cp_term.specs.declared.variable.Sort.{Sort as ProgramSort}
 use Rattle.cp_term.specs.declared.variable.Sort.TheVariants.{Text, Datum, Name, Skey, Akey}
+use Rattle.cp_unify.specs.Atoms.{IsAtom, atom_of}
 use Rattle.cp_unify.specs.Bindings.{Binding, sort_of, variable_of, as_substitution}
 use Rattle.cp_unify.specs.Matched.{bound_term}
 use Rattle.cp_unify.specs.Places.{IsBehind}
-use Rattle.cp_term.specs.Same.{is_same}
-use Rattle.cp_term.proofs.SameTerms.{same_Decides}
+use Rattle.cp_model.specs.Same.{same_atom, same_term}
+use Rattle.cp_term.proofs.SameTerms.{same_Decides, test_is}
 use Rattle.cp_unify.proofs.Occurring.{bound, other}
 
--- What bindings from a place on are.
-pub rest_at : (bs : List Binding) (i : ℕ) (b : Binding) → i < length bs → b ≡ get_or bs i b → drop i bs ≡ b ∷ drop (i + 1) bs
-rest_at bs i b below read = rw add-one (drop-cons bs i b below ∙ ap (λ (c : Binding). c ∷ drop (suc i) bs) (sym read))
-
--- A variable is a term.
-pub record IsVariableTerm (v : Term) : Type 0 where
+-- A variable with a number is a term.
+pub record IsVariableTerm (n : ℕ) (v : Term) : Type 0 where
   pub variable : Variable
+  pub numbered : variable.number ≡ n
   pub is_variable : v ≡ atom_term (atom_of_variable variable)
 
-pub variable_is_term : (s : ProgramSort) (n : ℕ) → IsVariableTerm (variable_term s n)
-variable_is_term Text n = record { variable = record { sort = text_sort; number = n }; is_variable = refl }
-variable_is_term Datum n = record { variable = record { sort = datum_sort; number = n }; is_variable = refl }
-variable_is_term Name n = record { variable = record { sort = name_sort; number = n }; is_variable = refl }
-variable_is_term Skey n = record { variable = record { sort = skey_sort; number = n }; is_variable = refl }
-variable_is_term Akey n = record { variable = record { sort = akey_sort; number = n }; is_variable = refl }
+pub variable_is_term : (s : ProgramSort) (n : ℕ) → IsVariableTerm n (variable_term s n)
+variable_is_term Text n = record { variable = record { sort = text_sort; number = n }; numbered = refl; is_variable = refl }
+variable_is_term Datum n = record { variable = record { sort = datum_sort; number = n }; numbered = refl; is_variable = refl }
+variable_is_term Name n = record { variable = record { sort = name_sort; number = n }; numbered = refl; is_variable = refl }
+variable_is_term Skey n = record { variable = record { sort = skey_sort; number = n }; numbered = refl; is_variable = refl }
+variable_is_term Akey n = record { variable = record { sort = akey_sort; number = n }; numbered = refl; is_variable = refl }
 
 -- From place i on the bindings do to a variable what all do.
 pub record IsYetToFind (bs : List Binding) (i : ℕ) (v : Term) : Type 0 where
@@ -40,7 +41,7 @@ yet_to_find bs v = record { applied = refl; exact = refl }
 pub found_here : (bs : List Binding) (i : ℕ) (b : Binding) (v : Term) → IsYetToFind bs i v →
     i < length bs → b ≡ get_or bs i b → v ≡ atom_term (atom_of_variable (variable_of b)) → apply_to (as_substitution bs) v ≡ atom_term b.term
 found_here bs i b v so_far below read here =
-    so_far.applied ∙ ap (λ (cs : List Binding). apply_to (as_substitution cs) v) (rest_at bs i b below read)
+    so_far.applied ∙ ap (λ (cs : List Binding). apply_to (as_substitution cs) v) (drop_read bs i b below read)
     ∙ ap (apply_to (as_substitution (b ∷ drop (i + 1) bs))) here ∙ ap atom_term (bound b (as_substitution (drop (i + 1) bs)))
 
 term_here : (b : Binding) (bs : List Binding) (v : Term) → v ≡ atom_term (atom_of_variable (variable_of b)) → bound_term (b ∷ bs) v ≡ Some b.term
@@ -49,9 +50,9 @@ term_here b bs v here = rw ((same_Decides v (atom_term (atom_of_variable (variab
 pub found_exactly : (bs : List Binding) (i : ℕ) (b : Binding) (v : Term) → IsYetToFind bs i v →
     i < length bs → b ≡ get_or bs i b → v ≡ atom_term (atom_of_variable (variable_of b)) → bound_term bs v ≡ Some b.term
 found_exactly bs i b v so_far below read here =
-    so_far.exact ∙ ap (λ (cs : List Binding). bound_term cs v) (rest_at bs i b below read) ∙ term_here b (drop (i + 1) bs) v here
+    so_far.exact ∙ ap (λ (cs : List Binding). bound_term cs v) (drop_read bs i b below read) ∙ term_here b (drop (i + 1) bs) v here
 
-not_here : (b : Binding) (bs : List Binding) (v : Term) → IsVariableTerm v → (v ≡ atom_term (atom_of_variable (variable_of b)) → ⊥) →
+not_here : {n : ℕ} (b : Binding) (bs : List Binding) (v : Term) → IsVariableTerm n v → (v ≡ atom_term (atom_of_variable (variable_of b)) → ⊥) →
     apply_to (as_substitution (b ∷ bs)) v ≡ apply_to (as_substitution bs) v
 not_here b bs v is apart =
     ap (apply_to (as_substitution (b ∷ bs))) is.is_variable
@@ -59,17 +60,17 @@ not_here b bs v is apart =
     ∙ sym (ap (apply_to (as_substitution bs)) is.is_variable)
 
 term_not_here : (b : Binding) (bs : List Binding) (v : Term) → (v ≡ atom_term (atom_of_variable (variable_of b)) → ⊥) → bound_term (b ∷ bs) v ≡ bound_term bs v
-term_not_here b bs v apart = choose (is_same v (atom_term (atom_of_variable (variable_of b)))) (same_Decides v (atom_term (atom_of_variable (variable_of b)))).0
+term_not_here b bs v apart = choose (same_term v (atom_term (atom_of_variable (variable_of b)))) (same_Decides v (atom_term (atom_of_variable (variable_of b)))).0
   where
     choose : (c : Bool) → (c ≡ true → v ≡ atom_term (atom_of_variable (variable_of b))) → (if c then Some b.term else bound_term bs v) ≡ bound_term bs v
     choose true p = absurd (apart (p refl))
     choose false p = refl
 
-pub found_later : (bs : List Binding) (i : ℕ) (b : Binding) (v : Term) → IsVariableTerm v → IsYetToFind bs i v →
+pub found_later : {n : ℕ} (bs : List Binding) (i : ℕ) (b : Binding) (v : Term) → IsVariableTerm n v → IsYetToFind bs i v →
     i < length bs → b ≡ get_or bs i b → (v ≡ atom_term (atom_of_variable (variable_of b)) → ⊥) → IsYetToFind bs (i + 1) v
 found_later bs i b v is so_far below read apart = record {
-  applied = so_far.applied ∙ ap (λ (cs : List Binding). apply_to (as_substitution cs) v) (rest_at bs i b below read) ∙ not_here b (drop (i + 1) bs) v is apart;
-  exact = so_far.exact ∙ ap (λ (cs : List Binding). bound_term cs v) (rest_at bs i b below read) ∙ term_not_here b (drop (i + 1) bs) v apart;
+  applied = so_far.applied ∙ ap (λ (cs : List Binding). apply_to (as_substitution cs) v) (drop_read bs i b below read) ∙ not_here b (drop (i + 1) bs) v is apart;
+  exact = so_far.exact ∙ ap (λ (cs : List Binding). bound_term cs v) (drop_read bs i b below read) ∙ term_not_here b (drop (i + 1) bs) v apart;
 }
 
 pub found_nowhere : (bs : List Binding) (i : ℕ) (v : Term) → IsYetToFind bs i v → length bs ≤ i → (apply_to (as_substitution bs) v ≡ v) × (bound_term bs v ≡ None)
@@ -95,19 +96,12 @@ term_number (tag_term bytes) = 0
 term_number (pair_term a b) = 0
 term_number (enc_term a k) = 0
 
-number_of_term : (s : ProgramSort) (n : ℕ) → term_number (variable_term s n) ≡ n
-number_of_term Text n = refl
-number_of_term Datum n = refl
-number_of_term Name n = refl
-number_of_term Skey n = refl
-number_of_term Akey n = refl
-
 number_of_atom : (s : Sort) (n : ℕ) → atom_number (atom_of_variable (record { sort = s; number = n })) ≡ n
-number_of_atom text_sort n = refl
-number_of_atom datum_sort n = refl
-number_of_atom name_sort n = refl
-number_of_atom skey_sort n = refl
-number_of_atom akey_sort n = refl
+number_of_atom s n = elim s as (λ k. atom_number (atom_of_variable (record { sort = k; number = n })) ≡ n) [ text_sort ↦ refl | datum_sort ↦ refl | name_sort ↦ refl | skey_sort ↦ refl | akey_sort ↦ refl ]
+
+number_of_term : (s : ProgramSort) (n : ℕ) → term_number (variable_term s n) ≡ n
+number_of_term s n =
+    let v = variable_is_term s n in ap term_number v.is_variable ∙ number_of_atom v.variable.sort v.variable.number ∙ v.numbered
 
 other_number : (s : ProgramSort) (n : ℕ) (b : Binding) → (b.number ≡ n → ⊥) → variable_term s n ≡ atom_term (atom_of_variable (variable_of b)) → ⊥
 other_number s n b apart e =
@@ -133,3 +127,13 @@ pub found_behind : {A : Type 0} (f : A → Term) (s : ProgramSort) (n : ℕ) (re
     MatchOption found (apply_to (as_substitution bs) (variable_term s n) ≡ variable_term s n) (λ t. apply_to (as_substitution bs) (variable_term s n) ≡ f t)
 found_behind f s n rest bs None h k = behind_applied s n rest bs h ∙ k
 found_behind f s n rest bs (Some t) h k = behind_applied s n rest bs h ∙ k
+
+-- Whether a variable is bound to a term of an atom sort, where it is bound.
+pub bound_same : (bound : Option AtomTerm) (found term : Term) (r : Bool) → IsAtom term → Some found ≡ option_map (λ (u : AtomTerm). atom_term u) bound →
+    Decides r (found ≡ term) → Some r ≡ option_map (λ (u : AtomTerm). same_atom u (atom_of term)) bound
+bound_same None found term r a e h = absurd (cc)
+bound_same (Some u) found term r a e h =
+    let is_u : found ≡ atom_term u = cc in
+    let decided : Decides r (atom_term u ≡ atom_term a.atom) =
+    subst (λ (t : Term). Decides r (t ≡ atom_term a.atom)) is_u (subst (λ (t : Term). Decides r (found ≡ t)) a.is_atom h) in
+    ap Some (sym (test_is (atom_term u) (atom_term a.atom) r decided) ∙ sym (ap (λ (t : Term). same_atom u (atom_of t)) a.is_atom))

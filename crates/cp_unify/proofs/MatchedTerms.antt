@@ -6,17 +6,16 @@ use Rattle.std.specs.Cmp.Lexicographic.{pointwise}
 use Rattle.std.specs.Option.{option_eq}
 use Rattle.std.proofs.lemmas.Bool.{eq-eqb}
 use Rattle.std.proofs.lemmas.Bool.Decides.{Decides-and}
-use Rattle.cp_model.specs.Lists.{IsIn, here}
+use Rattle.cp_lists.specs.Lists.{IsIn, here}
+use Rattle.cp_lists.proofs.Members.{into_filter, from_filter}
 use Rattle.cp_model.specs.Term.{Sort, text_sort, datum_sort, name_sort, skey_sort, akey_sort, Variable, SymmetricTerm, skey_variable, ltk_term, PairTerm, akey_variable, pubk_term, KeyTerm, symmetric_term, asymmetric_term, AtomTerm, text_variable, datum_variable, name_variable, key_term, Term, tag_term, atom_term, pair_term, enc_term, atom_of_variable, variables_of_symmetric, variables_of_pair, variables_of_key, variables_of_atom, variables_of, inverse_term, flag_of, Substitution, apply_to_key, apply_to_atom, apply_to}
 use Rattle.cp_model.proofs.LawTerms.{flag_last, atom_unchanged}
-use Rattle.cp_term.specs.Same.{same_flag, same_atom, is_same}
-use Rattle.cp_term.proofs.LocalVariables.{is_numbered, numbered_is_in}
+use Rattle.cp_model.specs.Same.{same_bool, same_atom, same_term}
 use Rattle.cp_term.proofs.SameTerms.{bytes_Decides, flag_Decides, purpose_Decides, atom_Decides, same_Decides}
 use Rattle.cp_unify.specs.Bindings.{Binding, sort_of, variable_of, put_term, as_substitution}
 use Rattle.cp_unify.specs.Beside.{Agrees, MatchesBeside, NeverMatchesBeside}
 use Rattle.cp_unify.specs.Matched.{is_listed, bound_term, is_same_sort, matched_local, matched_variable, matched_names, matched_symmetric, matched_pairs, matched_keys, matched_atoms, matched}
-use Rattle.cp_term.specs.Patterns.{is_number_of, locals_of}
-use Rattle.cp_unify.specs.Matching.{ChangesOnly, BindsOnly, IsMatch, HasNoMatch}
+use Rattle.cp_unify.specs.Matching.{is_number_of, numbered, ChangesOnly, BindsOnly, IsMatch, HasNoMatch}
 use Rattle.cp_unify.specs.Atoms.{IsAtom, atom_of}
 use Rattle.cp_term.specs.Keys.{key_as_term, IsKey}
 use Rattle.cp_term.specs.Variables.{variable_term}
@@ -94,7 +93,7 @@ outcome_choice is_local xs e r false up down = λ s c a w. down refl s c a w
 -- The term of a bound variable; and that one that is not bound is that of no binding.
 agrees_bound : (s : Substitution) (r : List Binding) (x t : AtomTerm) → Agrees s r → bound_term r (atom_term x) ≡ Some t → apply_to_atom s x ≡ t
 agrees_bound s [] x t a e = absurd (let f : ◌≡◌ {A = Option AtomTerm} None (Some t) = e in cc)
-agrees_bound s (b ∷ bs) x t a e = choose (is_same (atom_term x) (atom_term (atom_of_variable (variable_of b)))) (same_Decides (atom_term x) (atom_term (atom_of_variable (variable_of b)))).0 e (agrees_bound s bs x t a.1)
+agrees_bound s (b ∷ bs) x t a e = choose (same_term (atom_term x) (atom_term (atom_of_variable (variable_of b)))) (same_Decides (atom_term x) (atom_term (atom_of_variable (variable_of b)))).0 e (agrees_bound s bs x t a.1)
   where
     choose : (c : Bool) → (c ≡ true → atom_term x ≡ atom_term (atom_of_variable (variable_of b))) → (if c then Some b.term else bound_term bs (atom_term x)) ≡ Some t →
         (bound_term bs (atom_term x) ≡ Some t → apply_to_atom s x ≡ t) → apply_to_atom s x ≡ t
@@ -106,7 +105,7 @@ agrees_bound s (b ∷ bs) x t a e = choose (is_same (atom_term x) (atom_term (at
 unbound_apart : (r : List Binding) (c : Binding) → bound_term r (atom_term (atom_of_variable (variable_of c))) ≡ None → (s : Substitution) → Agrees s r → Agrees (put_term c.number c.term s) r
 unbound_apart [] c e s a = tt
 unbound_apart (b ∷ bs) c e s a =
-    choose (is_same v (atom_term (atom_of_variable (variable_of b)))) (same_Decides v (atom_term (atom_of_variable (variable_of b)))).1 e (λ f. unbound_apart bs c f s a.1)
+    choose (same_term v (atom_term (atom_of_variable (variable_of b)))) (same_Decides v (atom_term (atom_of_variable (variable_of b)))).1 e (λ f. unbound_apart bs c f s a.1)
   where
     v : Term
     v = atom_term (atom_of_variable (variable_of c))
@@ -235,7 +234,7 @@ pairs_matched : (is_local : ℕ → Bool) (f : Bool) (k : PairTerm) (g : Bool) (
 pairs_matched is_local f (akey_variable m) g j r = akey_matched is_local f m g j r
 pairs_matched is_local f (pubk_term p a) g (akey_variable n) r = λ s c x w. cc
 pairs_matched is_local f (pubk_term p a) g (pubk_term q b) r =
-    pubk_matched is_local f g p q a b r (same_flag f g && option_eq (pointwise nat_eq) p q) (Decides-and _ _ (flag_Decides f g) (purpose_Decides p q))
+    pubk_matched is_local f g p q a b r (same_bool f g && option_eq (pointwise nat_eq) p q) (Decides-and _ _ (flag_Decides f g) (purpose_Decides p q))
 
 keys_matched : (is_local : ℕ → Bool) (k j : KeyTerm) (r : List Binding) → Outcome is_local (variables_of_key k) (Stands (key_term k) (key_term j)) r (matched_keys is_local k j r)
 keys_matched is_local (symmetric_term k) (symmetric_term j) r = symmetric_matched is_local k j r
@@ -281,21 +280,21 @@ changes_only locals (b ∷ bs) h x apart =
     other b (as_substitution bs) x (λ e. apart (subst (λ (y : Variable). IsIn y locals) (sym e) h.0)) ∙ changes_only locals bs h.1 x apart
 
 -- Where a substitution changes only locals of the pattern, it changes only variables whose numbers are listed.
-changes_listed : (p : Term) (numbers : List ℕ) (s : Substitution) → ChangesOnly (locals_of p numbers) s → ChangesLocals (is_listed (Some numbers)) s
-changes_listed p numbers s c x e = c x (λ i. let f : is_number_of numbers x.number ≡ true = (is_numbered numbers (variables_of p) x i).1 in cc)
+changes_listed : (p : Term) (numbers : List ℕ) (s : Substitution) → ChangesOnly (numbered numbers (variables_of p)) s → ChangesLocals (is_listed (Some numbers)) s
+changes_listed p numbers s c x e = c x (λ i. let f : is_number_of numbers x.number ≡ true = (from_filter (λ (y : Variable). is_number_of numbers y.number) (variables_of p) i).1 in cc)
 
 changes_any : (s : Substitution) → ChangesLocals (is_listed None) s
 changes_any s x e = absurd (let f : true ≡ false = e in cc)
 
 answer_some : (p t : Term) (numbers : List ℕ) (answer : Option (List Binding)) → Outcome (is_listed (Some numbers)) (variables_of p) (IsMade p t) [] answer →
-    IfSome answer (λ r. IsMatch p t (locals_of p numbers) r)
+    IfSome answer (λ r. IsMatch p t (numbered numbers (variables_of p)) r)
 answer_some p t numbers None h = tt
 answer_some p t numbers (Some q) h =
-    let only : BindsOnly (locals_of p numbers) q = h.only (locals_of p numbers) (numbered_is_in numbers (variables_of p)) tt in
-    record { binds_locals = only; matches = h.sound (as_substitution q) (changes_listed p numbers (as_substitution q) (changes_only (locals_of p numbers) q only)) (h.own tt) }
+    let only : BindsOnly (numbered numbers (variables_of p)) q = h.only (numbered numbers (variables_of p)) (λ y i. into_filter (λ (z : Variable). is_number_of numbers z.number) (variables_of p) i) tt in
+    record { binds_locals = only; matches = h.sound (as_substitution q) (changes_listed p numbers (as_substitution q) (changes_only (numbered numbers (variables_of p)) q only)) (h.own tt) }
 
 answer_none : (p t : Term) (numbers : List ℕ) (answer : Option (List Binding)) → Outcome (is_listed (Some numbers)) (variables_of p) (IsMade p t) [] answer →
-    IfNone answer (HasNoMatch p t (locals_of p numbers))
+    IfNone answer (HasNoMatch p t (numbered numbers (variables_of p)))
 answer_none p t numbers None h = λ s c w. h s (changes_listed p numbers s c) tt w
 answer_none p t numbers (Some q) h = tt
 
@@ -325,11 +324,11 @@ outcome_of p t locals given answer none e =
     subst (Outcome (is_listed (Some locals)) (variables_of p) (IsMade p t) []) (sym (e ∙ ap (matched (is_listed (Some locals)) p t) none)) (terms_matched (is_listed (Some locals)) p t [])
 
 pub match_some : (p t : Term) (locals : List ℕ) (given : List Binding) (answer : Option (List Binding)) → given ≡ [] → answer ≡ matched (is_listed (Some locals)) p t given →
-    IfSome answer (λ r. IsMatch p t (locals_of p locals) r)
+    IfSome answer (λ r. IsMatch p t (numbered locals (variables_of p)) r)
 match_some p t locals given answer none e = answer_some p t locals answer (outcome_of p t locals given answer none e)
 
 pub match_none : (p t : Term) (locals : List ℕ) (given : List Binding) (answer : Option (List Binding)) → given ≡ [] → answer ≡ matched (is_listed (Some locals)) p t given →
-    IfNone answer (HasNoMatch p t (locals_of p locals))
+    IfNone answer (HasNoMatch p t (numbered locals (variables_of p)))
 match_none p t locals given answer none e = answer_none p t locals answer (outcome_of p t locals given answer none e)
 
 -- A term of sort akey, and one that is not.

@@ -1,22 +1,22 @@
 -- The variables of terms under substitutions.
 use Rattle.std.proofs.Common.{◌≡◌, ◌⊎◌, inl, inr, ℕ, Bool, true, false, if◌then◌else◌, ◌==◌, List, [], ◌∷◌, refl, sym, ap, ap₂, ◌∙◌, subst}
 use Rattle.std.proofs.lemmas.Bool.{eqb-true, eq-eqb}
-use Rattle.cp_model.specs.Lists.{IsIn, here, there}
+use Rattle.cp_lists.specs.Lists.{IsIn, here, there}
 use Rattle.cp_model.specs.Term.{Sort, text_sort, datum_sort, name_sort, skey_sort, akey_sort, Variable, SymmetricTerm, skey_variable, ltk_term, PairTerm, akey_variable, pubk_term, symmetric_term, asymmetric_term, AtomTerm, text_variable, datum_variable, name_variable, key_term, Term, tag_term, atom_term, pair_term, enc_term, atom_of_variable, variables_of_key, variables_of_atom, variables_of, flag_of, Substitution, apply_to_key, apply_to_atom, apply_to, unchanged}
 use Rattle.cp_model.proofs.LawTerms.{flag_last, atom_unchanged}
 use Rattle.cp_unify.specs.Bindings.{Binding, sort_of, variable_of, put_term, as_substitution}
 use Rattle.cp_unify.proofs.Found.{swap}
-use Rattle.cp_unify.proofs.Members.{in_cases, in_none, in_one, in_left, in_right, in_append}
+use Rattle.cp_lists.proofs.Members.{in_cases, not_in_none, only_item, in_append_left, in_append_right, in_append}
 
 -- The substitution leaves the variable.
 abbrev pub Leaves : Substitution → Variable → Type 0
 Leaves s x = apply_to_atom s (atom_of_variable x) ≡ atom_of_variable x
 
 leaves_one : (s : Substitution) (x y : Variable) → Leaves s y → IsIn x (y ∷ []) → Leaves s x
-leaves_one s x y h i = subst (Leaves s) (sym (in_one i)) h
+leaves_one s x y h i = subst (Leaves s) (sym (only_item i)) h
 
-leaves_two : (s : Substitution) (x y z : Variable) → Leaves s y → Leaves s z → (x ≡ y) ⊎ IsIn x (z ∷ []) → Leaves s x
-leaves_two s x y z h k (inl e) = subst (Leaves s) (sym e) h
+leaves_two : (s : Substitution) (x y z : Variable) → Leaves s y → Leaves s z → (y ≡ x) ⊎ IsIn x (z ∷ []) → Leaves s x
+leaves_two s x y z h k (inl e) = subst (Leaves s) e h
 leaves_two s x y z h k (inr i) = leaves_one s x z k i
 
 own_sum : (f : Bool) → flag_of f f ≡ false
@@ -48,14 +48,14 @@ leaves_either s xs ys x p q (inl i) = p i
 leaves_either s xs ys x p q (inr i) = q i
 
 pub leaves_variables_of : (s : Substitution) (t : Term) → apply_to s t ≡ t → (x : Variable) → IsIn x (variables_of t) → Leaves s x
-leaves_variables_of s (tag_term bytes) e x i = absurd (in_none i)
+leaves_variables_of s (tag_term bytes) e x i = absurd (not_in_none i)
 leaves_variables_of s (atom_term u) e x i = let e' : apply_to_atom s u ≡ u = cc in leaves_variables_of_atom s u e' x i
 leaves_variables_of s (pair_term a b) e x i =
     let e0 : apply_to s a ≡ a = cc in let e1 : apply_to s b ≡ b = cc in
-    leaves_either s (variables_of a) (variables_of b) x (leaves_variables_of s a e0 x) (leaves_variables_of s b e1 x) (in_append x (variables_of a) (variables_of b) i)
+    leaves_either s (variables_of a) (variables_of b) x (leaves_variables_of s a e0 x) (leaves_variables_of s b e1 x) (in_append (variables_of a) (variables_of b) i)
 leaves_variables_of s (enc_term a k) e x i =
     let e0 : apply_to s a ≡ a = cc in let e1 : apply_to_key s k ≡ k = cc in
-    leaves_either s (variables_of a) (variables_of_key k) x (leaves_variables_of s a e0 x) (leaves_variables_of_atom s (key_term k) (ap key_term e1) x) (in_append x (variables_of a) (variables_of_key k) i)
+    leaves_either s (variables_of a) (variables_of_key k) x (leaves_variables_of s a e0 x) (leaves_variables_of_atom s (key_term k) (ap key_term e1) x) (in_append (variables_of a) (variables_of_key k) i)
 
 -- One that leaves the variables of a term leaves it.
 leaves_key : (s : Substitution) (flag : Bool) (n : ℕ) → Leaves s (record { sort = akey_sort; number = n }) →
@@ -131,9 +131,9 @@ module _ (P : Variable → Type 0) (s : Substitution) where
   abbrev Gives : Variable → Type 0
   Gives x = (y : Variable) → IsIn y (variables_of_atom (apply_to_atom s (atom_of_variable x))) → P y
 
-  two_given : (x y z : Variable) → P y → P z → (x ≡ y) ⊎ IsIn x (z ∷ []) → P x
-  two_given x y z p q (inl e) = subst P (sym e) p
-  two_given x y z p q (inr i) = subst P (sym (in_one i)) q
+  two_given : (x y z : Variable) → P y → P z → (y ≡ x) ⊎ IsIn x (z ∷ []) → P x
+  two_given x y z p q (inl e) = subst P e p
+  two_given x y z p q (inr i) = subst P (sym (only_item i)) q
 
   either_given : (x : Variable) (xs ys : List Variable) → (IsIn x xs → P x) → (IsIn x ys → P x) → IsIn x xs ⊎ IsIn x ys → P x
   either_given x xs ys p q (inl i) = p i
@@ -150,11 +150,11 @@ module _ (P : Variable → Type 0) (s : Substitution) where
   given_atom (key_term (asymmetric_term flag (pubk_term p a))) h y i = h (record { sort = name_sort; number = a }) here y i
 
   pub given_term : (t : Term) → ((x : Variable) → IsIn x (variables_of t) → Gives x) → (y : Variable) → IsIn y (variables_of (apply_to s t)) → P y
-  given_term (tag_term bytes) h y i = absurd (in_none i)
+  given_term (tag_term bytes) h y i = absurd (not_in_none i)
   given_term (atom_term u) h y i = given_atom u h y i
   given_term (pair_term a b) h y i =
-      either_given y _ _ (given_term a (λ x j. h x (in_left x _ (variables_of b) j)) y) (given_term b (λ x j. h x (in_right x (variables_of a) _ j)) y)
-      (in_append y (variables_of (apply_to s a)) (variables_of (apply_to s b)) i)
+      either_given y _ _ (given_term a (λ x j. h x (in_append_left (variables_of b) j)) y) (given_term b (λ x j. h x (in_append_right (variables_of a) j)) y)
+      (in_append (variables_of (apply_to s a)) (variables_of (apply_to s b)) i)
   given_term (enc_term a k) h y i =
-      either_given y _ _ (given_term a (λ x j. h x (in_left x _ (variables_of_key k) j)) y) (given_atom (key_term k) (λ x j. h x (in_right x (variables_of a) _ j)) y)
-      (in_append y (variables_of (apply_to s a)) (variables_of_key (apply_to_key s k)) i)
+      either_given y _ _ (given_term a (λ x j. h x (in_append_left (variables_of_key k) j)) y) (given_atom (key_term k) (λ x j. h x (in_append_right (variables_of a) j)) y)
+      (in_append (variables_of (apply_to s a)) (variables_of_key (apply_to_key s k)) i)

@@ -31,7 +31,7 @@ after_composed g s t = λ i. record (after (after g t) s) {
 }
 
 -- A term has under a substitution the sort that it had.
-sort_kept : (s : Substitution) (u : AtomTerm) → sort_of (apply_to_atom s u) ≡ sort_of u
+pub sort_kept : (s : Substitution) (u : AtomTerm) → sort_of (apply_to_atom s u) ≡ sort_of u
 sort_kept s (text_variable n) = refl
 sort_kept s (datum_variable n) = refl
 sort_kept s (name_variable n) = refl

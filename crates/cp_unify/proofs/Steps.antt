@@ -1,6 +1,6 @@
 -- The loop that mends one difference after the other.
 use Rattle.std.proofs.Common.{◌≡◌, ◌⊎◌, inl, inr, ◌<◌, ℕ, true, false, List, [], ◌∷◌, ◌++◌, refl, sym, ap, ◌∙◌, subst, arith}
-use Rattle.cp_model.specs.Lists.{IsIn, here, there}
+use Rattle.cp_lists.specs.Lists.{IsIn, here, there}
 use Rattle.cp_model.specs.Term.{Sort, text_sort, datum_sort, name_sort, skey_sort, akey_sort, Variable, skey_variable, ltk_term, akey_variable, pubk_term, symmetric_term, asymmetric_term, AtomTerm, text_variable, datum_variable, name_variable, key_term, Term, atom_of_variable, variables_of_atom, variables_of, Assignment, value_of, Substitution, apply_to_atom, apply_to, unchanged}
 use Rattle.cp_model.proofs.LawTerms.{atom_unchanged, term_composed}
 use Rattle.cp_unify.specs.Bindings.{Binding, variable_of, Meets, put_term, as_substitution, variables_of_bindings}
@@ -11,7 +11,8 @@ use Rattle.cp_unify.proofs.Deciding.{is_variable, is_variable_tells, occurs, occ
 use Rattle.cp_unify.proofs.Found.{Narrows, IsDifference, found}
 use Rattle.cp_unify.specs.Differences.{difference_of}
 use Rattle.cp_unify.specs.declared.difference.Difference.TheVariants.{Same, Clash, Bind}
-use Rattle.cp_unify.proofs.Members.{in_cases, in_none, in_one, in_left, in_right, in_append, among_append, among_left, among_right}
+use Rattle.cp_lists.proofs.Members.{in_cases, not_in_none, only_item, in_append_left, in_append_right, in_append}
+use Rattle.cp_unify.proofs.Members.{among_append, among_left, among_right}
 use Rattle.cp_unify.proofs.Occurring.{Leaves, leaves_variables_of, leaves_atom, bound, other, leaves_other, leaves_absent, given_atom, given_term}
 use Rattle.cp_unify.proofs.SolvedBindings.{variable_kept, meets_joined, joined_meets, AlwaysMet, always_met_joined, idempotent_term}
 use Rattle.cp_unify.proofs.Substituted.{as_joined, value_met}
@@ -28,18 +29,18 @@ gives_cases b s zs x own rest (inl p) =
 gives_cases b s zs x own rest (inr p) = subst (λ (u : AtomTerm). AreAmong (variables_of_atom u) zs) (sym (other b s x p.1)) rest
 
 pub one_variable : (s : Sort) (n : ℕ) (zs : List Variable) → (let x : Variable = record { sort = s; number = n } in IsIn x zs → AreAmong (variables_of_atom (atom_of_variable x)) zs)
-one_variable text_sort n zs h y i = subst (λ (z : Variable). IsIn z zs) (sym (in_one i)) h
-one_variable datum_sort n zs h y i = subst (λ (z : Variable). IsIn z zs) (sym (in_one i)) h
-one_variable name_sort n zs h y i = subst (λ (z : Variable). IsIn z zs) (sym (in_one i)) h
-one_variable skey_sort n zs h y i = subst (λ (z : Variable). IsIn z zs) (sym (in_one i)) h
-one_variable akey_sort n zs h y i = subst (λ (z : Variable). IsIn z zs) (sym (in_one i)) h
+one_variable text_sort n zs h y i = subst (λ (z : Variable). IsIn z zs) (sym (only_item i)) h
+one_variable datum_sort n zs h y i = subst (λ (z : Variable). IsIn z zs) (sym (only_item i)) h
+one_variable name_sort n zs h y i = subst (λ (z : Variable). IsIn z zs) (sym (only_item i)) h
+one_variable skey_sort n zs h y i = subst (λ (z : Variable). IsIn z zs) (sym (only_item i)) h
+one_variable akey_sort n zs h y i = subst (λ (z : Variable). IsIn z zs) (sym (only_item i)) h
 
 as_gives : (q : List Binding) (zs : List Variable) → AreAmong (variables_of_bindings q) zs → (x : Variable) → IsIn x zs →
     AreAmong (variables_of_atom (apply_to_atom (as_substitution q) (atom_of_variable x))) zs
 as_gives [] zs h x i = rw atom_unchanged (one_variable x.sort x.number zs i)
 as_gives (b ∷ bs) zs h x i =
-    gives_cases b (as_substitution bs) zs x (λ y j. h y (there (in_left y _ (variables_of_bindings bs) j)))
-    (as_gives bs zs (λ y j. h y (there (in_right y (variables_of_atom b.term) _ j))) x i) (is_variable_tells x (variable_of b))
+    gives_cases b (as_substitution bs) zs x (λ y j. h y (there (in_append_left (variables_of_bindings bs) j)))
+    (as_gives bs zs (λ y j. h y (there (in_append_right (variables_of_atom b.term) j))) x i) (is_variable_tells x (variable_of b))
 
 pub applied_atom_among : (q : List Binding) (zs : List Variable) (u : AtomTerm) → AreAmong (variables_of_bindings q) zs → AreAmong (variables_of_atom u) zs →
     AreAmong (variables_of_atom (apply_to_atom (as_substitution q) u)) zs
@@ -50,7 +51,7 @@ pub applied_among : (q : List Binding) (zs : List Variable) (t : Term) → AreAm
 applied_among q zs t h k y i = given_term (λ z. IsIn z zs) (as_substitution q) t (λ x j. as_gives q zs h x (k x j)) y i
 
 among_cons : (x : Variable) (xs zs : List Variable) → IsIn x zs → AreAmong xs zs → AreAmong (x ∷ xs) zs
-among_cons x xs zs h k y i = elim (in_cases i) [ inl e ↦ subst (λ (z : Variable). IsIn z zs) (sym e) h | inr j ↦ k y j ]
+among_cons x xs zs h k y i = elim (in_cases i) [ inl e ↦ subst (λ (z : Variable). IsIn z zs) e h | inr j ↦ k y j ]
 
 pub joined_among : (r q : List Binding) (zs : List Variable) → AreAmong (variables_of_bindings r) zs → AreAmong (variables_of_bindings q) zs →
     AreAmong (variables_of_bindings (joined r q)) zs
@@ -58,8 +59,8 @@ joined_among [] q zs h k = k
 joined_among (b ∷ bs) q zs h k =
     among_cons (variable_of (moved q b)) _ zs (subst (λ (x : Variable). IsIn x zs) (sym (variable_kept q b)) (h (variable_of b) here))
     (among_append (variables_of_atom (moved q b).term) (variables_of_bindings (joined bs q)) zs
-    (applied_atom_among q zs b.term k (λ y j. h y (there (in_left y _ (variables_of_bindings bs) j))))
-    (joined_among bs q zs (λ y j. h y (there (in_right y (variables_of_atom b.term) _ j))) k))
+    (applied_atom_among q zs b.term k (λ y j. h y (there (in_append_left (variables_of_bindings bs) j))))
+    (joined_among bs q zs (λ y j. h y (there (in_append_right (variables_of_atom b.term) j))) k))
 
 -- Later variables stay bound to earlier ones.
 before_longer : (u : AtomTerm) (m n : ℕ) → IsBefore u m → m < n → IsBefore u n
@@ -117,7 +118,7 @@ pub record IsReducedTo (a0 b0 : Term) (r0 : List Binding) (a b : Term) (r : List
 pub reduced_at_first : (a0 b0 : Term) (r0 : List Binding) → IsSolved r0 → IsReducedTo a0 b0 r0 (apply_to (as_substitution r0) a0) (apply_to (as_substitution r0) b0) r0
 reduced_at_first a0 b0 r0 h =
     let zs : List Variable = variables_of a0 ++ (variables_of b0 ++ variables_of_bindings r0) in
-    let there_r : AreAmong (variables_of_bindings r0) zs = λ x i. in_right x (variables_of a0) _ (in_right x (variables_of b0) _ i) in
+    let there_r : AreAmong (variables_of_bindings r0) zs = λ x i. in_append_right (variables_of a0) (in_append_right (variables_of b0) i) in
     record {
       solved = h;
       sound = λ g m e. (m, sym (value_met g r0 a0 m) ∙ e ∙ value_met g r0 b0 m);
@@ -125,14 +126,14 @@ reduced_at_first a0 b0 r0 h =
       leaves_left = idempotent_term r0 h.met a0;
       leaves_right = idempotent_term r0 h.met b0;
       within = there_r;
-      left_within = applied_among r0 zs a0 there_r (λ x i. in_left x _ _ i);
-      right_within = applied_among r0 zs b0 there_r (λ x i. in_right x (variables_of a0) _ (in_left x _ _ i));
+      left_within = applied_among r0 zs a0 there_r (λ x i. in_append_left _ i);
+      right_within = applied_among r0 zs b0 there_r (λ x i. in_append_right (variables_of a0) (in_append_left _ i));
     }
 
 leaves_of_both : (r : List Binding) (a b : Term) → apply_to (as_substitution r) a ≡ a → apply_to (as_substitution r) b ≡ b → (x : Variable) →
     IsIn x (variables_of a ++ variables_of b) → Leaves (as_substitution r) x
 leaves_of_both r a b la lb x i =
-    elim (in_append x (variables_of a) (variables_of b) i) [
+    elim (in_append (variables_of a) (variables_of b) i) [
       | inl j ↦ leaves_variables_of (as_substitution r) a la x j
       | inr j ↦ leaves_variables_of (as_substitution r) b lb x j
     ]
@@ -156,7 +157,7 @@ reduced_further a0 b0 r0 a b r x h n =
     let left_alone : (y : Variable) → IsIn y (variables_of a ++ variables_of b) → Leaves (as_substitution r) y = leaves_of_both r a b h.leaves_left h.leaves_right in
     let both : AreAmong (variables_of a ++ variables_of b) zs = among_append (variables_of a) (variables_of b) zs h.left_within h.right_within in
     let of_x : AreAmong (variables_of_bindings q) zs =
-    among_cons (variable_of x) _ zs (both _ n.left) (among_append (variables_of_atom x.term) [] zs (λ y i. both y (n.right y i)) (λ y i. absurd (in_none i))) in
+    among_cons (variable_of x) _ zs (both _ n.left) (among_append (variables_of_atom x.term) [] zs (λ y i. both y (n.right y i)) (λ y i. absurd (not_in_none i))) in
     let met : AlwaysMet (joined r q) =
     always_met_joined r x h.solved.met (left_alone (variable_of x) n.left)
     (leaves_atom (as_substitution r) x.term (λ y i. left_alone y (n.right y i)))
@@ -190,11 +191,11 @@ abbrev pub unbound : List Variable → Term → Term → ℕ
 unbound zs a b = count (occurs (variables_of a ++ variables_of b)) zs
 
 one_of : (s : Sort) (n : ℕ) (y : Variable) → (let x : Variable = record { sort = s; number = n } in IsIn y (variables_of_atom (atom_of_variable x)) → y ≡ x)
-one_of text_sort n y i = in_one i
-one_of datum_sort n y i = in_one i
-one_of name_sort n y i = in_one i
-one_of skey_sort n y i = in_one i
-one_of akey_sort n y i = in_one i
+one_of text_sort n y i = only_item i
+one_of datum_sort n y i = only_item i
+one_of name_sort n y i = only_item i
+one_of skey_sort n y i = only_item i
+one_of akey_sort n y i = only_item i
 
 gone_one : (x : Binding) → (IsIn (variable_of x) (variables_of_atom x.term) → ⊥) → (z y : Variable) →
     IsIn y (variables_of_atom (apply_to_atom (as_substitution (x ∷ [])) (atom_of_variable z))) → y ≡ variable_of x → ⊥
@@ -230,9 +231,9 @@ fewer_unbound zs a b x within n =
     let xs : List Variable = variables_of a ++ variables_of b in
     let ys : List Variable = variables_of (apply_to (as_substitution q) a) ++ variables_of (apply_to (as_substitution q) b) in
     let of_x : AreAmong (variables_of_bindings q) xs =
-    among_cons (variable_of x) _ xs n.left (among_append (variables_of_atom x.term) [] xs n.right (λ y i. absurd (in_none i))) in
+    among_cons (variable_of x) _ xs n.left (among_append (variables_of_atom x.term) [] xs n.right (λ y i. absurd (not_in_none i))) in
     let still : AreAmong ys xs = among_append _ _ xs (applied_among q xs a of_x (among_left _ _)) (applied_among q xs b of_x (among_right (variables_of a) (variables_of b))) in
-    let gone : IsIn (variable_of x) ys → ⊥ = λ i. elim (in_append (variable_of x) _ _ i) [
+    let gone : IsIn (variable_of x) ys → ⊥ = λ i. elim (in_append _ _ i) [
       | inl j ↦ gone_from x a n.absent (variable_of x) j refl
       | inr j ↦ gone_from x b n.absent (variable_of x) j refl
     ] in

@@ -3,7 +3,7 @@ use Rattle.std.specs.Prelude.{ℕ, Bool, true, false, ◌==◌, ◌&&◌, nat_eq
 use Rattle.std.specs.Cmp.Lexicographic.{pointwise}
 use Rattle.std.specs.Option.{option_eq}
 use Rattle.cp_model.specs.Term.{SymmetricTerm, skey_variable, ltk_term, PairTerm, akey_variable, pubk_term, KeyTerm, symmetric_term, asymmetric_term, AtomTerm, text_variable, datum_variable, name_variable, key_term, Term, tag_term, atom_term, pair_term, enc_term, flag_of}
-use Rattle.cp_term.specs.Same.{same_flag}
+use Rattle.cp_model.specs.Same.{same_bool}
 use Rattle.cp_unify.specs.declared.difference.Difference.{Difference}
 use Rattle.cp_unify.specs.declared.difference.Difference.TheVariants.{Same, Clash, Bind}
 
@@ -42,11 +42,11 @@ difference_of_symmetric (ltk_term a b) (ltk_term c d) = first_of (between_names 
 -- Two asymmetric keys; the flags say which are inverses.
 abbrev pub difference_of_pairs : Bool → PairTerm → Bool → PairTerm → Difference
 difference_of_pairs f (akey_variable m) g (akey_variable n) =
-    if same_flag f g then between_akeys m n else between_opposites m n
+    if same_bool f g then between_akeys m n else between_opposites m n
 difference_of_pairs f (akey_variable m) g (pubk_term p a) = Bind (record { number = m; term = key_term (asymmetric_term (flag_of f g) (pubk_term p a)) })
 difference_of_pairs f (pubk_term p a) g (akey_variable n) = Bind (record { number = n; term = key_term (asymmetric_term (flag_of g f) (pubk_term p a)) })
 difference_of_pairs f (pubk_term p a) g (pubk_term q b) =
-    if same_flag f g && option_eq (pointwise nat_eq) p q then between_names a b else Clash
+    if same_bool f g && option_eq (pointwise nat_eq) p q then between_names a b else Clash
 
 -- Two keys.
 abbrev pub difference_of_keys : KeyTerm → KeyTerm → Difference

@@ -6,5 +6,6 @@ pub mod Joined
 pub mod Matched
 pub mod Matching
 pub mod Places
+pub mod Sides
 pub mod Solved
 pub mod Unifiers

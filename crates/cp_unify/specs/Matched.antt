@@ -4,9 +4,9 @@ use Rattle.std.specs.Prelude.{ℕ, Bool, true, false, List, [], ◌∷◌, Optio
 use Rattle.std.specs.Cmp.Lexicographic.{pointwise}
 use Rattle.std.specs.Option.{option_eq}
 use Rattle.cp_model.specs.Term.{SymmetricTerm, skey_variable, ltk_term, PairTerm, akey_variable, pubk_term, KeyTerm, symmetric_term, asymmetric_term, AtomTerm, text_variable, datum_variable, name_variable, key_term, Term, tag_term, atom_term, pair_term, enc_term, atom_of_variable, flag_of}
-use Rattle.cp_term.specs.Patterns.{is_number_of}
-use Rattle.cp_term.specs.Same.{same_flag, same_atom, is_same}
+use Rattle.cp_model.specs.Same.{same_bool, same_atom, same_term}
 use Rattle.cp_unify.specs.Bindings.{Binding, variable_of}
+use Rattle.cp_unify.specs.Matching.{is_number_of}
 
 -- The test whether a number is listed; where there is no list, each is.
 abbrev pub is_listed : Option (List ℕ) → ℕ → Bool
@@ -16,7 +16,7 @@ is_listed (Some ns) m = is_number_of ns m
 -- The term of the first binding of a variable, which is given as a term.
 abbrev pub bound_term : List Binding → Term → Option AtomTerm
 bound_term [] v = None
-bound_term (b ∷ bs) v = if is_same v (atom_term (atom_of_variable (variable_of b))) then Some b.term else bound_term bs v
+bound_term (b ∷ bs) v = if same_term v (atom_term (atom_of_variable (variable_of b))) then Some b.term else bound_term bs v
 
 -- Two keys have the same sort.
 abbrev pub is_same_key_sort : KeyTerm → KeyTerm → Bool
@@ -60,7 +60,7 @@ matched_pairs is_local f (akey_variable m) g j r =
     matched_variable is_local m (key_term (asymmetric_term false (akey_variable m))) (key_term (asymmetric_term (flag_of f g) j)) r
 matched_pairs is_local f (pubk_term p a) g (akey_variable n) r = None
 matched_pairs is_local f (pubk_term p a) g (pubk_term q b) r =
-    if same_flag f g && option_eq (pointwise nat_eq) p q then matched_names is_local a b r else None
+    if same_bool f g && option_eq (pointwise nat_eq) p q then matched_names is_local a b r else None
 
 -- A key and a key.
 abbrev pub matched_keys : (ℕ → Bool) → KeyTerm → KeyTerm → List Binding → Option (List Binding)

@@ -1,8 +1,17 @@
 -- Matching of patterns with terms: values of local variables.
-use Rattle.std.specs.Prelude.{◌≡◌, List, [], ◌∷◌}
-use Rattle.cp_model.specs.Lists.{IsIn}
+use Rattle.std.specs.Prelude.{◌≡◌, ℕ, Bool, ◌==◌, List, [], ◌∷◌, filter}
+use Rattle.std.specs.List.{list_any}
+use Rattle.cp_lists.specs.Lists.{IsIn}
 use Rattle.cp_model.specs.Term.{Variable, Term, atom_of_variable, Substitution, apply_to_atom, apply_to}
 use Rattle.cp_unify.specs.Bindings.{Binding, variable_of, as_substitution}
+
+-- The number is listed.
+abbrev pub is_number_of : List ℕ → ℕ → Bool
+is_number_of numbers m = list_any (λ n. n == m) numbers
+
+-- Those of the variables that have a number listed.
+abbrev pub numbered : List ℕ → List Variable → List Variable
+numbered numbers = filter (λ x. is_number_of numbers x.number)
 
 -- The substitution changes only these variables.
 abbrev pub ChangesOnly : List Variable → Substitution → Type 0

@@ -1,6 +1,6 @@
 -- Most general unifiers.
 use Rattle.std.specs.Prelude.{◌≡◌, ◌<◌, ℕ, List, [], ◌∷◌, ◌++◌}
-use Rattle.cp_model.specs.Lists.{IsIn}
+use Rattle.cp_lists.specs.Lists.{IsIn}
 use Rattle.cp_model.specs.Term.{Variable, SymmetricTerm, skey_variable, ltk_term, PairTerm, akey_variable, pubk_term, KeyTerm, symmetric_term, asymmetric_term, AtomTerm, text_variable, datum_variable, name_variable, key_term, Term, atom_of_variable, variables_of, Assignment, value_of, Substitution, apply_to_atom, apply_to}
 use Rattle.cp_unify.specs.Bindings.{Binding, variable_of, Meets, as_substitution, variables_of_bindings}
 

@@ -10,6 +10,7 @@ ghost use Rattle.cp_unify.specs.Differences.{akey_atom, between, between_names, 
 ghost use Rattle.cp_term.specs.Spines.{HasTail};
 
 use crate::binding::Binding;
+use crate::sides::{Sides, beside};
 use cp_term::{Shape, Sort, Term, VarId, invert, var};
 use std::alloc::{AllocError, Global};
 
@@ -40,26 +41,15 @@ fn bind_later(x: VarId, a: &Term, y: VarId, b: &Term) -> Result<Difference, Allo
     }
 }
 
-fn name_difference(alloc: Global, x: VarId, y: VarId) -> Result<Difference, AllocError>
-    ensures { IfOk result (λ d. d ≡ between_names x y) }
+/// Of two variables of this sort that stand for the same.
+fn alike_difference(alloc: Global, sort: Sort, x: VarId, y: VarId) -> Result<Difference, AllocError>
+    ensures { IfOk result (λ d. d ≡ between x (atom_of (variable_term sort x)) y (atom_of (variable_term sort y))) }
 {
     if x == y {
         return Ok(Difference::Same);
     }
-    let a = var(alloc, x, Sort::Name)?;
-    let b = var(alloc, y, Sort::Name)?;
-    bind_later(x, &a, y, &b)
-}
-
-/// Of two variables of sort akey that stand for the same key.
-fn akey_difference(alloc: Global, x: VarId, y: VarId) -> Result<Difference, AllocError>
-    ensures { IfOk result (λ d. d ≡ between_akeys x y) }
-{
-    if x == y {
-        return Ok(Difference::Same);
-    }
-    let a = var(alloc, x, Sort::Akey)?;
-    let b = var(alloc, y, Sort::Akey)?;
+    let a = var(alloc, x, sort)?;
+    let b = var(alloc, y, sort)?;
     bind_later(x, &a, y, &b)
 }
 
@@ -93,8 +83,8 @@ fn two_names_difference(
 ) -> Result<Difference, AllocError>
     ensures { IfOk result (λ e. e ≡ difference_of_symmetric (ltk_term a b) (ltk_term c d)) }
 {
-    match name_difference(alloc, a, c)? {
-        Difference::Same => name_difference(alloc, b, d),
+    match alike_difference(alloc, Sort::Name, a, c)? {
+        Difference::Same => alike_difference(alloc, Sort::Name, b, d),
         other => Ok(other),
     }
 }
@@ -200,7 +190,7 @@ fn inverse_difference(alloc: Global, x: VarId, b: &Term) -> Result<Difference, A
                 Ok(Difference::Clash)
             }
         }
-        Shape::Inverse(y) => akey_difference(alloc, x, y),
+        Shape::Inverse(y) => alike_difference(alloc, Sort::Akey, x, y),
         Shape::Pubk(..) => bind_inverse(alloc, x, b),
         _ => Ok(Difference::Clash),
     }
@@ -253,7 +243,7 @@ fn pubk_difference(
         Shape::Inverse(y) => bind_inverse(alloc, y, a),
         Shape::Pubk(other, other_purpose, y) => {
             if flag == other && is_same_purpose(purpose, other_purpose) {
-                name_difference(alloc, x, y)
+                alike_difference(alloc, Sort::Name, x, y)
             } else {
                 Ok(Difference::Clash)
             }
@@ -284,30 +274,17 @@ pub(crate) fn first_difference(alloc: Global, a: &Term, b: &Term) -> Result<Diff
     let mut left = a;
     let mut right = b;
     loop {
-        match left.shape() {
-            Shape::Pair(first, second) => match right.shape() {
-                Shape::Pair(other_first, other_second) => {
-                    match first_difference(alloc, first, other_first)? {
-                        Difference::Same => {}
-                        found => return Ok(found),
-                    }
-                    left = second;
-                    right = other_second;
+        match beside(left, right) {
+            Sides::Parts(first, other_first, rest, other_rest) => {
+                match first_difference(alloc, first, other_first)? {
+                    Difference::Same => {}
+                    found => return Ok(found),
                 }
-                _ => return Ok(Difference::Clash),
-            },
-            Shape::Encryption(body, key) => match right.shape() {
-                Shape::Encryption(other_body, other_key) => {
-                    match leaf_difference(alloc, key, other_key)? {
-                        Difference::Same => {}
-                        found => return Ok(found),
-                    }
-                    left = body;
-                    right = other_body;
-                }
-                _ => return Ok(Difference::Clash),
-            },
-            _ => return leaf_difference(alloc, left, right),
+                left = rest;
+                right = other_rest;
+            }
+            Sides::Leaf => return leaf_difference(alloc, left, right),
+            Sides::Apart => return Ok(Difference::Clash),
         }
     }
 }

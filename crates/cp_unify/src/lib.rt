@@ -7,6 +7,7 @@ mod composing;
 mod difference;
 mod matcher;
 mod places;
+mod sides;
 mod subst;
 mod unifying;
 

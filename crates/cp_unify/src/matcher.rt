@@ -1,20 +1,20 @@
 // Matching: values of local variables that make a pattern a term.
 ghost use Rattle.std.specs.Prelude.{◌≡◌, ◌↔◌, ◌==◌, ℕ, [], true, IsTrue, IfSome, IfNone, IfOk};
 ghost use Rattle.std.specs.Option.{option_map};
-ghost use Rattle.cp_model.specs.Term.{AtomTerm, atom_term, ltk_term, pubk_term, symmetric_term, asymmetric_term, tag_term};
+ghost use Rattle.cp_model.specs.Term.{AtomTerm, atom_term, ltk_term, pubk_term, symmetric_term, asymmetric_term, tag_term, variables_of};
 ghost use Rattle.cp_term.specs.Keys.{key_as_term};
-ghost use Rattle.cp_term.specs.Patterns.{locals_of};
-ghost use Rattle.cp_term.specs.Same.{same_atom};
+ghost use Rattle.cp_model.specs.Same.{same_atom};
 ghost use Rattle.cp_term.specs.Variables.{variable_term};
 ghost use Rattle.cp_unify.specs.Atoms.{IsAtom, atom_of};
 ghost use Rattle.cp_unify.specs.Differences.{akey_atom};
 ghost use Rattle.cp_unify.specs.Beside.{MatchesBeside, NeverMatchesBeside};
 ghost use Rattle.cp_unify.specs.Matched.{is_listed, bound_term, is_same_sort, matched, matched_names};
-ghost use Rattle.cp_unify.specs.Matching.{IsMatch, HasNoMatch};
+ghost use Rattle.cp_unify.specs.Matching.{numbered, IsMatch, HasNoMatch};
 ghost use Rattle.cp_term.specs.Spines.{HasTail};
 
 use crate::binding::Binding;
 use crate::difference::is_same_purpose;
+use crate::sides::{Sides, beside};
 use crate::subst::Subst;
 use cp_term::{Shape, Sort, Term, VarId, invert, var};
 use std::alloc::{AllocError, Global};
@@ -222,30 +222,17 @@ fn match_beside(
     let mut right = term;
     let mut found = given;
     loop {
-        match left.shape() {
-            Shape::Pair(first, second) => match right.shape() {
-                Shape::Pair(other_first, other_second) => {
-                    match match_beside(alloc, first, other_first, locals, found)? {
-                        Some(next) => found = next,
-                        None => return Ok(None),
-                    }
-                    left = second;
-                    right = other_second;
+        match beside(left, right) {
+            Sides::Parts(first, other_first, rest, other_rest) => {
+                match match_beside(alloc, first, other_first, locals, found)? {
+                    Some(next) => found = next,
+                    None => return Ok(None),
                 }
-                _ => return Ok(None),
-            },
-            Shape::Encryption(body, key) => match right.shape() {
-                Shape::Encryption(other_body, other_key) => {
-                    match leaf_match(alloc, key, other_key, locals, found)? {
-                        Some(next) => found = next,
-                        None => return Ok(None),
-                    }
-                    left = body;
-                    right = other_body;
-                }
-                _ => return Ok(None),
-            },
-            _ => return leaf_match(alloc, left, right, locals, found),
+                left = rest;
+                right = other_rest;
+            }
+            Sides::Leaf => return leaf_match(alloc, left, right, locals, found),
+            Sides::Apart => return Ok(None),
         }
     }
 }
@@ -258,8 +245,8 @@ pub fn matching(
     term: &Term,
     locals: &[VarId],
 ) -> Result<Option<Subst>, AllocError>
-    ensures some { IfOk result (λ answer. IfSome answer (λ r. IsMatch pattern.now term.now (locals_of pattern.now locals.now) r)) }
-    ensures none { IfOk result (λ answer. IfNone answer (HasNoMatch pattern.now term.now (locals_of pattern.now locals.now))) }
+    ensures some { IfOk result (λ answer. IfSome answer (λ r. IsMatch pattern.now term.now (numbered locals.now (variables_of pattern.now)) r)) }
+    ensures none { IfOk result (λ answer. IfNone answer (HasNoMatch pattern.now term.now (numbered locals.now (variables_of pattern.now)))) }
 {
     match_beside(alloc, pattern, term, Some(locals), Subst::new(alloc))
 }

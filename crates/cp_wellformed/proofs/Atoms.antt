@@ -1,51 +1,23 @@
 -- The lists of assumptions of a problem: their values are declared, and hold all that the strands' roles give.
 use Rattle.std.proofs.Common.{◌≡◌, ℕ, zero, suc, List, [], ◌∷◌, ◌++◌, Bool, true, false, Some, refl, sym, ap, subst, if◌then◌else◌, ⊎_elim}
-use Rattle.std.proofs.lemmas.Bool.{and_parts, and_from, or_cases}
-use Rattle.cp_model.specs.Lists.{item_at, IsIn, here, there}
+use Rattle.std.proofs.lemmas.Bool.{and_parts, and_from}
+use Rattle.cp_lists.specs.Lists.{item_at, IsIn, here, there}
 use Rattle.cp_model.specs.Term.{Variable, AtomTerm, variables_of_atom, Substitution, apply_to_atom}
 use Rattle.cp_model.specs.Strand.{Declaration, Role, Applies, variables_of_prefix}
 use Rattle.cp_model.specs.Skeleton.{SkeletonStrand, instance, listener}
-use Rattle.cp_model.proofs.LawLists.{in_append, in_append_left, in_append_right}
-use Rattle.cp_model.specs.Same.{same_atom, has_variable, has_variables}
-use Rattle.cp_model.specs.Given.{has_atom, atoms_onto, applying, given_non, given_penetrator_non}
-use Rattle.cp_model.proofs.SameTests.{atom_is, variable_in, in_has_variable}
-use Rattle.cp_wellformed.proofs.Terms.{AreDeclared}
+use Rattle.cp_lists.proofs.Members.{in_append, in_append_left, in_append_right}
+use Rattle.cp_model.specs.Same.{has_variable, has_variables}
+use Rattle.cp_model.specs.Given.{atoms_onto, applying, given_non, given_penetrator_non}
+use Rattle.cp_model.proofs.Gathered.{onto-only, atoms}
+use Rattle.cp_model.proofs.SameTests.{variable_in, in_has_variable}
 use Rattle.cp_wellformed.proofs.Values.{AtomsDeclared, and_these}
 use Rattle.cp_wellformed.proofs.Instances.{TakesToDeclared, atom_taken}
 use Rattle.cp_wellformed.proofs.Strands.{AreSoundStrands}
 
 -- ---- each value once
 
-atom_there : (vs : List AtomTerm) (v : AtomTerm) → has_atom vs v ≡ true → IsIn v vs
-atom_there [] v e = absurd (cc)
-atom_there (w ∷ ws) v e =
-    ⊎_elim (λ p. subst (λ x. IsIn x (w ∷ ws)) (atom_is w v p) here) (λ p. there (atom_there ws v p)) (or_cases (same_atom w v) (has_atom ws v) e)
-
-kept_atom : (b : Bool) (before : List AtomTerm) (v w : AtomTerm) → IsIn w before → IsIn w (if b then before else before ++ v ∷ [])
-kept_atom true before v w p = p
-kept_atom false before v w p = in_append_left (v ∷ []) p
-
-this_atom : (b : Bool) (before : List AtomTerm) (v : AtomTerm) → has_atom before v ≡ b → IsIn v (if b then before else before ++ v ∷ [])
-this_atom true before v e = atom_there before v e
-this_atom false before v e = in_append_right before here
-
-pub atoms_kept : (before vs : List AtomTerm) (w : AtomTerm) → IsIn w before → IsIn w (atoms_onto before vs)
-atoms_kept before [] w p = p
-atoms_kept before (v ∷ vs) w p = atoms_kept (if has_atom before v then before else before ++ v ∷ []) vs w (kept_atom (has_atom before v) before v w p)
-
-pub atoms_added : (before vs : List AtomTerm) (w : AtomTerm) → IsIn w vs → IsIn w (atoms_onto before vs)
-atoms_added before [] w p = elim p [ ]
-atoms_added before (v ∷ vs) w here = atoms_kept (if has_atom before v then before else before ++ v ∷ []) vs v (this_atom (has_atom before v) before v refl)
-atoms_added before (v ∷ vs) w (there p) = atoms_added (if has_atom before v then before else before ++ v ∷ []) vs w p
-
-one_more_declared : (ds : List Declaration) (b : Bool) (before : List AtomTerm) (v : AtomTerm) → AtomsDeclared ds before → AreDeclared ds (variables_of_atom v) → AtomsDeclared ds (if b then before else before ++ v ∷ [])
-one_more_declared ds true before v h d = h
-one_more_declared ds false before v h d = λ w p. ⊎_elim (h w) (and_these ds v [] d (λ u q. elim q [ ]) w) (in_append before (v ∷ []) p)
-
 pub onto_declared : (ds : List Declaration) (before vs : List AtomTerm) → AtomsDeclared ds before → AtomsDeclared ds vs → AtomsDeclared ds (atoms_onto before vs)
-onto_declared ds before [] h k = h
-onto_declared ds before (v ∷ vs) h k =
-    onto_declared ds (if has_atom before v then before else before ++ v ∷ []) vs (one_more_declared ds (has_atom before v) before v h (k v here)) (λ w p. k w (there p))
+onto_declared ds before vs h k = λ w p. ⊎_elim (h w) (k w) (onto-only atoms before vs w p)
 
 -- ---- the values that roles give
 

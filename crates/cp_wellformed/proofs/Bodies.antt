@@ -7,7 +7,8 @@ use Rattle.cp_base.specs.declared.place.Code.TheVariants.{BadNode, CyclicOrder}
 use Rattle.cp_base.specs.declared.place.Refusal.{Refusal}
 use Rattle.cp_model.specs.Term.{Term}
 use Rattle.cp_model.specs.Strand.{Event, send, recv, Declaration, Role}
-use Rattle.cp_model.specs.Skeleton.{SkeletonStrand, term_event_at, OrderPair}
+use Rattle.cp_model.specs.Skeleton.{SkeletonStrand, term_event_at}
+use Rattle.cp_model.specs.declared.node.OrderPair.{OrderPair}
 use Rattle.cp_sexpr.specs.Syntax.{Form, symbol, string, number, list, Forms}
 use Rattle.cp_language.specs.Words.{ItemHead, role_item, non_item, penetrator_non_item, unique_item, strand_item, listener_item, precedes_item, comment_item, item_out_of_profile, no_item, item_head}
 use Rattle.cp_language.specs.Faults.{fault, fault_unless, place_of, items_of}

@@ -1,6 +1,6 @@
 -- The example is well formed, and states a problem.
 use Rattle.std.proofs.Common.{◌≡◌, [], Some, refl}
-use Rattle.cp_model.specs.Lists.{IsIn, here, there}
+use Rattle.cp_lists.specs.Lists.{IsIn, here, there}
 use Rattle.cp_language.specs.Problems.{Problem}
 use Rattle.cp_language.specs.Input.{Entry, faults_of, input_of}
 use Rattle.cp_wellformed.specs.Example.{example_input}

@@ -4,12 +4,12 @@ use Rattle.std.proofs.Common.{◌≡◌, ℕ, zero, suc, ◌+◌, List, [], ◌�
 use Rattle.std.proofs.lemmas.List.{length-append}
 use Rattle.cp_base.specs.declared.place.Place.{Place}
 use Rattle.cp_base.specs.declared.place.Code.TheVariants.{BadShape, DuplicateVar, NotInPrefix, IllSorted}
-use Rattle.cp_model.specs.Lists.{item_at, IsIn, here, there}
+use Rattle.cp_lists.specs.Lists.{item_at, IsIn, here, there}
 use Rattle.cp_model.specs.Term.{Sort, text_sort, datum_sort, name_sort, skey_sort, akey_sort, Variable, atom_of_variable, SymmetricTerm, skey_variable, ltk_term, PairTerm, akey_variable, pubk_term, KeyTerm, symmetric_term, asymmetric_term, AtomTerm, text_variable, datum_variable, name_variable, key_term, Term, tag_term, atom_term, pair_term, enc_term, variables_of_symmetric, variables_of_pair, variables_of_key, variables_of_atom, variables_of, Substitution, apply_to_symmetric, apply_to_half, apply_to_key, apply_to_atom, apply_to}
 use Rattle.cp_model.specs.Strand.{Event, send, recv, payload, event_map, Declaration, Role, variables_of_trace, variables_of_prefix}
 use Rattle.cp_model.specs.Homomorphism.{text_in, datum_in, name_in, skey_in, akey_in, substitution_by}
 use Rattle.cp_model.specs.Problem.{declared_sort, IsDeclared}
-use Rattle.cp_model.proofs.LawLists.{in_append_left, in_append_right}
+use Rattle.cp_lists.proofs.Members.{in_append_left, in_append_right}
 use Rattle.cp_sexpr.specs.Syntax.{Form, symbol, string, number, list, none, more}
 use Rattle.cp_language.specs.Words.{is_one_of}
 use Rattle.cp_model.specs.Same.{has_variable}

@@ -2,11 +2,12 @@
 use Rattle.std.proofs.Common.{◌≡◌, ◌<◌, ◌≤◌, List, [], ◌∷◌, ◌++◌, length, refl, sym, ◌∙◌, subst, arith, ◌⊎◌, inl, inr, append_assoc}
 use Rattle.std.proofs.lemmas.Bool.{both_ways}
 use Rattle.std.proofs.lemmas.List.{append-nil}
-use Rattle.cp_model.specs.Lists.{IsIn, here, there, one_step, more_steps}
-use Rattle.cp_model.specs.Bundle.{Node}
-use Rattle.cp_model.specs.Skeleton.{SkeletonStrand, OrderPair, Skeleton, OrderStep, along_strand_of, along_pair, Before, IsOrderPair}
+use Rattle.cp_lists.specs.Lists.{IsIn, here, there, one_step, more_steps}
+use Rattle.cp_model.specs.declared.node.Node.{Node}
+use Rattle.cp_model.specs.Skeleton.{SkeletonStrand, Skeleton, OrderStep, along_strand_of, along_pair, Before, IsOrderPair}
+use Rattle.cp_model.specs.declared.node.OrderPair.{OrderPair}
 use Rattle.cp_model.specs.Order.{IsAtOrAfter, LeadsTo, on_strand, over_pair}
-use Rattle.cp_model.proofs.LawLists.{in_append}
+use Rattle.cp_lists.proofs.Members.{in_append}
 use Rattle.cp_language.specs.Problems.{reaches}
 use Rattle.cp_language.proofs.Reaching.{reaches_all}
 use Rattle.cp_wellformed.proofs.Bodies.{AreBuilt}

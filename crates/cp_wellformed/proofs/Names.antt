@@ -4,7 +4,7 @@ use Rattle.std.proofs.lemmas.Bool.{or_parts, or_from, cond-true, cond-false, fal
 use Rattle.cp_base.specs.declared.place.Place.{Place}
 use Rattle.cp_base.specs.declared.place.Code.TheVariants.{OutOfProfile, BadShape, MesgVar, DuplicateVar}
 use Rattle.cp_base.specs.declared.place.Refusal.{Refusal}
-use Rattle.cp_model.specs.Lists.{item_at}
+use Rattle.cp_lists.specs.Lists.{item_at}
 use Rattle.cp_model.specs.Term.{Sort}
 use Rattle.cp_model.specs.Strand.{Declaration}
 use Rattle.cp_sexpr.specs.Syntax.{Form, symbol, string, number, list}

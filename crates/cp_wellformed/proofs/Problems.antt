@@ -1,8 +1,8 @@
 -- The problems of well-formed input are skeletons over their protocols that map to themselves.
-use Rattle.std.proofs.Common.{◌≡◌, ℕ, zero, suc, ◌+◌, List, [], ◌∷◌, ◌++◌, length, false, Option, Some, None, refl, sym, subst, arith}
+use Rattle.std.proofs.Common.{◌≡◌, ℕ, ◌+◌, List, [], ◌∷◌, ◌++◌, length, false, Option, Some, None, refl, sym, subst, arith}
 use Rattle.cp_base.specs.declared.place.Place.{Place}
 use Rattle.cp_base.specs.declared.place.Code.TheVariants.{BadShape}
-use Rattle.cp_model.specs.Lists.{item_at, IsIn, here, there}
+use Rattle.cp_lists.specs.Lists.{item_at, IsIn, here, there}
 use Rattle.cp_model.specs.Term.{AtomTerm, variables_of, Substitution, apply_to_atom}
 use Rattle.cp_model.specs.Strand.{Declaration, Role, Protocol, prefix_of, variables_of_trace}
 use Rattle.cp_model.specs.Bundle.{node_at}
@@ -24,14 +24,11 @@ use Rattle.cp_wellformed.proofs.Instances.{trace_taken, more_declared, Extends}
 use Rattle.cp_wellformed.proofs.Strands.{IsSoundStrand, AreSoundStrands, protocol_listed, strands_sound}
 use Rattle.cp_wellformed.proofs.Bodies.{SaysBody, says_body}
 use Rattle.cp_wellformed.proofs.Values.{AtomsDeclared, atoms_declared, stated_declared}
-use Rattle.cp_wellformed.proofs.Atoms.{atoms_kept, atoms_added, onto_declared, given_declared, given_there, non_given, penetrator_non_given}
+use Rattle.cp_lists.proofs.Items.{at_place}
+use Rattle.cp_model.proofs.Gathered.{onto-keeps, onto-takes, atoms, uniques as gathered_uniques}
+use Rattle.cp_wellformed.proofs.Atoms.{onto_declared, given_declared, given_there, non_given, penetrator_non_given}
 use Rattle.cp_wellformed.proofs.Uniques as uniques
 use Rattle.cp_wellformed.proofs.Leading.{no_cycle, are_pairs}
-
-item_in : {A : Type 0} (xs : List A) (i : ℕ) (x : A) → item_at xs i ≡ Some x → IsIn x xs
-item_in [] i x e = absurd (cc)
-item_in (y ∷ ys) zero x e = let p : y ≡ x = cc in subst (λ z. IsIn z (y ∷ ys)) p here
-item_in (y ∷ ys) (suc i) x e = there (item_in ys i x e)
 
 -- ---- the variables of strands
 
@@ -71,19 +68,19 @@ module _ (protocol : Protocol) (ds : List Declaration) (body : List Form) (stran
 
   gives : (s : ℕ) (role : Role) (height : ℕ) (terms : Substitution) → item_at strands s ≡ Some (instance role height terms) → GivesAssumptions k s role height terms
   gives s role height terms at = record {
-    non = λ v p a. atoms_added own.non_originating (given_non strands) (apply_to_atom terms v)
+    non = λ v p a. onto-takes atoms own.non_originating (given_non strands) (apply_to_atom terms v)
         (subst (λ (vs : List AtomTerm). IsIn (apply_to_atom terms v) vs) (sym (non_given strands)) (given_there (λ r. r.non_originating) strands s role height terms at v p a));
-    penetrator_non = λ v p a. atoms_added own.penetrator_non_originating (given_penetrator_non strands) (apply_to_atom terms v)
+    penetrator_non = λ v p a. onto-takes atoms own.penetrator_non_originating (given_penetrator_non strands) (apply_to_atom terms v)
         (subst (λ (vs : List AtomTerm). IsIn (apply_to_atom terms v) vs) (sym (penetrator_non_given strands)) (given_there (λ r. r.penetrator_non_originating) strands s role height terms at v p a));
-    unique = λ v i p a. uniques.uniques_added own.uniquely_originating (given_uniques 0 strands) (record { value = apply_to_atom terms v; origin = node_at s i })
+    unique = λ v i p a. onto-takes gathered_uniques own.uniquely_originating (given_uniques 0 strands) (record { value = apply_to_atom terms v; origin = node_at s i })
         (let q : 0 + s ≡ s = omega arith in
         subst (λ (n : ℕ). IsIn (record { value = apply_to_atom terms v; origin = node_at n i }) (given_uniques 0 strands)) q (uniques.given_there 0 strands s role height terms at v i p a));
   }
 
   is_skeleton : IsSkeleton protocol k
   is_skeleton = record {
-    of_role = λ s role height terms at. (sound (instance role height terms) (item_in strands s (instance role height terms) at)).0;
-    heights = λ s role height terms at. (sound (instance role height terms) (item_in strands s (instance role height terms) at)).1;
+    of_role = λ s role height terms at. (sound (instance role height terms) (at_place strands s (instance role height terms) at)).0;
+    heights = λ s role height terms at. (sound (instance role height terms) (at_place strands s (instance role height terms) at)).1;
     order_pairs = are_pairs k says.order;
     no_cycle = no_cycle k says.order;
     origins = have_origins;
@@ -107,13 +104,13 @@ module _ (protocol : Protocol) (ds : List Declaration) (body : List Form) (stran
       both_declared full (variables_of_strands strands) (variables_of_assumptions all) (strands_declared protocol.roles full strands sound)
       (both_declared full (variables_of_atoms all.non_originating ++ variables_of_atoms all.penetrator_non_originating) (variables_of_uniques all.uniquely_originating)
       (both_declared full (variables_of_atoms all.non_originating) (variables_of_atoms all.penetrator_non_originating) (atoms_declared full all.non_originating non_declared) (atoms_declared full all.penetrator_non_originating penetrator_non_declared))
-      (uniques.uniques_declared k full (λ n s at. strand_declared protocol.roles full s (sound s (item_in strands n s at))) all.uniquely_originating have_origins))
+      (uniques.uniques_declared k full (λ n s at. strand_declared protocol.roles full s (sound s (at_place strands n s at))) all.uniquely_originating have_origins))
 
   own_assumed : HasOwnAssumptions k
   own_assumed = record {
-    non = λ v i. atoms_kept own.non_originating (given_non strands) v i;
-    penetrator_non = λ v i. atoms_kept own.penetrator_non_originating (given_penetrator_non strands) v i;
-    unique = λ u i. uniques.uniques_kept own.uniquely_originating (given_uniques 0 strands) u i;
+    non = λ v i. onto-keeps atoms own.non_originating (given_non strands) v i;
+    penetrator_non = λ v i. onto-keeps atoms own.penetrator_non_originating (given_penetrator_non strands) v i;
+    unique = λ u i. onto-keeps gathered_uniques own.uniquely_originating (given_uniques 0 strands) u i;
   }
 
   is_own : IsPointOfView full k

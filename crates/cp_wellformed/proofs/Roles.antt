@@ -3,10 +3,10 @@
 use Rattle.std.proofs.Common.{◌≡◌, ℕ, zero, suc, List, [], ◌∷◌, ◌++◌, take, Bool, true, false, Option, Some, None, refl, sym, subst, if◌then◌else◌, codes, ⊎_elim}
 use Rattle.cp_base.specs.declared.place.Place.{Place}
 use Rattle.cp_base.specs.declared.place.Code.TheVariants.{BadShape, DuplicateProtocol, DuplicateRole}
-use Rattle.cp_model.specs.Lists.{IsIn, here, there}
+use Rattle.cp_lists.specs.Lists.{IsIn, here, there}
 use Rattle.cp_model.specs.Term.{Variable, Term, variables_of}
 use Rattle.cp_model.specs.Strand.{Event, send, recv, payload, Declaration, Role, variables_of_trace, variables_of_prefix}
-use Rattle.cp_model.proofs.LawLists.{in_append, in_append_left, in_append_right}
+use Rattle.cp_lists.proofs.Members.{in_append, in_append_left, in_append_right}
 use Rattle.cp_sexpr.specs.Syntax.{Form}
 use Rattle.cp_language.specs.Words.{EventHead, sending, receiving, event_out_of_profile, no_event, event_head, ItemHead, role_item, non_item, penetrator_non_item, unique_item, strand_item, listener_item, precedes_item, comment_item, item_out_of_profile, no_item, item_head}
 use Rattle.cp_language.specs.Faults.{fault, place_of}

@@ -1,17 +1,19 @@
 -- The unique values of a problem: each has its recorded origin, and all that the strands' roles give are among them.
-use Rattle.std.proofs.Common.{◌≡◌, ℕ, zero, suc, ◌+◌, ◌<◌, List, [], ◌∷◌, ◌++◌, Bool, true, false, ◌&&◌, nat_lt, Option, Some, None, refl, sym, ap, ap₂, ◌∙◌, subst, arith, if◌then◌else◌, ⊎_elim, ltb-true}
-use Rattle.std.proofs.lemmas.Bool.{and_parts, or_cases, lt-ltb, cond-true}
-use Rattle.cp_model.specs.Lists.{item_at, IsIn, here, there}
+use Rattle.std.proofs.Common.{◌≡◌, ℕ, zero, suc, ◌+◌, ◌<◌, List, [], ◌∷◌, ◌++◌, Bool, true, false, nat_lt, Option, Some, None, refl, sym, ap, ◌∙◌, subst, arith, if◌then◌else◌, ⊎_elim, ltb-true}
+use Rattle.std.proofs.lemmas.Bool.{lt-ltb, cond-true}
+use Rattle.cp_lists.specs.Lists.{item_at, IsIn, here, there}
 use Rattle.cp_model.specs.Term.{AtomTerm, Term, atom_term, pair_term, enc_term, IsCarriedByTerm, itself_term, in_left_term, in_right_term, in_plaintext_term, variables_of, variables_of_atom, variables_of_key, Substitution, apply_to_atom, apply_to}
 use Rattle.cp_model.specs.Strand.{Event, send, payload, event_map, OriginatesInTerms, Declaration, Role, prefix_of, variables_of_trace, AppliesAt}
-use Rattle.cp_model.specs.Bundle.{Node, node_at}
+use Rattle.cp_model.specs.Bundle.{node_at}
 use Rattle.cp_model.specs.Skeleton.{SkeletonStrand, instance, listener, skeleton_trace, skeleton_trace_or_none, UniqueAt, Skeleton, IsOrigin}
 use Rattle.cp_model.specs.Problem.{variables_of_uniques}
-use Rattle.cp_model.proofs.LawLists.{in_append, in_append_left, in_append_right, take_of_item, map_of_item}
-use Rattle.cp_model.specs.Same.{same_atom, same_node, origin_in}
-use Rattle.cp_model.specs.Given.{has_unique, uniques_onto, unique_if_below, applying_uniques, given_uniques}
+use Rattle.cp_lists.proofs.Members.{in_append, in_append_left, in_append_right}
+use Rattle.cp_lists.proofs.Items.{take_of_item, map_of_item}
+use Rattle.cp_model.specs.Same.{origin_in}
+use Rattle.cp_model.specs.Given.{uniques_onto, unique_if_below, applying_uniques, given_uniques}
 use Rattle.cp_language.specs.Problems.{origins_on, origins_from, own_uniques}
-use Rattle.cp_model.proofs.SameTests.{atom_is, node_is, origin_found, finds_origin}
+use Rattle.cp_model.proofs.Gathered.{onto-only, uniques}
+use Rattle.cp_model.proofs.SameTests.{origin_found, finds_origin}
 use Rattle.cp_wellformed.proofs.Terms.{AreDeclared, none_declared, both_declared}
 
 -- ---- what a term carries, under a substitution
@@ -21,35 +23,6 @@ carried_applied s itself_term = itself_term
 carried_applied s (in_left_term p) = in_left_term (carried_applied s p)
 carried_applied s (in_right_term p) = in_right_term (carried_applied s p)
 carried_applied s (in_plaintext_term p) = in_plaintext_term (carried_applied s p)
-
--- ---- each once
-
-unique_is : (w u : UniqueAt) → (same_atom w.value u.value && same_node w.origin u.origin) ≡ true → w ≡ u
-unique_is w u e =
-    let p = and_parts (same_atom w.value u.value) (same_node w.origin u.origin) e in
-    ap₂ (λ (v : AtomTerm) (n : Node). record { value = v; origin = n }) (atom_is w.value u.value p.0) (node_is w.origin u.origin p.1)
-
-unique_there : (ws : List UniqueAt) (u : UniqueAt) → has_unique ws u ≡ true → IsIn u ws
-unique_there [] u e = absurd (cc)
-unique_there (w ∷ ws) u e =
-    ⊎_elim (λ p. subst (λ x. IsIn x (w ∷ ws)) (unique_is w u p) here) (λ p. there (unique_there ws u p)) (or_cases (same_atom w.value u.value && same_node w.origin u.origin) (has_unique ws u) e)
-
-kept_unique : (b : Bool) (before : List UniqueAt) (u w : UniqueAt) → IsIn w before → IsIn w (if b then before else before ++ u ∷ [])
-kept_unique true before u w p = p
-kept_unique false before u w p = in_append_left (u ∷ []) p
-
-this_unique : (b : Bool) (before : List UniqueAt) (u : UniqueAt) → has_unique before u ≡ b → IsIn u (if b then before else before ++ u ∷ [])
-this_unique true before u e = unique_there before u e
-this_unique false before u e = in_append_right before here
-
-pub uniques_kept : (before us : List UniqueAt) (w : UniqueAt) → IsIn w before → IsIn w (uniques_onto before us)
-uniques_kept before [] w p = p
-uniques_kept before (u ∷ us) w p = uniques_kept (if has_unique before u then before else before ++ u ∷ []) us w (kept_unique (has_unique before u) before u w p)
-
-pub uniques_added : (before us : List UniqueAt) (w : UniqueAt) → IsIn w us → IsIn w (uniques_onto before us)
-uniques_added before [] w p = elim p [ ]
-uniques_added before (u ∷ us) w here = uniques_kept (if has_unique before u then before else before ++ u ∷ []) us w (this_unique (has_unique before u) before u refl)
-uniques_added before (u ∷ us) w (there p) = uniques_added (if has_unique before u then before else before ++ u ∷ []) us w p
 
 -- ---- what roles give
 
@@ -103,13 +76,8 @@ module _ (k : Skeleton) where
   both_origins : (us ws : List UniqueAt) → HaveOrigins us → HaveOrigins ws → HaveOrigins (us ++ ws)
   both_origins us ws h j u p = ⊎_elim (h u) (j u) (in_append us ws p)
 
-  with_one : (b : Bool) (before : List UniqueAt) (u : UniqueAt) → HaveOrigins before → IsOrigin k u → HaveOrigins (if b then before else before ++ u ∷ [])
-  with_one true before u h j = h
-  with_one false before u h j = both_origins before (u ∷ []) h (one_origin u j)
-
   pub onto_origins : (before us : List UniqueAt) → HaveOrigins before → HaveOrigins us → HaveOrigins (uniques_onto before us)
-  onto_origins before [] h j = h
-  onto_origins before (u ∷ us) h j = onto_origins (if has_unique before u then before else before ++ u ∷ []) us (with_one (has_unique before u) before u h (j u here)) (λ w p. j w (there p))
+  onto_origins before us h j = λ u p. ⊎_elim (h u) (j u) (onto-only uniques before us u p)
 
   -- the strands of the list are those of the skeleton from number n on
   abbrev pub AreFrom : ℕ → List SkeletonStrand → Type 0

@@ -2,7 +2,7 @@
 -- unique originate in its trace.
 use Rattle.std.proofs.Common.{◌≡◌, ℕ, List, [], ◌∷◌, true, Option, Some, None, refl, sym, ap, ◌∙◌, subst}
 use Rattle.cp_base.specs.declared.place.Code.TheVariants.{NotAtom, RoleUniqNoOrigin}
-use Rattle.cp_model.specs.Lists.{IsIn, here, there}
+use Rattle.cp_lists.specs.Lists.{IsIn, here, there}
 use Rattle.cp_model.specs.Term.{Sort, text_sort, datum_sort, name_sort, skey_sort, akey_sort, AtomTerm, Term, atom_term, variables_of, variables_of_atom}
 use Rattle.cp_model.specs.Strand.{Event, OriginatesInTerms, Declaration}
 use Rattle.cp_model.specs.Problem.{variables_of_atoms}

@@ -11,7 +11,7 @@ use Rattle.cp_words.specs.Parsed.{IsParsedAs}
 use Rattle.cp_words.proofs.Options.{Named, limit_named, bound_named, rule_named}
 use Rattle.cp_words.proofs.Steps.{Reads, Adds, reads_both, rows_with}
 use Rattle.cp_words.proofs.Spelled.{IsSpelled, setting_by, name_is, spelled_first}
-use Rattle.cp_words.proofs.Reading.{adds_front, parsed_by, limit_valid, limit_texts, limit_first_valid, limit_first_texts, bound_first_valid, bound_first_texts, first_fits, bound_fits, limit_fits}
+use Rattle.cp_words.proofs.Reading.{adds_front, parsed_by, limit_alone, limit_first, bound_first, first_fits, bound_fits, limit_fits}
 
 limits_are : (a b : ℕ) (l : Limits) → limits_of a b ≡ Some l → (a ≡ l.steps) × (b ≡ l.strands)
 limits_are a b l e = go ((a == 0) && (nat_le 1 b && nat_le b 32)) e
@@ -31,7 +31,7 @@ one_by : (program : Text) (words : List Text) (o : Named) (text : Text) (k : ℕ
     → IsParsedAs (program ∷ codes "analyse" ∷ words) l
 one_by program words limit_named text k l r number set =
     let are = limits_are k 8 l set in
-    parsed_by program words _ l text (codes "8") r (limit_valid text) (limit_texts text) (number ∙ ap Some are.0) (ap Some are.1)
+    parsed_by program words _ l text (codes "8") r (limit_alone text) (number ∙ ap Some are.0) (ap Some are.1)
 one_by program words bound_named text k l r number set = absurd (cc)
 
 parsed_one : (program : Text) (words : List Text) (s : Setting) (l : Limits) → IsSpelled words s [] → limits_set s None ≡ Some l → IsParsedAs (program ∷ codes "analyse" ∷ words) l
@@ -57,10 +57,10 @@ two_by program words limit_named limit_named n m k j l reads number other set = 
 two_by program words bound_named bound_named n m k j l reads number other set = absurd (cc)
 two_by program words limit_named bound_named n m k j l reads number other set =
     let are = limits_are k j l set in
-    parsed_by program words _ l n m (reads (bound_fits n m)) (limit_first_valid n m) (limit_first_texts n m) (number ∙ ap Some are.0) (other ∙ ap Some are.1)
+    parsed_by program words _ l n m (reads (bound_fits n m)) (limit_first n m) (number ∙ ap Some are.0) (other ∙ ap Some are.1)
 two_by program words bound_named limit_named n m k j l reads number other set =
     let are = limits_are j k l set in
-    parsed_by program words _ l m n (reads (limit_fits m n)) (bound_first_valid m n) (bound_first_texts m n) (other ∙ ap Some are.0) (number ∙ ap Some are.1)
+    parsed_by program words _ l m n (reads (limit_fits m n)) (bound_first m n) (other ∙ ap Some are.0) (number ∙ ap Some are.1)
 
 parsed_two : (program : Text) (words rest : List Text) (s t : Setting) (l : Limits) → IsSpelled words s rest → IsSpelled rest t [] → limits_set s (Some t) ≡ Some l → IsParsedAs (program ∷ codes "analyse" ∷ words) l
 parsed_two program words rest s t l is other set =

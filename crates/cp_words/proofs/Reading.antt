@@ -48,36 +48,28 @@ texts_of rows = (first_of (codes "limit") rows, first_of (codes "bound") rows)
 abbrev limits_of_texts : Option Text × Option Text → Option Limits
 limits_of_texts p = limits_from (option_and_then number_of p.0) (option_and_then number_of p.1)
 
-pub parsed_by : (program : Text) (words : List Text) (rows : List Row) (l : Limits) (limit bound : Text) → Reads nothing_held words rows → is_valid options (filled_rows rows) false ≡ true
-    → ◌≡◌ {A = Option Text × Option Text} (texts_of (filled_rows rows)) (Some limit, Some bound) → number_of limit ≡ Some l.steps → number_of bound ≡ Some l.strands → IsParsedAs (program ∷ codes "analyse" ∷ words) l
-parsed_by program words rows l limit bound r valid texts steps strands = record {
-  taken = options_taken program words (level_of words rows r valid);
-  found = ap limits_found (options_read program words) ∙ ap limits_in (rows_of_words words rows r) ∙ ap limits_of_texts texts ∙ ap₂ limits_from steps strands;
+-- The rows are valid once they are filled, and have these texts.
+abbrev pub HaveTexts : List Row → Text → Text → Type 0
+HaveTexts rows limit bound = (is_valid options (filled_rows rows) false ≡ true) × (◌≡◌ {A = Option Text × Option Text} (texts_of (filled_rows rows)) (Some limit, Some bound))
+
+pub parsed_by : (program : Text) (words : List Text) (rows : List Row) (l : Limits) (limit bound : Text) → Reads nothing_held words rows → HaveTexts rows limit bound
+    → number_of limit ≡ Some l.steps → number_of bound ≡ Some l.strands → IsParsedAs (program ∷ codes "analyse" ∷ words) l
+parsed_by program words rows l limit bound r have steps strands = record {
+  taken = options_taken program words (level_of words rows r have.0);
+  found = ap limits_found (options_read program words) ∙ ap limits_in (rows_of_words words rows r) ∙ ap limits_of_texts have.1 ∙ ap₂ limits_from steps strands;
 }
 
-pub limit_valid : (n : Text) → is_valid options (filled_rows (rows_with limit_named n [])) false ≡ true
+pub limit_alone : (n : Text) → HaveTexts (rows_with limit_named n []) n (codes "8")
 unfolding clap_on_literals
-limit_valid n = refl
+limit_alone n = (refl, refl)
 
-pub limit_texts : (n : Text) → ◌≡◌ {A = Option Text × Option Text} (texts_of (filled_rows (rows_with limit_named n []))) (Some n, Some (codes "8"))
+pub limit_first : (n m : Text) → HaveTexts (rows_with bound_named m (rows_with limit_named n [])) n m
 unfolding clap_on_literals
-limit_texts n = refl
+limit_first n m = (refl, refl)
 
-pub limit_first_valid : (n m : Text) → is_valid options (filled_rows (rows_with bound_named m (rows_with limit_named n []))) false ≡ true
+pub bound_first : (n m : Text) → HaveTexts (rows_with limit_named n (rows_with bound_named m [])) n m
 unfolding clap_on_literals
-limit_first_valid n m = refl
-
-pub limit_first_texts : (n m : Text) → ◌≡◌ {A = Option Text × Option Text} (texts_of (filled_rows (rows_with bound_named m (rows_with limit_named n [])))) (Some n, Some m)
-unfolding clap_on_literals
-limit_first_texts n m = refl
-
-pub bound_first_valid : (n m : Text) → is_valid options (filled_rows (rows_with limit_named n (rows_with bound_named m []))) false ≡ true
-unfolding clap_on_literals
-bound_first_valid n m = refl
-
-pub bound_first_texts : (n m : Text) → ◌≡◌ {A = Option Text × Option Text} (texts_of (filled_rows (rows_with limit_named n (rows_with bound_named m [])))) (Some n, Some m)
-unfolding clap_on_literals
-bound_first_texts n m = refl
+bound_first n m = (refl, refl)
 
 pub first_fits : (o : Named) (n : Text) → use_passes false (rule_named o) (n ∷ []) [] ≡ true
 unfolding clap_on_literals

@@ -1,4 +1,4 @@
-use Rattle.cp_model.specs.Lists.{here}
+use Rattle.cp_lists.specs.Lists.{here}
 use Rattle.cp_completeness.proofs.Spoken.{is_skeleton, is_bundle, stands, apart, originates, elsewhere, branches, origin_pair}
 use Rattle.cp_completeness.proofs.examples.repeated_text_example.Goals as goal
 

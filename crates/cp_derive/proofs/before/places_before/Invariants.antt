@@ -1,9 +1,7 @@
 use Rattle.std.proofs.Common.{map}
-use Rattle.cp_model.specs.RunView.{node_view}
-use Rattle.cp_skel.specs.View.{pair_view}
 use Rattle.cp_derive.specs.Transmissions.{transmission_view}
 use Rattle.cp_derive.proofs.Placing.{ArePlacesBelow}
 use Rattle.cp_derive.proofs.before.places_before.Given as goal
 
 abbrev pub invariant-loop-place : goal.invariant-loop-place
-invariant-loop-place l = ArePlacesBelow (map pair_view l.pairs) (node_view l.node) (map transmission_view l.transmissions) l.place l.places.items
+invariant-loop-place l = ArePlacesBelow l.pairs l.node (map transmission_view l.transmissions) l.place l.places.items

@@ -1,5 +1,5 @@
 use Rattle.std.proofs.Common.{arith}
-use Rattle.cp_derive.proofs.Listed.{not_both}
+use Rattle.cp_term.proofs.CarriedTerms.{not_both}
 use Rattle.cp_derive.proofs.BuildingSteps.{atom_builds, atom_at_hand, enc_up, enc_parts}
 use Rattle.cp_derive.proofs.building.+builds.Goals as goal
 

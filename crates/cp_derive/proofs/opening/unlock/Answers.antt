@@ -1,7 +1,9 @@
 use Rattle.std.proofs.Common.{◌<◌, ◌≤◌, length, sym, subst, arith}
+use Rattle.cp_term.proofs.CarriedTerms.{not_both}
+use Rattle.cp_lists.proofs.Members.{none_left}
 use Rattle.cp_derive.specs.Building.{Builds}
 use Rattle.cp_derive.specs.declared.opening.Locked.{Locked}
-use Rattle.cp_derive.proofs.Listed.{not_both, none_left, in_rest}
+use Rattle.cp_derive.proofs.Listed.{behind_other}
 use Rattle.cp_derive.proofs.Unlocking.{length_weight}
 use Rattle.cp_derive.proofs.opening.unlock.Goals as goal
 
@@ -19,7 +21,7 @@ loop-place-preserved c =
       weighs = c.loop-place.invariant.weighs;
       falls = c.loop-place.invariant.falls;
       done = λ none l h key.
-          in_rest _ c.loop-place.place _ c.index-entry.result.now within c.index-entry.ensures
+          behind_other _ c.loop-place.place _ c.index-entry.result.now within c.index-entry.ensures
           (λ same.
           not_both c.if-builds.false
           (c.builds.ensures.1

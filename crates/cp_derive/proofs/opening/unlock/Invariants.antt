@@ -1,5 +1,5 @@
 use Rattle.std.proofs.Common.{◌≤◌, ◌<◌, ◌≡◌, ◌-◌, true, false, drop}
-use Rattle.cp_model.specs.Lists.{IsIn}
+use Rattle.cp_lists.specs.Lists.{IsIn}
 use Rattle.cp_derive.specs.Building.{Builds}
 use Rattle.cp_derive.specs.Opening.{weight, Advances}
 use Rattle.cp_derive.specs.declared.opening.Locked.{Locked}

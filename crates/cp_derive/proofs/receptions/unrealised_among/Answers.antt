@@ -1,7 +1,6 @@
+use Rattle.cp_term.proofs.CarriedTerms.{not_both}
 use Rattle.cp_model.specs.Strand.{recv}
-use Rattle.cp_model.specs.RunView.{node_view}
 use Rattle.cp_skel.specs.View.{skeleton_view}
-use Rattle.cp_derive.proofs.Listed.{not_both}
 use Rattle.cp_derive.proofs.GivenAtNode.{unrealised_at, realised_at, passed, taken, event_at, all_passed, other_realised, reception_at}
 use Rattle.cp_derive.proofs.receptions.unrealised_among.Goals as goal
 
@@ -11,7 +10,7 @@ loop-occurrence-preserved-in_default c = record {
   picks =
       passed (skeleton_view c.args.k.now) c.args.occurrences.now c.loop-occurrence.occurrence-index c.occurrence-item.result c.loop-occurrence.nodes.items c.loop-occurrence-test.true
       c.occurrence-item.is c.loop-occurrence.invariant.picks
-      (other_realised (skeleton_view c.args.k.now) (node_view c.occurrence-item.result.node) c.occurrence-item.result.event
+      (other_realised (skeleton_view c.args.k.now) c.occurrence-item.result.node c.occurrence-item.result.event
       (event_at (skeleton_view c.args.k.now) c.args.occurrences.now c.loop-occurrence.occurrence-index c.occurrence-item.result c.loop-occurrence.nodes.items c.loop-occurrence-test.true
       c.occurrence-item.is c.loop-occurrence.invariant.picks c.requires.listed)
       c.in_default.not-Receive);
@@ -20,7 +19,7 @@ loop-occurrence-preserved-in_default c = record {
 pub front_at-requires-clause-there : goal.front_at-requires-clause-there
 front_at-requires-clause-there c = (
   recv c.in-Receive.message,
-  reception_at (skeleton_view c.args.k.now) (node_view c.occurrence-item.result.node) c.occurrence-item.result.event c.in-Receive.message
+  reception_at (skeleton_view c.args.k.now) c.occurrence-item.result.node c.occurrence-item.result.event c.in-Receive.message
       (event_at (skeleton_view c.args.k.now) c.args.occurrences.now c.loop-occurrence.occurrence-index c.occurrence-item.result c.loop-occurrence.nodes.items c.loop-occurrence-test.true
       c.occurrence-item.is c.loop-occurrence.invariant.picks c.requires.listed)
       c.in-Receive.is,
@@ -32,8 +31,8 @@ loop-occurrence-preserved-then-buildable c = record {
   picks =
       passed (skeleton_view c.args.k.now) c.args.occurrences.now c.loop-occurrence.occurrence-index c.occurrence-item.result c.loop-occurrence.nodes.items c.loop-occurrence-test.true
       c.occurrence-item.is c.loop-occurrence.invariant.picks
-      (realised_at (skeleton_view c.args.k.now) (node_view c.occurrence-item.result.node) c.in-Receive.message
-      (reception_at (skeleton_view c.args.k.now) (node_view c.occurrence-item.result.node) c.occurrence-item.result.event c.in-Receive.message
+      (realised_at (skeleton_view c.args.k.now) c.occurrence-item.result.node c.in-Receive.message
+      (reception_at (skeleton_view c.args.k.now) c.occurrence-item.result.node c.occurrence-item.result.event c.in-Receive.message
       (event_at (skeleton_view c.args.k.now) c.args.occurrences.now c.loop-occurrence.occurrence-index c.occurrence-item.result c.loop-occurrence.nodes.items c.loop-occurrence-test.true
       c.occurrence-item.is c.loop-occurrence.invariant.picks c.requires.listed)
       c.in-Receive.is)
@@ -46,8 +45,8 @@ loop-occurrence-preserved c = record {
   picks =
       taken (skeleton_view c.args.k.now) c.args.occurrences.now c.loop-occurrence.occurrence-index c.occurrence-item.result c.loop-occurrence.nodes.items c.loop-occurrence-test.true
       c.occurrence-item.is c.loop-occurrence.invariant.picks c.push.new.self.items c.in_ok-push.ensures.items
-      (unrealised_at (skeleton_view c.args.k.now) (node_view c.occurrence-item.result.node) c.in-Receive.message
-      (reception_at (skeleton_view c.args.k.now) (node_view c.occurrence-item.result.node) c.occurrence-item.result.event c.in-Receive.message
+      (unrealised_at (skeleton_view c.args.k.now) c.occurrence-item.result.node c.in-Receive.message
+      (reception_at (skeleton_view c.args.k.now) c.occurrence-item.result.node c.occurrence-item.result.event c.in-Receive.message
       (event_at (skeleton_view c.args.k.now) c.args.occurrences.now c.loop-occurrence.occurrence-index c.occurrence-item.result c.loop-occurrence.nodes.items c.loop-occurrence-test.true
       c.occurrence-item.is c.loop-occurrence.invariant.picks c.requires.listed)
       c.in-Receive.is)

@@ -1,6 +1,5 @@
 use Rattle.std.proofs.Common.{◌≡◌, ◌++◌, List, map, drop}
-use Rattle.cp_model.specs.Bundle.{Node}
-use Rattle.cp_model.specs.RunView.{node_view}
+use Rattle.cp_model.specs.declared.node.Node.{Node}
 use Rattle.cp_skel.specs.View.{skeleton_view}
 use Rattle.cp_derive.specs.Before.{given_by}
 use Rattle.cp_skel.specs.Events.{occurrence_view}
@@ -12,5 +11,5 @@ abbrev pub invariant-loop-occurrence : goal.invariant-loop-occurrence
 invariant-loop-occurrence l = record {
   given : l.front.known ≡ given_by (skeleton_view l.k) l.front.places.items;
   picks : (ns : List Node) → Picks (skeleton_view l.k) (map occurrence_view (drop l.occurrence-index l.occurrences)) ns →
-      Picks (skeleton_view l.k) (map occurrence_view l.occurrences) (map node_view l.nodes.items ++ ns);
+      Picks (skeleton_view l.k) (map occurrence_view l.occurrences) (l.nodes.items ++ ns);
 }

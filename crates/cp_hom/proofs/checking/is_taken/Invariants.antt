@@ -1,5 +1,5 @@
 use Rattle.std.proofs.Common.{map, drop}
-use Rattle.cp_skel.specs.View.{strand_view}
+use Rattle.cp_strand.specs.View.{strand_view}
 use Rattle.cp_hom.specs.Taking.{IsTaken}
 use Rattle.cp_hom.proofs.checking.is_taken.Given as goal
 

@@ -1,10 +1,9 @@
-use Rattle.std.proofs.Common.{map, drop}
-use Rattle.cp_skel.specs.View.{pair_view}
+use Rattle.std.proofs.Common.{drop}
 use Rattle.cp_hom.specs.Maps.{map_view}
 use Rattle.cp_hom.specs.Taking.{KeepsPairs}
 use Rattle.cp_hom.proofs.checking.keeps_pairs.Given as goal
 
 -- where the pairs that are left are kept, all are
 abbrev pub invariant-loop-pair : goal.invariant-loop-pair
-invariant-loop-pair l = KeepsPairs (map pair_view (drop l.pair-index l.pairs)) (map pair_view l.others) (map_view l.mapping) →
-    KeepsPairs (map pair_view l.pairs) (map pair_view l.others) (map_view l.mapping)
+invariant-loop-pair l = KeepsPairs (drop l.pair-index l.pairs) l.others (map_view l.mapping) →
+    KeepsPairs l.pairs l.others (map_view l.mapping)

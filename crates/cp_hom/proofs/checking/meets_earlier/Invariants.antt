@@ -1,5 +1,5 @@
 use Rattle.std.proofs.Common.{◌≡◌, ◌<◌, ℕ, map}
-use Rattle.cp_skel.specs.View.{strand_view}
+use Rattle.cp_strand.specs.View.{strand_view}
 use Rattle.cp_hom.specs.Maps.{map_view}
 use Rattle.cp_hom.specs.Taking.{IsRoleStrand}
 use Rattle.cp_hom.proofs.checking.meets_earlier.Given as goal

@@ -1,5 +1,5 @@
 use Rattle.std.proofs.Common.{arith}
-use Rattle.cp_skel.specs.View.{strand_view}
+use Rattle.cp_strand.specs.View.{strand_view}
 use Rattle.cp_term.proofs.CarriedTerms.{not_both}
 use Rattle.cp_hom.specs.Counting.{IsOfRole}
 use Rattle.cp_hom.proofs.Crowded.{counted_first, counted_one, counted_none, counted_all}

@@ -1,5 +1,5 @@
 use Rattle.std.proofs.Common.{◌≤◌}
-use Rattle.cp_skel.specs.View.{strand_view}
+use Rattle.cp_strand.specs.View.{strand_view}
 use Rattle.cp_hom.specs.Counting.{IsOfRole}
 use Rattle.cp_hom.proofs.Crowded.{IsCountedTo}
 use Rattle.cp_hom.proofs.counting.count_of_role.Given as goal

@@ -1,6 +1,6 @@
 use Rattle.std.proofs.Common.{map}
 use Rattle.std.proofs.lemmas.Bool.{leb-true, le-leb}
-use Rattle.cp_skel.specs.View.{strand_view}
+use Rattle.cp_strand.specs.View.{strand_view}
 use Rattle.cp_hom.proofs.Crowded.{room_by_counts, counts_by_room}
 use Rattle.cp_hom.proofs.counting.has_room.Goals as goal
 

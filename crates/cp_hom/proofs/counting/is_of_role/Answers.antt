@@ -1,8 +1,8 @@
 use Rattle.std.proofs.Common.{◌≡◌, sym, ap, ◌∙◌}
 use Rattle.cp_model.specs.Homomorphism.{substitution_by}
 use Rattle.cp_model.specs.Skeleton.{instance}
-use Rattle.cp_skel.specs.Shapes.{strand_of_shape}
-use Rattle.cp_skel.specs.View.{strand_view}
+use Rattle.cp_strand.specs.Shapes.{strand_of_shape}
+use Rattle.cp_strand.specs.View.{strand_view}
 use Rattle.cp_hom.proofs.Crowded.{of_same_role, role_is_same}
 use Rattle.cp_hom.proofs.counting.is_of_role.Goals as goal
 

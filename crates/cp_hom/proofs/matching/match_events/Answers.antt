@@ -1,7 +1,7 @@
 use Rattle.std.proofs.Common.{◌≡◌, subst}
 use Rattle.cp_model.specs.Term.{Term, apply_to}
 use Rattle.cp_model.specs.Homomorphism.{substitution_by}
-use Rattle.cp_skel.specs.View.{event_view}
+use Rattle.cp_strand.specs.View.{event_view}
 use Rattle.cp_hom.specs.Following.{partial_view, IsExtended}
 use Rattle.cp_hom.proofs.Becoming.{events_next, events_all}
 use Rattle.cp_hom.proofs.matching.match_events.Goals as goal

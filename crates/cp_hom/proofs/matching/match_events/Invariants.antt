@@ -1,6 +1,6 @@
 use Rattle.std.proofs.Common.{map, drop}
 use Rattle.cp_model.specs.Homomorphism.{substitution_by}
-use Rattle.cp_skel.specs.View.{event_view}
+use Rattle.cp_strand.specs.View.{event_view}
 use Rattle.cp_hom.specs.Following.{partial_view}
 use Rattle.cp_hom.specs.Taking.{MakesEvents}
 use Rattle.cp_hom.proofs.Extended.{IsSoFar}

@@ -1,6 +1,6 @@
 use Rattle.std.proofs.Common.{map}
 use Rattle.std.proofs.lemmas.Result.{IfOk-weaker}
-use Rattle.cp_skel.specs.View.{strand_view}
+use Rattle.cp_strand.specs.View.{strand_view}
 use Rattle.cp_hom.specs.Following.{partial_view, Finds}
 use Rattle.cp_hom.specs.Taking.{MakesPart}
 use Rattle.cp_hom.proofs.Becoming.{strand_placed}

@@ -1,7 +1,7 @@
 use Rattle.std.proofs.Common.{◌≡◌, sym, ap, ◌∙◌, subst}
 use Rattle.std.proofs.lemmas.Result.{IfOk-weaker}
 use Rattle.cp_model.specs.Term.{apply_to, atom_term}
-use Rattle.cp_model.specs.Bundle.{Node}
+use Rattle.cp_model.specs.declared.node.Node.{Node}
 use Rattle.cp_hom.specs.Following.{partial_view, IsExtended, Finds}
 use Rattle.cp_hom.proofs.Becoming.{unique_placed}
 use Rattle.cp_hom.proofs.placing.place_unique.Goals as goal

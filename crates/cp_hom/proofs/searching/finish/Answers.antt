@@ -1,8 +1,9 @@
 use Rattle.std.proofs.Common.{◌≡◌, List, map, sym, subst, subst₂, ◌∙◌}
 use Rattle.cp_model.specs.Homomorphism.{SkeletonMap, IsEmbedding}
-use Rattle.cp_model.specs.Skeleton.{OrderPair}
-use Rattle.cp_skel.specs.View.{strand_view, pair_view, skeleton_view}
-use Rattle.cp_skel.specs.Data.{StrandData}
+use Rattle.cp_model.specs.declared.node.OrderPair.{OrderPair}
+use Rattle.cp_strand.specs.View.{strand_view}
+use Rattle.cp_skel.specs.View.{skeleton_view}
+use Rattle.cp_strand.specs.Data.{StrandData}
 use Rattle.cp_term.proofs.CarriedTerms.{not_both}
 use Rattle.cp_hom.specs.Maps.{map_view}
 use Rattle.cp_hom.specs.Following.{partial_view, map_of}
@@ -27,7 +28,7 @@ pub returns-then-not-branch-clause-none : goal.returns-then-not-branch-clause-no
 returns-then-not-branch-clause-none c =
     pairs_never (skeleton_view c.args.a.now) (skeleton_view c.args.b.now) (partial_view c.args.given) c.requires.ordered c.requires.other_ordered c.requires.whole
     (λ kept. not_both c.if-not-branch.true
-    (c.in_ok-keeps_pairs.ensures.1 (same_pairs c.args.a.now.order (map pair_view c.pairs.result.now) c.args.b.now.order (map pair_view c.pairs-2.result.now)
+    (c.in_ok-keeps_pairs.ensures.1 (same_pairs c.args.a.now.order c.pairs.result.now c.args.b.now.order c.pairs-2.result.now
     (map_of (partial_view c.args.given)) (map_view c.in_ok-mapping.mapping) (sym c.order.ensures ∙ sym c.pairs.ensures) (sym c.order-2.ensures ∙ sym c.pairs-2.ensures) (sym c.in_ok-mapping.ensures) kept)))
 
 pub returns-clause-some : goal.returns-clause-some
@@ -36,5 +37,5 @@ returns-clause-some c =
     (whole_embeds (skeleton_view c.args.a.now) (skeleton_view c.args.b.now) (partial_view c.args.given) c.requires.ordered c.requires.other_ordered c.requires.whole
     (same_apart c.strands.result.now c.args.a.now.strands (map_view c.in_ok-mapping.mapping) (map_of (partial_view c.args.given)) c.strands.ensures c.in_ok-mapping.ensures
     (c.keeps_apart.ensures.0 c.if-not-keeps_apart.false))
-    (same_pairs (map pair_view c.pairs.result.now) c.args.a.now.order (map pair_view c.pairs-2.result.now) c.args.b.now.order (map_view c.in_ok-mapping.mapping) (map_of (partial_view c.args.given))
+    (same_pairs c.pairs.result.now c.args.a.now.order c.pairs-2.result.now c.args.b.now.order (map_view c.in_ok-mapping.mapping) (map_of (partial_view c.args.given))
     (c.pairs.ensures ∙ c.order.ensures) (c.pairs-2.ensures ∙ c.order-2.ensures) c.in_ok-mapping.ensures (c.in_ok-keeps_pairs.ensures.0 c.if-not-branch.false)))

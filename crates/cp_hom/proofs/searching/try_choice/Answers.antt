@@ -1,7 +1,8 @@
 use Rattle.std.proofs.Common.{List, map, subst, subst₂}
 use Rattle.std.proofs.lemmas.Result.{IfOk-weaker}
-use Rattle.cp_skel.specs.View.{strand_view, skeleton_view}
-use Rattle.cp_skel.specs.Data.{StrandData}
+use Rattle.cp_strand.specs.View.{strand_view}
+use Rattle.cp_skel.specs.View.{skeleton_view}
+use Rattle.cp_strand.specs.Data.{StrandData}
 use Rattle.cp_hom.specs.Following.{PartialMap, partial_view, Finds}
 use Rattle.cp_hom.specs.Taking.{Takes, KeepsApart, IsBlocked}
 use Rattle.cp_hom.specs.declared.partials.Placement.{Placement}

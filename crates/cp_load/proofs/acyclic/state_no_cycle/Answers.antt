@@ -1,17 +1,16 @@
 use Rattle.std.proofs.Common.{map, ap, ◌∙◌, subst}
 use Rattle.std.proofs.lemmas.Result.{IfOk-weaker}
-use Rattle.cp_skel.specs.View.{pair_view}
 use Rattle.cp_load.specs.Acyclic.{IsAcyclicIf}
 use Rattle.cp_load.proofs.NoCycles.{items-stated, stated-all}
 use Rattle.cp_load.proofs.acyclic.state_no_cycle.Goals as goal
 
 pub loop-item-preserved : goal.loop-item-preserved
 loop-item-preserved c =
-    items-stated c.args.items.now c.loop-item.item-index c.item-item.result c.loop-item-test.true c.item-item.is (map pair_view c.loop-item.pairs.items) _
-    (map pair_view c.add_pairs_under.new.pairs.items) c.in_ok-add_pairs_under.ensures c.loop-item.invariant
+    items-stated c.args.items.now c.loop-item.item-index c.item-item.result c.loop-item-test.true c.item-item.is c.loop-item.pairs.items _
+    c.add_pairs_under.new.pairs.items c.in_ok-add_pairs_under.ensures c.loop-item.invariant
 
 pub returns : goal.returns
 returns c =
     let l = c.loop-item in
-    let all = ap (map pair_view) c.deref.ensures.value ∙ stated-all c.args.items.now l.item-index c.loop-item-test.false (map pair_view l.pairs.items) _ l.invariant in
+    let all = c.deref.ensures.value ∙ stated-all c.args.items.now l.item-index c.loop-item-test.false l.pairs.items _ l.invariant in
     IfOk-weaker c.have_no_cycle.result _ _ (λ b h. subst (IsAcyclicIf b) all h) c.have_no_cycle.ensures

@@ -1,6 +1,6 @@
 use Rattle.std.proofs.Common.{map}
 use Rattle.cp_language.specs.Problems.{unique_faults}
-use Rattle.cp_skel.specs.View.{declaration_view, strand_view}
+use Rattle.cp_strand.specs.View.{declaration_view, strand_view}
 use Rattle.cp_forms.proofs.Items.{each-taken}
 use Rattle.cp_load.proofs.bodies.uniques_faults.Goals as goal
 

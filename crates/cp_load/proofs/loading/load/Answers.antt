@@ -1,6 +1,6 @@
 use Rattle.std.proofs.Common.{◌≡◌, Some, map, sym, ap, ◌∙◌}
 use Rattle.cp_sexpr.specs.View.{view}
-use Rattle.cp_load.specs.Above.{protocols_view}
+use Rattle.cp_roles.specs.Above.{protocols_view}
 use Rattle.cp_load.proofs.SoundDrafts.{drafts_sound}
 use Rattle.cp_load.proofs.TopForms.{protocols-all, no-faults, entries-finished, input-loaded, input-refused}
 use Rattle.cp_load.proofs.loading.load.Goals as goal

@@ -1,6 +1,6 @@
 use Rattle.std.proofs.Common.{[], map}
 use Rattle.std.specs.Prelude.{option_map}
-use Rattle.cp_load.specs.Above.{protocols_view, turned}
+use Rattle.cp_roles.specs.Above.{protocols_view, turned}
 use Rattle.cp_load.specs.Drafts.{draft_view}
 use Rattle.cp_load.proofs.TopForms.{draft-pushed, faults-taken, problems-taken, protocols-taken, faults-done, drafts-done, protocols-done, counted}
 use Rattle.cp_load.proofs.loading.read_forms.Goals as goal

@@ -2,7 +2,7 @@ use Rattle.std.proofs.Common.{◌≡◌, ◌++◌, [], map, drop}
 use Rattle.std.specs.Prelude.{option_map}
 use Rattle.cp_sexpr.specs.View.{view}
 use Rattle.cp_language.specs.Input.{faults_from, protocols_in}
-use Rattle.cp_load.specs.Above.{protocols_view, names_of_protocols, turned}
+use Rattle.cp_roles.specs.Above.{protocols_view, names_of_protocols, turned}
 use Rattle.cp_forms.specs.FirstFault.{first_onto}
 use Rattle.cp_load.specs.Drafts.{draft_view}
 use Rattle.cp_load.proofs.TopForms.{problems_from}

@@ -1,7 +1,7 @@
 use Rattle.std.proofs.Common.{map, ap, ◌∙◌}
 use Rattle.cp_sexpr.specs.View.{view}
 use Rattle.cp_language.specs.Problems.{node_of, node_faults, pair_of_nodes, order_faults}
-use Rattle.cp_skel.specs.View.{strand_view, pair_view}
+use Rattle.cp_strand.specs.View.{strand_view}
 use Rattle.cp_forms.specs.FirstFault.{first_onto}
 use Rattle.cp_load.proofs.Cycles.{nodes-there, nodes-faulty}
 use Rattle.cp_load.proofs.orders.nodes_or_order_faults.Goals as goal
@@ -9,10 +9,10 @@ use Rattle.cp_load.proofs.orders.nodes_or_order_faults.Goals.{then-is_none+in_ok
 
 pub returns : goal.returns
 returns c =
-    let strands = map strand_view c.args.strands.now in
+    let strands = map strand_view c.args.before.strands.now in
     let f = view c.args.earlier.now in
     let g = view c.args.later.now in
-    let others = order_faults strands (map pair_view c.args.before.now) c.args.place f g (pair_of_nodes (node_of f) (node_of g)) in
+    let others = order_faults strands c.args.before.pairs.now c.args.place f g (pair_of_nodes (node_of f) (node_of g)) in
     let first = c.node_faults.ensures ∙ ap (λ o. first_onto o (node_faults strands f)) c.new-inside.ensures in
     elim c.if-is_none.branch [
       | then-is_none+in_ok-order_faults w ↦

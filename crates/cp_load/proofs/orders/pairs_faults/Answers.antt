@@ -1,8 +1,8 @@
 use Rattle.std.proofs.Common.{◌++◌, List, map, sym, ap, ◌∙◌, subst}
 use Rattle.cp_sexpr.specs.View.{view}
 use Rattle.cp_language.specs.Problems.{pair_of, pair_faults}
-use Rattle.cp_skel.specs.View.{strand_view, pair_view}
-use Rattle.cp_skel.specs.declared.skeleton.OrderPair.{OrderPair}
+use Rattle.cp_strand.specs.View.{strand_view}
+use Rattle.cp_model.specs.declared.node.OrderPair.{OrderPair}
 use Rattle.cp_forms.specs.FirstFault.{first_onto}
 use Rattle.cp_load.proofs.Cycles.{pairs-taken, pairs-judged}
 use Rattle.cp_load.specs.Acyclic.{IsAcyclicIf}
@@ -12,14 +12,14 @@ use Rattle.cp_load.proofs.orders.pairs_faults.Goals as goal
 pub loop-form-preserved : goal.loop-form-preserved
 loop-form-preserved c =
     let strands = map strand_view c.args.strands.now in
-    let before = map pair_view c.loop-form.before.items in
+    let before = c.loop-form.before.items in
     let added = c.in_ok-add_pair.ensures ∙ ap (λ ps. before ++ ps) c.pair_of.ensures in
-    let judged = c.in_ok-pair_faults.ensures ∙ ap (λ (ps : List OrderPair). first_onto c.loop-form.first (pair_faults strands (map pair_view ps) (view c.form-item.result))) c.deref.ensures.value in (
-      pairs-judged strands c.args.items.now c.loop-form.form-index c.form-item.result c.loop-form-test.true c.form-item.is before (map pair_view c.add_pair.new.pairs.items) added c.loop-form.first c.pair_faults.new.first _ judged c.loop-form.invariant.0,
-      pairs-taken strands c.args.items.now c.loop-form.form-index c.form-item.result c.loop-form-test.true c.form-item.is before (map pair_view c.add_pair.new.pairs.items) added _ c.loop-form.invariant.1,
+    let judged = c.in_ok-pair_faults.ensures ∙ ap (λ (ps : List OrderPair). first_onto c.loop-form.first (pair_faults strands ps (view c.form-item.result))) c.deref.ensures.value in (
+      pairs-judged strands c.args.items.now c.loop-form.form-index c.form-item.result c.loop-form-test.true c.form-item.is before c.add_pair.new.pairs.items added c.loop-form.first c.pair_faults.new.first _ judged c.loop-form.invariant.0,
+      pairs-taken strands c.args.items.now c.loop-form.form-index c.form-item.result c.loop-form-test.true c.form-item.is before c.add_pair.new.pairs.items added _ c.loop-form.invariant.1,
     )
 
 pub pair_faults-requires : goal.pair_faults-requires
 pair_faults-requires c =
-    subst (λ (ps : List OrderPair). IsAcyclicIf c.args.acyclic (map pair_view ps ++ pair_of (view c.form-item.result))) (sym c.deref.ensures.value)
-    (first-pair c.args.items.now c.loop-form.form-index c.form-item.result c.loop-form-test.true c.form-item.is (map pair_view c.loop-form.before.items) _ c.args.acyclic c.loop-form.invariant.1 c.requires)
+    subst (λ (ps : List OrderPair). IsAcyclicIf c.args.acyclic (ps ++ pair_of (view c.form-item.result))) (sym c.deref.ensures.value)
+    (first-pair c.args.items.now c.loop-form.form-index c.form-item.result c.loop-form-test.true c.form-item.is c.loop-form.before.items _ c.args.acyclic c.loop-form.invariant.1 c.requires)

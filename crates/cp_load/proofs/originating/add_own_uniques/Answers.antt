@@ -1,5 +1,5 @@
 use Rattle.std.proofs.Common.{map}
-use Rattle.cp_skel.specs.View.{strand_view}
+use Rattle.cp_strand.specs.View.{strand_view}
 use Rattle.cp_load.proofs.UniqueOrigins.{own-taken}
 use Rattle.cp_load.proofs.originating.add_own_uniques.Goals as goal
 

@@ -1,7 +1,7 @@
 use Rattle.std.proofs.Common.{◌≡◌, map, drop}
 use Rattle.cp_model.specs.Given.{uniques_onto}
 use Rattle.cp_language.specs.Problems.{own_uniques}
-use Rattle.cp_skel.specs.View.{strand_view}
+use Rattle.cp_strand.specs.View.{strand_view}
 use Rattle.cp_load.proofs.originating.add_own_uniques.Given as goal
 
 abbrev pub invariant-loop-value : goal.invariant-loop-value

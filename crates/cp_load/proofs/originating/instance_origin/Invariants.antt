@@ -2,7 +2,7 @@ use Rattle.std.proofs.Common.{◌≡◌, map, drop}
 use Rattle.cp_model.specs.Term.{apply_to}
 use Rattle.cp_model.specs.Strand.{event_map}
 use Rattle.cp_model.specs.Homomorphism.{substitution_by}
-use Rattle.cp_skel.specs.View.{event_view}
+use Rattle.cp_strand.specs.View.{event_view}
 use Rattle.cp_load.proofs.Origins.{origin_from}
 use Rattle.cp_load.proofs.originating.instance_origin.Given as goal
 

@@ -1,5 +1,5 @@
 use Rattle.std.proofs.Common.{◌≡◌, map, drop}
-use Rattle.cp_skel.specs.View.{strand_view}
+use Rattle.cp_strand.specs.View.{strand_view}
 use Rattle.cp_load.specs.Originations.{originates}
 use Rattle.cp_load.proofs.originating.originates.Given as goal
 

@@ -1,6 +1,6 @@
 use Rattle.std.proofs.Common.{◌≡◌, ◌++◌, map, drop}
 use Rattle.cp_model.specs.Problem.{numbers_from}
-use Rattle.cp_skel.specs.View.{strand_view}
+use Rattle.cp_strand.specs.View.{strand_view}
 use Rattle.cp_load.proofs.values.numbers_of.Given as goal
 
 abbrev pub invariant-loop-number : goal.invariant-loop-number

@@ -1,6 +1,5 @@
 use Rattle.std.proofs.Common.{map, sym, ap, ◌∙◌, ◌++◌}
 use Rattle.cp_language.specs.Problems.{pairs_in}
-use Rattle.cp_skel.specs.View.{pair_view}
 use Rattle.cp_load.proofs.OwnParts.{pairs-taken, pairs-left}
 use Rattle.cp_load.proofs.values.pairs_of.Goals as goal
 use Rattle.cp_load.proofs.values.pairs_of.Goals.{then-is_precedes+in_ok-add_pairs, else-is_precedes}
@@ -8,14 +7,14 @@ use Rattle.cp_load.proofs.values.pairs_of.Goals.{then-is_precedes+in_ok-add_pair
 pub loop-item-preserved : goal.loop-item-preserved
 loop-item-preserved c =
     let l = c.loop-item in
-    let before = map pair_view l.pairs.items in
-    let after = map pair_view c.if-is_precedes.pairs.items in
+    let before = l.pairs.items in
+    let after = c.if-is_precedes.pairs.items in
     elim c.if-is_precedes.branch [
       | then-is_precedes+in_ok-add_pairs w ↦
           pairs-taken c.args.body.now l.item-index c.item-item.result c.loop-item-test.true c.item-item.is before after _ l.invariant
           (sym w.if-is_precedes.true ∙ c.is_precedes.ensures)
-          (ap (λ v. map pair_view v.items) w.pairs-is ∙ w.in_ok-add_pairs.ensures ∙ ap (λ fs. before ++ pairs_in fs) w.items_behind.ensures)
+          (ap (λ v. v.items) w.pairs-is ∙ w.in_ok-add_pairs.ensures ∙ ap (λ fs. before ++ pairs_in fs) w.items_behind.ensures)
       | else-is_precedes w ↦
           pairs-left c.args.body.now l.item-index c.item-item.result c.loop-item-test.true c.item-item.is before after _ l.invariant
-          (sym w.if-is_precedes.false ∙ c.is_precedes.ensures) (ap (λ v. map pair_view v.items) w.pairs-is)
+          (sym w.if-is_precedes.false ∙ c.is_precedes.ensures) (ap (λ v. v.items) w.pairs-is)
     ]

@@ -1,5 +1,5 @@
 use Rattle.std.proofs.Common.{◌≡◌, ◌++◌, map, drop}
-use Rattle.cp_skel.specs.View.{declaration_view}
+use Rattle.cp_strand.specs.View.{declaration_view}
 use Rattle.cp_skel.specs.Trees.{variables_view}
 use Rattle.cp_load.proofs.values.table_of.Given as goal
 

@@ -1,6 +1,6 @@
 use Rattle.std.proofs.Common.{◌≡◌, ◌++◌, map, drop}
 use Rattle.cp_model.specs.Problem.{variable_terms}
-use Rattle.cp_skel.specs.View.{declaration_view}
+use Rattle.cp_strand.specs.View.{declaration_view}
 use Rattle.cp_load.proofs.values.variable_terms.Given as goal
 
 abbrev pub invariant-loop-number : goal.invariant-loop-number

@@ -1,4 +1,4 @@
-use Rattle.cp_normal.proofs.Having.{not_both}
+use Rattle.cp_collapse.proofs.Having.{not_both}
 use Rattle.cp_normal.proofs.Following.{dropped_place, settled_place}
 use Rattle.cp_normal.proofs.candidates.narrow.Goals as goal
 

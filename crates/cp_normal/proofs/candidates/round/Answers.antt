@@ -1,5 +1,6 @@
 use Rattle.std.proofs.Common.{sym, ◌∙◌}
-use Rattle.cp_normal.proofs.Following.{at_first, next_part, all_done, next_is_in, empty_list}
+use Rattle.std.proofs.lemmas.List.{nil_from_length}
+use Rattle.cp_normal.proofs.Following.{at_first, next_part, all_done, next_is_in}
 use Rattle.cp_normal.proofs.candidates.round.Goals as goal
 
 pub loop-candidate-init : goal.loop-candidate-init
@@ -13,4 +14,4 @@ loop-candidate-preserved c = next_part _ _ _ _ _ c.in-Some.candidate c.loop-cand
 
 pub returns : goal.returns
 returns c =
-    all_done c.args.candidates.items _ c.loop-candidate.rest.items _ c.reverse.ensures.items (empty_list c.loop-candidate.rest.items (sym c.loop-candidate.rest.ok.0 ∙ c.in_default.ensures.cases.0)) c.loop-candidate.invariant
+    all_done c.args.candidates.items _ c.loop-candidate.rest.items _ c.reverse.ensures.items (nil_from_length c.loop-candidate.rest.items (sym c.loop-candidate.rest.ok.0 ∙ c.in_default.ensures.cases.0)) c.loop-candidate.invariant

@@ -1,12 +1,14 @@
-use Rattle.std.proofs.Common.{refl}
-use Rattle.cp_normal.proofs.Having.{not_both, found, next, none}
+use Rattle.cp_model.specs.Strand.{payload}
+use Rattle.cp_model.specs.Term.{atom_term, IsCarriedByTerm}
+use Rattle.cp_skel.specs.Events.{occurrence_view}
+use Rattle.cp_collapse.proofs.Having.{item_found, item_passed, no_item}
 use Rattle.cp_normal.proofs.carrying.carries_one.Goals as goal
 
 pub returns-then-carries_value : goal.returns-then-carries_value
-returns-then-carries_value c = (λ _. found _ _ _ _ c.loop-value-test.true c.value-item.is (c.carries_value.ensures.0 c.if-carries_value.true), λ _. refl)
+returns-then-carries_value c = item_found (λ v. IsCarriedByTerm (atom_term v) (payload (occurrence_view c.args.occurrence.now).event)) _ _ _ c.loop-value-test.true c.value-item.is c.carries_value.ensures c.if-carries_value.true
 
 pub loop-value-preserved : goal.loop-value-preserved
-loop-value-preserved c = λ h. next _ _ _ _ c.loop-value-test.true c.value-item.is (λ p. not_both c.if-carries_value.false (c.carries_value.ensures.1 p)) (c.loop-value.invariant h)
+loop-value-preserved c = item_passed (λ v. IsCarriedByTerm (atom_term v) (payload (occurrence_view c.args.occurrence.now).event)) _ _ _ c.loop-value-test.true c.value-item.is c.carries_value.ensures c.if-carries_value.false c.loop-value.invariant
 
 pub returns : goal.returns
-returns c = (λ r. absurd (not_both refl r), λ h. absurd (none _ _ _ c.loop-value-test.false (c.loop-value.invariant h)))
+returns c = no_item (λ v. IsCarriedByTerm (atom_term v) (payload (occurrence_view c.args.occurrence.now).event)) _ _ c.loop-value-test.false c.loop-value.invariant

@@ -2,7 +2,7 @@ use Rattle.std.proofs.Common.{drop}
 use Rattle.cp_model.specs.Strand.{payload}
 use Rattle.cp_model.specs.Term.{atom_term, IsCarriedByTerm}
 use Rattle.cp_skel.specs.Events.{occurrence_view}
-use Rattle.cp_normal.specs.Events.{Has}
+use Rattle.cp_collapse.specs.Having.{Has}
 use Rattle.cp_normal.proofs.carrying.carries_one.Given as goal
 
 abbrev pub invariant-loop-value : goal.invariant-loop-value

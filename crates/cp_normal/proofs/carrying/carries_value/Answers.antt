@@ -1,5 +1,5 @@
 use Rattle.std.proofs.Common.{sym}
-use Rattle.cp_normal.proofs.Having.{same_carried}
+use Rattle.cp_collapse.proofs.Having.{same_carried}
 use Rattle.cp_normal.proofs.carrying.carries_value.Goals as goal
 
 pub returns : goal.returns

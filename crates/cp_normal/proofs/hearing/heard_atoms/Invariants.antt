@@ -1,6 +1,5 @@
 use Rattle.std.proofs.Common.{◌≡◌, [], map, drop}
 use Rattle.cp_model.specs.Given.{atoms_onto}
-use Rattle.cp_model.specs.RunView.{node_view}
 use Rattle.cp_skel.specs.Events.{occurrence_view}
 use Rattle.cp_normal.specs.Hearing.{heard_among}
 use Rattle.cp_normal.proofs.hearing.heard_atoms.Given as goal
@@ -8,5 +7,5 @@ use Rattle.cp_normal.proofs.hearing.heard_atoms.Given as goal
 -- with the events that are left, all is heard
 abbrev pub invariant-loop-occurrence : goal.invariant-loop-occurrence
 invariant-loop-occurrence l =
-    atoms_onto l.atoms.items (heard_among (node_view l.node) (map occurrence_view (drop l.occurrence-index l.occurrences)))
-    ≡ atoms_onto [] (heard_among (node_view l.node) (map occurrence_view l.occurrences))
+    atoms_onto l.atoms.items (heard_among l.node (map occurrence_view (drop l.occurrence-index l.occurrences)))
+    ≡ atoms_onto [] (heard_among l.node (map occurrence_view l.occurrences))

@@ -1,7 +1,7 @@
 use Rattle.std.proofs.Common.{sym, subst, ◌∙◌}
+use Rattle.std.proofs.lemmas.List.{nil_from_length}
 use Rattle.cp_skel.specs.Data.{SkeletonData as Skeleton}
 use Rattle.cp_normal.specs.Candidates.{PutsForm}
-use Rattle.cp_normal.proofs.Following.{empty_list}
 use Rattle.cp_normal.proofs.Gathered.{none_so_far, next_form, all_forms}
 use Rattle.cp_normal.proofs.normalising.forms_of.Goals as goal
 
@@ -15,4 +15,4 @@ loop-candidate-preserved c =
 
 pub returns : goal.returns
 returns c =
-    all_forms c.args.candidates.items _ c.loop-candidate.rest.items _ c.reverse.ensures.items (empty_list c.loop-candidate.rest.items (sym c.loop-candidate.rest.ok.0 ∙ c.in_default.ensures.cases.0)) c.loop-candidate.invariant
+    all_forms c.args.candidates.items _ c.loop-candidate.rest.items _ c.reverse.ensures.items (nil_from_length c.loop-candidate.rest.items (sym c.loop-candidate.rest.ok.0 ∙ c.in_default.ensures.cases.0)) c.loop-candidate.invariant

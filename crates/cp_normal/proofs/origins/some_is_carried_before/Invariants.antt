@@ -1,6 +1,7 @@
 use Rattle.std.proofs.Common.{drop}
 use Rattle.cp_skel.specs.Events.{occurrence_view}
-use Rattle.cp_normal.specs.Events.{Has, IsCarriedBefore}
+use Rattle.cp_collapse.specs.Having.{Has}
+use Rattle.cp_normal.specs.Events.{IsCarriedBefore}
 use Rattle.cp_normal.proofs.origins.some_is_carried_before.Given as goal
 
 abbrev pub invariant-loop-occurrence : goal.invariant-loop-occurrence

@@ -1,5 +1,6 @@
 use Rattle.cp_skel.specs.Events.{occurrence_view}
-use Rattle.cp_normal.specs.Events.{Has, IsPairBetween}
+use Rattle.cp_collapse.specs.Having.{Has}
+use Rattle.cp_normal.specs.Events.{IsPairBetween}
 use Rattle.cp_normal.proofs.Gathering.{step, end}
 use Rattle.cp_normal.proofs.pairs.add_pairs.Goals as goal
 

@@ -1,10 +1,9 @@
-use Rattle.std.proofs.Common.{map}
-use Rattle.cp_skel.specs.View.{pair_view}
 use Rattle.cp_skel.specs.Events.{occurrence_view}
-use Rattle.cp_normal.specs.Events.{Has, IsPairBetween}
+use Rattle.cp_collapse.specs.Having.{Has}
+use Rattle.cp_normal.specs.Events.{IsPairBetween}
 use Rattle.cp_normal.proofs.Gathering.{IsGathering}
 use Rattle.cp_normal.proofs.pairs.add_pairs.Given as goal
 
 abbrev pub invariant-loop-occurrence : goal.invariant-loop-occurrence
 invariant-loop-occurrence l =
-    IsGathering (λ o p. Has (λ u. IsPairBetween (occurrence_view o) u p) l.uniques) l.occurrences l.occurrence-index (map pair_view l.initial.pairs.items) (map pair_view l.pairs.items)
+    IsGathering (λ o p. Has (λ u. IsPairBetween (occurrence_view o) u p) l.uniques) l.occurrences l.occurrence-index l.initial.pairs.items l.pairs.items

@@ -1,8 +1,6 @@
-use Rattle.std.proofs.Common.{map, ap, subst, sym, ◌∙◌}
+use Rattle.std.proofs.Common.{ap, subst, sym, ◌∙◌}
 use Rattle.std.specs.Prelude.{IfSome, IfNone}
-use Rattle.std.proofs.lemmas.List.{map-append}
-use Rattle.cp_model.specs.Skeleton.{OrderPair}
-use Rattle.cp_skel.specs.View.{pair_view}
+use Rattle.cp_model.specs.declared.node.OrderPair.{OrderPair}
 use Rattle.cp_skel.specs.Events.{occurrence_view}
 use Rattle.cp_normal.specs.Events.{IsPairBetween}
 use Rattle.cp_normal.proofs.Gathering.{step, end, puts_one, puts_none}
@@ -16,13 +14,13 @@ loop-unique-preserved c =
       | in-Some+in_ok-push w ↦
           step (λ u p. IsPairBetween o u p) c.args.uniques.now _ _ _ _ c.unique-item.result c.loop-unique-test.true c.unique-item.is
           (puts_one (λ u p. IsPairBetween o u p) c.args.uniques.now c.unique-item.result _ _ _
-          (subst (λ r. IfSome r (λ q. IsPairBetween o c.unique-item.result (pair_view q))) w.in-Some.is c.pair_between.ensures.some)
-          (λ p h. sym (h.4 ∙ sym (subst (λ r. IfSome r (λ q. IsPairBetween o c.unique-item.result (pair_view q))) w.in-Some.is c.pair_between.ensures.some).4))
-          (ap (map pair_view) (ap (λ v. v.items) w.pairs-is ∙ w.in_ok-push.ensures.items) ∙ map-append pair_view _ _))
+          (subst (λ r. IfSome r (λ q. IsPairBetween o c.unique-item.result q)) w.in-Some.is c.pair_between.ensures.some)
+          (λ p h. sym (h.4 ∙ sym (subst (λ r. IfSome r (λ q. IsPairBetween o c.unique-item.result q)) w.in-Some.is c.pair_between.ensures.some).4))
+          (ap (λ v. v.items) w.pairs-is ∙ w.in_ok-push.ensures.items))
           c.loop-unique.invariant
       | in_default w ↦
           step (λ u p. IsPairBetween o u p) c.args.uniques.now _ _ _ _ c.unique-item.result c.loop-unique-test.true c.unique-item.is
-          (puts_none (λ u p. IsPairBetween o u p) c.args.uniques.now c.unique-item.result _ _ (ap (λ v. map pair_view v.items) w.pairs-is)
+          (puts_none (λ u p. IsPairBetween o u p) c.args.uniques.now c.unique-item.result _ _ (ap (λ v. v.items) w.pairs-is)
           (subst (λ r. IfNone r ((p : OrderPair) → IsPairBetween o c.unique-item.result p → ⊥)) w.in_default.is c.pair_between.ensures.none))
           c.loop-unique.invariant
     ]

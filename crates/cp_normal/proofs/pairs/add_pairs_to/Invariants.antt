@@ -1,5 +1,3 @@
-use Rattle.std.proofs.Common.{map}
-use Rattle.cp_skel.specs.View.{pair_view}
 use Rattle.cp_skel.specs.Events.{occurrence_view}
 use Rattle.cp_normal.specs.Events.{IsPairBetween}
 use Rattle.cp_normal.proofs.Gathering.{IsGathering}
@@ -7,4 +5,4 @@ use Rattle.cp_normal.proofs.pairs.add_pairs_to.Given as goal
 
 abbrev pub invariant-loop-unique : goal.invariant-loop-unique
 invariant-loop-unique l =
-    IsGathering (λ u p. IsPairBetween (occurrence_view l.occurrence) u p) l.uniques l.unique-index (map pair_view l.initial.pairs.items) (map pair_view l.pairs.items)
+    IsGathering (λ u p. IsPairBetween (occurrence_view l.occurrence) u p) l.uniques l.unique-index l.initial.pairs.items l.pairs.items

@@ -1,7 +1,7 @@
 use Rattle.cp_language.specs.Printed.{pattern_form}
 use Rattle.cp_language.specs.Report.{named_by}
 use Rattle.cp_sexpr.specs.View.{view}
-use Rattle.cp_print.proofs.APatternForms.{one_more}
+use Rattle.cp_print.proofs.PatternForms.{one_more}
 use Rattle.cp_print.proofs.assumptions.pattern_forms.Goals as goal
 
 pub loop-pattern-preserved : goal.loop-pattern-preserved

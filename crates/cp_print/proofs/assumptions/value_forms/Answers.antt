@@ -2,7 +2,7 @@ use Rattle.std.proofs.Common.{◌≤◌, ◌++◌, map, length, min, sym, ap, �
 use Rattle.std.proofs.lemmas.List.{append-nil}
 use Rattle.cp_sexpr.specs.View.{view}
 use Rattle.cp_print.specs.Named.{named_in}
-use Rattle.cp_print.proofs.BValueForms.{values_done}
+use Rattle.cp_print.proofs.ValueForms.{values_done}
 use Rattle.cp_print.proofs.assumptions.value_forms.Goals as goal
 
 pub returns : goal.returns

@@ -1,7 +1,7 @@
 use Rattle.std.proofs.Common.{◌≡◌, map, drop}
 use Rattle.cp_language.specs.Printed.{variable, place_among}
-use Rattle.cp_skel.specs.View.{sort_view}
-use Rattle.cp_print.specs.Named.{variable_view}
+use Rattle.cp_strand.specs.View.{sort_view}
+use Rattle.cp_scope.specs.Terms.{variable_view}
 use Rattle.cp_print.proofs.naming.place_among.Given as goal
 
 abbrev pub invariant-loop-place : goal.invariant-loop-place

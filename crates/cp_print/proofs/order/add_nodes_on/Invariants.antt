@@ -1,7 +1,6 @@
-use Rattle.std.proofs.Common.{◌≡◌, ◌++◌, ◌-◌, map}
-use Rattle.cp_model.specs.RunView.{node_view}
+use Rattle.std.proofs.Common.{◌≡◌, ◌++◌, ◌-◌}
 use Rattle.cp_print.specs.Order.{nodes_counted}
 use Rattle.cp_print.proofs.order.add_nodes_on.Given as goal
 
 abbrev pub invariant-loop-index : goal.invariant-loop-index
-invariant-loop-index l = map node_view l.nodes.items ++ nodes_counted l.strand l.index (l.count - l.index) ≡ map node_view l.fn.nodes.items ++ nodes_counted l.strand 0 l.count
+invariant-loop-index l = l.nodes.items ++ nodes_counted l.strand l.index (l.count - l.index) ≡ l.fn.nodes.items ++ nodes_counted l.strand 0 l.count

@@ -3,7 +3,7 @@ use Rattle.cp_language.specs.Report.{labels_from}
 use Rattle.cp_sexpr.specs.View.{view}
 use Rattle.cp_skel.specs.Trees.{label_view}
 use Rattle.cp_print.proofs.Writings.{leaves_all, leaves_more, leaves_front, leaves_stop, leaves_none}
-use Rattle.cp_print.proofs.DTrees.{OnErr-from}
+use Rattle.cp_sexpr.proofs.Spelled.{OnErr-from}
 use Rattle.cp_print.proofs.Entries.{labels_next, labels_done}
 use Rattle.cp_print.proofs.report.put_labels.Goals as goal
 

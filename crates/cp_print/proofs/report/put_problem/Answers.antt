@@ -3,7 +3,7 @@ use Rattle.cp_language.specs.Report.{tree_forms}
 use Rattle.cp_load.specs.Inputs.{problem_view}
 use Rattle.cp_sexpr.specs.View.{view}
 use Rattle.cp_skel.specs.Trees.{tree_view}
-use Rattle.cp_print.proofs.DTrees.{OnErr-from}
+use Rattle.cp_sexpr.proofs.Spelled.{OnErr-from}
 use Rattle.cp_print.proofs.Writings.{written_both, first_failed, second_failed}
 use Rattle.cp_print.proofs.report.put_problem.Goals as goal
 

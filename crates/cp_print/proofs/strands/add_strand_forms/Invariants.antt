@@ -1,7 +1,7 @@
 use Rattle.std.proofs.Common.{◌≡◌, ◌++◌, map, drop}
 use Rattle.cp_language.specs.Report.{strand_form}
 use Rattle.cp_sexpr.specs.View.{view}
-use Rattle.cp_skel.specs.View.{strand_view}
+use Rattle.cp_strand.specs.View.{strand_view}
 use Rattle.cp_print.specs.Named.{named_in}
 use Rattle.cp_print.proofs.strands.add_strand_forms.Given as goal
 

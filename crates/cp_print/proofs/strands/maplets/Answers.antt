@@ -2,7 +2,7 @@ use Rattle.std.proofs.Common.{◌∙◌, sym, map}
 use Rattle.cp_model.specs.Homomorphism.{substitution_by}
 use Rattle.cp_sexpr.specs.View.{view}
 use Rattle.cp_print.specs.Named.{named_in}
-use Rattle.cp_print.proofs.BStrands.{maplet_skipped}
+use Rattle.cp_print.proofs.MarkedForms.{maplet_skipped}
 use Rattle.cp_print.proofs.strands.maplets.Goals as goal
 
 pub loop-number-preserved-then-not-is_marked : goal.loop-number-preserved-then-not-is_marked

@@ -1,8 +1,8 @@
 use Rattle.std.proofs.Common.{◌≡◌, ◌++◌, map, drop}
 use Rattle.cp_model.specs.Homomorphism.{substitution_by}
 use Rattle.cp_sexpr.specs.View.{view}
-use Rattle.cp_skel.specs.View.{declaration_view}
-use Rattle.cp_print.specs.Marks.{maplets_by}
+use Rattle.cp_strand.specs.View.{declaration_view}
+use Rattle.cp_print.specs.MarkedForms.{maplets_by}
 use Rattle.cp_print.specs.Named.{named_in}
 use Rattle.cp_print.proofs.strands.maplets.Given as goal
 

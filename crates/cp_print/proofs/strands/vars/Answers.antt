@@ -1,6 +1,6 @@
 use Rattle.std.proofs.Common.{◌∙◌, sym, map}
 use Rattle.cp_sexpr.specs.View.{view}
-use Rattle.cp_print.proofs.BStrands.{var_skipped}
+use Rattle.cp_print.proofs.MarkedForms.{var_skipped}
 use Rattle.cp_print.proofs.strands.vars.Goals as goal
 
 pub loop-number-preserved-then-not-is_marked : goal.loop-number-preserved-then-not-is_marked

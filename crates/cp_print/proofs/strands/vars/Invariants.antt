@@ -1,7 +1,7 @@
 use Rattle.std.proofs.Common.{◌≡◌, ◌++◌, map, drop}
 use Rattle.cp_sexpr.specs.View.{view}
-use Rattle.cp_skel.specs.View.{declaration_view}
-use Rattle.cp_print.specs.Marks.{vars_by}
+use Rattle.cp_strand.specs.View.{declaration_view}
+use Rattle.cp_print.specs.MarkedForms.{vars_by}
 use Rattle.cp_print.proofs.strands.vars.Given as goal
 
 abbrev pub invariant-loop-number : goal.invariant-loop-number

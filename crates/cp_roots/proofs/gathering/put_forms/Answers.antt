@@ -1,6 +1,6 @@
 use Rattle.std.proofs.Common.{sym, ◌∙◌}
+use Rattle.std.proofs.lemmas.List.{nil_from_length}
 use Rattle.cp_skel.specs.Trees.{operation_view}
-use Rattle.cp_normal.proofs.Following.{empty_list}
 use Rattle.cp_roots.proofs.PutForms.{next_put, all_put}
 use Rattle.cp_roots.proofs.gathering.put_forms.Goals as goal
 
@@ -12,4 +12,4 @@ loop-skeleton-preserved c =
 pub returns : goal.returns
 returns c =
     all_put (operation_view c.args.operation.now) c.args.forms.items _ c.loop-skeleton.rest.items _ c.loop-skeleton.roots.items c.reverse.ensures.items
-    (empty_list c.loop-skeleton.rest.items (sym c.loop-skeleton.rest.ok.0 ∙ c.in_default.ensures.cases.0)) c.loop-skeleton.invariant
+    (nil_from_length c.loop-skeleton.rest.items (sym c.loop-skeleton.rest.ok.0 ∙ c.in_default.ensures.cases.0)) c.loop-skeleton.invariant

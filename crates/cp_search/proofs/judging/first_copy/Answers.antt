@@ -11,7 +11,7 @@ loop-number-preserved-then-not-may_embed c =
     let other = c.index-judged-number.result in
     let listed = listed_here c.args.judged.now c.loop-number.number other c.loop-number-test.true c.index-judged-number.is k in
     none_next (IsCopyAt (map judged_skeleton c.args.judged.now) k) c.loop-number.number c.loop-number.invariant
-    (kept_apart c.args.judged.now c.loop-number.number other c.loop-number-test.true c.index-judged-number.is k other.fingerprint c.args.fingerprint c.may_embed.result (c.requires.fingerprints other listed) c.requires.fingerprint c.if-not-may_embed.true c.may_embed.ensures.kept)
+    (kept_apart c.args.judged.now c.loop-number.number other c.loop-number-test.true c.index-judged-number.is k other.fingerprint c.args.fingerprint.now c.may_embed.result (c.requires.fingerprints other listed) c.requires.fingerprint c.if-not-may_embed.true c.may_embed.ensures.kept)
 
 pub returns-then-branch : goal.returns-then-branch
 returns-then-branch c = record {

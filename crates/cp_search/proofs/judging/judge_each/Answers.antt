@@ -1,5 +1,5 @@
 use Rattle.std.proofs.Common.{sym, ◌∙◌}
-use Rattle.cp_normal.proofs.Following.{empty_list}
+use Rattle.std.proofs.lemmas.List.{nil_from_length}
 use Rattle.cp_search.proofs.Judgings.{none_judged, before_fingerprints, next_judged, all_judged}
 use Rattle.cp_search.proofs.judging.judge_each.Goals as goal
 
@@ -17,6 +17,6 @@ loop-root-preserved c =
 
 pub returns : goal.returns
 returns c = record {
-  roots = all_judged c.args.roots.items c.loop-root.rest.items _ c.loop-root.invariant (empty_list c.loop-root.rest.items (sym c.loop-root.rest.ok.0 ∙ c.in_default.ensures.cases.0));
+  roots = all_judged c.args.roots.items c.loop-root.rest.items _ c.loop-root.invariant (nil_from_length c.loop-root.rest.items (sym c.loop-root.rest.ok.0 ∙ c.in_default.ensures.cases.0));
   judged = c.loop-root.invariant.each;
 }

@@ -6,12 +6,12 @@ use Rattle.cp_sexpr.proofs.piece.next_piece.Goals as goal
 pub returns-in_default-first-clause-piece : goal.returns-in_default-first-clause-piece
 returns-in_default-first-clause-piece c =
     let is_token : IsTokenByte c.in-Some.first.now = grind arith in
-    token_text c.args.bytes.now c.in-Some.first.now c.in-Some.rest.now c.token_length.result c.text_of.result.now c.split_at-in_default-first.result.1.now
-    c.in-Some.ensures.cases.0 is_token c.token_length.ensures (c.text_of.ensures ∙ c.split_at-in_default-first.ensures.front) c.split_at-in_default-first.ensures.back
+    token_text c.args.bytes.now c.in-Some.first.now c.in-Some.rest.now c.run_length-in_default-first.result c.text_of.result.now c.split_at-in_default-first.result.1.now
+    c.in-Some.ensures.cases.0 is_token c.run_length-in_default-first.ensures (c.text_of.ensures ∙ c.split_at-in_default-first.ensures.front) c.split_at-in_default-first.ensures.back
 
 pub text_of-requires : goal.text_of-requires
 text_of-requires c =
-    subst IsAscii (sym c.split_at-in_default-first.ensures.front) (token_ascii c.args.bytes.now c.token_length.result c.token_length.ensures)
+    subst IsAscii (sym c.split_at-in_default-first.ensures.front) (token_ascii c.args.bytes.now c.run_length-in_default-first.result c.run_length-in_default-first.ensures)
 
 pub returns-in_default-2-clause-refused : goal.returns-in_default-2-clause-refused
 returns-in_default-2-clause-refused c opened =

@@ -1,8 +1,11 @@
-use Rattle.std.proofs.Common.{◌≡◌, ℕ, List, ◌++◌, drop}
-use Rattle.cp_sexpr.specs.Spelling.{first_spelling, next_spelling}
+use Rattle.std.proofs.Common.{◌≡◌, ℕ, List, ◌∷◌, ◌++◌, drop}
+use Rattle.cp_sexpr.specs.ListSpelling.{next_by, first_by}
+use Rattle.cp_sexpr.specs.Pieces.{open_parenthesis}
 use Rattle.cp_sexpr.specs.View.{views}
 use Rattle.cp_sexpr.proofs.writing.+write.Given as goal
 
--- what was appended, and the items that are left, make all the items
-abbrev pub invariant-write_items-loop-item : goal.invariant-write_items-loop-item
-invariant-write_items-loop-item l = (done : List ℕ) × (l.out.items ≡ l.fn.out.items ++ done) × (first_spelling (views l.fn.items) ≡ done ++ next_spelling (views (drop l.item-index l.others)))
+-- what was appended behind the parenthesis, and the items that are left, make all the items
+abbrev pub invariant-write_list-loop-item : goal.invariant-write_list-loop-item
+invariant-write_list-loop-item l =
+    (done : List ℕ) × (l.out.items ≡ l.fn.out.items ++ open_parenthesis ∷ done)
+    × (first_by l.fn.is_top (views l.fn.items) ≡ done ++ next_by l.fn.is_top (views (drop l.item-index l.others)))

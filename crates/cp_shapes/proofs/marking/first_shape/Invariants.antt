@@ -1,5 +1,5 @@
 use Rattle.std.proofs.Common.{ℕ, List, drop}
-use Rattle.cp_model.specs.Lists.{IsIn}
+use Rattle.cp_lists.specs.Lists.{IsIn}
 use Rattle.cp_model.specs.Skeleton.{Skeleton}
 use Rattle.cp_shapes.specs.Shapes.{IsShapeOf}
 use Rattle.cp_shapes.specs.Rows.{rows_view, IsRowOf, AreRowsOf}

@@ -1,6 +1,6 @@
 use Rattle.std.proofs.Common.{◌∷◌, [], ap, ◌∙◌, sym}
-use Rattle.cp_skel.specs.View.{strand_view}
-use Rattle.cp_skel.specs.Shapes.{strand_of_shape}
+use Rattle.cp_strand.specs.View.{strand_view}
+use Rattle.cp_strand.specs.Shapes.{strand_of_shape}
 use Rattle.cp_skel.specs.Given.{with_given_from}
 use Rattle.cp_skel.proofs.StrandsGive.{strand-gives}
 use Rattle.cp_skel.proofs.adding.add_given.Goals as goal

@@ -2,7 +2,7 @@ use Rattle.std.proofs.Common.{◌++◌, ◌∷◌, [], map, ap, ◌∙◌}
 use Rattle.std.proofs.lemmas.List.{map-append}
 use Rattle.cp_model.specs.Bundle.{node_at}
 use Rattle.cp_model.specs.Skeleton.{skeleton_trace}
-use Rattle.cp_skel.specs.View.{event_view, strand_view}
+use Rattle.cp_strand.specs.View.{event_view, strand_view}
 use Rattle.cp_skel.specs.Events.{occurrence_view, is_role_strand}
 use Rattle.cp_skel.proofs.EventLists.{event_added, event_there}
 use Rattle.cp_skel.proofs.events.add_events.Goals as goal

@@ -1,6 +1,6 @@
 use Rattle.std.proofs.Common.{◌≡◌, ◌++◌, map, drop}
 use Rattle.cp_model.specs.Skeleton.{skeleton_trace}
-use Rattle.cp_skel.specs.View.{strand_view}
+use Rattle.cp_strand.specs.View.{strand_view}
 use Rattle.cp_skel.specs.Events.{occurrence_view, is_role_strand, occurrences_on}
 use Rattle.cp_skel.proofs.events.add_events.Given as goal
 

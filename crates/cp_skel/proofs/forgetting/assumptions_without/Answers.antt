@@ -1,5 +1,6 @@
 use Rattle.std.proofs.Common.{◌≡◌, map, sym, ap, ◌∙◌, subst}
-use Rattle.cp_skel.specs.View.{strand_view, skeleton_view}
+use Rattle.cp_strand.specs.View.{strand_view}
+use Rattle.cp_skel.specs.View.{skeleton_view}
 use Rattle.cp_skel.specs.Deleting.{as_it_is, LeavesOut, IsOriginOn, unique_renumbered, ForgetsAssumptions}
 use Rattle.cp_skel.proofs.GivenElsewhere.{kept_of}
 use Rattle.cp_skel.proofs.forgetting.assumptions_without.Goals as goal

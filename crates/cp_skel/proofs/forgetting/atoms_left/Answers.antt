@@ -2,7 +2,7 @@ use Rattle.std.proofs.Common.{[], subst, sym}
 use Rattle.cp_term.proofs.CarriedTerms.{not_both}
 use Rattle.cp_skel.specs.Kinds.{IsInFirstAlone}
 use Rattle.cp_skel.specs.Deleting.{LeavesOut, as_it_is, all_left}
-use Rattle.cp_skel.proofs.Leaving.{next_gone, next_left, all_taken, as_they_are}
+use Rattle.cp_skel.proofs.Leaving.{next_gone, next_left, all_taken}
 use Rattle.cp_skel.proofs.forgetting.atoms_left.Goals as goal
 
 pub loop-atom-init : goal.loop-atom-init
@@ -10,15 +10,13 @@ loop-atom-init c = subst (λ ys. LeavesOut (IsInFirstAlone c.args.gave.now c.arg
 
 pub loop-atom-preserved-then-is_in_first_alone : goal.loop-atom-preserved-then-is_in_first_alone
 loop-atom-preserved-then-is_in_first_alone c =
-    next_gone as_it_is (IsInFirstAlone c.args.gave.now c.args.elsewhere.now c.args.own.now) as_it_is c.args.atoms.now _ _ c.atom-item.result c.atom-item.result
+    next_gone (IsInFirstAlone c.args.gave.now c.args.elsewhere.now c.args.own.now) as_it_is c.args.atoms.now _ _ c.atom-item.result c.atom-item.result
     c.loop-atom-test.true c.atom-item.is (c.is_in_first_alone.ensures.0 c.if-is_in_first_alone.true) c.loop-atom.invariant
 
 pub loop-atom-preserved : goal.loop-atom-preserved
 loop-atom-preserved c =
-    next_left as_it_is (IsInFirstAlone c.args.gave.now c.args.elsewhere.now c.args.own.now) as_it_is c.args.atoms.now _ _ c.atom-item.result c.atom-item.result _ _
+    next_left (IsInFirstAlone c.args.gave.now c.args.elsewhere.now c.args.own.now) as_it_is c.args.atoms.now _ _ c.atom-item.result c.atom-item.result _ _
     c.loop-atom-test.true c.atom-item.is (λ g. not_both c.if-is_in_first_alone.false (c.is_in_first_alone.ensures.1 g)) c.in_ok-copy.ensures c.in_ok-push.ensures.items c.loop-atom.invariant
 
 pub returns : goal.returns
-returns c =
-    subst (λ xs. LeavesOut (IsInFirstAlone c.args.gave.now c.args.elsewhere.now c.args.own.now) as_it_is xs c.loop-atom.left.items) (as_they_are c.args.atoms.now)
-    (all_taken as_it_is (IsInFirstAlone c.args.gave.now c.args.elsewhere.now c.args.own.now) as_it_is c.args.atoms.now _ _ c.loop-atom-test.false c.loop-atom.invariant)
+returns c = all_taken (IsInFirstAlone c.args.gave.now c.args.elsewhere.now c.args.own.now) as_it_is c.args.atoms.now _ _ c.loop-atom-test.false c.loop-atom.invariant

@@ -1,10 +1,10 @@
 use Rattle.std.proofs.Common.{Vec, Global, sym, ap, ◌∙◌, subst}
 use Rattle.std.proofs.lemmas.Result.{IfOk-weaker}
 use Rattle.cp_model.specs.Homomorphism.{substitution_by}
-use Rattle.cp_skel.specs.View.{strand_view}
-use Rattle.cp_skel.specs.Shapes.{strand_of_shape}
+use Rattle.cp_strand.specs.View.{strand_view}
+use Rattle.cp_strand.specs.Shapes.{strand_of_shape}
 use Rattle.cp_skel.specs.Kinds.{stated_as}
-use Rattle.cp_skel.specs.declared.atom.Atom.{Atom}
+use Rattle.cp_strand.specs.declared.atom.Atom.{Atom}
 use Rattle.cp_skel.specs.Given.{IsGivenFrom, AddsOnce}
 use Rattle.cp_skel.proofs.GivenElsewhere.{adds_given}
 use Rattle.cp_skel.proofs.GivenParts.{atoms-given}

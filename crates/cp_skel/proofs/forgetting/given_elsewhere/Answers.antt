@@ -1,4 +1,4 @@
-use Rattle.cp_skel.specs.View.{strand_view}
+use Rattle.cp_strand.specs.View.{strand_view}
 use Rattle.cp_skel.specs.Kinds.{stated_as}
 use Rattle.cp_skel.proofs.GivenElsewhere.{next_passed, next_taken, none_elsewhere}
 use Rattle.cp_skel.proofs.forgetting.given_elsewhere.Goals as goal

@@ -1,7 +1,7 @@
 use Rattle.std.proofs.Common.{◌↔◌, map, take}
-use Rattle.cp_model.specs.Lists.{IsIn}
+use Rattle.cp_lists.specs.Lists.{IsIn}
 use Rattle.cp_model.specs.Term.{AtomTerm}
-use Rattle.cp_skel.specs.View.{strand_view}
+use Rattle.cp_strand.specs.View.{strand_view}
 use Rattle.cp_skel.specs.Kinds.{stated_as}
 use Rattle.cp_skel.specs.Deleting.{IsGivenElsewhere}
 use Rattle.cp_skel.proofs.forgetting.given_elsewhere.Given as goal

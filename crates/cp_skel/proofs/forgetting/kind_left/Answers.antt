@@ -1,9 +1,9 @@
 use Rattle.std.proofs.Common.{Vec, Global, map, ◌∙◌}
 use Rattle.std.proofs.lemmas.Result.{IfOk-weaker}
-use Rattle.cp_skel.specs.View.{strand_view}
+use Rattle.cp_strand.specs.View.{strand_view}
 use Rattle.cp_skel.specs.Kinds.{stated_as, IsInFirstAlone}
 use Rattle.cp_skel.specs.Deleting.{as_it_is, IsForgotten}
-use Rattle.cp_skel.specs.declared.atom.Atom.{Atom}
+use Rattle.cp_strand.specs.declared.atom.Atom.{Atom}
 use Rattle.cp_skel.proofs.GivenElsewhere.{forgotten_alone, leaves_same}
 use Rattle.cp_skel.proofs.forgetting.kind_left.Goals as goal
 

@@ -1,4 +1,4 @@
-use Rattle.std.proofs.Common.{◌≡◌, ◌++◌, map, drop}
+use Rattle.std.proofs.Common.{◌≡◌, ◌++◌, drop}
 use Rattle.cp_model.specs.Homomorphism.{substitution_by}
 use Rattle.cp_model.specs.Given.{applying_uniques, uniques_onto}
 use Rattle.cp_skel.proofs.giving.missing_uniques.Given as goal

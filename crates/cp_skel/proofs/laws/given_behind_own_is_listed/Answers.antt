@@ -1,4 +1,5 @@
-use Rattle.cp_skel.proofs.EachOnce.{atoms, uniques, listed-loaded}
+use Rattle.cp_model.proofs.Gathered.{atoms, uniques}
+use Rattle.cp_skel.proofs.EachOnce.{listed-loaded}
 use Rattle.cp_skel.proofs.laws.given_behind_own_is_listed.Goals as goal
 
 pub returns-clause-atoms : goal.returns-clause-atoms

@@ -2,9 +2,10 @@ use Rattle.std.proofs.Common.{◌++◌, ◌∷◌, [], map, sym, ap, ◌∙◌, 
 use Rattle.cp_model.specs.Skeleton.{Skeleton}
 use Rattle.cp_skel.specs.Changing.{AddsStrand}
 use Rattle.cp_skel.specs.Parts.{skeleton_of_parts}
-use Rattle.cp_skel.specs.View.{strand_view, skeleton_view}
-use Rattle.cp_skel.proofs.Gathering.{views_push}
-use Rattle.cp_skel.proofs.Items.{map-length}
+use Rattle.cp_strand.specs.View.{strand_view}
+use Rattle.cp_skel.specs.View.{skeleton_view}
+use Rattle.std.proofs.lemmas.List.{map_push}
+use Rattle.cp_strand.proofs.Items.{map-length}
 use Rattle.cp_skel.proofs.Changed.{strand-added}
 use Rattle.cp_skel.proofs.SoundSkeletons.{strand_sound}
 use Rattle.cp_skel.proofs.skeleton.Skeleton.add_strand.Goals as goal
@@ -23,7 +24,7 @@ adds c =
     c.in_ok-more.more c.in_ok-assumptions.assumptions c.append.new.self
     c.in_ok-instance.ensures.role c.in_ok-instance.ensures.height c.in_ok-assumptions.ensures c.in_ok-append.ensures.joined
     (map strand_view c.push.new.self.items) [] c.len-number.result c.in_ok-instance.ensures.terms c.requires.values
-    (ap (map strand_view) c.in_ok-push.ensures.items ∙ views_push strand_view strands.items c.in_ok-strand.strand
+    (ap (map strand_view) c.in_ok-push.ensures.items ∙ map_push strand_view strands.items c.in_ok-strand.strand
     ∙ ap (λ s. map strand_view strands.items ++ strand_view s ∷ []) c.in_ok-strand.ensures)
     (c.len-number.ensures ∙ strands.ok.0 ∙ sym (map-length strand_view strands.items)) c.in_ok-more.ensures
 

@@ -1,7 +1,6 @@
 use Rattle.std.proofs.Common.{◌↔◌, sym, subst}
 use Rattle.std.specs.Prelude.{IsTrue}
 use Rattle.cp_model.specs.Skeleton.{IsNodeOf, Before}
-use Rattle.cp_model.specs.RunView.{node_view}
 use Rattle.cp_skel.specs.Parts.{skeleton_of_parts}
 use Rattle.cp_skel.specs.View.{skeleton_view}
 use Rattle.cp_skel.proofs.OrderKept.{asked_before}
@@ -12,9 +11,9 @@ use Rattle.cp_skel.proofs.skeleton.Skeleton.before.Goals as goal
 pub returns-then-ne : goal.returns-then-ne
 returns-then-ne c =
     let k = skeleton_view (skeleton_of_parts c.self.inside) in
-    let there : IsNodeOf k.strands (node_view c.args.m) = subst (λ d. IsNodeOf (skeleton_view d).strands (node_view c.args.m)) (sym c.self.view_is) c.requires.second in
+    let there : IsNodeOf k.strands c.args.m = subst (λ d. IsNodeOf (skeleton_view d).strands c.args.m) (sym c.self.view_is) c.requires.second in
     record {
-      exact = subst (λ d. IsTrue c.leads_to.result ↔ Before (skeleton_view d) (node_view c.args.n) (node_view c.args.m)) c.self.view_is
-          (asked_before k (node_view c.args.n) (node_view c.args.m) c.leads_to.result (sound_ordered k c.self.invariant) there
-          (tested_apart (node_view c.args.n) (node_view c.args.m) c.if-ne.ensures) c.leads_to.ensures);
+      exact = subst (λ d. IsTrue c.leads_to.result ↔ Before (skeleton_view d) c.args.n c.args.m) c.self.view_is
+          (asked_before k c.args.n c.args.m c.leads_to.result (sound_ordered k c.self.invariant) there
+          (tested_apart c.args.n c.args.m c.if-ne.ensures) c.leads_to.ensures);
     }

@@ -1,11 +1,13 @@
 use Rattle.std.proofs.Common.{◌≡◌, map, ap, sym, ◌∙◌, subst}
 use Rattle.std.specs.List.{remove}
+use Rattle.cp_lists.specs.Lists.{IsIn}
 use Rattle.cp_model.specs.Skeleton.{Skeleton}
 use Rattle.cp_skel.specs.Bridging.{IsWithoutStrand}
 use Rattle.cp_skel.specs.Deleting.{ForgetsAssumptions, KeepsOrderOfOthers}
 use Rattle.cp_skel.specs.Ordered.{IsOrdered}
 use Rattle.cp_skel.specs.Parts.{skeleton_of_parts}
-use Rattle.cp_skel.specs.View.{strand_view, pair_view, skeleton_view}
+use Rattle.cp_strand.specs.View.{strand_view}
+use Rattle.cp_skel.specs.View.{skeleton_view}
 use Rattle.cp_skel.proofs.Numbering.{removed_map}
 use Rattle.cp_skel.proofs.OrderWithout.{keeps_order_anew, is_ordered_anew}
 use Rattle.cp_skel.proofs.SoundSkeletons.{sound_ordered, deleted_sound}
@@ -28,20 +30,24 @@ strands_left c = ap (map strand_view) c.remove.ensures.items ∙ removed_map str
 without : (c : goal.After-drop-self-inside-11) → IsWithoutStrand c.args.strand (before c).pairs c.of-order.result
 without c =
     subst (IsWithoutStrand c.args.strand (before c).pairs) (sym c.of-order.ensures)
-    (subst (λ ps. IsWithoutStrand c.args.strand ps (map pair_view c.in_ok-pairs.pairs.items)) c.pairs.ensures c.in_ok-pairs.ensures)
+    (subst (λ ps. IsWithoutStrand c.args.strand ps c.in_ok-pairs.pairs.items) c.pairs.ensures c.in_ok-pairs.ensures)
 
 ordered : (c : goal.After-drop-self-inside-11) → IsOrdered (left c)
 ordered c = is_ordered_anew (before c) (left c) c.args.strand c.of-order.result (strands_left c) (without c) c.in_ok-close.ensures.keeps (sound_ordered (before c) c.self.invariant)
 
+others : (c : goal.After-drop-self-inside-11) → KeepsOrderOfOthers c.args.strand (before c) (left c)
+others c = keeps_order_anew (before c) (left c) c.args.strand c.of-order.result (strands_left c) (without c) c.in_ok-close.ensures.keeps (sound_ordered (before c) c.self.invariant)
+
 pub invariant_of-self : goal.invariant_of-self
 invariant_of-self c =
-    deleted_sound c.args.strand (before c) (left c) c.self.invariant (strands_left c)
-    (subst (λ d. ForgetsAssumptions c.args.strand (skeleton_view d) (left c).assumptions) (sym c.self.view_is) c.in_ok-assumptions.ensures) (ordered c)
+    deleted_sound c.args.strand (before c) (left c) c.self.invariant
+    (subst (λ d. IsIn c.args.strand (skeleton_view d).from_problem.strands → ⊥) (sym c.self.view_is) c.requires.no_image) (strands_left c)
+    (subst (λ d. ForgetsAssumptions c.args.strand (skeleton_view d) (left c).assumptions) (sym c.self.view_is) c.in_ok-assumptions.ensures)
+    c.in_ok-from_problem.ensures (ordered c) (others c)
 
 pub returns-clause-strands : goal.returns-clause-strands
 returns-clause-strands c = subst (λ d. (left c).strands ≡ remove (skeleton_view d).strands c.args.strand) c.self.view_is (strands_left c)
 
 pub returns-clause-order : goal.returns-clause-order
 returns-clause-order c =
-    subst (λ d. KeepsOrderOfOthers c.args.strand (skeleton_view d) (left c)) c.self.view_is
-    (keeps_order_anew (before c) (left c) c.args.strand c.of-order.result (strands_left c) (without c) c.in_ok-close.ensures.keeps (sound_ordered (before c) c.self.invariant))
+    subst (λ d. KeepsOrderOfOthers c.args.strand (skeleton_view d) (left c)) c.self.view_is (others c)

@@ -1,5 +1,5 @@
 use Rattle.std.proofs.Common.{◌≡◌, ◌++◌, map, drop}
-use Rattle.cp_skel.specs.View.{strand_view}
+use Rattle.cp_strand.specs.View.{strand_view}
 use Rattle.cp_skel.specs.Events.{occurrence_view, occurrences_from}
 use Rattle.cp_skel.proofs.skeleton.Skeleton.events.Given as goal
 

@@ -1,12 +1,13 @@
 use Rattle.std.proofs.Common.{◌<◌, length, set, map, refl, sym, ap, ◌∙◌, subst}
 use Rattle.std.specs.Prelude.{Some}
 use Rattle.cp_model.specs.Skeleton.{Skeleton}
-use Rattle.cp_model.proofs.LawLists.{item_below}
+use Rattle.cp_lists.proofs.Items.{item_below}
 use Rattle.cp_skel.specs.Changing.{CanExtend, Extends}
 use Rattle.cp_skel.specs.Parts.{skeleton_of_parts}
-use Rattle.cp_skel.specs.Shapes.{strand_of_shape}
-use Rattle.cp_skel.specs.View.{strand_view, skeleton_view}
-use Rattle.cp_skel.proofs.Items.{item-there, map-length}
+use Rattle.cp_strand.specs.Shapes.{strand_of_shape}
+use Rattle.cp_strand.specs.View.{strand_view}
+use Rattle.cp_skel.specs.View.{skeleton_view}
+use Rattle.cp_strand.proofs.Items.{item-there, map-length}
 use Rattle.cp_skel.proofs.Changed.{made, strand-extended, set-there, set-elsewhere}
 use Rattle.cp_skel.proofs.SoundSkeletons.{sound_longer, extended_sound}
 use Rattle.cp_skel.proofs.skeleton.Skeleton.extend.Goals as goal

@@ -1,7 +1,7 @@
-use Rattle.std.proofs.Common.{◌↔◌, sym, subst}
+use Rattle.std.proofs.Common.{◌↔◌, subst}
 use Rattle.std.specs.Prelude.{OnOk}
 use Rattle.std.proofs.lemmas.Result.{IfOk-weaker}
-use Rattle.cp_model.specs.Bundle.{Node}
+use Rattle.cp_model.specs.declared.node.Node.{Node}
 use Rattle.cp_model.specs.Skeleton.{Before}
 use Rattle.cp_skel.specs.Ordered.{ordered_by}
 use Rattle.cp_skel.specs.Parts.{skeleton_of_parts}

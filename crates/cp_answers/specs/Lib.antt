@@ -1,0 +1,9 @@
+pub mod Forms
+pub mod Fresh
+pub mod Fitting
+pub mod Trying
+pub mod Covering
+pub mod LeavingOut
+pub mod Lawful
+pub mod Example
+pub mod LetOut

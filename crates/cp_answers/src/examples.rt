@@ -1,0 +1,34 @@
+//! An example that meets the premises of the cohort law.
+ghost use Rattle.std.specs.Prelude.{[], ◌∷◌};
+ghost use Rattle.cp_model.specs.Skeleton.{IsSkeleton};
+ghost use Rattle.cp_guard.specs.Critical.{IsTest};
+ghost use Rattle.cp_guard.specs.Guarding.{Guards};
+ghost use Rattle.cp_answers.specs.Covering.{IsCovering};
+ghost use Rattle.cp_answers.specs.LeavingOut.{LeavesNoneOut, IsMapInRange};
+ghost use Rattle.cp_answers.specs.Example.{protocol, locked, heard, reception, sent_before};
+ghost use Rattle.cp_answers.specs.LetOut as let_out;
+
+/// An encryption is heard, under a key that does not originate. It cannot be derived there, no patterns guard the test, and one
+/// skeleton covers it, in which a strand of the one role that sends such encryptions has sent it before; a listener on the
+/// key would hear what does not originate. So wherever it is heard such a strand has sent it.
+pub fn heard_encryption_example()
+    ensures skeleton { IsSkeleton protocol heard }
+    ensures in_range { IsMapInRange heard }
+    ensures test { IsTest heard reception locked }
+    ensures guards { Guards [] heard reception locked }
+    ensures covering { IsCovering protocol heard reception locked [] (sent_before ∷ []) }
+    ensures leaves_none_out { LeavesNoneOut protocol heard (sent_before ∷ []) }
+{}
+
+/// A text that originates uniquely is sent under a key that does not originate, and then heard with no key. It cannot be
+/// derived there, the encryption that was sent guards the test as a pattern without locals, and one skeleton covers it, in
+/// which a strand of another role has opened that encryption: under another key it would have heard the text before, a second
+/// strand that sends it would be a second origin, and a listener on the key would hear what does not originate.
+pub fn opened_encryption_example()
+    ensures skeleton { IsSkeleton let_out.protocol let_out.let_out }
+    ensures in_range { IsMapInRange let_out.let_out }
+    ensures test { IsTest let_out.let_out let_out.reception let_out.secret }
+    ensures guards { Guards (let_out.sent_encryption ∷ []) let_out.let_out let_out.reception let_out.secret }
+    ensures covering { IsCovering let_out.protocol let_out.let_out let_out.reception let_out.secret (let_out.sent_encryption ∷ []) (let_out.opened ∷ []) }
+    ensures leaves_none_out { LeavesNoneOut let_out.protocol let_out.let_out (let_out.opened ∷ []) }
+{}

@@ -1,0 +1,128 @@
+-- Unifying the terms of two instances for each variable of a prefix, in the order of their declarations.
+use Rattle.std.proofs.Common.{◌≡◌, ◌⊎◌, inl, inr, ℕ, zero, suc, ◌<◌, ◌≤◌, ◌+◌, Bool, true, false, List, [], ◌∷◌, Some, map, length, get_or, refl, sym, ap, ◌∙◌, subst, arith, eq-or-lt_of_le}
+use Rattle.cp_lists.specs.Lists.{item_at, IsIn}
+use Rattle.cp_model.specs.Term.{Sort, Variable, atom_of_variable, Term, Assignment, value_of_atom, value_of, after, Substitution}
+use Rattle.cp_model.specs.Strand.{Declaration, Role, Event, prefix_of, variables_of_trace, variables_of_prefix}
+use Rattle.cp_model.specs.Homomorphism.{substitution_by}
+use Rattle.cp_model.specs.Problem.{declared_sort, IsDeclared}
+use Rattle.cp_lists.proofs.Items.{map_of_item, item_of_read}
+use Rattle.cp_unify.specs.Bindings.{Binding, Meets}
+use Rattle.cp_unify.specs.Unifiers.{IsMostGeneral, HasNoUnifier}
+use Rattle.cp_skel.specs.Changing.{IsClosedPrefix}
+use Rattle.cp_model.specs.Same.{has_variable}
+use Rattle.cp_strand.specs.View.{declaration_view}
+use Rattle.cp_strand.specs.declared.protocol.Declaration.{Declaration as Declared}
+use Rattle.cp_skel.proofs.GivenParts.{has-in, in-has}
+use Rattle.cp_collapse.specs.Extending.{IsExactFor}
+use Rattle.cp_collapse.specs.Partials.{AreSolved}
+use Rattle.cp_collapse.specs.Partitions.{HaveEqualValues}
+use Rattle.cp_collapse.specs.Values.{term_of_variable}
+use Rattle.cp_collapse.proofs.Exact.{exact_same, exact_unified, never_unified, equal_terms, terms_equal, equal_on_shorter, shorter_on_equal}
+
+-- ---- the variable that is declared at a number
+
+-- The variable is that declared at its number.
+declared_there : (ds : List Declared) (n : ℕ) (d : Declared) (x : Variable) → n < length ds → d ≡ get_or ds n d → x ≡ record { sort = (declaration_view d).sort; number = n } → IsDeclared (map declaration_view ds) x
+declared_there ds n d x less is same =
+    subst (IsDeclared (map declaration_view ds)) (sym same) (ap declared_sort (map_of_item declaration_view ds n d (item_of_read ds n d less is)))
+
+-- Two declared variables with one number are one.
+one_at_number : (ds : List Declaration) (x y : Variable) → IsDeclared ds x → IsDeclared ds y → x.number ≡ y.number → x ≡ y
+one_at_number ds x y dx dy same =
+    let e : Some x.sort ≡ Some y.sort = sym dx ∙ ap (λ n. declared_sort (item_at ds n)) same ∙ dy in
+    let sort : x.sort ≡ y.sort = cc in
+    ap (λ (s : Sort). record { sort = s; number = x.number }) sort ∙ ap (λ (n : ℕ). record { sort = y.sort; number = n }) same
+
+declared_below : (ds : List Declaration) (n : ℕ) (s : Sort) → declared_sort (item_at ds n) ≡ Some s → n < length ds
+declared_below [] n s e = absurd (cc)
+declared_below (d ∷ ds) zero s e = omega arith
+declared_below (d ∷ ds) (suc n) s e = let r = declared_below ds n s e in omega (arith, r)
+
+-- ---- the loop
+
+module _ (e : Assignment → Type 0) (role : Role) (height : ℕ) (s t : Substitution) where
+  -- An assignment gives the variable one value after both substitutions.
+  abbrev Agree : Assignment → Variable → Type 0
+  Agree g x = value_of_atom (after g s) (atom_of_variable x) ≡ value_of_atom (after g t) (atom_of_variable x)
+
+  -- The fact is true, and two instances agree on the variables of the prefix with smaller numbers than n.
+  abbrev pub AgreeBelow : ℕ → Assignment → Type 0
+  AgreeBelow n g = e g × ((x : Variable) → IsIn x (variables_of_prefix role height) → x.number < n → Agree g x)
+
+  pub below_first : (r : List Binding) → IsExactFor e r → IsExactFor (AgreeBelow 0) r
+  below_first r = exact_same e (AgreeBelow 0) r (λ g f. (f, λ x i l. absurd (omega (arith, l)))) (λ g f. f.0)
+
+  pub equal_below : (n height' : ℕ) → height ≤ height' → (g : Assignment) → e g × HaveEqualValues role height s height' t g → AgreeBelow n g
+  equal_below n height' le g f = (f.0, λ x i l. shorter_on_equal role height s height' t g le f.1 x i)
+
+  module _ (closed : IsClosedPrefix role height) (n : ℕ) (r : List Binding) (so_far : IsExactFor (AgreeBelow n) r) where
+    one_more : (g : Assignment) → AgreeBelow n g → ((x : Variable) → IsIn x (variables_of_prefix role height) → x.number ≡ n → Agree g x) → AgreeBelow (n + 1) g
+    one_more g f here = (f.0, λ x i l. by x i (eq-or-lt_of_le (omega (arith, l))))
+      where
+        by : (x : Variable) → IsIn x (variables_of_prefix role height) → (x.number ≡ n) ⊎ (x.number < n) → Agree g x
+        by x i (inl e) = here x i e
+        by x i (inr l) = f.1 x i l
+
+    one_less : (g : Assignment) → AgreeBelow (n + 1) g → AgreeBelow n g
+    one_less g f = (f.0, λ x i l. f.1 x i (omega (arith, l)))
+
+    module _ (y : Variable) (number : y.number ≡ n) (declared : IsDeclared role.variables y) where
+      only : (x : Variable) → IsIn x (variables_of_prefix role height) → x.number ≡ n → y ≡ x
+      only x i e = one_at_number role.variables y x declared (closed x i) (number ∙ sym e)
+
+      -- The variable does not occur in the prefix.
+      pub below_passes : has_variable (variables_of_prefix role height) y ≡ false → IsExactFor (AgreeBelow (n + 1)) r
+      below_passes none = exact_same (AgreeBelow n) (AgreeBelow (n + 1)) r (λ g f. one_more g f (λ x i e. absurd (missing x i e))) one_less so_far
+        where
+          missing : (x : Variable) → IsIn x (variables_of_prefix role height) → x.number ≡ n → ⊥
+          missing x i e = let q : true ≡ false = sym (in-has (variables_of_prefix role height) y (subst (λ (z : Variable). IsIn z (variables_of_prefix role height)) (sym (only x i e)) i)) ∙ none in cc
+
+      -- It does, and its terms are unified, or have no unifier.
+      module _ (there : has_variable (variables_of_prefix role height) y ≡ true) (a b : Term) (first : a ≡ term_of_variable s y) (second : b ≡ term_of_variable t y) where
+        equal : (g : Assignment) → AgreeBelow (n + 1) g → value_of g a ≡ value_of g b
+        equal g f = ap (value_of g) first ∙ terms_equal g s t y (f.1 y (has-in (variables_of_prefix role height) y there) (omega (arith, number))) ∙ ap (value_of g) (sym second)
+
+        agrees : (g : Assignment) → value_of g a ≡ value_of g b → (x : Variable) → IsIn x (variables_of_prefix role height) → x.number ≡ n → Agree g x
+        agrees g same x i e = subst (Agree g) (only x i e) (equal_terms g s t y (ap (value_of g) (sym first) ∙ same ∙ ap (value_of g) second))
+
+        pub below_takes : (q : List Binding) → IsMostGeneral a b r q → IsExactFor (AgreeBelow (n + 1)) q
+        below_takes q m =
+            exact_same (λ g. AgreeBelow n g × (value_of g a ≡ value_of g b)) (AgreeBelow (n + 1)) q
+            (λ g f. one_more g f.0 (agrees g f.1))
+            (λ g f. (one_less g f, equal g f))
+            (exact_unified (AgreeBelow n) a b r q so_far m)
+
+        pub below_never : HasNoUnifier a b r → (g : Assignment) → AgreeBelow (n + 1) g → ⊥
+        below_never none g f = never_unified (AgreeBelow n) a b r so_far none g (one_less g f) (equal g f)
+
+    -- All declarations are done.
+    pub below_last : (height' : ℕ) → height ≤ height' → length role.variables ≤ n → IsExactFor (λ g. e g × HaveEqualValues role height s height' t g) r
+    below_last height' le done =
+        exact_same (AgreeBelow n) (λ g. e g × HaveEqualValues role height s height' t g) r
+        (λ g f. (f.0, equal_on_shorter role height s height' t g le (λ x i. let b = declared_below role.variables x.number x.sort (closed x i) in f.1 x i (omega (arith, b, done)))))
+        (λ g f. equal_below n height' le g f)
+        so_far
+
+-- At first the given bindings.
+pub given_first : (role : Role) (height : ℕ) (s t : Substitution) (given r : List Binding) → AreSolved given → r ≡ given → IsExactFor (AgreeBelow (λ g. Meets g given) role height s t 0) r
+given_first role height s t given r solved same =
+    below_first (λ g. Meets g given) role height s t r (subst (IsExactFor (λ g. Meets g given)) (sym same) (record { met = solved.1; sound = λ g m. m; general = λ g m. m; later_to_earlier = solved.0 }))
+
+-- Whether the variable occurs in the prefix.
+test_there : (role role' : Role) (height : ℕ) (x y : Variable) (es : List (Event Term)) (b : Bool) → es ≡ prefix_of role' height → role' ≡ role → x ≡ y → b ≡ has_variable (variables_of_trace es) x → has_variable (variables_of_prefix role height) y ≡ b
+test_there role role' height x y es b e same is test =
+    ap (λ (r : Role). has_variable (variables_of_prefix r height) y) (sym same) ∙ ap (λ (fs : List (Event Term)). has_variable (variables_of_trace fs) y) (sym e) ∙ ap (has_variable (variables_of_trace es)) (sym is) ∙ sym test
+
+-- The variable that is declared at a number.
+abbrev pub variable_at : Declared → ℕ → Variable
+variable_at d n = record { sort = (declaration_view d).sort; number = n }
+
+-- It is declared, and the test that was made of it says whether it occurs in the prefix.
+pub at_declaration : (role role' : Role) (height n id : ℕ) (ds : List Declared) (d : Declared) (es : List (Event Term)) (b : Bool) → n < length ds → d ≡ get_or ds n d → map declaration_view ds ≡ role.variables → es ≡ prefix_of role' height → role' ≡ role →
+    id ≡ n → b ≡ has_variable (variables_of_trace es) (variable_at d id) → IsDeclared role.variables (variable_at d n) × (has_variable (variables_of_prefix role height) (variable_at d n) ≡ b)
+at_declaration role role' height n id ds d es b less is are prefix same numbered test =
+    (subst (λ vs. IsDeclared vs (variable_at d n)) are (declared_there ds n d (variable_at d n) less is refl), test_there role role' height (variable_at d id) (variable_at d n) es b prefix same (ap (variable_at d) numbered) test)
+
+-- The term of a variable in a list.
+pub term_there : (ts us : List Term) (x y : Variable) (t : Term) → us ≡ ts → x ≡ y → t ≡ term_of_variable (substitution_by us) x → t ≡ term_of_variable (substitution_by ts) y
+term_there ts us x y t list is e = e ∙ ap (λ vs. term_of_variable (substitution_by vs) x) list ∙ ap (term_of_variable (substitution_by ts)) is

@@ -1,0 +1,171 @@
+-- The variables of collapses are declared.
+use Rattle.std.proofs.Common.{◌≡◌, ℕ, List, [], ◌∷◌, ◌++◌, Some, map, sym, ap, ◌∙◌, subst, ⊎_elim}
+use Rattle.cp_lists.specs.Lists.{item_at, IsIn, here, there}
+use Rattle.cp_model.specs.Term.{Variable, atom_of_variable, AtomTerm, Term, AgreeOnTerms, variables_of_atom, variables_of, value_of_atom, after, Substitution, apply_to_atom, apply_to, composed}
+use Rattle.cp_model.specs.Strand.{Declaration, Event, send, recv, payload, event_map, Role, prefix_of, variables_of_trace, variables_of_prefix}
+use Rattle.cp_model.specs.Skeleton.{SkeletonStrand, instance, listener, skeleton_trace, UniqueAt, Skeleton}
+use Rattle.cp_model.specs.Problem.{IsDeclared, variables_of_strands, variables_of_atoms, variables_of_uniques, variables_of_assumptions, HasDeclaredVariables}
+use Rattle.cp_lists.proofs.Members.{in_append, in_append_left, in_append_right, from_map}
+use Rattle.cp_model.proofs.LawTerms.{atom_after, atom_composed}
+use Rattle.cp_model.proofs.LawAgreement.{agree_atom}
+use Rattle.cp_completeness.proofs.Under.{in_trace_under, in_strands, in_atoms, in_uniques, trace_under}
+use Rattle.cp_unify.proofs.Free.{free}
+use Rattle.cp_skel.proofs.UnderVariables.{strand_with, atom_with, unique_with}
+use Rattle.cp_collapse.specs.Agreeing.{same_instance}
+use Rattle.cp_collapse.specs.Partitions.{IsPartition, place_in, IdentifiesValues}
+use Rattle.cp_collapse.specs.Collapsing.{IsCollapsed, AreCollapsesBy, no_collapses, collapse_by}
+use Rattle.cp_collapse.proofs.AssumptionImages.{assumptions_are}
+use Rattle.cp_collapse.proofs.Places.{strand_at_place}
+use Rattle.cp_collapse.proofs.SameStrands.{same_trace}
+use Rattle.cp_collapse.proofs.NoNewVariables.{KeepsDeclared, AgreeOnDeclared, no_new, of_atom, of_term}
+
+-- ---- traces under a substitution that keeps declared variables
+
+module _ (variables : List Declaration) (s : Substitution) (keeps : KeepsDeclared variables s) where
+  event_declared : (e : Event Term) → ((x : Variable) → IsIn x (variables_of (payload e)) → IsDeclared variables x) → (y : Variable) → IsIn y (variables_of (payload (event_map (apply_to s) e))) → IsDeclared variables y
+  event_declared (send t) h y i = of_term variables s keeps t h y i
+  event_declared (recv t) h y i = of_term variables s keeps t h y i
+
+  trace_declared : (es : List (Event Term)) → ((x : Variable) → IsIn x (variables_of_trace es) → IsDeclared variables x) → (y : Variable) → IsIn y (variables_of_trace (map (event_map (apply_to s)) es)) → IsDeclared variables y
+  trace_declared [] h y i = elim i [ ]
+  trace_declared (e ∷ es) h y i =
+      ⊎_elim (λ j. event_declared e (λ x m. h x (in_append_left (variables_of_trace es) m)) y j) (λ j. trace_declared es (λ x m. h x (in_append_right (variables_of (payload e)) m)) y j)
+      (in_append (variables_of (payload (event_map (apply_to s) e))) (variables_of_trace (map (event_map (apply_to s)) es)) i)
+
+-- ---- the parts of a skeleton whose variables are declared
+
+module _ (variables : List Declaration) (k : Skeleton) (h : HasDeclaredVariables variables k) where
+  strand_declared : (n : ℕ) (st : SkeletonStrand) → item_at k.strands n ≡ Some st → (x : Variable) → IsIn x (variables_of_trace (skeleton_trace st)) → IsDeclared variables x
+  strand_declared n st at x i = h.occurring x (in_append_left (variables_of_assumptions k.assumptions) (in_strands k.strands n st x at i))
+
+  assumption_declared : (x : Variable) → IsIn x (variables_of_assumptions k.assumptions) → IsDeclared variables x
+  assumption_declared x i = h.occurring x (in_append_right (variables_of_strands k.strands) i)
+
+  pub non_declared : (v : AtomTerm) → IsIn v k.assumptions.non_originating → (x : Variable) → IsIn x (variables_of_atom v) → IsDeclared variables x
+  non_declared v i x j =
+      let a = k.assumptions in
+      assumption_declared x (in_append_left (variables_of_uniques a.uniquely_originating) (in_append_left (variables_of_atoms a.penetrator_non_originating) (in_atoms a.non_originating v x i j)))
+
+  pub penetrator_non_declared : (v : AtomTerm) → IsIn v k.assumptions.penetrator_non_originating → (x : Variable) → IsIn x (variables_of_atom v) → IsDeclared variables x
+  penetrator_non_declared v i x j =
+      let a = k.assumptions in
+      assumption_declared x (in_append_left (variables_of_uniques a.uniquely_originating) (in_append_right (variables_of_atoms a.non_originating) (in_atoms a.penetrator_non_originating v x i j)))
+
+  pub unique_declared : (u : UniqueAt) → IsIn u k.assumptions.uniquely_originating → (x : Variable) → IsIn x (variables_of_atom u.value) → IsDeclared variables x
+  unique_declared u i x j =
+      let a = k.assumptions in
+      assumption_declared x (in_append_right (variables_of_atoms a.non_originating ++ variables_of_atoms a.penetrator_non_originating) (in_uniques a.uniquely_originating u x i j))
+
+  -- Its substitutions depend on what they give declared variables.
+  instance_alike : (s t : Substitution) → AgreeOnDeclared variables s t → (n : ℕ) (role : Role) (height : ℕ) (terms : Substitution) → item_at k.strands n ≡ Some (instance role height terms) →
+      (x : Variable) → IsIn x (variables_of_prefix role height) → apply_to_atom (composed terms s) (atom_of_variable x) ≡ apply_to_atom (composed terms t) (atom_of_variable x)
+  instance_alike s t agree n role height terms at x i =
+      atom_composed terms s (atom_of_variable x)
+      ∙ agree_atom s t (apply_to_atom terms (atom_of_variable x)) (λ y j. agree y (strand_declared n (instance role height terms) at y (in_trace_under terms (prefix_of role height) x y i j)))
+      ∙ sym (atom_composed terms t (atom_of_variable x))
+
+-- ---- collapses
+
+value_composed : (t d : Substitution) (x : Variable) → value_of_atom (after (after free t) d) (atom_of_variable x) ≡ value_of_atom free (apply_to_atom (composed d t) (atom_of_variable x))
+value_composed t d x =
+    atom_after (after free t) d (atom_of_variable x)
+    ∙ atom_after free t (apply_to_atom d (atom_of_variable x))
+    ∙ ap (value_of_atom free) (sym (atom_composed d t (atom_of_variable x)))
+
+module _ (variables : List Declaration) (k : Skeleton) (h : HasDeclaredVariables variables k) (p : List ℕ) (l : Skeleton) (part : IsPartition k p) (collapsed : IsCollapsed k p l) where
+  abbrev f : Substitution
+  f = collapsed.unifier
+
+  -- What gives declared variables the same terms identifies the blocks too.
+  identifies_too : (t : Substitution) → AgreeOnDeclared variables t f → IdentifiesValues k p (after free t)
+  identifies_too t agree n m role height terms height' terms' at au together x i j =
+      let one = instance_alike variables k h t f agree n role height terms at x i in
+      let other = instance_alike variables k h t f agree m role height' terms' au x j in
+      value_composed t terms x
+      ∙ ap (value_of_atom free) (one ∙ collapsed.most_general.identifies n m role height terms height' terms' at au together x i j ∙ sym other)
+      ∙ sym (value_composed t terms' x)
+
+  keeps : KeepsDeclared variables f
+  keeps = no_new variables (IdentifiesValues k p) f identifies_too collapsed.most_general.general
+
+  -- ---- strands
+
+  -- The strand has the trace of one of k under the substitution.
+  abbrev ComesFrom : SkeletonStrand → Type 0
+  ComesFrom st = (n : ℕ) × (own : SkeletonStrand) × (item_at k.strands n ≡ Some own) × (skeleton_trace st ≡ map (event_map (apply_to f)) (skeleton_trace own))
+
+  comes_declared : (st : SkeletonStrand) → ComesFrom st → (x : Variable) → IsIn x (variables_of_trace (skeleton_trace st)) → IsDeclared variables x
+  comes_declared st c x i =
+      trace_declared variables f keeps (skeleton_trace c.1) (strand_declared variables k h c.0 c.1 c.2) x (subst (λ (es : List (Event Term)). IsIn x (variables_of_trace es)) c.3 i)
+
+  instance_comes : (place : ℕ) (role : Role) (height : ℕ) (terms : Substitution) → item_at l.strands place ≡ Some (instance role height terms) → ComesFrom (instance role height terms)
+  instance_comes place role height terms at =
+      let one = collapsed.tallest place role height terms at in
+      let go = collapsed.instances one.strand role height one.terms one.on_instance in
+      let e : Some (instance role go.to_height go.to_terms) ≡ Some (instance role height terms) = sym go.on_instance ∙ ap (item_at l.strands) one.at_place ∙ at in
+      let same : go.to_terms ≡ terms = cc in
+      let agree : AgreeOnTerms (variables_of_prefix role height) (composed one.terms f) terms = subst (AgreeOnTerms (variables_of_prefix role height) (composed one.terms f)) same go.equal_terms in
+      (one.strand, instance role height one.terms, one.on_instance, sym (same_trace (same_instance {role = role} {height = height} agree)) ∙ trace_under f (instance role height one.terms ∷ []) 0)
+
+  from_strand : (place n : ℕ) (t : Term) (own : SkeletonStrand) → item_at l.strands place ≡ Some (listener t) → place_in p n ≡ place → item_at k.strands n ≡ Some own → ComesFrom (listener t)
+  from_strand place n t (instance role height terms) at there_is own =
+      let go = collapsed.instances n role height terms own in
+      let e : Some (instance role go.to_height go.to_terms) ≡ Some (listener t) = sym go.on_instance ∙ ap (item_at l.strands) there_is ∙ at in
+      absurd (cc)
+  from_strand place n t (listener u) at there_is own =
+      let e : Some (listener (apply_to f u)) ≡ Some (listener t) = sym (collapsed.listeners n u own) ∙ ap (item_at l.strands) there_is ∙ at in
+      let same : t ≡ apply_to f u = cc in
+      (n, listener u, own, ap (λ (w : Term). skeleton_trace (listener w)) same)
+
+  listener_comes : (place : ℕ) (t : Term) → item_at l.strands place ≡ Some (listener t) → ComesFrom (listener t)
+  listener_comes place t at = let own = strand_at_place k.strands l.strands p part.each collapsed.count place (listener t) at in from_strand place own.0 t own.1 at own.2 own.3
+
+  strand_comes : (place : ℕ) (st : SkeletonStrand) → item_at l.strands place ≡ Some st → ComesFrom st
+  strand_comes place (instance role height terms) at = instance_comes place role height terms at
+  strand_comes place (listener t) at = listener_comes place t at
+
+  strands_declared : (x : Variable) → IsIn x (variables_of_strands l.strands) → IsDeclared variables x
+  strands_declared x i = let r = strand_with l.strands x i in comes_declared r.1 (strand_comes r.0 r.1 r.2) x r.3
+
+  -- ---- assumptions, and the way from the problem
+
+  image_declared : (v w : AtomTerm) → apply_to_atom f v ≡ w → ((x : Variable) → IsIn x (variables_of_atom v) → IsDeclared variables x) → (x : Variable) → IsIn x (variables_of_atom w) → IsDeclared variables x
+  image_declared v w e all x i = of_atom variables f keeps v all x (subst (λ (u : AtomTerm). IsIn x (variables_of_atom u)) (sym e) i)
+
+  nons_declared : (x : Variable) → IsIn x (variables_of_atoms l.assumptions.non_originating) → IsDeclared variables x
+  nons_declared x i =
+      let r = atom_with l.assumptions.non_originating x i in
+      let m = ((assumptions_are k l p collapsed).non r.0).0 r.1 in
+      image_declared m.0 r.0 m.2 (non_declared variables k h m.0 m.1) x r.2
+
+  penetrator_nons_declared : (x : Variable) → IsIn x (variables_of_atoms l.assumptions.penetrator_non_originating) → IsDeclared variables x
+  penetrator_nons_declared x i =
+      let r = atom_with l.assumptions.penetrator_non_originating x i in
+      let m = ((assumptions_are k l p collapsed).penetrator_non r.0).0 r.1 in
+      image_declared m.0 r.0 m.2 (penetrator_non_declared variables k h m.0 m.1) x r.2
+
+  uniques_declared : (x : Variable) → IsIn x (variables_of_uniques l.assumptions.uniquely_originating) → IsDeclared variables x
+  uniques_declared x i =
+      let r = unique_with l.assumptions.uniquely_originating x i in
+      let m = ((assumptions_are k l p collapsed).unique r.0).0 r.1 in
+      image_declared m.0.value r.0.value (ap (λ (u : UniqueAt). u.value) m.2) (unique_declared variables k h m.0 m.1) x r.2
+
+  assumptions_declared : (x : Variable) → IsIn x (variables_of_assumptions l.assumptions) → IsDeclared variables x
+  assumptions_declared x i =
+      let non = variables_of_atoms l.assumptions.non_originating in
+      let penetrator = variables_of_atoms l.assumptions.penetrator_non_originating in
+      ⊎_elim (λ j. ⊎_elim (λ m. nons_declared x m) (λ m. penetrator_nons_declared x m) (in_append non penetrator j)) (λ j. uniques_declared x j)
+      (in_append (non ++ penetrator) (variables_of_uniques l.assumptions.uniquely_originating) i)
+
+  pub collapse_declared : HasDeclaredVariables variables l
+  collapse_declared = record {
+    occurring = λ x i. ⊎_elim (λ j. strands_declared x j) (λ j. assumptions_declared x j) (in_append (variables_of_strands l.strands) (variables_of_assumptions l.assumptions) i);
+    mapped = λ t x i j.
+        let m = from_map (apply_to f) k.from_problem.values (subst (IsIn t) collapsed.from_problem.values i) in
+        of_term variables f keeps m.0 (λ z n. h.mapped m.0 z m.1 n) x (subst (λ (u : Term). IsIn x (variables_of u)) (sym m.2) j);
+  }
+
+pub collapses_declared : (variables : List Declaration) (k : Skeleton) → HasDeclaredVariables variables k → (ps : List (List ℕ)) (ls : List Skeleton) → AreCollapsesBy k ps ls → (l : Skeleton) → IsIn l ls → HasDeclaredVariables variables l
+collapses_declared variables k h _ _ no_collapses l i = elim i [ ]
+collapses_declared variables k h _ _ (collapse_by {p = p} {l = m} {ps = ps} {ls = ls} one more) l here = collapse_declared variables k h p m one.partition one.collapsed
+collapses_declared variables k h _ _ (collapse_by {p = p} {l = m} {ps = ps} {ls = ls} one more) l (there i) = collapses_declared variables k h ps ls more l i

@@ -1,0 +1,53 @@
+use Rattle.std.proofs.Common.{rules, ◌≡◌, ◌≤◌, ◌∙◌, length, map, refl, sym, ap, subst}
+use Rattle.std.proofs.lemmas.List.{length-map}
+use Rattle.cp_model.specs.Strand.{Role, prefix_of}
+use Rattle.cp_model.specs.Homomorphism.{substitution_by}
+use Rattle.cp_strand.specs.View.{declaration_view}
+use Rattle.cp_unify.specs.Bindings.{Meets}
+use Rattle.cp_collapse.proofs.Prefixes.{variable_at, at_declaration, given_first, below_passes, below_takes, below_never, below_last, equal_below, term_there}
+use Rattle.cp_collapse.proofs.agreeing.unify_prefix.Goals as goal
+
+pub loop-number-init : goal.loop-number-init
+loop-number-init c =
+    let i = c.args.shorter.now in
+    let same : c.in_ok-bindings.bindings.value ≡ c.args.given.now.value = search rules in
+    given_first i.role i.height (substitution_by i.values) (substitution_by c.args.taller.now.values) c.args.given.now.value c.in_ok-bindings.bindings.value c.requires.solved same
+
+pub loop-number-preserved-then-not-occurs : goal.loop-number-preserved-then-not-occurs
+loop-number-preserved-then-not-occurs c =
+    let i = c.args.shorter.now in
+    let d = c.declaration-item.result in
+    let at = at_declaration i.role c.deref.result.now i.height c.loop-number.number _ _ d _ _ c.loop-number-test.true c.declaration-item.is (c.variables-declaration-items.ensures ∙ ap (λ (r : Role). r.variables) (c.deref-2.ensures ∙ c.role-2.ensures)) (c.prefix_of-events.ensures ∙ ap (prefix_of c.deref.result.now) c.height.ensures) (c.deref.ensures ∙ c.role.ensures) c.numbered-id.ensures c.occurs.ensures in
+    below_passes (λ g. Meets g c.args.given.now.value) i.role i.height (substitution_by i.values) (substitution_by c.args.taller.now.values) c.requires.declared c.loop-number.number c.loop-number.bindings.value c.loop-number.invariant (variable_at d c.loop-number.number) refl at.0 (at.1 ∙ c.if-not-occurs.true)
+
+pub loop-number-preserved : goal.loop-number-preserved
+loop-number-preserved c =
+    let i = c.args.shorter.now in
+    let d = c.declaration-item.result in
+    let at = at_declaration i.role c.deref.result.now i.height c.loop-number.number _ _ d _ _ c.loop-number-test.true c.declaration-item.is (c.variables-declaration-items.ensures ∙ ap (λ (r : Role). r.variables) (c.deref-2.ensures ∙ c.role-2.ensures)) (c.prefix_of-events.ensures ∙ ap (prefix_of c.deref.result.now) c.height.ensures) (c.deref.ensures ∙ c.role.ensures) c.numbered-id.ensures c.occurs.ensures in
+    below_takes (λ g. Meets g c.args.given.now.value) i.role i.height (substitution_by i.values) (substitution_by c.args.taller.now.values) c.requires.declared c.loop-number.number c.loop-number.bindings.value c.loop-number.invariant (variable_at d c.loop-number.number) refl at.0
+    (at.1 ∙ c.if-not-occurs.false) c.in_ok-first.first c.in_ok-second.second
+    (term_there i.values c.values.result.now _ _ c.in_ok-first.first c.values.ensures (ap (variable_at d) c.numbered-id.ensures) c.in_ok-first.ensures)
+    (term_there c.args.taller.now.values c.values-in-loop-number.result.now _ _ c.in_ok-second.second c.values-in-loop-number.ensures (ap (variable_at d) c.numbered-id.ensures) c.in_ok-second.ensures) c.in-Some.next.value
+    (rw c.in-Some.is at c.in_ok-next.ensures)
+
+pub returns-in-None : goal.returns-in-None
+returns-in-None c = λ g f.
+    let i = c.args.shorter.now in
+    let d = c.declaration-item.result in
+    let at = at_declaration i.role c.deref.result.now i.height c.loop-number.number _ _ d _ _ c.loop-number-test.true c.declaration-item.is (c.variables-declaration-items.ensures ∙ ap (λ (r : Role). r.variables) (c.deref-2.ensures ∙ c.role-2.ensures)) (c.prefix_of-events.ensures ∙ ap (prefix_of c.deref.result.now) c.height.ensures) (c.deref.ensures ∙ c.role.ensures) c.numbered-id.ensures c.occurs.ensures in
+    let first = term_there i.values c.values.result.now _ _ c.in_ok-first.first c.values.ensures (ap (variable_at d) c.numbered-id.ensures) c.in_ok-first.ensures in
+    let second = term_there c.args.taller.now.values c.values-in-loop-number.result.now _ _ c.in_ok-second.second c.values-in-loop-number.ensures (ap (variable_at d) c.numbered-id.ensures) c.in_ok-second.ensures in
+    below_never (λ g. Meets g c.args.given.now.value) i.role i.height (substitution_by i.values) (substitution_by c.args.taller.now.values) c.requires.declared c.loop-number.number c.loop-number.bindings.value c.loop-number.invariant (variable_at d c.loop-number.number) refl at.0
+    (at.1 ∙ c.if-not-occurs.false) c.in_ok-first.first c.in_ok-second.second first second (rw c.in-None.is at c.in_ok-next.ensures)
+    g (equal_below (λ g. Meets g c.args.given.now.value) i.role i.height (substitution_by i.values) (substitution_by c.args.taller.now.values) _ c.args.taller.now.height c.requires.no_taller g f)
+
+pub returns : goal.returns
+returns c =
+    let l = c.loop-number in
+    let i = c.args.shorter.now in
+    let ds = c.variables-declaration-items.result.now in
+    let are : map declaration_view ds ≡ i.role.variables = c.variables-declaration-items.ensures ∙ ap (λ (r : Role). r.variables) (c.deref-2.ensures ∙ c.role-2.ensures) in
+    let done = subst (λ n. n ≤ l.number) (sym (length-map ds declaration_view)) c.loop-number-test.false in
+    below_last (λ g. Meets g c.args.given.now.value) i.role i.height (substitution_by i.values) (substitution_by c.args.taller.now.values) c.requires.declared l.number l.bindings.value l.invariant
+    c.args.taller.now.height c.requires.no_taller (subst (λ vs. length vs ≤ l.number) are done)

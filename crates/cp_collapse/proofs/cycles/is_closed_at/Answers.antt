@@ -1,0 +1,12 @@
+use Rattle.std.proofs.Common.{sym, subst}
+use Rattle.cp_order.specs.Leading.{Target}
+use Rattle.cp_collapse.specs.Having.{Has}
+use Rattle.cp_collapse.specs.Cycles.{LeadsOn}
+use Rattle.cp_collapse.proofs.cycles.is_closed_at.Goals as goal
+
+pub returns : goal.returns
+returns c =
+    let closed = λ (l : Target). Has (LeadsOn l.pairs c.args.node l.node) c.args.pairs.now in (
+      λ r. subst closed c.in_ok-leading.ensures (c.some_leads_on.ensures.0 r),
+      λ h. c.some_leads_on.ensures.1 (subst closed (sym c.in_ok-leading.ensures) h),
+    )

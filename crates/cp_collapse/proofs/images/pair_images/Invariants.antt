@@ -1,0 +1,6 @@
+use Rattle.std.proofs.Common.{take}
+use Rattle.cp_collapse.specs.Collapsing.{ArePairsIn}
+use Rattle.cp_collapse.proofs.images.pair_images.Given as goal
+
+abbrev pub invariant-loop-pair : goal.invariant-loop-pair
+invariant-loop-pair l = ArePairsIn l.lowest (take l.pair-index l.pairs) l.images.items

@@ -1,0 +1,12 @@
+pub mod Cycles
+pub mod Agreeing
+pub mod Directed
+pub mod Values
+pub mod Partitions
+pub mod Collapsing
+pub mod Extending
+pub mod CollapsingExample
+pub mod Merging
+pub mod Partials
+pub mod MergedParts
+pub mod Having

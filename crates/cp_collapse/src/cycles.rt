@@ -1,0 +1,62 @@
+// Whether the pairs that unique values add close a cycle.
+ghost use Rattle.std.specs.Prelude.{◌↔◌, map, IsTrue, IfOk};
+ghost use Rattle.cp_collapse.specs.Having.{Has};
+ghost use Rattle.cp_collapse.specs.Cycles.{LeadsOn, IsClosedAt};
+
+use cp_skel::{Leading, Node, OrderPair, UniqueAt};
+use std::alloc::{AllocError, Global};
+
+/// Whether the pair goes from the node to one that leads to the other node.
+fn leads_on(leading: &Leading, node: Node, pair: &OrderPair) -> bool
+    ensures { IsTrue result ↔ LeadsOn leading.now.pairs node leading.now.node pair.now }
+{
+    pair.earlier == node && leading.has(pair.later)
+}
+
+/// Whether one of the pairs goes from the node to one that leads to the other node.
+fn some_leads_on(leading: &Leading, node: Node, pairs: &[OrderPair]) -> bool
+    ensures { IsTrue result ↔ Has (λ p. LeadsOn leading.now.pairs node leading.now.node p) pairs.now }
+{
+    for pair in pairs {
+        if leads_on(leading, node, pair) {
+            return true;
+        }
+    }
+    false
+}
+
+/// Whether some pair from the node closes a cycle with these pairs.
+fn is_closed_at(alloc: Global, pairs: &[OrderPair], node: Node) -> Result<bool, AllocError>
+    ensures { IfOk result (λ found. IsTrue found ↔ IsClosedAt pairs.now node) }
+{
+    let leading = Leading::new(alloc, pairs, node)?;
+    Ok(some_leads_on(&leading, node, pairs))
+}
+
+/// Whether some pair from the recorded origin of one of these unique values closes a cycle with these pairs.
+pub fn some_is_closed(
+    alloc: Global,
+    pairs: &[OrderPair],
+    uniques: &[UniqueAt],
+) -> Result<bool, AllocError>
+    ensures { IfOk result (λ found. IsTrue found ↔ Has (λ u. IsClosedAt pairs.now u.origin) uniques.now) }
+{
+    for unique in uniques {
+        if is_closed_at(alloc, pairs, unique.origin())? {
+            return Ok(true);
+        }
+    }
+    Ok(false)
+}
+
+/// Whether one of these pairs closes a cycle with the others.
+pub(crate) fn some_closes(alloc: Global, pairs: &[OrderPair]) -> Result<bool, AllocError>
+    ensures { IfOk result (λ found. IsTrue found ↔ Has (λ q. IsClosedAt pairs.now q.earlier) pairs.now) }
+{
+    for pair in pairs {
+        if is_closed_at(alloc, pairs, pair.earlier)? {
+            return Ok(true);
+        }
+    }
+    Ok(false)
+}

@@ -1,0 +1,171 @@
+// The images of assumptions and pairs where the strands of each block are merged, each once.
+ghost use Rattle.std.specs.Prelude.{◌≡◌, ◌↔◌, ◌≤◌, [], map, IsTrue, IfOk, OnOk};
+ghost use Rattle.cp_model.specs.Given.{atoms_onto, uniques_onto};
+ghost use Rattle.cp_model.specs.Term.{apply_to_atom};
+ghost use Rattle.cp_unify.specs.Bindings.{as_substitution};
+ghost use Rattle.cp_collapse.specs.Collapsing.{unique_in, ArePairsIn, assumptions_in, IsFromProblemIn, LiesOnOne};
+ghost use Rattle.cp_collapse.specs.Having.{Has};
+ghost use Rattle.cp_collapse.specs.Merging.{IsPutOnce};
+ghost use Rattle.cp_collapse.specs.Partitions.{place_in};
+
+use crate::placing::{node_in, pair_in, place_in};
+use crate::substituting::{atom_under, terms_under};
+use cp_skel::{Assumptions, Atom, FromProblem, OrderPair, UniqueAt, add_atom, add_unique};
+use cp_unify::Subst;
+use std::alloc::{AllocError, Global};
+
+/// The way onto the blocks: what terms become, and the lowest strand of each strand's block.
+#[derive(Clone, Copy)]
+pub(crate) struct Way<'a> {
+    pub(crate) terms: &'a Subst,
+    pub(crate) lowest: &'a [usize],
+}
+
+/// The atoms under a substitution, in their order, each once.
+fn atom_images(alloc: Global, atoms: &[Atom], s: &Subst) -> Result<Vec<Atom>, AllocError>
+    ensures { IfOk result (λ v. v.items ≡ atoms_onto [] (map (apply_to_atom (as_substitution s.now)) atoms.now)) }
+{
+    let mut images = Vec::new(alloc);
+    for atom in atoms {
+        let image = atom_under(alloc, atom, s)?;
+        add_atom(&mut images, image)?;
+    }
+    Ok(images)
+}
+
+/// A unique value under a substitution, with its recorded origin at the place of its strand's block.
+fn unique_image(alloc: Global, unique: &UniqueAt, way: Way<'_>) -> Result<UniqueAt, AllocError>
+    ensures { IfOk result (λ u. u ≡ unique_in way.entry.lowest.now (as_substitution way.entry.terms.now) unique.now) }
+{
+    let value = atom_under(alloc, unique.value(), way.terms)?;
+    Ok(UniqueAt::new(value, node_in(way.lowest, unique.origin())))
+}
+
+/// The images of unique values, in their order, each once.
+fn unique_images(
+    alloc: Global,
+    uniques: &[UniqueAt],
+    way: Way<'_>,
+) -> Result<Vec<UniqueAt>, AllocError>
+    ensures { IfOk result (λ v. v.items ≡ uniques_onto [] (map (unique_in way.entry.lowest.now (as_substitution way.entry.terms.now)) uniques.now)) }
+{
+    let mut images = Vec::new(alloc);
+    for unique in uniques {
+        let image = unique_image(alloc, unique, way)?;
+        add_unique(&mut images, image)?;
+    }
+    Ok(images)
+}
+
+/// Whether the pairs are the same.
+fn is_same_pair(first: &OrderPair, second: &OrderPair) -> bool
+    ensures { IsTrue result ↔ (first.now ≡ second.now) }
+{
+    first == second
+}
+
+/// Whether a pair is one of these.
+fn is_listed_pair(pair: &OrderPair, pairs: &[OrderPair]) -> bool
+    ensures { IsTrue result ↔ Has (λ other. other ≡ pair.now) pairs.now }
+{
+    for other in pairs {
+        if is_same_pair(other, pair) {
+            return true;
+        }
+    }
+    false
+}
+
+/// Puts a pair behind others, if it is not one of them.
+fn put_pair(pair: OrderPair, pairs: &mut Vec<OrderPair>) -> Result<(), AllocError>
+    ensures { OnOk result (IsPutOnce pair pairs.old.items pairs.new.items) }
+{
+    if is_listed_pair(&pair, pairs) {
+        return Ok(());
+    }
+    pairs.push(pair)?;
+    Ok(())
+}
+
+/// Whether a pair comes to lie on one strand.
+fn lies_on_one(pair: &OrderPair, lowest: &[usize]) -> bool
+    ensures { IsTrue result ↔ LiesOnOne lowest.now pair.now }
+{
+    place_in(lowest, pair.earlier.strand) == place_in(lowest, pair.later.strand)
+}
+
+/// The images of pairs, each once; those that come to lie on one strand are dropped.
+pub(crate) fn pair_images(
+    alloc: Global,
+    pairs: &[OrderPair],
+    lowest: &[usize],
+) -> Result<Vec<OrderPair>, AllocError>
+    ensures { IfOk result (λ v. ArePairsIn lowest.now pairs.now v.items) }
+{
+    let mut images = Vec::new(alloc);
+    for pair in pairs {
+        if lies_on_one(pair, lowest) {
+            continue;
+        }
+        put_pair(pair_in(lowest, pair), &mut images)?;
+    }
+    Ok(images)
+}
+
+/// Whether a pair comes to lie backward on one strand, or on one node.
+fn lies_backward(pair: &OrderPair, lowest: &[usize]) -> bool
+    ensures { IsTrue result ↔ (LiesOnOne lowest.now pair.now × (pair.now.later.index ≤ pair.now.earlier.index)) }
+{
+    lies_on_one(pair, lowest) && pair.later.index <= pair.earlier.index
+}
+
+/// Whether some pair comes to lie backward on one strand, or on one node.
+pub(crate) fn some_lies_backward(pairs: &[OrderPair], lowest: &[usize]) -> bool
+    ensures { IsTrue result ↔ Has (λ q. LiesOnOne lowest.now q × (q.later.index ≤ q.earlier.index)) pairs.now }
+{
+    for pair in pairs {
+        if lies_backward(pair, lowest) {
+            return true;
+        }
+    }
+    false
+}
+
+/// The images of assumptions, in their order, each once.
+pub(crate) fn assumption_images(
+    alloc: Global,
+    assumptions: &Assumptions,
+    way: Way<'_>,
+) -> Result<Assumptions, AllocError>
+    ensures { IfOk result (λ a. a ≡ assumptions_in way.entry.lowest.now (as_substitution way.entry.terms.now) assumptions.now) }
+{
+    let non = atom_images(alloc, assumptions.non_originating(), way.terms)?;
+    let penetrator_non = atom_images(alloc, assumptions.penetrator_non_originating(), way.terms)?;
+    let unique = unique_images(alloc, assumptions.uniquely_originating(), way)?;
+    Ok(Assumptions::new(non, penetrator_non, unique))
+}
+
+fn places_of(alloc: Global, strands: &[usize], lowest: &[usize]) -> Result<Vec<usize>, AllocError>
+    ensures { IfOk result (λ v. v.items ≡ map (place_in lowest.now) strands.now) }
+{
+    let mut places = Vec::new(alloc);
+    for strand in strands {
+        places.push(place_in(lowest, *strand))?;
+    }
+    Ok(places)
+}
+
+/// The way from a problem, followed by the way onto the blocks.
+pub(crate) fn from_problem_image(
+    alloc: Global,
+    from_problem: &FromProblem,
+    way: Way<'_>,
+) -> Result<FromProblem, AllocError>
+    ensures { IfOk result (λ p. IsFromProblemIn way.entry.lowest.now (as_substitution way.entry.terms.now) from_problem.now p) }
+{
+    let strands = places_of(alloc, from_problem.strands(), way.lowest)?;
+    let values = terms_under(alloc, from_problem.values(), way.terms)?;
+    let assumptions = assumption_images(alloc, from_problem.assumptions(), way)?;
+    let pairs = pair_images(alloc, from_problem.pairs(), way.lowest)?;
+    Ok(FromProblem::new(strands, values, assumptions, pairs))
+}

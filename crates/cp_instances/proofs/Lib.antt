@@ -1,0 +1,4 @@
+pub mod Maplets
+pub mod Mapping
+pub mod Instantiation
+pub mod Strandwise

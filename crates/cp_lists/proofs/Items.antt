@@ -1,0 +1,135 @@
+-- What stands at the places of a list, and of lists that are made of others.
+use Rattle.std.proofs.Common.{◌≡◌, ◌≢◌, ◌⊎◌, inl, inr, ◌∙◌, ℕ, zero, suc, ◌+◌, ◌<◌, ◌≤◌, List, [], ◌∷◌, ◌++◌, Option, Some, None, map, length, get_or, slice_get, set, take, drop, refl, sym, ap, subst, arith}
+use Rattle.cp_lists.specs.Lists.{item_at, IsIn, here, there}
+
+-- ---- places and items
+
+pub place_of : {A : Type 0} {x : A} {xs : List A} → IsIn x xs → (i : ℕ) × (item_at xs i ≡ Some x)
+place_of here = (zero, refl)
+place_of (there p) = let r = place_of p in (suc r.0, r.1)
+
+pub at_place : {A : Type 0} (xs : List A) (i : ℕ) (x : A) → item_at xs i ≡ Some x → IsIn x xs
+at_place [] i x e = absurd (cc)
+at_place (y ∷ xs) zero x e = let s : y ≡ x = cc in subst (λ z. IsIn z (y ∷ xs)) s here
+at_place (y ∷ xs) (suc i) x e = there (at_place xs i x e)
+
+pub item_below : {A : Type 0} (xs : List A) (i : ℕ) (x : A) → item_at xs i ≡ Some x → i < length xs
+item_below [] i x e = absurd (cc)
+item_below (y ∷ xs) zero x e = omega arith
+item_below (y ∷ xs) (suc i) x e = let h : i < length xs = item_below xs i x e in omega arith
+
+pub item_there : {A : Type 0} (xs : List A) (i : ℕ) → i < length xs → (x : A) × (item_at xs i ≡ Some x)
+item_there [] i h = absurd (omega (arith, h))
+item_there (y ∷ xs) zero h = (y, refl)
+item_there (y ∷ xs) (suc i) h = item_there xs i (omega (arith, h))
+
+pub item_past : {A : Type 0} (xs : List A) (i : ℕ) → length xs ≤ i → item_at xs i ≡ None
+item_past [] i l = refl
+item_past (x ∷ xs) zero l = absurd (omega (arith, l))
+item_past (x ∷ xs) (suc i) l = item_past xs i (omega (arith, l))
+
+-- What stands at a place stands at each place before.
+pub item_before : {A : Type 0} (xs : List A) (i j : ℕ) (x : A) → item_at xs j ≡ Some x → i ≤ j → (y : A) × (item_at xs i ≡ Some y)
+item_before xs i j x e l = let h : j < length xs = item_below xs j x e in item_there xs i (omega arith)
+
+pub there_or_none : {A : Type 0} (o : Option A) → ((x : A) × (o ≡ Some x)) ⊎ (o ≡ None)
+there_or_none None = inr refl
+there_or_none (Some x) = inl (x, refl)
+
+-- ---- what is read
+
+pub slice_get_item : {A : Type 0} (xs : List A) (i : ℕ) → slice_get xs i ≡ item_at xs i
+slice_get_item [] i = refl
+slice_get_item (x ∷ xs) zero = refl
+slice_get_item (x ∷ xs) (suc i) = slice_get_item xs i
+
+pub item_of_read : {A : Type 0} (xs : List A) (i : ℕ) (x : A) → i < length xs → x ≡ get_or xs i x → item_at xs i ≡ Some x
+item_of_read [] i x l e = absurd (omega (arith, l))
+item_of_read (y ∷ xs) zero x l e = ap Some (sym e)
+item_of_read (y ∷ xs) (suc i) x l e = item_of_read xs i x (omega (arith, l)) e
+
+-- ---- what is made of each item
+
+pub map_of_item : {A B : Type 0} (f : A → B) (xs : List A) (i : ℕ) (x : A) → item_at xs i ≡ Some x → item_at (map f xs) i ≡ Some (f x)
+map_of_item f [] i x e = absurd (cc)
+map_of_item f (y ∷ xs) zero x e = cc
+map_of_item f (y ∷ xs) (suc i) x e = map_of_item f xs i x e
+
+pub item_of_map : {A B : Type 0} (f : A → B) (xs : List A) (i : ℕ) (y : B) → item_at (map f xs) i ≡ Some y → (x : A) × (item_at xs i ≡ Some x) × (f x ≡ y)
+item_of_map f [] i y e = absurd (cc)
+item_of_map f (x ∷ xs) zero y e = (x, refl, cc)
+item_of_map f (x ∷ xs) (suc i) y e = item_of_map f xs i y e
+
+pub map_of_read : {A B : Type 0} (f : A → B) (xs : List A) (i : ℕ) (x : A) → i < length xs → x ≡ get_or xs i x → item_at (map f xs) i ≡ Some (f x)
+map_of_read f xs i x l e = map_of_item f xs i x (item_of_read xs i x l e)
+
+-- ---- the front and the back of a list
+
+pub item_of_take : {A : Type 0} (n : ℕ) (xs : List A) (i : ℕ) (x : A) → item_at (take n xs) i ≡ Some x → (i < n) × (item_at xs i ≡ Some x)
+item_of_take zero xs i x e = absurd (cc)
+item_of_take (suc n) [] i x e = absurd (cc)
+item_of_take (suc n) (y ∷ xs) zero x e = (omega arith, e)
+item_of_take (suc n) (y ∷ xs) (suc i) x e = let h = item_of_take n xs i x e in let l : i < n = h.0 in (omega arith, h.1)
+
+pub take_of_item : {A : Type 0} (n : ℕ) (xs : List A) (i : ℕ) (x : A) → i < n → item_at xs i ≡ Some x → item_at (take n xs) i ≡ Some x
+take_of_item zero xs i x l e = absurd (omega (arith, l))
+take_of_item (suc n) [] i x l e = e
+take_of_item (suc n) (y ∷ xs) zero x l e = e
+take_of_item (suc n) (y ∷ xs) (suc i) x l e = take_of_item n xs i x (omega (arith, l)) e
+
+pub item_of_drop : {A : Type 0} (n : ℕ) (xs : List A) (i : ℕ) → item_at (drop n xs) i ≡ item_at xs (n + i)
+item_of_drop zero xs i = let e : 0 + i ≡ i = omega arith in ap (item_at xs) (sym e)
+item_of_drop (suc n) [] i = refl
+item_of_drop (suc n) (x ∷ xs) i = let e : suc n + i ≡ suc (n + i) = omega arith in item_of_drop n xs i ∙ ap (item_at (x ∷ xs)) (sym e)
+
+pub drop_of_item : {A : Type 0} (xs : List A) (i : ℕ) (x : A) → item_at xs i ≡ Some x → drop i xs ≡ x ∷ drop (suc i) xs
+drop_of_item [] i x e = absurd (cc)
+drop_of_item (y ∷ xs) zero x e = let s : y ≡ x = cc in ap (λ z. z ∷ xs) s
+drop_of_item (y ∷ xs) (suc i) x e = drop_of_item xs i x e
+
+-- ---- one list behind another
+
+pub item_still : {A : Type 0} (xs ys : List A) (i : ℕ) (x : A) → item_at xs i ≡ Some x → item_at (xs ++ ys) i ≡ Some x
+item_still [] ys i x e = absurd (cc)
+item_still (y ∷ xs) ys zero x e = e
+item_still (y ∷ xs) ys (suc i) x e = item_still xs ys i x e
+
+pub item_in_front : {A : Type 0} (xs ys : List A) (i : ℕ) → i < length xs → item_at (xs ++ ys) i ≡ item_at xs i
+item_in_front [] ys i l = absurd (omega (arith, l))
+item_in_front (x ∷ xs) ys zero l = refl
+item_in_front (x ∷ xs) ys (suc i) l = item_in_front xs ys i (omega (arith, l))
+
+pub item_last : {A : Type 0} (xs : List A) (y : A) → item_at (xs ++ y ∷ []) (length xs) ≡ Some y
+item_last [] y = refl
+item_last (x ∷ xs) y = item_last xs y
+
+-- Anywhere but at its end a list is as it was.
+pub item_apart : {A : Type 0} (xs : List A) (y : A) (i : ℕ) → length xs ≢ i → item_at (xs ++ y ∷ []) i ≡ item_at xs i
+item_apart [] y zero ne = absurd (ne refl)
+item_apart [] y (suc i) ne = refl
+item_apart (x ∷ xs) y zero ne = refl
+item_apart (x ∷ xs) y (suc i) ne = item_apart xs y i (λ e. ne (ap suc e))
+
+pub item_of_push : {A : Type 0} (xs : List A) (y : A) (i : ℕ) (x : A) → item_at (xs ++ y ∷ []) i ≡ Some x → (item_at xs i ≡ Some x) ⊎ ((i ≡ length xs) × (y ≡ x))
+item_of_push [] y zero x e = inr (refl, cc)
+item_of_push [] y (suc i) x e = absurd (cc)
+item_of_push (z ∷ xs) y zero x e = inl e
+item_of_push (z ∷ xs) y (suc i) x e = next (item_of_push xs y i x e)
+  where
+    next : (item_at xs i ≡ Some x) ⊎ ((i ≡ length xs) × (y ≡ x)) → (item_at xs i ≡ Some x) ⊎ ((suc i ≡ suc (length xs)) × (y ≡ x))
+    next (inl h) = inl h
+    next (inr p) = inr (ap suc p.0, p.1)
+
+-- ---- one item in another's place
+
+pub set_here : {A : Type 0} (xs : List A) (i : ℕ) (y : A) → i < length xs → item_at (set xs i y) i ≡ Some y
+set_here [] i y l = absurd (omega (arith, l))
+set_here (x ∷ xs) zero y l = refl
+set_here (x ∷ xs) (suc i) y l = set_here xs i y (omega (arith, l))
+
+pub set_elsewhere : {A : Type 0} (xs : List A) (i : ℕ) (y : A) (j : ℕ) → i ≢ j → item_at (set xs i y) j ≡ item_at xs j
+set_elsewhere [] i y j ne = refl
+set_elsewhere (x ∷ xs) zero y zero ne = absurd (ne refl)
+set_elsewhere (x ∷ xs) zero y (suc j) ne = refl
+set_elsewhere (x ∷ xs) (suc i) y zero ne = refl
+set_elsewhere (x ∷ xs) (suc i) y (suc j) ne = set_elsewhere xs i y j (λ e. ne (ap suc e))

@@ -1,0 +1,149 @@
+-- What is in a list, and in lists that are made of others.
+use Rattle.std.proofs.Common.{◌≡◌, ◌⊎◌, inl, inr, ◌∙◌, ℕ, zero, suc, ◌+◌, ◌<◌, ◌≤◌, List, [], ◌∷◌, ◌++◌, Bool, true, false, if◌then◌else◌, map, length, get_or, drop, refl, sym, ap, subst, add-one, arith}
+use Rattle.std.specs.Prelude.{reverse}
+use Rattle.std.specs.List.{filter}
+use Rattle.std.proofs.Math.Seq.{drop-cons}
+use Rattle.std.proofs.lemmas.List.{drop_all, reverse-append}
+use Rattle.cp_lists.specs.Lists.{IsIn, here, there}
+
+-- ---- one item after another
+
+pub not_in_none : {A : Type 0} {x : A} → IsIn x [] → ⊥
+not_in_none h = elim h [ ]
+
+pub only_item : {A : Type 0} {x y : A} → IsIn x (y ∷ []) → x ≡ y
+only_item here = refl
+only_item (there h) = elim h [ ]
+
+-- An item is the first or one of the rest, with the equation from the first to the item, or back.
+pub in_cases : {A : Type 0} {x y : A} {ys : List A} → IsIn x (y ∷ ys) → (y ≡ x) ⊎ IsIn x ys
+in_cases here = inl refl
+in_cases (there h) = inr h
+
+pub head_or_behind : {A : Type 0} {x y : A} {ys : List A} → IsIn x (y ∷ ys) → (x ≡ y) ⊎ IsIn x ys
+head_or_behind here = inl refl
+head_or_behind (there h) = inr h
+
+pub at_head : {A : Type 0} {x y : A} {xs : List A} → x ≡ y → IsIn x (y ∷ xs)
+at_head {x = x} {xs = xs} e = subst (λ z. IsIn x (z ∷ xs)) e here
+
+-- What holds of the first item and of each of the rest holds of each item.
+pub of_each : {A : Type 0} {x y : A} {xs : List A} (P : A → Type 0) → P y → (IsIn x xs → P x) → IsIn x (y ∷ xs) → P x
+of_each P p f here = p
+of_each P p f (there h) = f h
+
+-- ---- one list behind another
+
+pub in_append_left : {A : Type 0} {x : A} {xs : List A} (ys : List A) → IsIn x xs → IsIn x (xs ++ ys)
+in_append_left ys here = here
+in_append_left ys (there h) = there (in_append_left ys h)
+
+pub in_append_right : {A : Type 0} {x : A} (xs : List A) {ys : List A} → IsIn x ys → IsIn x (xs ++ ys)
+in_append_right [] h = h
+in_append_right (y ∷ xs) h = there (in_append_right xs h)
+
+one_further : {A : Type 0} {x y : A} {xs : List A} {P : Type 0} → IsIn x xs ⊎ P → IsIn x (y ∷ xs) ⊎ P
+one_further (inl h) = inl (there h)
+one_further (inr p) = inr p
+
+pub in_append : {A : Type 0} {x : A} (xs ys : List A) → IsIn x (xs ++ ys) → IsIn x xs ⊎ IsIn x ys
+in_append [] ys h = inr h
+in_append (y ∷ xs) ys here = inl here
+in_append (y ∷ xs) ys (there h) = one_further (in_append xs ys h)
+
+pub in_last : {A : Type 0} (xs : List A) (x : A) → IsIn x (xs ++ x ∷ [])
+in_last xs x = in_append_right xs here
+
+pub in_pushed : {A : Type 0} (xs : List A) (x z : A) → IsIn z (xs ++ x ∷ []) → IsIn z xs ⊎ (x ≡ z)
+in_pushed xs x z h = of (in_append xs (x ∷ []) h)
+  where
+    of : IsIn z xs ⊎ IsIn z (x ∷ []) → IsIn z xs ⊎ (x ≡ z)
+    of (inl i) = inl i
+    of (inr i) = inr (sym (only_item i))
+
+-- ---- backwards
+
+pub in_reverse : {A : Type 0} {x : A} (xs : List A) → IsIn x xs → IsIn x (reverse xs)
+in_reverse {x = x} (y ∷ ys) h = subst (IsIn x) (sym (reverse-append (y ∷ []) ys)) (of (in_reverse ys) (in_cases h))
+  where
+    of : (IsIn x ys → IsIn x (reverse ys)) → (y ≡ x) ⊎ IsIn x ys → IsIn x (reverse ys ++ y ∷ [])
+    of rest (inl e) = in_append_right (reverse ys) (at_head (sym e))
+    of rest (inr i) = in_append_left (y ∷ []) (rest i)
+in_reverse [] h = elim h [ ]
+
+pub from_reverse : {A : Type 0} {x : A} (xs : List A) → IsIn x (reverse xs) → IsIn x xs
+from_reverse {x = x} (y ∷ ys) h = of (from_reverse ys) (in_append (reverse ys) (y ∷ []) (subst (IsIn x) (reverse-append (y ∷ []) ys) h))
+  where
+    of : (IsIn x (reverse ys) → IsIn x ys) → IsIn x (reverse ys) ⊎ IsIn x (y ∷ []) → IsIn x (y ∷ ys)
+    of rest (inl i) = there (rest i)
+    of rest (inr i) = at_head (only_item i)
+from_reverse [] h = elim h [ ]
+
+-- ---- what is made of each item
+
+pub into_map : {A B : Type 0} (f : A → B) {x : A} {xs : List A} → IsIn x xs → IsIn (f x) (map f xs)
+into_map f here = here
+into_map f (there h) = there (into_map f h)
+
+pub from_map : {A B : Type 0} (f : A → B) (xs : List A) {y : B} → IsIn y (map f xs) → (x : A) × IsIn x xs × (f x ≡ y)
+from_map {A} f (x ∷ xs) {y} h = of (from_map f xs) (in_cases h)
+  where
+    of : (IsIn y (map f xs) → (z : A) × IsIn z xs × (f z ≡ y)) → (f x ≡ y) ⊎ IsIn y (map f xs) → (z : A) × IsIn z (x ∷ xs) × (f z ≡ y)
+    of rest (inl e) = (x, here, e)
+    of rest (inr i) = let r = rest i in (r.0, there r.1, r.2)
+from_map f [] h = elim h [ ]
+
+-- ---- what is kept of a list
+
+pub into_filter : {A : Type 0} (p : A → Bool) (xs : List A) {x : A} → IsIn x xs → p x ≡ true → IsIn x (filter p xs)
+into_filter p [] h e = elim h [ ]
+into_filter p (x ∷ xs) here e = subst (λ b. IsIn x (if b then x ∷ filter p xs else filter p xs)) (sym e) here
+into_filter p (y ∷ xs) {x} (there h) e = of (p y) (into_filter p xs h e)
+  where
+    of : (b : Bool) → IsIn x (filter p xs) → IsIn x (if b then y ∷ filter p xs else filter p xs)
+    of true i = there i
+    of false i = i
+
+kept_first : {A : Type 0} (p : A → Bool) (xs : List A) (y : A) {x : A} → p y ≡ true → (IsIn x (filter p xs) → IsIn x xs × (p x ≡ true)) → IsIn x (y ∷ filter p xs) → IsIn x (y ∷ xs) × (p x ≡ true)
+kept_first p xs y e rest here = (here, e)
+kept_first p xs y e rest (there i) = let r = rest i in (there r.0, r.1)
+
+kept_or_not : {A : Type 0} (p : A → Bool) (xs : List A) (y : A) {x : A} (b : Bool) → p y ≡ b → (IsIn x (filter p xs) → IsIn x xs × (p x ≡ true)) → IsIn x (if b then y ∷ filter p xs else filter p xs) → IsIn x (y ∷ xs) × (p x ≡ true)
+kept_or_not p xs y true e rest i = kept_first p xs y e rest i
+kept_or_not p xs y false e rest i = let r = rest i in (there r.0, r.1)
+
+pub from_filter : {A : Type 0} (p : A → Bool) (xs : List A) {x : A} → IsIn x (filter p xs) → IsIn x xs × (p x ≡ true)
+from_filter p [] h = elim h [ ]
+from_filter p (y ∷ xs) h = kept_or_not p xs y (p y) refl (from_filter p xs) h
+
+-- ---- what is read, and what is left
+
+pub item_in : {A : Type 0} (xs : List A) (i : ℕ) (d : A) → i < length xs → IsIn (get_or xs i d) xs
+item_in [] i d h = absurd (omega (arith, h))
+item_in (x ∷ xs) zero d h = here
+item_in (x ∷ xs) (suc i) d h = there (item_in xs i d (omega (arith, h)))
+
+pub item_is_in : {A : Type 0} (xs : List A) (i : ℕ) (x : A) → i < length xs → x ≡ get_or xs i x → IsIn x xs
+item_is_in xs i x h e = subst (λ z. IsIn z xs) (sym e) (item_in xs i x h)
+
+pub in_rest : {A : Type 0} {x : A} (xs : List A) (i : ℕ) → IsIn x (drop i xs) → IsIn x xs
+in_rest xs zero h = h
+in_rest [] (suc i) h = h
+in_rest (y ∷ xs) (suc i) h = there (in_rest xs i h)
+
+pub drop_read : {A : Type 0} (xs : List A) (i : ℕ) (x : A) → i < length xs → x ≡ get_or xs i x → drop i xs ≡ x ∷ drop (i + 1) xs
+drop_read xs i x h e = drop-cons xs i x h ∙ rw (← e) (ap (λ ys. x ∷ ys) (rw add-one))
+
+-- An item of what is left is the next one or behind it.
+pub next_or_rest : {A : Type 0} (xs : List A) (i : ℕ) (x y : A) → i < length xs → y ≡ get_or xs i y → IsIn x (drop i xs) → (y ≡ x) ⊎ IsIn x (drop (i + 1) xs)
+next_or_rest xs i x y h e there_is = in_cases (subst (IsIn x) (drop_read xs i y h e) there_is)
+
+pub none_left : {A : Type 0} (xs : List A) (i : ℕ) (x : A) → length xs ≤ i → IsIn x (drop i xs) → ⊥
+none_left xs i x h there_is = not_in_none (rw (drop_all i xs h) at there_is)
+
+-- ---- lists of which each item is one of another's
+
+pub each_in : {A : Type 0} (xs ys : List A) (y : A) → ((i : ℕ) (d : A) → i < length ys → IsIn (get_or ys i d) xs) → IsIn y ys → IsIn y xs
+each_in xs [] y h m = elim m [ ]
+each_in xs (z ∷ ys) y h here = h 0 y (omega arith)
+each_in xs (z ∷ ys) y h (there m) = each_in xs ys y (λ i d l. h (suc i) d (omega (arith, l))) m

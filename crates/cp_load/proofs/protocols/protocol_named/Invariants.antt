@@ -1,8 +1,0 @@
-use Rattle.std.proofs.Common.{◌≡◌, drop, None, option_map}
-use Rattle.cp_load.specs.Above.{protocols_view}
-use Rattle.cp_load.proofs.Standing.{last_named}
-use Rattle.cp_load.proofs.protocols.protocol_named.Given as goal
-
-abbrev pub invariant-loop-protocol : goal.invariant-loop-protocol
-invariant-loop-protocol l =
-    last_named (option_map (λ p. p.now.value) l.found) (protocols_view (drop l.protocol-index l.protocols)) l.name ≡ last_named None (protocols_view l.protocols) l.name

@@ -1,0 +1,91 @@
+-- What the marks of declared variables mean.
+use Rattle.std.proofs.Common.{◌≡◌, ◌≢◌, ℕ, ◌<◌, ◌≤◌, ◌==◌, ◌&&◌, ◌||◌, List, [], ◌∷◌, length, get_or, set, Bool, true, false, replicate, Some, refl, sym, ap, ◌∙◌, arith, if◌then◌else◌, get_or-set_other, length-set, inl, inr}
+use Rattle.std.proofs.lemmas.Grind.{get_or-set_at}
+use Rattle.std.proofs.lemmas.Bool.Decides.{eqb_tells}
+use Rattle.cp_lists.specs.Lists.{item_at}
+use Rattle.cp_lists.proofs.Items.{item_below, item_past}
+use Rattle.cp_model.specs.Term.{Variable}
+use Rattle.cp_model.specs.Strand.{Declaration}
+use Rattle.cp_model.specs.Same.{same_sort, has_variable}
+use Rattle.cp_language.specs.Printed.{variable}
+use Rattle.cp_names.specs.Marks.{is_of_sort, met_variable, met_variables, AreMarksAmong}
+use Rattle.std.proofs.lemmas.List.{length-replicate, get_or-replicate}
+
+marked_here : (b : Bool) (marks : List Bool) (j n : ℕ) → j ≡ n → n < length marks → get_or (if b then set marks j true else marks) n false ≡ (b || get_or marks n false)
+marked_here true marks j n e h = get_or-set_at marks j n true false (sym e) (omega arith)
+marked_here false marks j n e h = refl
+
+marked_elsewhere : (b : Bool) (marks : List Bool) (j n : ℕ) → n ≢ j → get_or (if b then set marks j true else marks) n false ≡ get_or marks n false
+marked_elsewhere true marks j n e = get_or-set_other marks j n true false e
+marked_elsewhere false marks j n e = refl
+
+and_true : (b : Bool) → (b && true) ≡ b
+and_true true = refl
+and_true false = refl
+
+and_false : (b : Bool) → (b && false) ≡ false
+and_false true = refl
+and_false false = refl
+
+met_one : (ds : List Declaration) (x : Variable) (marks : List Bool) (n : ℕ) (d : Declaration) → item_at ds n ≡ Some d → length marks ≡ length ds
+    → get_or (met_variable ds x marks) n false ≡ ((same_sort x.sort d.sort && (x.number == n)) || get_or marks n false)
+met_one ds x marks n d here long =
+    let in_marks : n < length marks = omega (arith, item_below ds n d here) in
+    let b = is_of_sort (item_at ds x.number) x.sort in
+    elim (eqb_tells x.number n) [
+      | inl w ↦
+          marked_here b marks x.number n w.1 in_marks
+          ∙ ap (λ c. c || get_or marks n false) (ap (λ j. is_of_sort (item_at ds j) x.sort) w.1 ∙ ap (λ o. is_of_sort o x.sort) here ∙ sym (and_true (same_sort x.sort d.sort)) ∙ ap (λ c. same_sort x.sort d.sort && c) (sym w.0))
+      | inr w ↦
+          let differ = w.1 in
+          marked_elsewhere b marks x.number n (λ e. differ (sym e))
+          ∙ ap (λ c. c || get_or marks n false) (sym (ap (λ c. same_sort x.sort d.sort && c) w.0 ∙ and_false (same_sort x.sort d.sort)))
+    ]
+
+length-met : (ds : List Declaration) (x : Variable) (marks : List Bool) → length (met_variable ds x marks) ≡ length marks
+length-met ds x marks = go (is_of_sort (item_at ds x.number) x.sort)
+  where
+    go : (b : Bool) → length (if b then set marks x.number true else marks) ≡ length marks
+    go true = length-set marks x.number true
+    go false = refl
+
+length-all : (ds : List Declaration) (xs : List Variable) (marks : List Bool) → length (met_variables ds xs marks) ≡ length marks
+length-all ds [] marks = refl
+length-all ds (x ∷ xs) marks = length-all ds xs (met_variable ds x marks) ∙ length-met ds x marks
+
+or_turn : (h a g : Bool) → (h || (a || g)) ≡ ((a || h) || g)
+or_turn true true g = refl
+or_turn true false g = refl
+or_turn false true g = refl
+or_turn false false g = refl
+
+met_all : (ds : List Declaration) (xs : List Variable) (marks : List Bool) (n : ℕ) (d : Declaration) → item_at ds n ≡ Some d → length marks ≡ length ds
+    → get_or (met_variables ds xs marks) n false ≡ (has_variable xs (variable d.sort n) || get_or marks n false)
+met_all ds [] marks n d here long = refl
+met_all ds (x ∷ xs) marks n d here long =
+    met_all ds xs (met_variable ds x marks) n d here (length-met ds x marks ∙ long)
+    ∙ ap (λ b. has_variable xs (variable d.sort n) || b) (met_one ds x marks n d here long)
+    ∙ or_turn (has_variable xs (variable d.sort n)) (same_sort x.sort d.sort && (x.number == n)) (get_or marks n false)
+
+or_none : (b : Bool) → (b || false) ≡ b
+or_none true = refl
+or_none false = refl
+
+none_met : (ds : List Declaration) (n : ℕ) (d : Declaration) → item_at ds n ≡ Some d → get_or (replicate (length ds) false) n false ≡ false
+none_met ds n d here = get_or-replicate (length ds) n false false (item_below ds n d here)
+
+pub among_mean : (ds : List Declaration) (xs : List Variable) (marks : List Bool) → marks ≡ met_variables ds xs (replicate (length ds) false) → AreMarksAmong xs ds marks
+among_mean ds xs marks e = record {
+  counted = ap length e ∙ length-all ds xs (replicate (length ds) false) ∙ length-replicate (length ds) false;
+  each = λ n d here. ap (λ ms. get_or ms n false) e ∙ met_all ds xs (replicate (length ds) false) n d here (length-replicate (length ds) false)
+      ∙ ap (λ b. has_variable xs (variable d.sort n) || b) (none_met ds n d here) ∙ or_none (has_variable xs (variable d.sort n));
+}
+
+pub met_past : (ds : List Declaration) (x : Variable) (marks : List Bool) → length ds ≤ x.number → met_variable ds x marks ≡ marks
+met_past ds x marks h = ap (λ o. if is_of_sort o x.sort then set marks x.number true else marks) (item_past ds x.number h)
+
+pub met_one_true : (ds : List Declaration) (x : Variable) (marks : List Bool) → is_of_sort (item_at ds x.number) x.sort ≡ true → met_variable ds x marks ≡ set marks x.number true
+met_one_true ds x marks h = ap (λ (b : Bool). if b then set marks x.number true else marks) h
+
+pub met_one_false : (ds : List Declaration) (x : Variable) (marks : List Bool) → is_of_sort (item_at ds x.number) x.sort ≡ false → met_variable ds x marks ≡ marks
+met_one_false ds x marks h = ap (λ (b : Bool). if b then set marks x.number true else marks) h

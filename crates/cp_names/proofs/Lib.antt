@@ -1,0 +1,9 @@
+pub mod Marking
+pub mod DeclaredMarks
+pub mod FreeNames
+pub mod Tables
+pub mod NamesByMarks
+pub mod LaterNames
+pub mod LocalsInOrder
+pub mod LocalsFound
+pub mod PrefixMarks

@@ -1,0 +1,70 @@
+// The variables of a label: which of them occur, and what each is called.
+ghost use Rattle.std.specs.Prelude.{◌≡◌, ◌++◌, length, map, option_map, IfOk, OnOk};
+ghost use Rattle.cp_language.specs.Names.{label_names};
+ghost use Rattle.cp_language.specs.Report.{variables_of_test, occurring};
+ghost use Rattle.cp_scope.specs.Terms.{variable_view};
+ghost use Rattle.cp_strand.specs.View.{declaration_view};
+ghost use Rattle.cp_skel.specs.Trees.{test_view, label_view};
+ghost use Rattle.cp_names.specs.Marks.{AreMarksOf};
+
+use crate::locals::add_patterns;
+use crate::marks::marks_of;
+use crate::names::{declarations, label_names};
+use crate::occurring::{add_assumptions, add_strands, add_term, add_terms};
+use cp_scope::Variable;
+use cp_skel::{Declaration, Test, TreeNode};
+use cp_term::Text;
+use std::alloc::{AllocError, Global};
+
+/// Appends the variables of a test.
+fn add_test_variables(test: &Option<Test>, out: &mut Vec<Variable>) -> Result<(), AllocError>
+    ensures { OnOk result (map variable_view out.new.items ≡ map variable_view out.old.items ++ variables_of_test (option_map test_view test.now)) }
+{
+    match test {
+        Some(test) => add_term(&test.term, out),
+        None => Ok(()),
+    }
+}
+
+/// The variables that occur in a label form.
+fn occurring(alloc: Global, label: &TreeNode) -> Result<Vec<Variable>, AllocError>
+    ensures { IfOk result (λ xs. map variable_view xs.items ≡ occurring (label_view label.now)) }
+{
+    let skeleton = &label.skeleton;
+    let mut variables = Vec::new(alloc);
+    add_strands(alloc, skeleton.strands(), &mut variables)?;
+    add_assumptions(skeleton.assumptions(), &mut variables)?;
+    add_terms(skeleton.from_problem().values(), &mut variables)?;
+    add_test_variables(&label.test, &mut variables)?;
+    add_patterns(alloc, &label.patterns, &mut variables)?;
+    Ok(variables)
+}
+
+/// A label's variables by number: how each is declared, whether it occurs, and its name.
+#[derive(Drop)]
+pub struct LabelVariables {
+    pub declared: Vec<Declaration>,
+    pub marks: Vec<bool>,
+    pub names: Vec<Text>,
+}
+
+/// The variables of a label, where these are the names of the problem's variables. The error is that memory ran out.
+pub fn variables_of_label(
+    alloc: Global,
+    of_problem: &[Text],
+    label: &TreeNode,
+) -> Result<LabelVariables, AllocError>
+    ensures declared { IfOk result (λ xs. map declaration_view xs.declared.items ≡ (label_view label.now).variables) }
+    ensures marks { IfOk result (λ xs. AreMarksOf (occurring (label_view label.now)) (length (label_view label.now).variables) xs.marks.items) }
+    ensures names { IfOk result (λ xs. xs.names.items ≡ label_names of_problem.now (occurring (label_view label.now)) (label_view label.now).variables) }
+{
+    let declared = declarations(alloc, label.skeleton.variables())?;
+    let occurring = occurring(alloc, label)?;
+    let marks = marks_of(alloc, declared.len(), &occurring)?;
+    let names = label_names(alloc, of_problem, &marks, &declared)?;
+    Ok(LabelVariables {
+        declared,
+        marks,
+        names,
+    })
+}

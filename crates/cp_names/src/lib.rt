@@ -1,0 +1,13 @@
+//! The variables that occur in a label, and the names that a report gives to variables.
+#![tactic(auto)]
+
+mod labels;
+mod locals;
+mod marks;
+mod names;
+mod occurring;
+
+pub use labels::{LabelVariables, variables_of_label};
+pub use locals::locals_of;
+pub use marks::{is_marked, is_same_sort, prefix_marks};
+pub use names::problem_names;

@@ -1,0 +1,81 @@
+// Marks for the variables that occur.
+ghost use Rattle.std.specs.Prelude.{◌≡◌, map, length, get_or, replicate, false, IfOk};
+ghost use Rattle.cp_model.specs.Same.{same_sort};
+ghost use Rattle.cp_model.specs.Strand.{variables_of_prefix};
+ghost use Rattle.cp_strand.specs.View.{sort_view, declaration_view};
+ghost use Rattle.cp_lists.specs.Lists.{item_at};
+ghost use Rattle.cp_scope.specs.Terms.{variable_view};
+ghost use Rattle.cp_names.specs.Marks.{marked, is_of_sort, met_variables, AreMarksAmong};
+
+use crate::occurring::add_events;
+use cp_scope::Variable;
+use cp_strand::{Declaration, Role, prefix_of};
+use cp_term::Sort;
+use std::alloc::{AllocError, Global};
+
+/// Whether the sorts are the same.
+pub fn is_same_sort(first: Sort, second: Sort) -> bool
+    ensures { result ≡ same_sort (sort_view first) (sort_view second) }
+{
+    first == second
+}
+
+/// For each number below the count whether a variable of that number is among these.
+pub(crate) fn marks_of(
+    alloc: Global,
+    count: usize,
+    variables: &[Variable],
+) -> Result<Vec<bool>, AllocError>
+    ensures { IfOk result (λ marks. marks.items ≡ marked (map variable_view variables.now) (replicate count false)) }
+{
+    let mut marks = vec![in alloc; false; count]?;
+    for variable in variables {
+        let number = variable.number;
+        if number < marks.len() {
+            marks[number] = true;
+        }
+    }
+    Ok(marks)
+}
+
+/// Whether the declared variable of this number is of this sort.
+fn is_declared(declared: &[Declaration], variable: Variable) -> bool
+    ensures { result ≡ is_of_sort (item_at (map declaration_view declared.now) variable.number) (sort_view variable.sort) }
+{
+    variable.number < declared.len() && is_same_sort(variable.sort, declared[variable.number].sort)
+}
+
+/// For each declared variable whether it is among these.
+#[tactic(auto, using(crate::proofs::DeclaredMarks::met_one_true, crate::proofs::DeclaredMarks::met_one_false))]
+fn marks_among(
+    alloc: Global,
+    declared: &[Declaration],
+    variables: &[Variable],
+) -> Result<Vec<bool>, AllocError>
+    ensures { IfOk result (λ marks. marks.items ≡ met_variables (map declaration_view declared.now) (map variable_view variables.now) (replicate (length declared.now) false)) }
+{
+    let mut marks = vec![in alloc; false; declared.len()]?;
+    for variable in variables {
+        let number = variable.number;
+        if is_declared(declared, *variable) && number < marks.len() {
+            marks[number] = true;
+        }
+    }
+    Ok(marks)
+}
+
+/// Whether there is a mark at this number.
+pub fn is_marked(marks: &[bool], number: usize) -> bool
+    ensures { result ≡ get_or marks.now number false }
+{
+    number < marks.len() && marks[number]
+}
+
+/// For each variable of a role whether it occurs in the prefix of this height. The error is that memory ran out.
+pub fn prefix_marks(alloc: Global, role: &Role, height: usize) -> Result<Vec<bool>, AllocError>
+    ensures { IfOk result (λ marks. AreMarksAmong (variables_of_prefix role.now height) role.now.variables marks.items) }
+{
+    let mut variables = Vec::new(alloc);
+    add_events(prefix_of(role, height), &mut variables)?;
+    marks_among(alloc, role.variables(), &variables)
+}

@@ -1,0 +1,172 @@
+// The names of variables in a report.
+ghost use Rattle.std.specs.Prelude.{◌≡◌, ◌++◌, [], ◌∷◌, map, IfOk, OnOk, if◌then◌else◌};
+ghost use Rattle.cp_language.specs.Names.{numbered_name, free_name, identifiers_in, names_onto, problem_names};
+ghost use Rattle.cp_strand.specs.View.{declaration_view};
+ghost use Rattle.cp_skel.specs.Trees.{variables_view};
+ghost use Rattle.cp_names.specs.Marks.{label_names_by};
+
+use crate::marks::is_marked;
+use cp_scope::Taken;
+use cp_skel::Declaration;
+use cp_term::{Text, VarId, VarTable};
+use itoa::Buffer;
+use std::alloc::{AllocError, Global};
+
+/// The variables of a table with their identifiers and sorts.
+pub(crate) fn declarations(alloc: Global, table: &VarTable) -> Result<Vec<Declaration>, AllocError>
+    ensures { IfOk result (λ ds. map declaration_view ds.items ≡ variables_view table.now) }
+{
+    let mut declarations = Vec::new(alloc);
+    for number in 0..table.len() {
+        let id = VarId::numbered(number);
+        let identifier = Text::new(alloc, table.root(id))?;
+        let sort = table.sort(id);
+        declarations.push(Declaration { identifier, sort })?;
+    }
+    Ok(declarations)
+}
+
+/// The name with a number behind it.
+fn numbered_name(alloc: Global, name: &str, number: usize) -> Result<Text, AllocError>
+    ensures { IfOk result (λ t. t ≡ numbered_name name.now number) }
+{
+    let mut text = String::from_str(alloc, name)?;
+    text.push_str("-")?;
+    let mut buffer = Buffer::new();
+    text.push_str(buffer.format(number))?;
+    Text::new(alloc, text.as_str())
+}
+
+/// The first of the name and its numbered forms that is not taken.
+fn free_name(alloc: Global, taken: &Taken, name: &str) -> Result<Text, AllocError>
+    ensures { IfOk result (λ t. t ≡ free_name taken.now name.now) }
+{
+    if !taken.has(name) {
+        return Text::new(alloc, name);
+    }
+    for n in 0..taken.len() {
+        let numbered = numbered_name(alloc, name, n)?;
+        if !taken.has(numbered.as_str()) {
+            return Ok(numbered);
+        }
+    }
+    numbered_name(alloc, name, taken.len())
+}
+
+/// Names, each of which is also among those that are taken.
+#[derive(Drop)]
+struct Names {
+    taken: Taken,
+    names: Vec<Text>,
+}
+
+/// Puts a name behind the others, and takes it.
+fn give(alloc: Global, name: Text, names: &mut Names) -> Result<(), AllocError>
+    ensures taken { OnOk result (names.new.taken ≡ names.old.taken ++ name ∷ []) }
+    ensures names { OnOk result (names.new.names.items ≡ names.old.names.items ++ name ∷ []) }
+{
+    let copy = Text::new(alloc, name.as_str())?;
+    names.taken.push(alloc, copy)?;
+    names.names.push(name)?;
+    Ok(())
+}
+
+/// The identifiers of these variables, all of them taken.
+fn identifiers(alloc: Global, variables: &[Declaration]) -> Result<Names, AllocError>
+    ensures taken { IfOk result (λ names. names.taken ≡ identifiers_in (map declaration_view variables.now)) }
+    ensures names { IfOk result (λ names. names.names.items ≡ identifiers_in (map declaration_view variables.now)) }
+{
+    let mut names = Names {
+        taken: Taken::new(alloc),
+        names: Vec::new(alloc),
+    };
+    for variable in variables {
+        let name = Text::new(alloc, variable.identifier.as_str())?;
+        give(alloc, name, &mut names)?;
+    }
+    Ok(names)
+}
+
+/// The names of variables, of which the first are declared and keep their identifiers.
+fn names_in_order(
+    alloc: Global,
+    declared: usize,
+    variables: &[Declaration],
+) -> Result<Vec<Text>, AllocError>
+    ensures { IfOk result (λ names. names.items ≡ problem_names declared (map declaration_view variables.now)) }
+{
+    let (kept, others) = variables.split_at(declared.min(variables.len()));
+    let mut names = identifiers(alloc, kept)?;
+    for variable in others {
+        let name = free_name(alloc, &names.taken, variable.identifier.as_str())?;
+        give(alloc, name, &mut names)?;
+    }
+    Ok(names.names)
+}
+
+/// The names of a problem's variables, of which the first are declared and keep their identifiers. The error is that
+/// memory ran out.
+pub fn problem_names(
+    alloc: Global,
+    declared: usize,
+    table: &VarTable,
+) -> Result<Vec<Text>, AllocError>
+    ensures { IfOk result (λ names. names.items ≡ problem_names declared (variables_view table.now)) }
+{
+    let variables = declarations(alloc, table)?;
+    names_in_order(alloc, declared, &variables)
+}
+
+/// The names of a problem's variables, all of them taken.
+fn copied(alloc: Global, of_problem: &[Text]) -> Result<Names, AllocError>
+    ensures taken { IfOk result (λ names. names.taken ≡ of_problem.now) }
+    ensures names { IfOk result (λ names. names.names.items ≡ of_problem.now) }
+{
+    let mut names = Names {
+        taken: Taken::new(alloc),
+        names: Vec::new(alloc),
+    };
+    for name in of_problem {
+        let name = Text::new(alloc, name.as_str())?;
+        give(alloc, name, &mut names)?;
+    }
+    Ok(names)
+}
+
+/// Gives the variable a name that is not taken if it occurs, and else an empty one, which is not taken.
+fn give_later(
+    alloc: Global,
+    occurs: bool,
+    identifier: &str,
+    names: &mut Names,
+) -> Result<(), AllocError>
+    ensures taken { OnOk result (names.new.taken ≡ (if occurs then names.old.taken ++ free_name names.old.taken identifier.now ∷ [] else names.old.taken)) }
+    ensures names { OnOk result (names.new.names.items ≡ names.old.names.items ++ (if occurs then free_name names.old.taken identifier.now else []) ∷ []) }
+{
+    if occurs {
+        let name = free_name(alloc, &names.taken, identifier)?;
+        give(alloc, name, names)
+    } else {
+        let name = Text::new(alloc, "")?;
+        names.names.push(name)?;
+        Ok(())
+    }
+}
+
+/// The names of a label's variables, where these are those of the problem's variables and the marks tell for each
+/// variable whether it occurs.
+pub(crate) fn label_names(
+    alloc: Global,
+    of_problem: &[Text],
+    marks: &[bool],
+    variables: &[Declaration],
+) -> Result<Vec<Text>, AllocError>
+    ensures { IfOk result (λ names. names.items ≡ label_names_by of_problem.now marks.now (map declaration_view variables.now)) }
+{
+    let mut names = copied(alloc, of_problem)?;
+    for number in of_problem.len()..variables.len() {
+        let identifier = variables[number].identifier.as_str();
+        give_later(alloc, is_marked(marks, number), identifier, &mut names)?;
+    }
+    Ok(names.names)
+}

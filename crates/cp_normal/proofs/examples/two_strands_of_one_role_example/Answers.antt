@@ -1,5 +1,0 @@
-use Rattle.cp_normal.proofs.OneCollapse.{one_collapse}
-use Rattle.cp_normal.proofs.examples.two_strands_of_one_role_example.Goals as goal
-
-pub returns : goal.returns
-returns c = one_collapse

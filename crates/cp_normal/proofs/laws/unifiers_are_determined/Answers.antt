@@ -1,5 +1,0 @@
-use Rattle.cp_normal.proofs.OneUnifier.{one_for_atoms}
-use Rattle.cp_normal.proofs.laws.unifiers_are_determined.Goals as goal
-
-pub returns : goal.returns
-returns c = one_for_atoms

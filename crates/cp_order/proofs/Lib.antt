@@ -1,0 +1,6 @@
+pub mod AlongPairs
+pub mod Composing
+pub mod JoinedPairs
+mod LookedUp
+mod Gathering
+mod SortedPairs

@@ -1,0 +1,11 @@
+use Rattle.std.proofs.Common.{List, map, subst}
+use Rattle.cp_model.specs.declared.node.OrderPair.{OrderPair}
+use Rattle.cp_order.specs.Leading.{tops_of}
+use Rattle.cp_order.specs.Rows.{AreRowsOf, rows_by}
+use Rattle.cp_order.proofs.closed.ClosedPairs.new.Goals as goal
+
+pub invariant_of-result : goal.invariant_of-result
+invariant_of-result c = (
+  c.requires,
+  subst (λ (ps : List OrderPair). AreRowsOf ps (rows_by c.in_ok-rows.rows (λ v. map (λ r. tops_of r.value) v.items))) c.deref.ensures.value c.in_ok-rows.ensures,
+)

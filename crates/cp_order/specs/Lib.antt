@@ -1,0 +1,5 @@
+pub mod Leading
+pub mod Sorted
+pub mod Closed
+pub mod Composed
+pub mod Rows

@@ -1,0 +1,12 @@
+//! The order of nodes, by pairs of nodes beside the order of each strand: which node leads to which.
+#![tactic(auto)]
+
+mod closed;
+mod closing;
+mod leading;
+mod order;
+mod tops;
+mod ways;
+
+pub use leading::Leading;
+pub use order::Order;

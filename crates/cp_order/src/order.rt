@@ -1,0 +1,161 @@
+// Orders of nodes, by pairs of nodes beside the order of each strand.
+ghost use Rattle.std.specs.Prelude.{◌≡◌, ◌↔◌, ◌∷◌, ◌++◌, [], IsTrue, IfOk, OnOk, OnErr, IfSome};
+ghost use Rattle.cp_model.specs.declared.node.Node.{Node as PlainNode};
+ghost use Rattle.cp_model.specs.Order.{LeadsTo};
+ghost use Rattle.cp_order.specs.Closed.{IsClosed, KeepsOrder, IsClosureOf};
+
+use crate::closed::ClosedPairs;
+use crate::leading::Leading;
+use crate::ways::leads_within;
+use cp_model::{Node, OrderPair};
+use std::alloc::{AllocError, Global};
+use std::marker::Model;
+use std::rc::Rc;
+
+/// An order, by pairs of nodes. From when it is closed on it keeps closed pairs beside its own: pairs that order as its own
+/// do, and of which one alone leads wherever these lead, but for the order of one strand. Copies share them.
+#[derive(Drop)]
+pub struct Order {
+    pairs: Vec<OrderPair>,
+    closure: Option<Rc<ClosedPairs>>,
+}
+
+impl Model for Order {
+    ghost use Rattle.std.specs.Prelude.{List};
+    ghost use Rattle.cp_model.specs.declared.node.OrderPair.{OrderPair as Plain};
+
+    ghost Value = { List Plain };
+
+    ghost use Rattle.std.specs.Prelude.{IfSome};
+    ghost use Rattle.cp_order.specs.Closed.{IsClosureOf};
+
+    ghost view = { λ o. o.pairs.items };
+
+    ghost invariant = { λ o. IfSome o.closure (λ c. IsClosureOf o.pairs.items c.value) };
+}
+
+impl Order {
+    /// The order by these pairs. It is not closed.
+    pub fn of(pairs: Vec<OrderPair>) -> Order
+        ensures { result ≡ pairs.items }
+    {
+        Order {
+            pairs,
+            closure: None,
+        }
+    }
+
+    /// The order by these pairs in place of its own; where it was closed, so is the new one. The error is that memory ran
+    /// out.
+    pub fn with_pairs(&self, alloc: Global, pairs: Vec<OrderPair>) -> Result<Order, AllocError>
+        ensures { IfOk result (λ o. o ≡ pairs.items) }
+    {
+        let mut order = Order::of(pairs);
+        if self.closure.is_some() {
+            let closed = ClosedPairs::of(alloc, &order.pairs)?;
+            order.closure = Some(Rc::new(alloc, closed)?);
+        }
+        Ok(order)
+    }
+
+    /// Its pairs.
+    pub fn pairs(&self) -> &[OrderPair]
+        ensures { result.now ≡ self.now }
+    {
+        &self.pairs
+    }
+
+    /// Whether x leads to y along strands and pairs. Of an order that was closed this is looked up; of another each
+    /// way is tried.
+    pub fn leads_to(&self, x: Node, y: Node) -> bool
+        ensures { IsTrue result ↔ LeadsTo self.now x y }
+    {
+        match &self.closure {
+            Some(closed) => closed.leads_to(x, y),
+            None => leads_within(&self.pairs, self.pairs.len(), x, y),
+        }
+    }
+
+    /// Whether x leads to y along strands and pairs. Of an order that was closed this is looked up; of another the
+    /// nodes that lead to y are gathered, each once. The error is that memory ran out.
+    pub fn leads_to_with_memory(&self, alloc: Global, x: Node, y: Node) -> Result<bool, AllocError>
+        ensures { IfOk result (λ leads. IsTrue leads ↔ LeadsTo self.now x y) }
+    {
+        if self.closure.is_some() {
+            return Ok(self.leads_to(x, y));
+        }
+        let leading = Leading::new(alloc, &self.pairs, y)?;
+        Ok(leading.has(x))
+    }
+
+    /// Closed pairs that order as its own do.
+    fn closed_pairs(&self, alloc: Global) -> Result<Rc<ClosedPairs>, AllocError>
+        ensures { IfOk result (λ c. IsClosureOf self.now c.value) }
+    {
+        if let Some(closed) = &self.closure {
+            let closed = closed.clone()?;
+            return Ok(closed);
+        }
+        let closed = ClosedPairs::of(alloc, &self.pairs)?;
+        let closed = Rc::new(alloc, closed)?;
+        Ok(closed)
+    }
+
+    /// Closes the order: its pairs become closed ones, what leads where stays the same, and is looked up from now on. The
+    /// error is that memory ran out.
+    pub fn close(&mut self, alloc: Global) -> Result<(), AllocError>
+        ensures leads { OnOk result ((x y : PlainNode) → LeadsTo self.new x y ↔ LeadsTo self.old x y) }
+        ensures keeps { OnOk result (KeepsOrder self.old self.new) }
+        ensures closed { OnOk result (IsClosed self.new) }
+        ensures unchanged { OnErr result (self.new ≡ self.old) }
+    {
+        let closed = self.closed_pairs(alloc)?;
+        let pairs = Vec::from_slice(alloc, closed.pairs())?;
+        self.pairs = pairs;
+        self.closure = Some(closed);
+        Ok(())
+    }
+
+    /// The closed pairs of an order that was closed, as they are with one pair more.
+    fn closure_with(
+        &self,
+        alloc: Global,
+        pair: OrderPair,
+    ) -> Result<Option<Rc<ClosedPairs>>, AllocError>
+        ensures { IfOk result (λ found. IfSome found (λ c. IsClosureOf (pair ∷ self.now) c.value)) }
+    {
+        let Some(closed) = &self.closure else {
+            return Ok(None);
+        };
+        let closed = closed.with_pair(alloc, pair)?;
+        let closed = Rc::new(alloc, closed)?;
+        Ok(Some(closed))
+    }
+
+    /// Adds a pair; an order that was closed keeps its closed pairs so. The error is that memory ran out.
+    pub fn add(&mut self, alloc: Global, pair: OrderPair) -> Result<(), AllocError>
+        ensures pairs { OnOk result (self.new ≡ self.old ++ (pair ∷ [])) }
+        ensures leads { OnOk result ((x y : PlainNode) → LeadsTo self.new x y ↔ LeadsTo (pair ∷ self.old) x y) }
+        ensures keeps { OnOk result (KeepsOrder (pair ∷ self.old) self.new) }
+        ensures unchanged { OnErr result (self.new ≡ self.old) }
+    {
+        let closure = self.closure_with(alloc, pair)?;
+        self.pairs.push(pair)?;
+        self.closure = closure;
+        Ok(())
+    }
+
+    /// The same order again, closed where this one is. The error is that memory ran out.
+    pub fn copy(&self, alloc: Global) -> Result<Order, AllocError>
+        ensures { IfOk result (λ o. o ≡ self.now) }
+    {
+        let closure = match &self.closure {
+            Some(closed) => Some(closed.clone()?),
+            None => None,
+        };
+        Ok(Order {
+            pairs: Vec::from_slice(alloc, &self.pairs)?,
+            closure,
+        })
+    }
+}

@@ -1,9 +1,0 @@
-use Rattle.std.proofs.Common.{◌≡◌, ◌++◌, map, drop}
-use Rattle.cp_language.specs.Report.{variables_but}
-use Rattle.cp_print.specs.Named.{variable_view}
-use Rattle.cp_print.proofs.patterns.add_variables_but.Given as goal
-
-abbrev pub invariant-loop-variable : goal.invariant-loop-variable
-invariant-loop-variable l =
-    map variable_view l.out.items ++ variables_but (map variable_view l.locals) (map variable_view (drop l.variable-index l.variables))
-    ≡ map variable_view l.fn.out.items ++ variables_but (map variable_view l.locals) (map variable_view l.variables)

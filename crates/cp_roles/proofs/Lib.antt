@@ -1,0 +1,4 @@
+pub mod ExactOrigins
+pub mod EventFaults
+pub mod RoleNames
+pub mod Standing

@@ -1,0 +1,21 @@
+use Rattle.std.proofs.Common.{map, ap, ◌∙◌}
+use Rattle.std.proofs.lemmas.Result.{IfOk-weaker}
+use Rattle.cp_strand.specs.View.{declaration_view, event_view}
+use Rattle.cp_forms.specs.FirstFault.{first_onto}
+use Rattle.cp_roles.specs.Named.{role_names}
+use Rattle.cp_roles.proofs.RoleNames.{few_items, role-read}
+use Rattle.cp_roles.proofs.roles.role_of.Goals as goal
+
+pub returns-in_default-clause-faults : goal.returns-in_default-clause-faults
+returns-in_default-clause-faults c =
+    let same = c.note.ensures ∙ ap (first_onto c.args.first.now) (few_items (role_names c.args.before.now) c.args.place c.args.items.now c.in_default.len_below) in
+    IfOk-weaker c.no_role.result _ _ (λ r h. same) c.no_role.ensures
+
+pub returns-clause-faults : goal.returns-clause-faults
+returns-clause-faults c =
+    role-read (role_names c.args.before.now) c.args.place c.args.items.now c.name-item.result c.variables-item.result c.trace-item.result c.in-len3-up.len_at_least c.name-item.is c.variables-item.is c.trace-item.is
+    (map declaration_view c.deref.result.now) (map declaration_view c.deref-2.result.now) (map declaration_view c.deref-3.result.now) (map event_view c.deref-4.result.now)
+    c.args.first.now c.role_name_faults.new.first c.variables_of.new.first c.trace_faults.new.first c.role_items_faults.new.first
+    (ap (map declaration_view) c.deref.ensures.value ∙ c.in_ok-variables.ensures.declared) (ap (map declaration_view) c.deref-2.ensures.value ∙ c.in_ok-variables.ensures.declared)
+    (ap (map event_view) c.deref-4.ensures.value ∙ c.in_ok-trace.ensures) (ap (map declaration_view) c.deref-3.ensures.value ∙ c.in_ok-variables.ensures.declared)
+    c.role_name_faults.ensures c.in_ok-variables.ensures.faults c.trace_faults.ensures c.in_ok-role_items_faults.ensures

@@ -1,0 +1,112 @@
+// Events and traces.
+ghost use Rattle.std.specs.Prelude.{◌≡◌, map, IfOk};
+ghost use Rattle.cp_sexpr.specs.View.{view};
+ghost use Rattle.cp_language.specs.Words.{event_head};
+ghost use Rattle.cp_language.specs.Roles.{headed, message_faults, event_head_faults, event_faults, events_faults, trace_faults, message_of, event_of, events_in, events_of, items_behind};
+ghost use Rattle.cp_strand.specs.View.{declaration_view, event_view};
+ghost use Rattle.cp_forms.specs.FirstFault.{first_onto};
+ghost use Rattle.cp_forms.specs.Heads.{event_head_view};
+
+use cp_base::{Code, Place};
+use cp_forms::{EventHead, FirstFault, event_head, headed, items_behind, place_of};
+use cp_scope::{fixed, lacks, no_term, term_faults, term_of};
+use cp_sexpr::Form;
+use cp_strand::{Declaration, Event};
+use cp_term::Term;
+use std::alloc::{AllocError, Global};
+
+/// The faults of the items behind the head of a transmission or a reception: one message; with two it is on a channel.
+fn message_faults(variables: &[Declaration], place: Place, items: &[Form], first: &mut FirstFault)
+    ensures { first.new ≡ first_onto first.old (message_faults (map declaration_view variables.now) place (map view items.now)) }
+{
+    match items {
+        [] => first.note(place, Code::BadShape),
+        [message] => term_faults(variables, message, first),
+        [_, _] => first.note(place, Code::OutOfProfile),
+        [channel, message, more, ..] => {
+            term_faults(variables, channel, first);
+            term_faults(variables, message, first);
+            first.note(place_of(more), Code::BadShape);
+        }
+    }
+}
+
+/// The faults of an event.
+fn event_faults(variables: &[Declaration], form: &Form, first: &mut FirstFault)
+    ensures { first.new ≡ first_onto first.old (event_faults (map declaration_view variables.now) (view form.now)) }
+{
+    let Some(list) = headed(form) else {
+        first.note(place_of(form), Code::BadShape);
+        return;
+    };
+    match event_head(list.head) {
+        EventHead::Send | EventHead::Recv => message_faults(
+            variables,
+            place_of(form),
+            list.items,
+            first,
+        ),
+        EventHead::OutOfProfile => first.note(place_of(form), Code::OutOfProfile),
+        EventHead::Unknown => first.note(place_of(form), Code::UnknownForm),
+    }
+}
+
+/// The faults of the events of a trace.
+fn events_faults(variables: &[Declaration], items: &[Form], first: &mut FirstFault)
+    ensures { first.new ≡ first_onto first.old (events_faults (map declaration_view variables.now) (map view items.now)) }
+{
+    for item in items {
+        event_faults(variables, item, first);
+    }
+}
+
+/// The faults of a trace.
+pub(crate) fn trace_faults(variables: &[Declaration], form: &Form, first: &mut FirstFault)
+    ensures { first.new ≡ first_onto first.old (trace_faults (map declaration_view variables.now) (view form.now)) }
+{
+    if let Some(list) = fixed(form, b"trace", first) {
+        lacks(1, list.place, list.items, first);
+        events_faults(variables, list.items, first);
+    }
+}
+
+/// The message of a transmission or a reception with these items behind its head.
+fn message_of(alloc: Global, variables: &[Declaration], items: &[Form]) -> Result<Term, AllocError>
+    ensures { IfOk result (λ t. t ≡ message_of (map declaration_view variables.now) (map view items.now)) }
+{
+    match items {
+        [message, ..] => term_of(alloc, variables, message),
+        [] => no_term(alloc),
+    }
+}
+
+/// The event that a form stands for. What stands for a form with faults has no meaning.
+fn event_of(alloc: Global, variables: &[Declaration], form: &Form) -> Result<Event, AllocError>
+    ensures { IfOk result (λ e. event_view e ≡ event_of (map declaration_view variables.now) (headed (view form.now))) }
+{
+    let Some(list) = headed(form) else {
+        return Ok(Event::Send(no_term(alloc)?));
+    };
+    let message = message_of(alloc, variables, list.items)?;
+    match event_head(list.head) {
+        EventHead::Send => Ok(Event::Send(message)),
+        _ => Ok(Event::Receive(message)),
+    }
+}
+
+/// The events of a trace.
+pub(crate) fn events_of(
+    alloc: Global,
+    variables: &[Declaration],
+    form: &Form,
+) -> Result<Vec<Event>, AllocError>
+    ensures { IfOk result (λ v. map event_view v.items ≡ events_of (map declaration_view variables.now) (view form.now)) }
+{
+    let items = items_behind(form);
+    let mut events = Vec::new(alloc);
+    for item in items {
+        let event = event_of(alloc, variables, item)?;
+        events.push(event)?;
+    }
+    Ok(events)
+}

@@ -1,0 +1,67 @@
+// The unique values of roles, and where they originate.
+ghost use Rattle.std.specs.Prelude.{◌≡◌, map, OnOk};
+ghost use Rattle.cp_model.specs.Same.{origin_in};
+ghost use Rattle.cp_sexpr.specs.View.{view};
+ghost use Rattle.cp_language.specs.Roles.{each_faults, role_unique_faults};
+ghost use Rattle.cp_strand.specs.View.{declaration_view, event_view};
+ghost use Rattle.cp_forms.specs.FirstFault.{first_onto};
+
+use cp_base::Code;
+use cp_forms::{FirstFault, place_of};
+use cp_scope::{atom_faults, term_of};
+use cp_sexpr::Form;
+use cp_strand::{Declaration, Event};
+use cp_term::Term;
+use std::alloc::{AllocError, Global};
+
+/// What the items of a role speak of: its variables and its trace.
+#[derive(Clone, Copy)]
+pub(crate) struct Scope<'a> {
+    pub(crate) variables: &'a [Declaration],
+    pub(crate) trace: &'a [Event],
+}
+
+/// The place among the events at which a term originates.
+fn origin(events: &[Event], value: &Term) -> Option<usize>
+    ensures { result ≡ origin_in (map event_view events.now) value.now }
+{
+    cp_strand::origin(events, value)
+}
+
+/// The faults of a unique value of a role with this trace: where it has no other, it has to originate in the trace.
+fn role_unique_faults(
+    alloc: Global,
+    scope: Scope<'_>,
+    form: &Form,
+    first: &mut FirstFault,
+) -> Result<(), AllocError>
+    ensures { OnOk result (first.new ≡ first_onto first.old
+        (role_unique_faults (map declaration_view scope.entry.variables.now) (map event_view scope.entry.trace.now) (view form.now))) }
+{
+    let value = term_of(alloc, scope.variables, form)?;
+    let mut inside = FirstFault::new();
+    atom_faults(scope.variables, form, &mut inside);
+    inside.note_unless_faulty(
+        origin(scope.trace, &value).is_some(),
+        place_of(form),
+        Code::RoleUniqNoOrigin,
+    );
+    first.merge(inside);
+    Ok(())
+}
+
+/// The faults of the unique values of a role with this trace.
+pub(crate) fn role_uniques_faults(
+    alloc: Global,
+    scope: Scope<'_>,
+    items: &[Form],
+    first: &mut FirstFault,
+) -> Result<(), AllocError>
+    ensures { OnOk result (first.new ≡ first_onto first.old
+        (each_faults (role_unique_faults (map declaration_view scope.entry.variables.now) (map event_view scope.entry.trace.now)) (map view items.now))) }
+{
+    for item in items {
+        role_unique_faults(alloc, scope, item, first)?;
+    }
+    Ok(())
+}

@@ -1,0 +1,8 @@
+pub mod Sizes
+pub mod TermSorts
+pub mod Judged
+pub mod Pairing
+pub mod Meanings
+pub mod Naming
+pub mod Gathered
+pub mod NamesInUse

@@ -1,0 +1,223 @@
+// Declarations of variables.
+ghost use Rattle.std.specs.Prelude.{◌≡◌, ◌++◌, ◌∷◌, [], List, map, option_map, IfOk, OnOk, MatchOption, Some};
+ghost use Rattle.cp_base.specs.declared.place.Place.{Place as PlaceData};
+ghost use Rattle.cp_base.specs.declared.place.Refusal.{Refusal as Fault};
+ghost use Rattle.cp_sexpr.specs.Syntax.{Form as FormData};
+ghost use Rattle.cp_sexpr.specs.View.{view};
+ghost use Rattle.cp_language.specs.Words.{is_one_of};
+ghost use Rattle.cp_language.specs.Names.{identifiers_in};
+ghost use Rattle.cp_language.specs.Roles.{headed, text_of_symbol, list_items, front_of, last_form, sort_named, is_of_messages, sort_or_text, sort_word_faults, last_sort_faults, identifier_faults, identifiers_faults, declaration_faults, declarations_faults, vars_faults, declared_of, declarations_in, declarations_of, fixed_faults};
+ghost use Rattle.cp_strand.specs.View.{sort_view, declaration_view};
+ghost use Rattle.cp_forms.specs.FirstFault.{first_onto};
+ghost use Rattle.cp_forms.specs.Heads.{sort_word_view};
+ghost use Rattle.cp_forms.specs.Forms.{headed_view};
+ghost use Rattle.cp_scope.specs.Fixed.{faults_inside};
+
+use crate::faults::lacks;
+use cp_base::{Code, Place, Text};
+use cp_forms::{
+    FirstFault, HeadedList, SortWord, front_items, headed, is_out_of_profile, is_word,
+    items_behind, last_item, place_of, sort_word,
+};
+use cp_sexpr::Form;
+use cp_strand::Declaration;
+use cp_term::Sort;
+use std::alloc::{AllocError, Global};
+
+/// The list that stands at a fixed place, if it has this head.
+pub fn fixed<'a>(form: &'a Form, word: &[u8], first: &mut FirstFault) -> Option<HeadedList<'a>>
+    ensures faults { (inside : PlaceData → List FormData → List Fault)
+        → first_onto first.new (faults_inside inside (option_map headed_view result)) ≡ first_onto first.old (fixed_faults word.now inside (view form.now)) }
+    ensures list { MatchOption result (Unit {0}) (λ h. Some (headed_view h) ≡ headed (view form.now)) }
+{
+    let Some(list) = headed(form) else {
+        first.note(place_of(form), Code::BadShape);
+        return None;
+    };
+    if is_word(list.head, word) {
+        return Some(list);
+    }
+    let code = if is_out_of_profile(list.head) {
+        Code::OutOfProfile
+    } else {
+        Code::BadShape
+    };
+    first.note(place_of(form), code);
+    None
+}
+
+/// The text of a symbol, as an identifier or a name; of any other form the empty text.
+pub fn name_of(alloc: Global, form: &Form) -> Result<Text, AllocError>
+    ensures { IfOk result (λ t. t ≡ text_of_symbol (view form.now)) }
+{
+    match form {
+        Form::Symbol(_, text) => text.copy(),
+        _ => Text::new(alloc, ""),
+    }
+}
+
+/// Whether one of the variables has this identifier.
+fn is_declared(variables: &[Declaration], identifier: &[u8]) -> bool
+    ensures { result ≡ is_one_of identifier.now (identifiers_in (map declaration_view variables.now)) }
+{
+    for variable in variables {
+        if is_word(identifier, variable.identifier.as_str().as_bytes()) {
+            return true;
+        }
+    }
+    false
+}
+
+fn is_of_messages(word: SortWord) -> bool
+    ensures { result ≡ is_of_messages (sort_word_view word) }
+{
+    matches!(word, SortWord::Messages)
+}
+
+/// The sort of atoms that a word names; of any other word it says nothing.
+fn sort_or_text(word: SortWord) -> Sort
+    ensures { sort_view result ≡ sort_or_text (sort_word_view word) }
+{
+    match word {
+        SortWord::Atoms(sort) => sort,
+        _ => Sort::Text,
+    }
+}
+
+/// What stands where a declaration names its sort.
+fn sort_named(form: Option<&Form>) -> SortWord
+    ensures { sort_word_view result ≡ sort_named (option_map (λ f. view f.now) form.entry) }
+{
+    match form {
+        Some(Form::Symbol(_, word)) => sort_word(word.as_bytes()),
+        _ => SortWord::Unknown,
+    }
+}
+
+fn sort_word_faults(place: Place, word: SortWord, first: &mut FirstFault)
+    ensures { first.new ≡ first_onto first.old (sort_word_faults place (sort_word_view word)) }
+{
+    match word {
+        SortWord::Atoms(_) | SortWord::Messages => {}
+        SortWord::OutOfProfile => first.note(place, Code::OutOfProfile),
+        SortWord::Unknown => first.note(place, Code::UnknownSort),
+    }
+}
+
+/// The faults of the last item of a declaration, its sort.
+fn last_sort_faults(form: Option<&Form>, first: &mut FirstFault)
+    ensures { first.new ≡ first_onto first.old (last_sort_faults (option_map (λ f. view f.now) form.entry)) }
+{
+    match form {
+        None => {}
+        Some(Form::Symbol(place, word)) => sort_word_faults(
+            *place,
+            sort_word(word.as_bytes()),
+            first,
+        ),
+        Some(form) => first.note(place_of(form), Code::BadShape),
+    }
+}
+
+/// The faults of an identifier that is declared behind these variables.
+fn identifier_faults(variables: &[Declaration], word: SortWord, form: &Form, first: &mut FirstFault)
+    ensures { first.new ≡ first_onto first.old
+        (identifier_faults (identifiers_in (map declaration_view variables.now)) (sort_word_view word) (view form.now)) }
+{
+    let Form::Symbol(place, identifier) = form else {
+        first.note(place_of(form), Code::BadShape);
+        return;
+    };
+    if is_of_messages(word) {
+        first.note(*place, Code::MesgVar);
+    }
+    if is_declared(variables, identifier.as_bytes()) {
+        first.note(*place, Code::DuplicateVar);
+    }
+}
+
+/// Declares these identifiers behind the variables.
+fn declare(
+    alloc: Global,
+    variables: &mut Vec<Declaration>,
+    word: SortWord,
+    identifiers: &[Form],
+    first: &mut FirstFault,
+) -> Result<(), AllocError>
+    ensures faults { OnOk result (first.new ≡ first_onto first.old
+        (identifiers_faults (identifiers_in (map declaration_view variables.old.items)) (sort_word_view word) (map view identifiers.now))) }
+    ensures declared { OnOk result (map declaration_view variables.new.items
+        ≡ map declaration_view variables.old.items ++ declared_of (sort_or_text (sort_word_view word)) (map view identifiers.now)) }
+{
+    for form in identifiers {
+        identifier_faults(variables, word, form, first);
+        let identifier = name_of(alloc, form)?;
+        variables.push(Declaration {
+            identifier,
+            sort: sort_or_text(word),
+        })?;
+    }
+    Ok(())
+}
+
+/// Declares what one declaration does behind the variables.
+fn declaration(
+    alloc: Global,
+    variables: &mut Vec<Declaration>,
+    form: &Form,
+    first: &mut FirstFault,
+) -> Result<(), AllocError>
+    ensures faults { OnOk result (first.new ≡ first_onto first.old
+        (declaration_faults (identifiers_in (map declaration_view variables.old.items)) (view form.now))) }
+    ensures declared { OnOk result (map declaration_view variables.new.items ≡ map declaration_view variables.old.items
+        ++ declared_of (sort_or_text (sort_named (last_form (list_items (view form.now))))) (front_of (list_items (view form.now)))) }
+{
+    let Form::List(place, items) = form else {
+        first.note(place_of(form), Code::BadShape);
+        return Ok(());
+    };
+    let items = items.as_slice();
+    let sort = last_item(items);
+    lacks(2, *place, items, first);
+    declare(
+        alloc,
+        variables,
+        sort_named(sort),
+        front_items(items),
+        first,
+    )?;
+    last_sort_faults(sort, first);
+    Ok(())
+}
+
+/// The variables that these declarations declare.
+fn declarations(
+    alloc: Global,
+    items: &[Form],
+    first: &mut FirstFault,
+) -> Result<Vec<Declaration>, AllocError>
+    ensures faults { OnOk result (first.new ≡ first_onto first.old (declarations_faults [] (map view items.now))) }
+    ensures declared { IfOk result (λ v. map declaration_view v.items ≡ declarations_in (map view items.now)) }
+{
+    let mut variables = Vec::new(alloc);
+    for item in items {
+        declaration(alloc, &mut variables, item, first)?;
+    }
+    Ok(variables)
+}
+
+/// The variables that a `vars` list declares. A list with another head has a fault, and declares them too.
+pub fn variables_of(
+    alloc: Global,
+    form: &Form,
+    first: &mut FirstFault,
+) -> Result<Vec<Declaration>, AllocError>
+    ensures faults { OnOk result (first.new ≡ first_onto first.old (vars_faults (view form.now))) }
+    ensures declared { IfOk result (λ v. map declaration_view v.items ≡ declarations_of (view form.now)) }
+{
+    if fixed(form, b"vars", first).is_some() {
+        return declarations(alloc, items_behind(form), first);
+    }
+    let mut ignored = FirstFault::new();
+    declarations(alloc, items_behind(form), &mut ignored)
+}

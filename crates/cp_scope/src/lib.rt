@@ -1,0 +1,16 @@
+//! Names in use, declared variables, and what forms of terms and atoms stand for over them, with the faults of these forms.
+#![tactic(auto)]
+
+mod atoms;
+mod declarations;
+mod faults;
+mod sorts;
+mod taken;
+mod terms;
+
+pub use atoms::{Kind, atom_of, atoms_faults, atoms_of};
+pub use declarations::{fixed, name_of, variables_of};
+pub use faults::{atom_faults, exceeds, lacks, sort_faults, term_faults};
+pub use sorts::{Variable, variable_named};
+pub use taken::Taken;
+pub use terms::{no_term, term_of, variable_term};

@@ -1,0 +1,7 @@
+mod Origins
+pub mod Items
+pub mod Occurrences
+pub mod FirstOrigins
+pub mod ValuedItems
+pub mod SameLists
+mod SameParts

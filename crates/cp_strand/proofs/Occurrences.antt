@@ -1,0 +1,57 @@
+-- Variables that occur in terms and events.
+use Rattle.std.proofs.Common.{◌≡◌, ℕ, ◌+◌, ◌<◌, List, [], ◌∷◌, ◌++◌, ◌||◌, ◌&&◌, ◌==◌, length, get_or, drop, map, Bool, true, false, refl, sym, ap, ◌∙◌}
+use Rattle.cp_model.specs.Term.{Variable, KeyTerm, Term, pair_term, enc_term, variables_of, variables_of_key}
+use Rattle.cp_model.specs.Strand.{payload, variables_of_trace}
+use Rattle.cp_model.specs.Same.{same_sort, has_variable}
+use Rattle.cp_term.specs.Keys.{key_as_term}
+use Rattle.cp_strand.specs.View.{event_view}
+use Rattle.cp_strand.specs.declared.protocol.Event.{Event}
+use Rattle.cp_strand.proofs.Items.{item-drop}
+
+or_assoc : (a b c : Bool) → (a || (b || c)) ≡ ((a || b) || c)
+or_assoc true b c = refl
+or_assoc false b c = refl
+
+has_variable-append : (xs ys : List Variable) (z : Variable) → has_variable (xs ++ ys) z ≡ (has_variable xs z || has_variable ys z)
+has_variable-append [] ys z = refl
+has_variable-append (x ∷ xs) ys z =
+    ap (λ b. (same_sort x.sort z.sort && (x.number == z.number)) || b) (has_variable-append xs ys z) ∙ or_assoc (same_sort x.sort z.sort && (x.number == z.number)) (has_variable xs z) (has_variable ys z)
+
+or_true : (a b : Bool) → true ≡ b → true ≡ (a || b)
+or_true true b e = refl
+or_true false b e = e
+
+or_false : (a b : Bool) → false ≡ b → a ≡ (a || b)
+or_false true b e = refl
+or_false false b e = e
+
+module _ (x : Variable) (whole term : Term) (h : has_variable (variables_of term) x ≡ has_variable (variables_of whole) x) where
+  pub in_left : (l r : Term) → term ≡ pair_term l r → true ≡ has_variable (variables_of l) x → true ≡ has_variable (variables_of whole) x
+  in_left l r e f =
+      ap (λ b. b || has_variable (variables_of r) x) f ∙ sym (has_variable-append (variables_of l) (variables_of r) x) ∙ sym (ap (λ t. has_variable (variables_of t) x) e) ∙ h
+
+  pub not_in_left : (l r : Term) → term ≡ pair_term l r → false ≡ has_variable (variables_of l) x → has_variable (variables_of r) x ≡ has_variable (variables_of whole) x
+  not_in_left l r e f =
+      ap (λ b. b || has_variable (variables_of r) x) f ∙ sym (has_variable-append (variables_of l) (variables_of r) x) ∙ sym (ap (λ t. has_variable (variables_of t) x) e) ∙ h
+
+  encrypted : (body key : Term) → ((k : KeyTerm) × (key ≡ key_as_term k) × (term ≡ enc_term body k)) → (has_variable (variables_of body) x || has_variable (variables_of key) x) ≡ has_variable (variables_of whole) x
+  encrypted body key (k, e, f) =
+      ap (λ t. has_variable (variables_of body) x || has_variable (variables_of t) x) e ∙ sym (has_variable-append (variables_of body) (variables_of_key k) x)
+      ∙ sym (ap (λ t. has_variable (variables_of t) x) f) ∙ h
+
+  pub in_key : (body key : Term) → ((k : KeyTerm) × (key ≡ key_as_term k) × (term ≡ enc_term body k)) → true ≡ has_variable (variables_of key) x → true ≡ has_variable (variables_of whole) x
+  in_key body key w f = or_true (has_variable (variables_of body) x) (has_variable (variables_of key) x) f ∙ encrypted body key w
+
+  pub not_in_key : (body key : Term) → ((k : KeyTerm) × (key ≡ key_as_term k) × (term ≡ enc_term body k)) → false ≡ has_variable (variables_of key) x → has_variable (variables_of body) x ≡ has_variable (variables_of whole) x
+  not_in_key body key w f = or_false (has_variable (variables_of body) x) (has_variable (variables_of key) x) f ∙ encrypted body key w
+
+module _ (x : Variable) (es : List Event) (k : ℕ) (e : Event) (lt : k < length es) (is : e ≡ get_or es k e) (all : Bool)
+    (h : has_variable (variables_of_trace (map event_view (drop k es))) x ≡ all) where
+  next : (has_variable (variables_of (payload (event_view e))) x || has_variable (variables_of_trace (map event_view (drop (k + 1) es))) x) ≡ all
+  next = sym (ap (λ us. has_variable (variables_of_trace (map event_view us)) x) (item-drop es k e lt is) ∙ has_variable-append (variables_of (payload (event_view e))) (variables_of_trace (map event_view (drop (k + 1) es))) x) ∙ h
+
+  pub in_event : true ≡ has_variable (variables_of (payload (event_view e))) x → true ≡ all
+  in_event f = ap (λ b. b || has_variable (variables_of_trace (map event_view (drop (k + 1) es))) x) f ∙ next
+
+  pub not_in_event : false ≡ has_variable (variables_of (payload (event_view e))) x → has_variable (variables_of_trace (map event_view (drop (k + 1) es))) x ≡ all
+  not_in_event f = ap (λ b. b || has_variable (variables_of_trace (map event_view (drop (k + 1) es))) x) f ∙ next

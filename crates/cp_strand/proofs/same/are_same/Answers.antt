@@ -1,0 +1,6 @@
+use Rattle.std.proofs.Common.{refl}
+use Rattle.cp_strand.proofs.SameLists.{same_lists}
+use Rattle.cp_strand.proofs.same.are_same.Goals as goal
+
+pub returns : goal.returns
+returns g c = (λ _. same_lists c.args.a.now c.args.b.now c.loop-index.index c.loop-index-test.false c.if-a-b.false c.loop-index.invariant, λ _. refl)

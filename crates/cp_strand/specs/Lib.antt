@@ -1,0 +1,10 @@
+pub mod Data
+pub mod View
+pub mod Atoms
+pub mod Bodies
+pub mod RoleParts
+pub mod Shapes
+pub mod Sorts
+pub mod Originating
+pub mod Occurring
+pub mod Valued

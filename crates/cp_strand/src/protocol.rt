@@ -1,0 +1,177 @@
+// Declarations, events, roles and protocols.
+ghost use Rattle.std.specs.Prelude.{◌≡◌, map};
+ghost use Rattle.cp_model.specs.Strand.{payload};
+ghost use Rattle.cp_strand.specs.View.{declaration_view, event_view};
+
+use crate::atom::Atom;
+use cp_base::Text;
+use cp_term::{Sort, Term};
+use std::marker::Model;
+use std::rc::Rc;
+
+/// A declared variable. Its number is its place in the list of declarations, counted from 0. The sort is one of
+/// atoms.
+#[derive(Drop)]
+pub struct Declaration {
+    pub identifier: Text,
+    pub sort: Sort,
+}
+
+/// A transmission or a reception of a message.
+#[derive(Drop)]
+pub enum Event {
+    Send(Term),
+    Receive(Term),
+}
+
+impl Event {
+    /// The message that is sent or received.
+    pub fn payload(&self) -> &Term
+        ensures { result.now ≡ payload (event_view self.now) }
+    {
+        match self {
+            Event::Send(message) => message,
+            Event::Receive(message) => message,
+        }
+    }
+}
+
+/// A role: its name, its variables, its events, and its assumptions.
+#[derive(Drop)]
+pub struct Role {
+    name: Text,
+    variables: Vec<Declaration>,
+    trace: Vec<Event>,
+    non_originating: Vec<Atom>,
+    penetrator_non_originating: Vec<Atom>,
+    uniquely_originating: Vec<Atom>,
+}
+
+impl Model for Role {
+    ghost use Rattle.cp_model.specs.Strand.{Role as Plain};
+    ghost use Rattle.cp_strand.specs.Data.{coded_role};
+
+    ghost Value = { Plain };
+
+    ghost coded = { coded_role };
+
+    ghost use Rattle.cp_strand.specs.RoleParts.{role_of_parts};
+
+    ghost view = { role_of_parts };
+}
+
+impl Role {
+    /// The role with this name, these variables, whose numbers are their places, these events, and what it assumes of the
+    /// values that do not originate, that the penetrator does not originate, and that originate once.
+    pub fn new(
+        name: Text,
+        variables: Vec<Declaration>,
+        trace: Vec<Event>,
+        non_originating: Vec<Atom>,
+        penetrator_non_originating: Vec<Atom>,
+        uniquely_originating: Vec<Atom>,
+    ) -> Role
+        ensures { result ≡ record {
+          name = name;
+          variables = map declaration_view variables.items;
+          trace = map event_view trace.items;
+          non_originating = non_originating.items;
+          penetrator_non_originating = penetrator_non_originating.items;
+          uniquely_originating = uniquely_originating.items;
+        } }
+    {
+        Role {
+            name,
+            variables,
+            trace,
+            non_originating,
+            penetrator_non_originating,
+            uniquely_originating,
+        }
+    }
+
+    /// Its name.
+    pub fn name(&self) -> &Text
+        ensures { result.now ≡ self.now.name }
+    {
+        &self.name
+    }
+
+    /// Its variables.
+    pub fn variables(&self) -> &[Declaration]
+        ensures { map declaration_view result.now ≡ self.now.variables }
+    {
+        &self.variables
+    }
+
+    /// Its events.
+    pub fn trace(&self) -> &[Event]
+        ensures { map event_view result.now ≡ self.now.trace }
+    {
+        &self.trace
+    }
+
+    /// The values that do not originate.
+    pub fn non_originating(&self) -> &[Atom]
+        ensures { result.now ≡ self.now.non_originating }
+    {
+        &self.non_originating
+    }
+
+    /// The values that the penetrator does not originate.
+    pub fn penetrator_non_originating(&self) -> &[Atom]
+        ensures { result.now ≡ self.now.penetrator_non_originating }
+    {
+        &self.penetrator_non_originating
+    }
+
+    /// The values that originate once.
+    pub fn uniquely_originating(&self) -> &[Atom]
+        ensures { result.now ≡ self.now.uniquely_originating }
+    {
+        &self.uniquely_originating
+    }
+}
+
+/// A protocol: its name, and its roles, each of which the strands of skeletons share.
+#[derive(Drop)]
+pub struct Protocol {
+    name: Text,
+    roles: Vec<Rc<Role>>,
+}
+
+impl Model for Protocol {
+    ghost use Rattle.cp_model.specs.Strand.{Protocol as Plain};
+    ghost use Rattle.cp_strand.specs.Data.{coded_protocol};
+
+    ghost Value = { Plain };
+
+    ghost coded = { coded_protocol };
+
+    ghost use Rattle.std.specs.Prelude.{map};
+
+    ghost view = { λ p. record { name = p.name; roles = map (λ r. r.value) p.roles.items } };
+}
+
+impl Protocol {
+    /// The protocol with this name and these roles.
+    pub fn new(name: Text, roles: Vec<Rc<Role>>) -> Protocol
+        ensures { result ≡ record { name = name; roles = map (λ r. r.value) roles.items } }
+    {
+        Protocol { name, roles }
+    }
+
+    /// Its name.
+    pub fn name(&self) -> &Text
+        ensures { result.now ≡ self.now.name }
+    {
+        &self.name
+    }
+
+    /// Its roles.
+    pub fn roles(&self) -> &[Rc<Role>]
+        ensures { map (λ r. r.value) result.now ≡ self.now.roles }
+    {
+        &self.roles
+    }
+}

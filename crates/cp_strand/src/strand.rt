@@ -1,0 +1,140 @@
+// Strands of skeletons, as handles that copies share.
+ghost use Rattle.std.specs.Prelude.{◌≡◌, IfOk};
+ghost use Rattle.cp_strand.specs.Data.{listener_data};
+ghost use Rattle.cp_strand.specs.Shapes.{strand_of_shape};
+ghost use Rattle.cp_strand.specs.View.{instance_as_data};
+
+use crate::protocol::Role;
+use cp_term::Term;
+use std::alloc::{AllocError, Global};
+use std::marker::Model;
+use std::rc::Rc;
+
+/// An instance of a role, of some height, with terms for the role's variables by their numbers. A variable whose term is
+/// missing or of another sort stays itself; a term of a variable outside the prefix has no meaning.
+#[derive(Drop)]
+pub struct Instance {
+    role: Rc<Role>,
+    height: usize,
+    values: Vec<Term>,
+}
+
+impl Model for Instance {
+    ghost use Rattle.cp_strand.specs.Data.{InstanceData, coded_instance};
+
+    ghost Value = { InstanceData };
+
+    ghost coded = { coded_instance };
+
+    ghost view = { λ i. record { role = i.role.value; height = i.height; values = i.values.items } };
+}
+
+impl Instance {
+    /// The instance of this role, of this height, with these terms of the role's variables.
+    pub fn new(role: Rc<Role>, height: usize, values: Vec<Term>) -> Instance
+        ensures { result ≡ record { role = role.value; height = height; values = values.items } }
+    {
+        Instance {
+            role,
+            height,
+            values,
+        }
+    }
+
+    /// Its role.
+    pub fn role(&self) -> &Rc<Role>
+        ensures { result.now.value ≡ self.now.role }
+    {
+        &self.role
+    }
+
+    /// Its height: how many events of its role it has.
+    pub fn height(&self) -> usize
+        ensures { result ≡ self.now.height }
+    {
+        self.height
+    }
+
+    /// The terms of the role's variables.
+    pub fn values(&self) -> &[Term]
+        ensures { result.now ≡ self.now.values }
+    {
+        &self.values
+    }
+}
+
+/// What a strand is: an instance of a role, or a listener, which receives a message and sends it on.
+#[derive(Drop)]
+enum Body {
+    Instance(Instance),
+    Listener(Term),
+}
+
+/// A strand of a skeleton. It never changes, and its copies share it.
+#[derive(Drop)]
+pub struct Strand {
+    body: Rc<Body>,
+}
+
+impl Model for Strand {
+    ghost use Rattle.cp_strand.specs.Data.{StrandData, coded_strand};
+
+    ghost Value = { StrandData };
+
+    ghost coded = { coded_strand };
+
+    ghost use Rattle.cp_strand.specs.Bodies.{strand_of_body};
+
+    ghost view = { λ s. strand_of_body s.body.value };
+}
+
+/// What a strand is made of: an instance of a role; or a listener, of whose message this is the term.
+#[derive(Clone, Copy)]
+pub enum StrandShape<'a> {
+    Instance(&'a Instance),
+    Listener(&'a Term),
+}
+
+impl Strand {
+    /// The strand that is this instance. The error is that memory ran out.
+    pub fn instance(alloc: Global, instance: Instance) -> Result<Strand, AllocError>
+        ensures { IfOk result (λ s. s ≡ instance_as_data instance) }
+    {
+        let body = Rc::new(alloc, Body::Instance(instance))?;
+        Ok(Strand { body })
+    }
+
+    /// The listener to a message. The error is that memory ran out.
+    pub fn listener(alloc: Global, message: Term) -> Result<Strand, AllocError>
+        ensures { IfOk result (λ s. s ≡ listener_data message) }
+    {
+        let body = Rc::new(alloc, Body::Listener(message))?;
+        Ok(Strand { body })
+    }
+
+    /// What the strand is made of.
+    pub fn shape(&self) -> StrandShape<'_>
+        ensures { strand_of_shape result ≡ self.now }
+    {
+        match &*self.body {
+            Body::Instance(instance) => StrandShape::Instance(instance),
+            Body::Listener(message) => StrandShape::Listener(message),
+        }
+    }
+
+    /// Another handle to the same strand. The error is that memory ran out.
+    pub fn copy(&self) -> Result<Strand, AllocError>
+        ensures { IfOk result (λ s. s ≡ self.now) }
+    {
+        let body = self.body.clone()?;
+        Ok(Strand { body })
+    }
+}
+
+impl Clone for Strand {
+    ghost is_clone = { λ s t. t ≡ s };
+
+    fn clone(&self) -> Result<Strand, AllocError> {
+        self.copy()
+    }
+}

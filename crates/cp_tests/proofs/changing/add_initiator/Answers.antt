@@ -1,0 +1,11 @@
+use Rattle.std.proofs.Common.{refl}
+use Rattle.cp_tests.proofs.ExampleRole.{example-declares, example-extends}
+use Rattle.cp_tests.proofs.changing.add_initiator.Goals as goal
+
+pub add_strand-requires-clause-declared : goal.add_strand-requires-clause-declared
+add_strand-requires-clause-declared c = example-declares c.in_ok-role.role.value c.in_ok-role.ensures
+
+pub returns : goal.returns
+returns c =
+    example-extends c.in_ok-role.role.value _ _ _ _ c.in_ok-add_strand.field-0 c.in_ok-role.ensures c.in_ok-add_strand.ensures.changed
+    refl c.in_ok-add_strand.ensures.number

@@ -1,0 +1,25 @@
+// Two terms side by side, one level deep.
+ghost use Rattle.cp_unify.specs.Sides.{AreSides};
+
+use cp_term::{Shape, Term};
+
+/// How two terms stand side by side: both are pairs, with their left parts first, or both are encryptions, with their keys
+/// first, and the other two parts last; or the first is a tag or of an atom sort; or no parts stand beside its parts.
+#[derive(Clone, Copy)]
+pub(crate) enum Sides<'a> {
+    Parts(&'a Term, &'a Term, &'a Term, &'a Term),
+    Leaf,
+    Apart,
+}
+
+/// How two terms stand side by side.
+pub(crate) fn beside<'a>(first: &'a Term, second: &'a Term) -> Sides<'a>
+    ensures { AreSides result first.now second.now }
+{
+    match (first.shape(), second.shape()) {
+        (Shape::Pair(a, c), Shape::Pair(b, d)) => Sides::Parts(a, b, c, d),
+        (Shape::Encryption(c, a), Shape::Encryption(d, b)) => Sides::Parts(a, b, c, d),
+        (Shape::Pair(..) | Shape::Encryption(..), _) => Sides::Apart,
+        _ => Sides::Leaf,
+    }
+}
