@@ -13,7 +13,7 @@ use Rattle.cp_completeness.proofs.Weaker.{weaker_loses_none}
 use Rattle.cp_answers.specs.Forms.{Form, KeepStandings, ComesDownTo}
 use Rattle.cp_answers.specs.Trying.{Trial, Tries, settled, never, branched, normalised}
 
-abbrev as_it_is : Skeleton → Form
+abbrev pub as_it_is : Skeleton → Form
 as_it_is k = record { substitution = unchanged; skeleton = k }
 
 -- A skeleton that says no more than another keeps its standings.
@@ -87,7 +87,7 @@ half_stays : (flag : Bool) (k : PairTerm) → apply_to_half unchanged flag k ≡
 half_stays flag (akey_variable n) = ap (λ (e : Bool). (e, akey_variable n)) (flag_last flag)
 half_stays flag (pubk_term p a) = refl
 
-composed_stays : (s : Substitution) → composed s unchanged ≡ s
+pub composed_stays : (s : Substitution) → composed s unchanged ≡ s
 composed_stays s = λ i. record {
   texts = s.texts;
   datums = s.datums;

@@ -26,6 +26,22 @@ pub record IsAtLabel (problem : Skeleton) (labels : List Label) (b : Bundle) (f 
   pub apart : StandsApart label.skeleton standing
   pub factors : FactorsThrough problem f label.skeleton standing
 
+-- A standing that a label among these passes on is at one of their numbers.
+at_label_among : (problem : Skeleton) (labels : List Label) (b : Bundle) (f : Standing) (numbers : List ℕ) → Covers (skeletons_at labels numbers) problem b f → (i : ℕ) × IsIn i numbers × IsAtLabel problem labels b f i
+at_label_among problem labels b f numbers c =
+    let a = label_among labels numbers c.skeleton c.listed in (
+      a.number,
+      a.listed,
+      record {
+        label = a.label;
+        at = a.at;
+        standing = c.standing;
+        stands = subst (λ (k : Skeleton). StandsIn k b c.standing) a.same c.stands;
+        apart = subst (λ (k : Skeleton). StandsApart k c.standing) a.same c.apart;
+        factors = subst (λ (k : Skeleton). FactorsThrough problem f k c.standing) a.same c.factors;
+      },
+    )
+
 module _ (protocol : Protocol) (problem : Skeleton) (labels : List Label) (edges : ℕ → List ℕ) (lawful : IsLawful protocol problem labels edges) (b : Bundle) (f : Standing) (is : IsBundle protocol b) where
   abbrev IsAt : ℕ → Type 0
   IsAt i = IsAtLabel problem labels b f i
@@ -41,19 +57,7 @@ module _ (protocol : Protocol) (problem : Skeleton) (labels : List Label) (edges
 
   -- Where the label passes on, it does through one to which an edge leads.
   passed_on : (i : ℕ) → (c : Covers (skeletons_at labels (edges i)) problem b f) → (j : ℕ) × IsEdgeOf edges i j × IsAt j
-  passed_on i c =
-      let a = label_among labels (edges i) c.skeleton c.listed in (
-        a.number,
-        a.listed,
-        record {
-          label = a.label;
-          at = a.at;
-          standing = c.standing;
-          stands = subst (λ (k : Skeleton). StandsIn k b c.standing) a.same c.stands;
-          apart = subst (λ (k : Skeleton). StandsApart k c.standing) a.same c.apart;
-          factors = subst (λ (k : Skeleton). FactorsThrough problem f k c.standing) a.same c.factors;
-        },
-      )
+  passed_on i = at_label_among problem labels b f (edges i)
 
   one_fewer : (j fuel : ℕ) (ns : List ℕ) → length ns ≡ suc fuel → (w : Without j ns) → length w.rest ≡ fuel
   one_fewer j fuel ns e w = let s : suc (length w.rest) ≡ suc fuel = sym w.shorter ∙ e in cc
@@ -86,16 +90,9 @@ pub left_is_complete : (protocol : Protocol) (problem : Skeleton) (labels : List
     IsCompleteList protocol problem (skeletons_at labels roots) → IsCompleteList protocol problem (skeletons_left labels)
 left_is_complete protocol problem labels edges roots lawful complete b h is stands =
     let c = complete b h is stands in
-    let a = label_among labels roots c.skeleton c.listed in
+    let a = at_label_among problem labels b h roots c in
     let numbers = numbers_from 0 labels in
-    comes_down protocol problem labels edges lawful b h is (length numbers) numbers refl a.number (λ j steps l. let same : 0 + j ≡ j = omega arith in subst (λ (m : ℕ). IsIn m numbers) same (below_length 0 labels j l)) (record {
-      label = a.label;
-      at = a.at;
-      standing = c.standing;
-      stands = subst (λ (k : Skeleton). StandsIn k b c.standing) a.same c.stands;
-      apart = subst (λ (k : Skeleton). StandsApart k c.standing) a.same c.apart;
-      factors = subst (λ (k : Skeleton). FactorsThrough problem h k c.standing) a.same c.factors;
-    })
+    comes_down protocol problem labels edges lawful b h is (length numbers) numbers refl a.0 (λ j steps l. let same : 0 + j ≡ j = omega arith in subst (λ (m : ℕ). IsIn m numbers) same (below_length 0 labels j l)) a.2
 
 pub shapes_are_complete : (protocol : Protocol) (problem : Skeleton) (labels : List Label) (edges : ℕ → List ℕ) (roots : List ℕ) → IsLawful protocol problem labels edges →
     IsCompleteList protocol problem (skeletons_at labels roots) → IsWithinLimits labels → IsCompleteList protocol problem (shapes_of labels)

@@ -2,7 +2,7 @@
 use Rattle.std.proofs.Common.{◌≡◌, ℕ, [], ◌++◌, Some, refl, sym, ap, ◌∙◌, subst, ◌⊎◌, ⊎_elim}
 use Rattle.std.proofs.Common.{subst₂}
 use Rattle.cp_lists.specs.Lists.{item_at, IsIn, one_step}
-use Rattle.cp_lists.proofs.Members.{in_append_left, in_append_right, head_or_behind}
+use Rattle.cp_lists.proofs.Members.{in_append_left, in_append_right, in_pushed}
 use Rattle.cp_model.specs.Message.{Atom, Message, atom}
 use Rattle.cp_model.specs.Term.{AtomTerm, atom_of_variable, variables_of, Assignment, value_of, value_of_atom, after, AgreeOn, Substitution, apply_to_atom}
 use Rattle.cp_model.specs.Strand.{send, recv, Role, Protocol, prefix_of, variables_of_prefix}
@@ -126,8 +126,9 @@ module _ (protocol : Protocol) (k e : Skeleton) (b : Bundle) (h g : Standing) (m
       (stands.ordered p.earlier p.later (one_step (along_pair i)) o.between_strands)
 
   pair_precedes : (p : OrderPair) → IsIn p (put_before m n e).pairs → Precedes b (image_of e g p.earlier) (image_of e g p.later)
-  pair_precedes p i = ⊎_elim (λ (same : p ≡ record { earlier = m; later = n }). subst (λ (q : OrderPair). Precedes b (image_of e g q.earlier) (image_of e g q.later)) (sym same) precedes)
-      (λ j. old_pair p (subst (IsIn p) grown.pairs j)) (head_or_behind i)
+  pair_precedes p i = ⊎_elim (λ j. old_pair p (subst (IsIn p) grown.pairs j))
+      (λ (same : record { earlier = m; later = n } ≡ p). subst (λ (q : OrderPair). Precedes b (image_of e g q.earlier) (image_of e g q.later)) same precedes)
+      (in_pushed e.pairs (record { earlier = m; later = n }) p i)
 
   origin_image : (u : UniqueAt) → IsIn u k.assumptions.uniquely_originating → image_of e g u.origin ≡ image_of k h u.origin
   origin_image u i = let o = sk.origins u i in grown.images u.origin (send o.sent, o.transmission)

@@ -3,9 +3,9 @@ use Rattle.std.proofs.Common.{◌≡◌, ◌≢◌, ℕ, zero, suc, ◌<◌, [],
 use Rattle.cp_lists.specs.Lists.{item_at, IsIn, here, there, one_step, more_steps}
 use Rattle.cp_lists.proofs.Members.{not_in_none}
 use Rattle.cp_model.specs.Term.{AtomTerm, KeyTerm, key_term, Term, tag_term, atom_term, pair_term, enc_term, Substitution, Variable, variables_of}
-use Rattle.cp_model.specs.Strand.{Role}
+use Rattle.cp_model.specs.Strand.{recv, Role}
 use Rattle.cp_model.specs.declared.node.Node.{Node}
-use Rattle.cp_model.specs.Skeleton.{instance, OrderStep, along_strand_of, along_pair, Before, IsSkeleton}
+use Rattle.cp_model.specs.Skeleton.{instance, term_event_at, OrderStep, along_strand_of, along_pair, Before, Skeleton, IsSkeleton}
 use Rattle.cp_model.specs.Derivable.{IsSecret, IsOnInstance, DerivableAt, a_tag, an_atom, paired, left_of, right_of, encrypted, decrypted}
 use Rattle.cp_model.specs.Derivable as derivable
 use Rattle.cp_guard.specs.Critical.{IsTest, whole_part, used_variables}
@@ -42,7 +42,7 @@ heard_in_range s here = omega arith
 heard_in_range s (there i) = absurd (not_in_none i)
 
 -- What can be derived holds nothing under the key, and is not the key.
-abbrev IsUnlocked : Term → Type 0
+abbrev pub IsUnlocked : Term → Type 0
 IsUnlocked (tag_term bytes) = Unit {0}
 IsUnlocked (atom_term v) = v ≢ key_term shared
 IsUnlocked (pair_term a b) = IsUnlocked a × IsUnlocked b
@@ -54,7 +54,7 @@ not_secret v none e = none (inl (subst (λ (w : AtomTerm). IsIn w (key_term shar
 other_key : (k : KeyTerm) → key_term k ≢ key_term shared → k ≢ shared
 other_key k n e = n (ap key_term e)
 
-unlocked : {t : Term} → DerivableAt heard reception t → IsUnlocked t
+pub unlocked : {t : Term} → DerivableAt heard reception t → IsUnlocked t
 unlocked a_tag = tt
 unlocked (an_atom {v = v} none) = not_secret v none
 unlocked (derivable.sent_before {m = m} on ev before) = absurd (no_instance m.strand on.role on.height on.terms on.on_instance)
@@ -64,13 +64,12 @@ unlocked (right_of p) = (unlocked p).1
 unlocked (encrypted {key = key} p q) = (unlocked p, other_key key (unlocked q))
 unlocked (decrypted p q) = (unlocked p).0
 
+-- The whole message of a reception is a test where it is no pair and cannot be derived.
+pub whole_test : (k : Skeleton) (n : Node) (t : Term) → term_event_at k.strands n ≡ Some (recv t) → ((a b : Term) → t ≢ pair_term a b) → (DerivableAt k n t → ⊥) → IsTest k n t
+whole_test k n t received no_pair underivable = record { message = t; reception = received; component = record { part = whole_part; no_pair = no_pair }; underivable = underivable }
+
 pub heard_test : IsTest heard reception locked
-heard_test = record {
-  message = locked;
-  reception = refl;
-  component = record { part = whole_part; no_pair = λ a b e. cc };
-  underivable = λ d. (unlocked d).1 refl;
-}
+heard_test = whole_test heard reception locked refl (λ a b e. cc) (λ d. (unlocked d).1 refl)
 
 used_there : (x : Variable) → IsIn x (variables_of locked) → IsIn x (used_variables heard)
 used_there x here = here

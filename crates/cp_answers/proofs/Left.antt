@@ -1,9 +1,10 @@
 -- Labels that are left, and labels with numbers.
-use Rattle.std.proofs.Common.{◌≡◌, ℕ, zero, suc, List, [], ◌∷◌, Option, Some, None, refl, sym, ap, ◌∙◌, subst, ⊎_elim}
+use Rattle.std.proofs.Common.{◌≡◌, ℕ, List, [], ◌∷◌, Option, Some, None, refl, ap, ◌∙◌, ⊎_elim}
 use Rattle.cp_lists.specs.Lists.{item_at, IsIn, here, there}
 use Rattle.cp_lists.proofs.Members.{head_or_behind, not_in_none}
 use Rattle.cp_model.specs.Skeleton.{Skeleton}
-use Rattle.cp_model.specs.Tree.{Mark, shape, dead, seen, instance_of, limit_steps, limit_strands, Label, if_shape, shapes_of, if_left, skeletons_left}
+use Rattle.cp_model.specs.Tree.{Mark, Label, if_shape, shapes_of, if_left, skeletons_left}
+use Rattle.cp_completeness.proofs.LabelsLeft.{listed_where_left, left_is_shape}
 use Rattle.cp_answers.specs.Lawful.{with_label, skeletons_at, IsLeft, at_shape, at_step_bound, at_strand_bound, IsWithinLimits}
 
 left_first : {mark : Option Mark} (k : Skeleton) (ks : List Skeleton) → IsLeft mark → IsIn k (if_left mark k ks)
@@ -11,31 +12,9 @@ left_first k ks at_shape = here
 left_first k ks at_step_bound = here
 left_first k ks at_strand_bound = here
 
-left_behind : (mark : Option Mark) (k l : Skeleton) (ks : List Skeleton) → IsIn l ks → IsIn l (if_left mark k ks)
-left_behind None k l ks i = i
-left_behind (Some shape) k l ks i = there i
-left_behind (Some dead) k l ks i = i
-left_behind (Some (seen n)) k l ks i = i
-left_behind (Some (instance_of n)) k l ks i = i
-left_behind (Some limit_steps) k l ks i = there i
-left_behind (Some limit_strands) k l ks i = there i
-
 -- The skeleton of a label that is left is listed.
 pub left_listed : (labels : List Label) (i : ℕ) (l : Label) → item_at labels i ≡ Some l → IsLeft l.mark → IsIn l.skeleton (skeletons_left labels)
-left_listed [] i l at left = absurd (cc)
-left_listed (m ∷ ms) zero l at left =
-    let same : l ≡ m = cc in
-    subst (λ (x : Label). IsIn x.skeleton (skeletons_left (m ∷ ms))) (sym same) (left_first m.skeleton (skeletons_left ms) (subst (λ (x : Label). IsLeft x.mark) same left))
-left_listed (m ∷ ms) (suc i) l at left = left_behind m.mark m.skeleton l.skeleton (skeletons_left ms) (left_listed ms i l at left)
-
-left_is_shape : (mark : Option Mark) (k : Skeleton) (ks : List Skeleton) → (mark ≡ Some limit_steps → ⊥) → (mark ≡ Some limit_strands → ⊥) → if_left mark k ks ≡ if_shape mark k ks
-left_is_shape None k ks a c = refl
-left_is_shape (Some shape) k ks a c = refl
-left_is_shape (Some dead) k ks a c = refl
-left_is_shape (Some (seen n)) k ks a c = refl
-left_is_shape (Some (instance_of n)) k ks a c = refl
-left_is_shape (Some limit_steps) k ks a c = absurd (a refl)
-left_is_shape (Some limit_strands) k ks a c = absurd (c refl)
+left_listed labels i l at left = listed_where_left labels i l at (λ k ks. left_first k ks left)
 
 -- Where no label is at a limit, the shapes alone are left.
 pub left_are_shapes : (labels : List Label) → IsWithinLimits labels → skeletons_left labels ≡ shapes_of labels

@@ -1,38 +1,32 @@
 -- The second example's test is covered by one skeleton.
-use Rattle.std.proofs.Common.{◌≡◌, ℕ, zero, suc, List, [], ◌∷◌, Some, Bool, true, false, refl, sym, ap, ◌∙◌, subst, ◌⊎◌, inl, inr, arith, ◌==◌, eqb-true}
-use Rattle.std.specs.Prelude.{if◌then◌else◌}
+use Rattle.std.proofs.Common.{◌≡◌, ℕ, zero, suc, List, [], ◌∷◌, Some, refl, sym, ap, ◌∙◌, subst, ◌⊎◌, inl, inr, arith, ◌==◌}
 use Rattle.cp_lists.specs.Lists.{item_at, IsIn, here, there, one_step}
 use Rattle.cp_lists.proofs.Members.{not_in_none, only_item, head_or_behind}
 use Rattle.std.proofs.Common.{⊎_elim}
-use Rattle.cp_model.specs.Message.{SymmetricKey, symmetric, text, key, atom, itself, in_plaintext}
-use Rattle.cp_model.specs.Term.{KeyTerm, inverse_term, itself_term, Sort, text_sort, datum_sort, name_sort, skey_sort, akey_sort, skey_variable, symmetric_term, text_variable, key_term, Term, atom_term, enc_term, atom_of_variable, Assignment, value_of, value_of_symmetric, value_of_atom, after, Substitution, composed, unchanged}
+use Rattle.cp_model.specs.Message.{symmetric, key, atom, itself, in_plaintext}
+use Rattle.cp_model.specs.Term.{KeyTerm, inverse_term, skey_sort, skey_variable, symmetric_term, text_variable, key_term, Term, atom_term, enc_term, Assignment, value_of, value_of_atom, Substitution, composed, unchanged}
 use Rattle.cp_model.specs.Strand.{send, recv, Role}
 use Rattle.cp_model.specs.Bundle.{node_at, OriginatesAt, Bundle}
 use Rattle.cp_model.specs.declared.node.Node.{Node}
 use Rattle.cp_model.specs.Skeleton.{instance, listener, term_event_at, Skeleton, Before, along_pair}
 use Rattle.cp_model.specs.Standing.{Standing, StandsIn, StandsApart}
 use Rattle.cp_model.specs.Tree.{Pattern}
-use Rattle.cp_model.proofs.LawAgreement.{agree_value}
 use Rattle.cp_term.specs.declared.path.Step.{Step}
 use Rattle.cp_term.specs.declared.path.Step.TheVariants.{Left, Right, Plaintext}
 use Rattle.cp_term.specs.Positions.{term_at}
 use Rattle.cp_completeness.specs.Normal.{skeleton_under}
 use Rattle.cp_completeness.proofs.Images.{image_event}
-use Rattle.cp_completeness.proofs.Losing.{none_carried}
-use Rattle.cp_guard.specs.Critical.{used_variables}
 use Rattle.cp_guard.specs.Matching.{IsFreeIn}
 use Rattle.cp_guard.specs.Inside.{IsInside}
-use Rattle.cp_skel.specs.Changing.{IsClosedPrefix, AddsStrand}
-use Rattle.cp_strand.specs.Occurring.{prefix_variables}
+use Rattle.cp_skel.specs.Changing.{IsClosedPrefix}
 use Rattle.cp_answers.specs.Forms.{KeepStandings}
-use Rattle.cp_answers.specs.Fresh.{fresh_terms}
 use Rattle.cp_answers.specs.Fitting.{Fits}
 use Rattle.cp_answers.specs.Trying.{Trial, IsCarriedEarlier, AreValuesInside, Tries, settled, branched}
 use Rattle.cp_answers.specs.Covering.{put_before, IsContracted, IsTried, IsAdded, IsListenedTo, trial_at, IsCovering}
 use Rattle.cp_answers.specs.Example.{shared, locked, locker, new_terms}
 use Rattle.cp_answers.specs.LetOut.{secret, opener, protocol, unique_text, let_out, reception, sent_encryption, with_opener, text_as_old, key_as_old, opened}
 use Rattle.cp_answers.proofs.Built.{listed_comes_down}
-use Rattle.cp_answers.proofs.HeardCovered.{below_by, closed, nothing_given, new_locked}
+use Rattle.cp_answers.proofs.HeardCovered.{closed, added_new, never_heard, new_locked, in_new_locked, text_kept, key_kept, values_kept}
 use Rattle.cp_answers.proofs.LetOutTest.{is_first, sends_locked}
 
 abbrev guard : List Pattern
@@ -40,33 +34,11 @@ guard = sent_encryption ∷ []
 
 -- ---- values of new variables that are those of old ones
 
-text_kept : (g : Assignment) → g.texts 0 ≡ g.texts 2 → (n : ℕ) (b : Bool) → (n == 2) ≡ b → g.texts (if b then 0 else n) ≡ g.texts n
-text_kept g same n true e = same ∙ ap g.texts (sym (eqb-true n 2 e))
-text_kept g same n false e = refl
-
-key_kept : (g : Assignment) → g.skeys 1 ≡ g.skeys 3 → (n : ℕ) (b : Bool) → (n == 3) ≡ b → value_of_symmetric g (if b then skey_variable 1 else skey_variable n) ≡ g.skeys n
-key_kept g same n true e = same ∙ ap g.skeys (sym (eqb-true n 3 e))
-key_kept g same n false e = refl
-
-texts_kept : (g : Assignment) → g.texts 0 ≡ g.texts 2 → (s : Sort) (n : ℕ) → value_of_atom (after g text_as_old) (atom_of_variable (record { sort = s; number = n })) ≡ value_of_atom g (atom_of_variable (record { sort = s; number = n }))
-texts_kept g same text_sort n = ap text (text_kept g same n (n == 2) refl)
-texts_kept g same datum_sort n = refl
-texts_kept g same name_sort n = refl
-texts_kept g same skey_sort n = refl
-texts_kept g same akey_sort n = refl
-
-keys_kept : (g : Assignment) → g.skeys 1 ≡ g.skeys 3 → (s : Sort) (n : ℕ) → value_of_atom (after g key_as_old) (atom_of_variable (record { sort = s; number = n })) ≡ value_of_atom g (atom_of_variable (record { sort = s; number = n }))
-keys_kept g same text_sort n = refl
-keys_kept g same datum_sort n = refl
-keys_kept g same name_sort n = refl
-keys_kept g same skey_sort n = ap (λ (k : SymmetricKey). key (symmetric k)) (key_kept g same n (n == 3) refl)
-keys_kept g same akey_sort n = refl
-
 text_fits : (k : Skeleton) (g : Assignment) → g.texts 0 ≡ g.texts 2 → Fits let_out unchanged k g text_as_old
-text_fits k g same = record { values = g; same_inside = λ x i. refl; same_of_first = λ x i. refl; fits = λ u. agree_value (after g text_as_old) g u (λ x i. texts_kept g same x.sort x.number) }
+text_fits k g same = record { values = g; same_inside = λ x i. refl; same_of_first = λ x i. refl; fits = values_kept g text_as_old.texts text_as_old.skeys (λ n. text_kept g same n (n == 2) refl) (λ n. refl) }
 
 key_fits : (s : Substitution) (k : Skeleton) (g : Assignment) → g.skeys 1 ≡ g.skeys 3 → Fits let_out s k g key_as_old
-key_fits s k g same = record { values = g; same_inside = λ x i. refl; same_of_first = λ x i. refl; fits = λ u. agree_value (after g key_as_old) g u (λ x i. keys_kept g same x.sort x.number) }
+key_fits s k g same = record { values = g; same_inside = λ x i. refl; same_of_first = λ x i. refl; fits = values_kept g key_as_old.texts key_as_old.skeys (λ n. refl) (λ n. key_kept g same n (n == 3) refl) }
 
 -- ---- a second locker
 
@@ -95,49 +67,26 @@ module _ (b : Bundle) (h : Standing) (stands : StandsIn second_locked b h) (apar
 none_locks_twice : KeepStandings protocol second_locked []
 none_locks_twice b h is stands apart = absurd (twice b h stands apart)
 
-adds_locker : AddsStrand locker 1 (fresh_terms 2 (prefix_variables locker 1)) let_out with_locker
-adds_locker = record {
-  terms = new_terms;
-  gives = refl;
-  strands = refl;
-  pairs = refl;
-  assumptions = record {
-    non = nothing_given let_out.assumptions.non_originating refl (λ v g. not_in_none g.listed);
-    penetrator_non = nothing_given let_out.assumptions.penetrator_non_originating refl (λ v g. not_in_none g.listed);
-    unique = nothing_given let_out.assumptions.uniquely_originating refl (λ u g. not_in_none g.listed);
-  };
-  from_problem = refl;
-}
-
 locker_at : (path : List Step) (u : Term) → term_at new_locked path ≡ Some u → (g : Assignment) → value_of g u ≡ value_of g secret → IsTried (trial_at protocol let_out guard secret 2 0 path) (opened ∷ []) (put_before (node_at 2 0) reception with_locker) g
-locker_at [] u at g same = let whole : u ≡ new_locked = cc in let value : value_of g new_locked ≡ value_of g secret = subst (λ (z : Term). value_of g z ≡ value_of g secret) whole same in absurd (cc)
-locker_at (Plaintext ∷ []) u at g same =
-    let part : u ≡ atom_term (text_variable 2) = cc in
+locker_at path u at g same =
+    ⊎_elim
+    (λ (whole : u ≡ new_locked). let value : value_of g new_locked ≡ value_of g secret = subst (λ (z : Term). value_of g z ≡ value_of g secret) whole same in absurd (cc))
+    (λ (part : u ≡ atom_term (text_variable 2)).
     let value : value_of g (atom_term (text_variable 2)) ≡ value_of g secret = subst (λ (z : Term). value_of g z ≡ value_of g secret) part same in
     let texts : g.texts 0 ≡ g.texts 2 = cc in
     record {
       substitution = text_as_old;
       fits = text_fits (put_before (node_at 2 0) reception with_locker) g texts;
       tried = settled (record { forms = []; keep = none_locks_twice; listed = λ form i. absurd (not_in_none i) });
-    }
-locker_at (Plaintext ∷ Left ∷ path) u at g same = absurd (cc)
-locker_at (Plaintext ∷ Right ∷ path) u at g same = absurd (cc)
-locker_at (Plaintext ∷ Plaintext ∷ path) u at g same = absurd (cc)
-locker_at (Left ∷ path) u at g same = absurd (cc)
-locker_at (Right ∷ path) u at g same = absurd (cc)
+    })
+    (in_new_locked path u at)
 
 locker_sends : (t : Term) → term_event_at with_locker.strands (node_at 2 0) ≡ Some (send t) → new_locked ≡ t
 locker_sends t ev = cc
 
 added_locker : (path : List Step) → IsAdded (trial_at protocol let_out guard secret 2 0 path) (opened ∷ []) reception locker
-added_locker path = record {
-  count = 2;
-  below = below_by 2 (used_variables let_out) refl;
-  closed = closed;
-  grown = with_locker;
-  adds = adds_locker;
-  releases = λ acyclic t u ev at g same. locker_at path u (subst (λ (z : Term). term_at z path ≡ Some u) (sym (locker_sends t ev)) at) g same;
-}
+added_locker path = added_new (trial_at protocol let_out guard secret 2 0 path) (opened ∷ []) reception locker refl refl refl refl closed refl
+    (λ acyclic t u ev at g same. locker_at path u (subst (λ (z : Term). term_at z path ≡ Some u) (sym (locker_sends t ev)) at) g same)
 
 -- ---- an opener
 
@@ -146,20 +95,6 @@ opener_closed x here = refl
 opener_closed x (there here) = refl
 opener_closed x (there (there here)) = refl
 opener_closed x (there (there (there i))) = absurd (not_in_none i)
-
-adds_opener : AddsStrand opener 2 (fresh_terms 2 (prefix_variables opener 2)) let_out with_opener
-adds_opener = record {
-  terms = new_terms;
-  gives = refl;
-  strands = refl;
-  pairs = refl;
-  assumptions = record {
-    non = nothing_given let_out.assumptions.non_originating refl (λ v g. not_in_none g.listed);
-    penetrator_non = nothing_given let_out.assumptions.penetrator_non_originating refl (λ v g. not_in_none g.listed);
-    unique = nothing_given let_out.assumptions.uniquely_originating refl (λ u g. not_in_none g.listed);
-  };
-  from_problem = refl;
-}
 
 abbrev put_opener : Skeleton
 put_opener = put_before (node_at 2 1) reception with_opener
@@ -208,14 +143,8 @@ opener_sends : (t : Term) → term_event_at with_opener.strands (node_at 2 1) �
 opener_sends t ev = cc
 
 added_opener : (path : List Step) → IsAdded (trial path) (opened ∷ []) reception opener
-added_opener path = record {
-  count = 2;
-  below = below_by 2 (used_variables let_out) refl;
-  closed = opener_closed;
-  grown = with_opener;
-  adds = adds_opener;
-  releases = λ acyclic t u ev at g same. opener_at path u (subst (λ (z : Term). term_at z path ≡ Some u) (sym (opener_sends t ev)) at) g same;
-}
+added_opener path = added_new (trial path) (opened ∷ []) reception opener refl refl refl refl opener_closed refl
+    (λ acyclic t u ev at g same. opener_at path u (subst (λ (z : Term). term_at z path ≡ Some u) (sym (opener_sends t ev)) at) g same)
 
 -- ---- all roles
 
@@ -266,16 +195,8 @@ already s role height terms j t at ev =
 
 -- ---- the listener on the pattern's key
 
-abbrev with_listener : Skeleton
-with_listener = record let_out { strands = instance locker 1 unchanged ∷ listener secret ∷ listener (atom_term (key_term shared)) ∷ [] }
-
-none_hears_the_key : KeepStandings protocol (put_before (node_at 2 1) reception with_listener) []
-none_hears_the_key b h is stands apart =
-    absurd (not_in_none (none_carried protocol (put_before (node_at 2 1) reception with_listener) (key_term shared) (node_at 2 0) here
-    (record { event = recv (atom_term (key_term shared)); there = refl; carried = itself_term }) b h is stands apart).listed)
-
 listened : IsListenedTo protocol (opened ∷ []) let_out reception (atom_term (key_term shared))
-listened = record { added = with_listener; adds = refl; down = record { forms = []; keep = none_hears_the_key; listed = λ form i. absurd (not_in_none i) } }
+listened = never_heard protocol (opened ∷ []) let_out reception (key_term shared) here refl
 
 key_listened : (p : Pattern) (body : Term) (k : KeyTerm) → p ≡ sent_encryption → p.term ≡ enc_term body k → IsListenedTo protocol (opened ∷ []) let_out reception (atom_term (key_term (inverse_term k)))
 key_listened p body k same e =

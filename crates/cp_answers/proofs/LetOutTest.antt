@@ -16,10 +16,11 @@ use Rattle.cp_term.specs.declared.path.Step.{Step}
 use Rattle.cp_term.specs.declared.path.Step.TheVariants.{Left, Right, Plaintext}
 use Rattle.cp_term.specs.Positions.{term_at}
 use Rattle.cp_guard.specs.Inside.{IsInside}
-use Rattle.cp_guard.specs.Critical.{IsTest, whole_part, used_variables}
+use Rattle.cp_guard.specs.Critical.{IsTest, used_variables}
 use Rattle.cp_guard.specs.Guarding.{Guards}
 use Rattle.cp_answers.specs.LeavingOut.{IsMapInRange}
 use Rattle.cp_answers.specs.Example.{shared, locked, locker}
+use Rattle.cp_answers.proofs.Heard.{whole_test}
 use Rattle.cp_answers.specs.LetOut.{secret, protocol, unique_text, first_sent, let_out, reception, sent_encryption}
 
 -- The one role strand is the first.
@@ -95,12 +96,7 @@ keeps (encrypted p q) = inl (keeps p)
 keeps (decrypted {a = a} {key = key} p q) = ⊎_elim (λ k. k) (λ e. opens_nothing a key e (keeps q).1) (keeps p)
 
 pub let_out_test : IsTest let_out reception secret
-let_out_test = record {
-  message = secret;
-  reception = refl;
-  component = record { part = whole_part; no_pair = λ a b e. cc };
-  underivable = λ d. (keeps d).0 refl;
-}
+let_out_test = whole_test let_out reception secret refl (λ a b e. cc) (λ d. (keeps d).0 refl)
 
 -- The pattern guards it.
 one_sort : (x y : Variable) → IsIn x (variables_of locked) → IsIn y (variables_of locked) → x.number ≡ y.number → x.sort ≡ y.sort

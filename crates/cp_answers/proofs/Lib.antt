@@ -8,7 +8,6 @@ pub mod Raised
 pub mod Grown
 pub mod Places
 pub mod Releasing
-pub mod Released
 pub mod Listening
 pub mod Secret
 pub mod NoneLeftOut

@@ -72,3 +72,8 @@ new_values terms n xs g f e x inx =
     atom_after (beside n xs g f) terms (atom_of_variable x)
     ∙ ap (value_of_atom (beside n xs g f)) (fresh_at terms n xs p.0 x e p.1)
     ∙ new_value n xs g f x.sort (n + p.0) x.number (not_less n p.0) (new_number n xs p.0 x p.1)
+
+-- The new variable for a place of the list has the value that f gives the variable there.
+pub new_value_at : (n : ℕ) (xs : List Variable) (g f : Assignment) (i : ℕ) (x : Variable) → item_at xs i ≡ Some x →
+    value_of_atom (beside n xs g f) (atom_of_variable (record { sort = x.sort; number = n + i })) ≡ value_of_atom f (atom_of_variable x)
+new_value_at n xs g f i x at = new_value n xs g f x.sort (n + i) x.number (not_less n i) (new_number n xs i x at)

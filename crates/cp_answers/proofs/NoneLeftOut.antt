@@ -16,8 +16,7 @@ use Rattle.cp_guard.proofs.Decided.{protection_test}
 use Rattle.cp_guard.proofs.Positions.{part_outside}
 use Rattle.cp_answers.specs.Covering.{IsCovering}
 use Rattle.cp_answers.specs.LeavingOut.{LeavesNoneOut}
-use Rattle.cp_answers.proofs.Releasing.{Situation}
-use Rattle.cp_answers.proofs.Released.{released_goes_on}
+use Rattle.cp_answers.proofs.Releasing.{Situation, released_goes_on}
 use Rattle.cp_answers.proofs.Listening.{encrypted_goes_on, decrypted_goes_on}
 use Rattle.cp_answers.proofs.Secret.{no_pair_value, not_created}
 

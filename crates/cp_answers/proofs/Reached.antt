@@ -81,6 +81,7 @@ goes_on ks k b h s l g r i = record {
   stands = r.stands;
   apart = r.apart;
   along = record { strands = λ a. a; terms = s };
+  in_place = λ a. refl;
   through = record {
     nodes = r.nodes;
     values = r.values;

@@ -1,5 +1,5 @@
 -- Skeletons that cover a test: what makes sure that, wherever the skeleton stands, one of them does.
-use Rattle.std.specs.Prelude.{◌≡◌, ◌≢◌, ◌⊎◌, ℕ, suc, ◌<◌, ◌≤◌, List, ◌∷◌, Some, length}
+use Rattle.std.specs.Prelude.{◌≡◌, ◌≢◌, ◌⊎◌, ℕ, suc, ◌<◌, ◌≤◌, List, [], ◌∷◌, ◌++◌, Some, length}
 use Rattle.cp_lists.specs.Lists.{item_at, IsIn}
 use Rattle.cp_model.specs.Term.{KeyTerm, key_term, inverse_term, Term, atom_term, enc_term, Assignment, value_of, Substitution, unchanged}
 use Rattle.cp_model.specs.Strand.{send, Role, Protocol}
@@ -22,7 +22,7 @@ use Rattle.cp_answers.specs.Trying.{Trial, Tries}
 
 -- The skeleton with m put before n.
 abbrev pub put_before : Node → Node → Skeleton → Skeleton
-put_before m n k = with_pairs k (record { earlier = m; later = n } ∷ k.pairs)
+put_before m n k = with_pairs k (k.pairs ++ record { earlier = m; later = n } ∷ [])
 
 -- The values g fit a substitution under which k comes down to skeletons of the list.
 pub record IsContracted (protocol : Protocol) (ks : List Skeleton) (k : Skeleton) (g : Assignment) : Type 0 where

@@ -17,7 +17,7 @@ pub record GoesThrough (k : Skeleton) (h : Standing) (f : SkeletonMap) (l : Skel
   pub problem_strands : map f.strands k.from_problem.strands ≡ l.from_problem.strands
   pub problem_values : map (apply_to f.terms) k.from_problem.values ≡ l.from_problem.values
 
--- One of the skeletons stands apart in the bundle by a standing through which that of k goes.
+-- One of the skeletons stands apart in the bundle by a standing through which that of k goes, each strand staying where it is.
 pub record GoesOn (ks : List Skeleton) (k : Skeleton) (b : Bundle) (h : Standing) : Type 0 where
   pub skeleton : Skeleton
   pub listed : IsIn skeleton ks
@@ -25,6 +25,7 @@ pub record GoesOn (ks : List Skeleton) (k : Skeleton) (b : Bundle) (h : Standing
   pub stands : StandsIn skeleton b standing
   pub apart : StandsApart skeleton standing
   pub along : SkeletonMap
+  pub in_place : (s : ℕ) → along.strands s ≡ s
   pub through : GoesThrough k h along skeleton standing
 
 -- Whenever k stands apart in a bundle over the protocol, one of the skeletons stands apart in it by a standing through which

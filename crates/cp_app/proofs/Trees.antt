@@ -204,7 +204,7 @@ analysable_input : (fs : Forms) (es : List Entry) → faults_of fs ≡ [] → es
 analysable_input fs es none same p listed =
     let found = entry_of (input_of fs) p (rw same at listed) in
     record {
-      is_skeleton = wellformed.are_skeletons fs found.0 p none found.1 found.2;
+      is_over = record { of_role = (wellformed.are_skeletons fs found.0 p none found.1 found.2).of_role };
       own = wellformed.map_to_themselves fs found.0 p none found.1 found.2;
     }
 

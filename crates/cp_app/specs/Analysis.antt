@@ -1,15 +1,15 @@
 -- How a problem is analysed.
 use Rattle.cp_lists.specs.Lists.{IsIn}
-use Rattle.cp_model.specs.Skeleton.{IsSkeleton}
 use Rattle.cp_model.specs.Problem.{IsPointOfView}
 use Rattle.cp_model.specs.Tree.{Limits, Label, Tree, IsTrueOf}
 use Rattle.cp_language.specs.Problems.{Problem}
 use Rattle.cp_language.specs.Report.{HasItsVariables}
+use Rattle.cp_roots.specs.Over.{IsOver}
 use Rattle.cp_search.specs.Unexpanded.{IsUnexpanded}
 
 -- A problem is a point-of-view skeleton over its protocol.
 pub record IsAnalysable (p : Problem) : Type 0 where
-  pub is_skeleton : IsSkeleton p.protocol p.skeleton
+  pub is_over : IsOver p.protocol p.skeleton
   pub own : IsPointOfView p.variables p.skeleton
 
 -- The tree is true of the problem, its labels have their variables, and it is that of the search.

@@ -1,3 +1,4 @@
+pub mod LabelsLeft
 pub mod Values
 pub mod Images
 pub mod Origins

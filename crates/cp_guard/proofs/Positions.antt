@@ -75,18 +75,12 @@ module _ (protects : Message → Key → Bool) (g : Assignment) (c : Message) wh
   outside_or_above (pair_term a b) (Left ∷ path) u at e = ⊎_elim (λ o. inl (outside_left o)) (λ p. inr (record { body = p.body; key = p.key; above = p.above; protected = p.protected })) (outside_or_above a path u at e)
   outside_or_above (pair_term a b) (Right ∷ path) u at e = ⊎_elim (λ o. inl (outside_right o)) (λ p. inr (record { body = p.body; key = p.key; above = p.above; protected = p.protected })) (outside_or_above b path u at e)
   outside_or_above (enc_term a k) (Plaintext ∷ path) u at e = at_encryption a k path (protects (value_of g a) (value_of_key g k)) refl (outside_or_above a path u at e)
-  outside_or_above (tag_term bytes) (step ∷ path) u at e = absurd (no_part step at)
-    where
-      no_part : (st : Step) → term_at (tag_term bytes) (st ∷ path) ≡ Some u → ⊥
-      no_part Left q = cc
-      no_part Right q = cc
-      no_part Plaintext q = cc
-  outside_or_above (atom_term a) (step ∷ path) u at e = absurd (no_part step at)
-    where
-      no_part : (st : Step) → term_at (atom_term a) (st ∷ path) ≡ Some u → ⊥
-      no_part Left q = cc
-      no_part Right q = cc
-      no_part Plaintext q = cc
+  outside_or_above (tag_term bytes) (Left ∷ path) u at e = absurd (cc)
+  outside_or_above (tag_term bytes) (Right ∷ path) u at e = absurd (cc)
+  outside_or_above (tag_term bytes) (Plaintext ∷ path) u at e = absurd (cc)
+  outside_or_above (atom_term a) (Left ∷ path) u at e = absurd (cc)
+  outside_or_above (atom_term a) (Right ∷ path) u at e = absurd (cc)
+  outside_or_above (atom_term a) (Plaintext ∷ path) u at e = absurd (cc)
   outside_or_above (pair_term a b) (Plaintext ∷ path) u at e = absurd (cc)
   outside_or_above (enc_term a k) (Left ∷ path) u at e = absurd (cc)
   outside_or_above (enc_term a k) (Right ∷ path) u at e = absurd (cc)

@@ -2,7 +2,7 @@
 -- computing the definitions.
 use Rattle.std.specs.Prelude.{◌≡◌, codes, refl, Some, None}
 use Rattle.cp_base.specs.declared.place.Code.TheVariants.{UnknownForm, OutOfProfile, BadShape, DuplicateProtocol, DuplicateRole, UnknownProtocol, UnknownRole, UnknownSort, MesgVar, DuplicateVar, BadHeight, UnknownVar, NotInPrefix, IllSorted, KeySort, RoleUniqNoOrigin, UniqNowhere, BadNode, CyclicOrder}
-use Rattle.cp_sexpr.specs.Syntax.{symbol, string, number, list, none, more}
+use Rattle.cp_sexpr.specs.Syntax.{Form, symbol, string, number, list, none, more}
 use Rattle.cp_language.proofs.FirstFault.{p, first}
 use Rattle.cp_language.specs.Input.{faults_of}
 
@@ -169,64 +169,43 @@ reading_6 = refl
 -- (defprotocol ns basic
 --   (defrole init (vars (a b name) (n1 n2 text)) (trace (send (enc n1 a (pubk b))) (recv (enc n1 n2 (pubk a))) (send (enc n2 (pubk b)))))
 --   (defrole resp (vars (a b name) (n1 n2 text)) (trace (recv (enc n1 a (pubk b))) (send (enc n1 n2 (pubk a))) (recv (enc n2 (pubk b))))))
+abbrev needham_schroeder : Form
+needham_schroeder = (list (p 1 1) (more (symbol (p 1 2) (codes "defprotocol")) (more (symbol (p 1 14) (codes "ns")) (more (symbol (p 1 17) (codes "basic")) (more (list (p 2 3) (more (symbol (p 2 4) (codes "defrole")) (more (symbol (p 2 12) (codes "init")) (more (list (p 2 17) (more (symbol (p 2 18) (codes "vars")) (more (list (p 2 23) (more (symbol (p 2 24) (codes "a")) (more (symbol (p 2 26) (codes "b")) (more (symbol (p 2 28) (codes "name")) none)))) (more (list (p 2 34) (more (symbol (p 2 35) (codes "n1")) (more (symbol (p 2 38) (codes "n2")) (more (symbol (p 2 41) (codes "text")) none)))) none)))) (more (list (p 2 48) (more (symbol (p 2 49) (codes "trace")) (more (list (p 2 55) (more (symbol (p 2 56) (codes "send")) (more (list (p 2 61) (more (symbol (p 2 62) (codes "enc")) (more (symbol (p 2 66) (codes "n1")) (more (symbol (p 2 69) (codes "a")) (more (list (p 2 71) (more (symbol (p 2 72) (codes "pubk")) (more (symbol (p 2 77) (codes "b")) none))) none))))) none))) (more (list (p 2 82) (more (symbol (p 2 83) (codes "recv")) (more (list (p 2 88) (more (symbol (p 2 89) (codes "enc")) (more (symbol (p 2 93) (codes "n1")) (more (symbol (p 2 96) (codes "n2")) (more (list (p 2 99) (more (symbol (p 2 100) (codes "pubk")) (more (symbol (p 2 105) (codes "a")) none))) none))))) none))) (more (list (p 2 110) (more (symbol (p 2 111) (codes "send")) (more (list (p 2 116) (more (symbol (p 2 117) (codes "enc")) (more (symbol (p 2 121) (codes "n2")) (more (list (p 2 124) (more (symbol (p 2 125) (codes "pubk")) (more (symbol (p 2 130) (codes "b")) none))) none)))) none))) none))))) none))))) (more (list (p 3 3) (more (symbol (p 3 4) (codes "defrole")) (more (symbol (p 3 12) (codes "resp")) (more (list (p 3 17) (more (symbol (p 3 18) (codes "vars")) (more (list (p 3 23) (more (symbol (p 3 24) (codes "a")) (more (symbol (p 3 26) (codes "b")) (more (symbol (p 3 28) (codes "name")) none)))) (more (list (p 3 34) (more (symbol (p 3 35) (codes "n1")) (more (symbol (p 3 38) (codes "n2")) (more (symbol (p 3 41) (codes "text")) none)))) none)))) (more (list (p 3 48) (more (symbol (p 3 49) (codes "trace")) (more (list (p 3 55) (more (symbol (p 3 56) (codes "recv")) (more (list (p 3 61) (more (symbol (p 3 62) (codes "enc")) (more (symbol (p 3 66) (codes "n1")) (more (symbol (p 3 69) (codes "a")) (more (list (p 3 71) (more (symbol (p 3 72) (codes "pubk")) (more (symbol (p 3 77) (codes "b")) none))) none))))) none))) (more (list (p 3 82) (more (symbol (p 3 83) (codes "send")) (more (list (p 3 88) (more (symbol (p 3 89) (codes "enc")) (more (symbol (p 3 93) (codes "n1")) (more (symbol (p 3 96) (codes "n2")) (more (list (p 3 99) (more (symbol (p 3 100) (codes "pubk")) (more (symbol (p 3 105) (codes "a")) none))) none))))) none))) (more (list (p 3 110) (more (symbol (p 3 111) (codes "recv")) (more (list (p 3 116) (more (symbol (p 3 117) (codes "enc")) (more (symbol (p 3 121) (codes "n2")) (more (list (p 3 124) (more (symbol (p 3 125) (codes "pubk")) (more (symbol (p 3 130) (codes "b")) none))) none)))) none))) none))))) none))))) none))))))
+
 -- (defskeleton ns (vars) (defstrand init 3) (defstrand resp 3) (precedes ((0 2) (1 0)) ((1 1) (0 1))))
-reading_7 : first (faults_of (more (list (p 1 1) (more (symbol (p 1 2) (codes "defprotocol")) (more (symbol (p 1 14) (codes "ns")) (more (symbol (p 1 17) (codes "basic")) (more (list (p 2 3) (more (symbol (p 2 4) (codes "defrole")) (more (symbol (p 2 12) (codes "init")) (more (list (p 2 17) (more (symbol (p 2 18) (codes "vars")) (more (list (p 2 23) (more (symbol (p 2 24) (codes "a")) (more (symbol (p 2 26) (codes "b")) (more (symbol (p 2 28) (codes "name")) none)))) (more (list (p 2 34) (more (symbol (p 2 35) (codes "n1")) (more (symbol (p 2 38) (codes "n2")) (more (symbol (p 2 41) (codes "text")) none)))) none)))) (more (list (p 2 48) (more (symbol (p 2 49) (codes "trace")) (more (list (p 2 55) (more (symbol (p 2 56) (codes "send")) (more (list (p 2 61) (more (symbol (p 2 62) (codes "enc")) (more (symbol (p 2 66) (codes "n1")) (more (symbol (p 2 69) (codes "a")) (more (list (p 2 71) (more (symbol (p 2 72) (codes "pubk")) (more (symbol (p 2 77) (codes "b")) none))) none))))) none))) (more (list (p 2 82) (more (symbol (p 2 83) (codes "recv")) (more (list (p 2 88) (more (symbol (p 2 89) (codes "enc")) (more (symbol (p 2 93) (codes "n1")) (more (symbol (p 2 96) (codes "n2")) (more (list (p 2 99) (more (symbol (p 2 100) (codes "pubk")) (more (symbol (p 2 105) (codes "a")) none))) none))))) none))) (more (list (p 2 110) (more (symbol (p 2 111) (codes "send")) (more (list (p 2 116) (more (symbol (p 2 117) (codes "enc")) (more (symbol (p 2 121) (codes "n2")) (more (list (p 2 124) (more (symbol (p 2 125) (codes "pubk")) (more (symbol (p 2 130) (codes "b")) none))) none)))) none))) none))))) none))))) (more (list (p 3 3) (more (symbol (p 3 4) (codes "defrole")) (more (symbol (p 3 12) (codes "resp")) (more (list (p 3 17) (more (symbol (p 3 18) (codes "vars")) (more (list (p 3 23) (more (symbol (p 3 24) (codes "a")) (more (symbol (p 3 26) (codes "b")) (more (symbol (p 3 28) (codes "name")) none)))) (more (list (p 3 34) (more (symbol (p 3 35) (codes "n1")) (more (symbol (p 3 38) (codes "n2")) (more (symbol (p 3 41) (codes "text")) none)))) none)))) (more (list (p 3 48) (more (symbol (p 3 49) (codes "trace")) (more (list (p 3 55) (more (symbol (p 3 56) (codes "recv")) (more (list (p 3 61) (more (symbol (p 3 62) (codes "enc")) (more (symbol (p 3 66) (codes "n1")) (more (symbol (p 3 69) (codes "a")) (more (list (p 3 71) (more (symbol (p 3 72) (codes "pubk")) (more (symbol (p 3 77) (codes "b")) none))) none))))) none))) (more (list (p 3 82) (more (symbol (p 3 83) (codes "send")) (more (list (p 3 88) (more (symbol (p 3 89) (codes "enc")) (more (symbol (p 3 93) (codes "n1")) (more (symbol (p 3 96) (codes "n2")) (more (list (p 3 99) (more (symbol (p 3 100) (codes "pubk")) (more (symbol (p 3 105) (codes "a")) none))) none))))) none))) (more (list (p 3 110) (more (symbol (p 3 111) (codes "recv")) (more (list (p 3 116) (more (symbol (p 3 117) (codes "enc")) (more (symbol (p 3 121) (codes "n2")) (more (list (p 3 124) (more (symbol (p 3 125) (codes "pubk")) (more (symbol (p 3 130) (codes "b")) none))) none)))) none))) none))))) none))))) none)))))) (more (list (p 4 1) (more (symbol (p 4 2) (codes "defskeleton")) (more (symbol (p 4 14) (codes "ns")) (more (list (p 4 17) (more (symbol (p 4 18) (codes "vars")) none)) (more (list (p 4 24) (more (symbol (p 4 25) (codes "defstrand")) (more (symbol (p 4 35) (codes "init")) (more (number (p 4 40) 3) none)))) (more (list (p 4 43) (more (symbol (p 4 44) (codes "defstrand")) (more (symbol (p 4 54) (codes "resp")) (more (number (p 4 59) 3) none)))) (more (list (p 4 62) (more (symbol (p 4 63) (codes "precedes")) (more (list (p 4 72) (more (list (p 4 73) (more (number (p 4 74) 0) (more (number (p 4 76) 2) none))) (more (list (p 4 79) (more (number (p 4 80) 1) (more (number (p 4 82) 0) none))) none))) (more (list (p 4 86) (more (list (p 4 87) (more (number (p 4 88) 1) (more (number (p 4 90) 1) none))) (more (list (p 4 93) (more (number (p 4 94) 0) (more (number (p 4 96) 1) none))) none))) none)))) none))))))) none))) ≡ Some (record { place = p 4 86; code = CyclicOrder })
+reading_7 : first (faults_of (more needham_schroeder (more (list (p 4 1) (more (symbol (p 4 2) (codes "defskeleton")) (more (symbol (p 4 14) (codes "ns")) (more (list (p 4 17) (more (symbol (p 4 18) (codes "vars")) none)) (more (list (p 4 24) (more (symbol (p 4 25) (codes "defstrand")) (more (symbol (p 4 35) (codes "init")) (more (number (p 4 40) 3) none)))) (more (list (p 4 43) (more (symbol (p 4 44) (codes "defstrand")) (more (symbol (p 4 54) (codes "resp")) (more (number (p 4 59) 3) none)))) (more (list (p 4 62) (more (symbol (p 4 63) (codes "precedes")) (more (list (p 4 72) (more (list (p 4 73) (more (number (p 4 74) 0) (more (number (p 4 76) 2) none))) (more (list (p 4 79) (more (number (p 4 80) 1) (more (number (p 4 82) 0) none))) none))) (more (list (p 4 86) (more (list (p 4 87) (more (number (p 4 88) 1) (more (number (p 4 90) 1) none))) (more (list (p 4 93) (more (number (p 4 94) 0) (more (number (p 4 96) 1) none))) none))) none)))) none))))))) none))) ≡ Some (record { place = p 4 86; code = CyclicOrder })
 reading_7 = refl
 
--- (defprotocol ns basic
---   (defrole init (vars (a b name) (n1 n2 text)) (trace (send (enc n1 a (pubk b))) (recv (enc n1 n2 (pubk a))) (send (enc n2 (pubk b)))))
---   (defrole resp (vars (a b name) (n1 n2 text)) (trace (recv (enc n1 a (pubk b))) (send (enc n1 n2 (pubk a))) (recv (enc n2 (pubk b))))))
 -- (defskeleton ns (vars) (defstrand init 3) (defstrand resp 3) (precedes ((0 0) (1 0)) ((1 1) (0 1))))
-reading_8 : first (faults_of (more (list (p 1 1) (more (symbol (p 1 2) (codes "defprotocol")) (more (symbol (p 1 14) (codes "ns")) (more (symbol (p 1 17) (codes "basic")) (more (list (p 2 3) (more (symbol (p 2 4) (codes "defrole")) (more (symbol (p 2 12) (codes "init")) (more (list (p 2 17) (more (symbol (p 2 18) (codes "vars")) (more (list (p 2 23) (more (symbol (p 2 24) (codes "a")) (more (symbol (p 2 26) (codes "b")) (more (symbol (p 2 28) (codes "name")) none)))) (more (list (p 2 34) (more (symbol (p 2 35) (codes "n1")) (more (symbol (p 2 38) (codes "n2")) (more (symbol (p 2 41) (codes "text")) none)))) none)))) (more (list (p 2 48) (more (symbol (p 2 49) (codes "trace")) (more (list (p 2 55) (more (symbol (p 2 56) (codes "send")) (more (list (p 2 61) (more (symbol (p 2 62) (codes "enc")) (more (symbol (p 2 66) (codes "n1")) (more (symbol (p 2 69) (codes "a")) (more (list (p 2 71) (more (symbol (p 2 72) (codes "pubk")) (more (symbol (p 2 77) (codes "b")) none))) none))))) none))) (more (list (p 2 82) (more (symbol (p 2 83) (codes "recv")) (more (list (p 2 88) (more (symbol (p 2 89) (codes "enc")) (more (symbol (p 2 93) (codes "n1")) (more (symbol (p 2 96) (codes "n2")) (more (list (p 2 99) (more (symbol (p 2 100) (codes "pubk")) (more (symbol (p 2 105) (codes "a")) none))) none))))) none))) (more (list (p 2 110) (more (symbol (p 2 111) (codes "send")) (more (list (p 2 116) (more (symbol (p 2 117) (codes "enc")) (more (symbol (p 2 121) (codes "n2")) (more (list (p 2 124) (more (symbol (p 2 125) (codes "pubk")) (more (symbol (p 2 130) (codes "b")) none))) none)))) none))) none))))) none))))) (more (list (p 3 3) (more (symbol (p 3 4) (codes "defrole")) (more (symbol (p 3 12) (codes "resp")) (more (list (p 3 17) (more (symbol (p 3 18) (codes "vars")) (more (list (p 3 23) (more (symbol (p 3 24) (codes "a")) (more (symbol (p 3 26) (codes "b")) (more (symbol (p 3 28) (codes "name")) none)))) (more (list (p 3 34) (more (symbol (p 3 35) (codes "n1")) (more (symbol (p 3 38) (codes "n2")) (more (symbol (p 3 41) (codes "text")) none)))) none)))) (more (list (p 3 48) (more (symbol (p 3 49) (codes "trace")) (more (list (p 3 55) (more (symbol (p 3 56) (codes "recv")) (more (list (p 3 61) (more (symbol (p 3 62) (codes "enc")) (more (symbol (p 3 66) (codes "n1")) (more (symbol (p 3 69) (codes "a")) (more (list (p 3 71) (more (symbol (p 3 72) (codes "pubk")) (more (symbol (p 3 77) (codes "b")) none))) none))))) none))) (more (list (p 3 82) (more (symbol (p 3 83) (codes "send")) (more (list (p 3 88) (more (symbol (p 3 89) (codes "enc")) (more (symbol (p 3 93) (codes "n1")) (more (symbol (p 3 96) (codes "n2")) (more (list (p 3 99) (more (symbol (p 3 100) (codes "pubk")) (more (symbol (p 3 105) (codes "a")) none))) none))))) none))) (more (list (p 3 110) (more (symbol (p 3 111) (codes "recv")) (more (list (p 3 116) (more (symbol (p 3 117) (codes "enc")) (more (symbol (p 3 121) (codes "n2")) (more (list (p 3 124) (more (symbol (p 3 125) (codes "pubk")) (more (symbol (p 3 130) (codes "b")) none))) none)))) none))) none))))) none))))) none)))))) (more (list (p 4 1) (more (symbol (p 4 2) (codes "defskeleton")) (more (symbol (p 4 14) (codes "ns")) (more (list (p 4 17) (more (symbol (p 4 18) (codes "vars")) none)) (more (list (p 4 24) (more (symbol (p 4 25) (codes "defstrand")) (more (symbol (p 4 35) (codes "init")) (more (number (p 4 40) 3) none)))) (more (list (p 4 43) (more (symbol (p 4 44) (codes "defstrand")) (more (symbol (p 4 54) (codes "resp")) (more (number (p 4 59) 3) none)))) (more (list (p 4 62) (more (symbol (p 4 63) (codes "precedes")) (more (list (p 4 72) (more (list (p 4 73) (more (number (p 4 74) 0) (more (number (p 4 76) 0) none))) (more (list (p 4 79) (more (number (p 4 80) 1) (more (number (p 4 82) 0) none))) none))) (more (list (p 4 86) (more (list (p 4 87) (more (number (p 4 88) 1) (more (number (p 4 90) 1) none))) (more (list (p 4 93) (more (number (p 4 94) 0) (more (number (p 4 96) 1) none))) none))) none)))) none))))))) none))) ≡ None
+reading_8 : first (faults_of (more needham_schroeder (more (list (p 4 1) (more (symbol (p 4 2) (codes "defskeleton")) (more (symbol (p 4 14) (codes "ns")) (more (list (p 4 17) (more (symbol (p 4 18) (codes "vars")) none)) (more (list (p 4 24) (more (symbol (p 4 25) (codes "defstrand")) (more (symbol (p 4 35) (codes "init")) (more (number (p 4 40) 3) none)))) (more (list (p 4 43) (more (symbol (p 4 44) (codes "defstrand")) (more (symbol (p 4 54) (codes "resp")) (more (number (p 4 59) 3) none)))) (more (list (p 4 62) (more (symbol (p 4 63) (codes "precedes")) (more (list (p 4 72) (more (list (p 4 73) (more (number (p 4 74) 0) (more (number (p 4 76) 0) none))) (more (list (p 4 79) (more (number (p 4 80) 1) (more (number (p 4 82) 0) none))) none))) (more (list (p 4 86) (more (list (p 4 87) (more (number (p 4 88) 1) (more (number (p 4 90) 1) none))) (more (list (p 4 93) (more (number (p 4 94) 0) (more (number (p 4 96) 1) none))) none))) none)))) none))))))) none))) ≡ None
 reading_8 = refl
 
--- (defprotocol ns basic
---   (defrole init (vars (a b name) (n1 n2 text)) (trace (send (enc n1 a (pubk b))) (recv (enc n1 n2 (pubk a))) (send (enc n2 (pubk b)))))
---   (defrole resp (vars (a b name) (n1 n2 text)) (trace (recv (enc n1 a (pubk b))) (send (enc n1 n2 (pubk a))) (recv (enc n2 (pubk b))))))
 -- (defskeleton ns (vars) (defstrand init 3) (defstrand resp 3) (precedes ((0 1) (1 9))))
-reading_9 : first (faults_of (more (list (p 1 1) (more (symbol (p 1 2) (codes "defprotocol")) (more (symbol (p 1 14) (codes "ns")) (more (symbol (p 1 17) (codes "basic")) (more (list (p 2 3) (more (symbol (p 2 4) (codes "defrole")) (more (symbol (p 2 12) (codes "init")) (more (list (p 2 17) (more (symbol (p 2 18) (codes "vars")) (more (list (p 2 23) (more (symbol (p 2 24) (codes "a")) (more (symbol (p 2 26) (codes "b")) (more (symbol (p 2 28) (codes "name")) none)))) (more (list (p 2 34) (more (symbol (p 2 35) (codes "n1")) (more (symbol (p 2 38) (codes "n2")) (more (symbol (p 2 41) (codes "text")) none)))) none)))) (more (list (p 2 48) (more (symbol (p 2 49) (codes "trace")) (more (list (p 2 55) (more (symbol (p 2 56) (codes "send")) (more (list (p 2 61) (more (symbol (p 2 62) (codes "enc")) (more (symbol (p 2 66) (codes "n1")) (more (symbol (p 2 69) (codes "a")) (more (list (p 2 71) (more (symbol (p 2 72) (codes "pubk")) (more (symbol (p 2 77) (codes "b")) none))) none))))) none))) (more (list (p 2 82) (more (symbol (p 2 83) (codes "recv")) (more (list (p 2 88) (more (symbol (p 2 89) (codes "enc")) (more (symbol (p 2 93) (codes "n1")) (more (symbol (p 2 96) (codes "n2")) (more (list (p 2 99) (more (symbol (p 2 100) (codes "pubk")) (more (symbol (p 2 105) (codes "a")) none))) none))))) none))) (more (list (p 2 110) (more (symbol (p 2 111) (codes "send")) (more (list (p 2 116) (more (symbol (p 2 117) (codes "enc")) (more (symbol (p 2 121) (codes "n2")) (more (list (p 2 124) (more (symbol (p 2 125) (codes "pubk")) (more (symbol (p 2 130) (codes "b")) none))) none)))) none))) none))))) none))))) (more (list (p 3 3) (more (symbol (p 3 4) (codes "defrole")) (more (symbol (p 3 12) (codes "resp")) (more (list (p 3 17) (more (symbol (p 3 18) (codes "vars")) (more (list (p 3 23) (more (symbol (p 3 24) (codes "a")) (more (symbol (p 3 26) (codes "b")) (more (symbol (p 3 28) (codes "name")) none)))) (more (list (p 3 34) (more (symbol (p 3 35) (codes "n1")) (more (symbol (p 3 38) (codes "n2")) (more (symbol (p 3 41) (codes "text")) none)))) none)))) (more (list (p 3 48) (more (symbol (p 3 49) (codes "trace")) (more (list (p 3 55) (more (symbol (p 3 56) (codes "recv")) (more (list (p 3 61) (more (symbol (p 3 62) (codes "enc")) (more (symbol (p 3 66) (codes "n1")) (more (symbol (p 3 69) (codes "a")) (more (list (p 3 71) (more (symbol (p 3 72) (codes "pubk")) (more (symbol (p 3 77) (codes "b")) none))) none))))) none))) (more (list (p 3 82) (more (symbol (p 3 83) (codes "send")) (more (list (p 3 88) (more (symbol (p 3 89) (codes "enc")) (more (symbol (p 3 93) (codes "n1")) (more (symbol (p 3 96) (codes "n2")) (more (list (p 3 99) (more (symbol (p 3 100) (codes "pubk")) (more (symbol (p 3 105) (codes "a")) none))) none))))) none))) (more (list (p 3 110) (more (symbol (p 3 111) (codes "recv")) (more (list (p 3 116) (more (symbol (p 3 117) (codes "enc")) (more (symbol (p 3 121) (codes "n2")) (more (list (p 3 124) (more (symbol (p 3 125) (codes "pubk")) (more (symbol (p 3 130) (codes "b")) none))) none)))) none))) none))))) none))))) none)))))) (more (list (p 4 1) (more (symbol (p 4 2) (codes "defskeleton")) (more (symbol (p 4 14) (codes "ns")) (more (list (p 4 17) (more (symbol (p 4 18) (codes "vars")) none)) (more (list (p 4 24) (more (symbol (p 4 25) (codes "defstrand")) (more (symbol (p 4 35) (codes "init")) (more (number (p 4 40) 3) none)))) (more (list (p 4 43) (more (symbol (p 4 44) (codes "defstrand")) (more (symbol (p 4 54) (codes "resp")) (more (number (p 4 59) 3) none)))) (more (list (p 4 62) (more (symbol (p 4 63) (codes "precedes")) (more (list (p 4 72) (more (list (p 4 73) (more (number (p 4 74) 0) (more (number (p 4 76) 1) none))) (more (list (p 4 79) (more (number (p 4 80) 1) (more (number (p 4 82) 9) none))) none))) none))) none))))))) none))) ≡ Some (record { place = p 4 79; code = BadNode })
+reading_9 : first (faults_of (more needham_schroeder (more (list (p 4 1) (more (symbol (p 4 2) (codes "defskeleton")) (more (symbol (p 4 14) (codes "ns")) (more (list (p 4 17) (more (symbol (p 4 18) (codes "vars")) none)) (more (list (p 4 24) (more (symbol (p 4 25) (codes "defstrand")) (more (symbol (p 4 35) (codes "init")) (more (number (p 4 40) 3) none)))) (more (list (p 4 43) (more (symbol (p 4 44) (codes "defstrand")) (more (symbol (p 4 54) (codes "resp")) (more (number (p 4 59) 3) none)))) (more (list (p 4 62) (more (symbol (p 4 63) (codes "precedes")) (more (list (p 4 72) (more (list (p 4 73) (more (number (p 4 74) 0) (more (number (p 4 76) 1) none))) (more (list (p 4 79) (more (number (p 4 80) 1) (more (number (p 4 82) 9) none))) none))) none))) none))))))) none))) ≡ Some (record { place = p 4 79; code = BadNode })
 reading_9 = refl
 
--- (defprotocol ns basic
---   (defrole init (vars (a b name) (n1 n2 text)) (trace (send (enc n1 a (pubk b))) (recv (enc n1 n2 (pubk a))) (send (enc n2 (pubk b)))))
---   (defrole resp (vars (a b name) (n1 n2 text)) (trace (recv (enc n1 a (pubk b))) (send (enc n1 n2 (pubk a))) (recv (enc n2 (pubk b))))))
 -- (defskeleton ns (vars) (defstrand init 3) (defstrand resp 3) (precedes ((0 1) (0 0) (0 0))))
-reading_10 : first (faults_of (more (list (p 1 1) (more (symbol (p 1 2) (codes "defprotocol")) (more (symbol (p 1 14) (codes "ns")) (more (symbol (p 1 17) (codes "basic")) (more (list (p 2 3) (more (symbol (p 2 4) (codes "defrole")) (more (symbol (p 2 12) (codes "init")) (more (list (p 2 17) (more (symbol (p 2 18) (codes "vars")) (more (list (p 2 23) (more (symbol (p 2 24) (codes "a")) (more (symbol (p 2 26) (codes "b")) (more (symbol (p 2 28) (codes "name")) none)))) (more (list (p 2 34) (more (symbol (p 2 35) (codes "n1")) (more (symbol (p 2 38) (codes "n2")) (more (symbol (p 2 41) (codes "text")) none)))) none)))) (more (list (p 2 48) (more (symbol (p 2 49) (codes "trace")) (more (list (p 2 55) (more (symbol (p 2 56) (codes "send")) (more (list (p 2 61) (more (symbol (p 2 62) (codes "enc")) (more (symbol (p 2 66) (codes "n1")) (more (symbol (p 2 69) (codes "a")) (more (list (p 2 71) (more (symbol (p 2 72) (codes "pubk")) (more (symbol (p 2 77) (codes "b")) none))) none))))) none))) (more (list (p 2 82) (more (symbol (p 2 83) (codes "recv")) (more (list (p 2 88) (more (symbol (p 2 89) (codes "enc")) (more (symbol (p 2 93) (codes "n1")) (more (symbol (p 2 96) (codes "n2")) (more (list (p 2 99) (more (symbol (p 2 100) (codes "pubk")) (more (symbol (p 2 105) (codes "a")) none))) none))))) none))) (more (list (p 2 110) (more (symbol (p 2 111) (codes "send")) (more (list (p 2 116) (more (symbol (p 2 117) (codes "enc")) (more (symbol (p 2 121) (codes "n2")) (more (list (p 2 124) (more (symbol (p 2 125) (codes "pubk")) (more (symbol (p 2 130) (codes "b")) none))) none)))) none))) none))))) none))))) (more (list (p 3 3) (more (symbol (p 3 4) (codes "defrole")) (more (symbol (p 3 12) (codes "resp")) (more (list (p 3 17) (more (symbol (p 3 18) (codes "vars")) (more (list (p 3 23) (more (symbol (p 3 24) (codes "a")) (more (symbol (p 3 26) (codes "b")) (more (symbol (p 3 28) (codes "name")) none)))) (more (list (p 3 34) (more (symbol (p 3 35) (codes "n1")) (more (symbol (p 3 38) (codes "n2")) (more (symbol (p 3 41) (codes "text")) none)))) none)))) (more (list (p 3 48) (more (symbol (p 3 49) (codes "trace")) (more (list (p 3 55) (more (symbol (p 3 56) (codes "recv")) (more (list (p 3 61) (more (symbol (p 3 62) (codes "enc")) (more (symbol (p 3 66) (codes "n1")) (more (symbol (p 3 69) (codes "a")) (more (list (p 3 71) (more (symbol (p 3 72) (codes "pubk")) (more (symbol (p 3 77) (codes "b")) none))) none))))) none))) (more (list (p 3 82) (more (symbol (p 3 83) (codes "send")) (more (list (p 3 88) (more (symbol (p 3 89) (codes "enc")) (more (symbol (p 3 93) (codes "n1")) (more (symbol (p 3 96) (codes "n2")) (more (list (p 3 99) (more (symbol (p 3 100) (codes "pubk")) (more (symbol (p 3 105) (codes "a")) none))) none))))) none))) (more (list (p 3 110) (more (symbol (p 3 111) (codes "recv")) (more (list (p 3 116) (more (symbol (p 3 117) (codes "enc")) (more (symbol (p 3 121) (codes "n2")) (more (list (p 3 124) (more (symbol (p 3 125) (codes "pubk")) (more (symbol (p 3 130) (codes "b")) none))) none)))) none))) none))))) none))))) none)))))) (more (list (p 4 1) (more (symbol (p 4 2) (codes "defskeleton")) (more (symbol (p 4 14) (codes "ns")) (more (list (p 4 17) (more (symbol (p 4 18) (codes "vars")) none)) (more (list (p 4 24) (more (symbol (p 4 25) (codes "defstrand")) (more (symbol (p 4 35) (codes "init")) (more (number (p 4 40) 3) none)))) (more (list (p 4 43) (more (symbol (p 4 44) (codes "defstrand")) (more (symbol (p 4 54) (codes "resp")) (more (number (p 4 59) 3) none)))) (more (list (p 4 62) (more (symbol (p 4 63) (codes "precedes")) (more (list (p 4 72) (more (list (p 4 73) (more (number (p 4 74) 0) (more (number (p 4 76) 1) none))) (more (list (p 4 79) (more (number (p 4 80) 0) (more (number (p 4 82) 0) none))) (more (list (p 4 85) (more (number (p 4 86) 0) (more (number (p 4 88) 0) none))) none)))) none))) none))))))) none))) ≡ Some (record { place = p 4 72; code = CyclicOrder })
+reading_10 : first (faults_of (more needham_schroeder (more (list (p 4 1) (more (symbol (p 4 2) (codes "defskeleton")) (more (symbol (p 4 14) (codes "ns")) (more (list (p 4 17) (more (symbol (p 4 18) (codes "vars")) none)) (more (list (p 4 24) (more (symbol (p 4 25) (codes "defstrand")) (more (symbol (p 4 35) (codes "init")) (more (number (p 4 40) 3) none)))) (more (list (p 4 43) (more (symbol (p 4 44) (codes "defstrand")) (more (symbol (p 4 54) (codes "resp")) (more (number (p 4 59) 3) none)))) (more (list (p 4 62) (more (symbol (p 4 63) (codes "precedes")) (more (list (p 4 72) (more (list (p 4 73) (more (number (p 4 74) 0) (more (number (p 4 76) 1) none))) (more (list (p 4 79) (more (number (p 4 80) 0) (more (number (p 4 82) 0) none))) (more (list (p 4 85) (more (number (p 4 86) 0) (more (number (p 4 88) 0) none))) none)))) none))) none))))))) none))) ≡ Some (record { place = p 4 72; code = CyclicOrder })
 reading_10 = refl
 
--- (defprotocol ns basic
---   (defrole init (vars (a b name) (n1 n2 text)) (trace (send (enc n1 a (pubk b))) (recv (enc n1 n2 (pubk a))) (send (enc n2 (pubk b)))))
---   (defrole resp (vars (a b name) (n1 n2 text)) (trace (recv (enc n1 a (pubk b))) (send (enc n1 n2 (pubk a))) (recv (enc n2 (pubk b))))))
 -- (defskeleton ns (vars) (defstrand init 3) (defstrand resp 3) (precedes ((0 0) (0 2))))
-reading_11 : first (faults_of (more (list (p 1 1) (more (symbol (p 1 2) (codes "defprotocol")) (more (symbol (p 1 14) (codes "ns")) (more (symbol (p 1 17) (codes "basic")) (more (list (p 2 3) (more (symbol (p 2 4) (codes "defrole")) (more (symbol (p 2 12) (codes "init")) (more (list (p 2 17) (more (symbol (p 2 18) (codes "vars")) (more (list (p 2 23) (more (symbol (p 2 24) (codes "a")) (more (symbol (p 2 26) (codes "b")) (more (symbol (p 2 28) (codes "name")) none)))) (more (list (p 2 34) (more (symbol (p 2 35) (codes "n1")) (more (symbol (p 2 38) (codes "n2")) (more (symbol (p 2 41) (codes "text")) none)))) none)))) (more (list (p 2 48) (more (symbol (p 2 49) (codes "trace")) (more (list (p 2 55) (more (symbol (p 2 56) (codes "send")) (more (list (p 2 61) (more (symbol (p 2 62) (codes "enc")) (more (symbol (p 2 66) (codes "n1")) (more (symbol (p 2 69) (codes "a")) (more (list (p 2 71) (more (symbol (p 2 72) (codes "pubk")) (more (symbol (p 2 77) (codes "b")) none))) none))))) none))) (more (list (p 2 82) (more (symbol (p 2 83) (codes "recv")) (more (list (p 2 88) (more (symbol (p 2 89) (codes "enc")) (more (symbol (p 2 93) (codes "n1")) (more (symbol (p 2 96) (codes "n2")) (more (list (p 2 99) (more (symbol (p 2 100) (codes "pubk")) (more (symbol (p 2 105) (codes "a")) none))) none))))) none))) (more (list (p 2 110) (more (symbol (p 2 111) (codes "send")) (more (list (p 2 116) (more (symbol (p 2 117) (codes "enc")) (more (symbol (p 2 121) (codes "n2")) (more (list (p 2 124) (more (symbol (p 2 125) (codes "pubk")) (more (symbol (p 2 130) (codes "b")) none))) none)))) none))) none))))) none))))) (more (list (p 3 3) (more (symbol (p 3 4) (codes "defrole")) (more (symbol (p 3 12) (codes "resp")) (more (list (p 3 17) (more (symbol (p 3 18) (codes "vars")) (more (list (p 3 23) (more (symbol (p 3 24) (codes "a")) (more (symbol (p 3 26) (codes "b")) (more (symbol (p 3 28) (codes "name")) none)))) (more (list (p 3 34) (more (symbol (p 3 35) (codes "n1")) (more (symbol (p 3 38) (codes "n2")) (more (symbol (p 3 41) (codes "text")) none)))) none)))) (more (list (p 3 48) (more (symbol (p 3 49) (codes "trace")) (more (list (p 3 55) (more (symbol (p 3 56) (codes "recv")) (more (list (p 3 61) (more (symbol (p 3 62) (codes "enc")) (more (symbol (p 3 66) (codes "n1")) (more (symbol (p 3 69) (codes "a")) (more (list (p 3 71) (more (symbol (p 3 72) (codes "pubk")) (more (symbol (p 3 77) (codes "b")) none))) none))))) none))) (more (list (p 3 82) (more (symbol (p 3 83) (codes "send")) (more (list (p 3 88) (more (symbol (p 3 89) (codes "enc")) (more (symbol (p 3 93) (codes "n1")) (more (symbol (p 3 96) (codes "n2")) (more (list (p 3 99) (more (symbol (p 3 100) (codes "pubk")) (more (symbol (p 3 105) (codes "a")) none))) none))))) none))) (more (list (p 3 110) (more (symbol (p 3 111) (codes "recv")) (more (list (p 3 116) (more (symbol (p 3 117) (codes "enc")) (more (symbol (p 3 121) (codes "n2")) (more (list (p 3 124) (more (symbol (p 3 125) (codes "pubk")) (more (symbol (p 3 130) (codes "b")) none))) none)))) none))) none))))) none))))) none)))))) (more (list (p 4 1) (more (symbol (p 4 2) (codes "defskeleton")) (more (symbol (p 4 14) (codes "ns")) (more (list (p 4 17) (more (symbol (p 4 18) (codes "vars")) none)) (more (list (p 4 24) (more (symbol (p 4 25) (codes "defstrand")) (more (symbol (p 4 35) (codes "init")) (more (number (p 4 40) 3) none)))) (more (list (p 4 43) (more (symbol (p 4 44) (codes "defstrand")) (more (symbol (p 4 54) (codes "resp")) (more (number (p 4 59) 3) none)))) (more (list (p 4 62) (more (symbol (p 4 63) (codes "precedes")) (more (list (p 4 72) (more (list (p 4 73) (more (number (p 4 74) 0) (more (number (p 4 76) 0) none))) (more (list (p 4 79) (more (number (p 4 80) 0) (more (number (p 4 82) 2) none))) none))) none))) none))))))) none))) ≡ None
+reading_11 : first (faults_of (more needham_schroeder (more (list (p 4 1) (more (symbol (p 4 2) (codes "defskeleton")) (more (symbol (p 4 14) (codes "ns")) (more (list (p 4 17) (more (symbol (p 4 18) (codes "vars")) none)) (more (list (p 4 24) (more (symbol (p 4 25) (codes "defstrand")) (more (symbol (p 4 35) (codes "init")) (more (number (p 4 40) 3) none)))) (more (list (p 4 43) (more (symbol (p 4 44) (codes "defstrand")) (more (symbol (p 4 54) (codes "resp")) (more (number (p 4 59) 3) none)))) (more (list (p 4 62) (more (symbol (p 4 63) (codes "precedes")) (more (list (p 4 72) (more (list (p 4 73) (more (number (p 4 74) 0) (more (number (p 4 76) 0) none))) (more (list (p 4 79) (more (number (p 4 80) 0) (more (number (p 4 82) 2) none))) none))) none))) none))))))) none))) ≡ None
 reading_11 = refl
 
--- (defprotocol ns basic
---   (defrole init (vars (a b name) (n1 n2 text)) (trace (send (enc n1 a (pubk b))) (recv (enc n1 n2 (pubk a))) (send (enc n2 (pubk b)))))
---   (defrole resp (vars (a b name) (n1 n2 text)) (trace (recv (enc n1 a (pubk b))) (send (enc n1 n2 (pubk a))) (recv (enc n2 (pubk b))))))
 -- (defskeleton ns (vars) (defstrand init 3) (defstrand resp 3) (precedes ((9 0 0) (0 2))))
-reading_12 : first (faults_of (more (list (p 1 1) (more (symbol (p 1 2) (codes "defprotocol")) (more (symbol (p 1 14) (codes "ns")) (more (symbol (p 1 17) (codes "basic")) (more (list (p 2 3) (more (symbol (p 2 4) (codes "defrole")) (more (symbol (p 2 12) (codes "init")) (more (list (p 2 17) (more (symbol (p 2 18) (codes "vars")) (more (list (p 2 23) (more (symbol (p 2 24) (codes "a")) (more (symbol (p 2 26) (codes "b")) (more (symbol (p 2 28) (codes "name")) none)))) (more (list (p 2 34) (more (symbol (p 2 35) (codes "n1")) (more (symbol (p 2 38) (codes "n2")) (more (symbol (p 2 41) (codes "text")) none)))) none)))) (more (list (p 2 48) (more (symbol (p 2 49) (codes "trace")) (more (list (p 2 55) (more (symbol (p 2 56) (codes "send")) (more (list (p 2 61) (more (symbol (p 2 62) (codes "enc")) (more (symbol (p 2 66) (codes "n1")) (more (symbol (p 2 69) (codes "a")) (more (list (p 2 71) (more (symbol (p 2 72) (codes "pubk")) (more (symbol (p 2 77) (codes "b")) none))) none))))) none))) (more (list (p 2 82) (more (symbol (p 2 83) (codes "recv")) (more (list (p 2 88) (more (symbol (p 2 89) (codes "enc")) (more (symbol (p 2 93) (codes "n1")) (more (symbol (p 2 96) (codes "n2")) (more (list (p 2 99) (more (symbol (p 2 100) (codes "pubk")) (more (symbol (p 2 105) (codes "a")) none))) none))))) none))) (more (list (p 2 110) (more (symbol (p 2 111) (codes "send")) (more (list (p 2 116) (more (symbol (p 2 117) (codes "enc")) (more (symbol (p 2 121) (codes "n2")) (more (list (p 2 124) (more (symbol (p 2 125) (codes "pubk")) (more (symbol (p 2 130) (codes "b")) none))) none)))) none))) none))))) none))))) (more (list (p 3 3) (more (symbol (p 3 4) (codes "defrole")) (more (symbol (p 3 12) (codes "resp")) (more (list (p 3 17) (more (symbol (p 3 18) (codes "vars")) (more (list (p 3 23) (more (symbol (p 3 24) (codes "a")) (more (symbol (p 3 26) (codes "b")) (more (symbol (p 3 28) (codes "name")) none)))) (more (list (p 3 34) (more (symbol (p 3 35) (codes "n1")) (more (symbol (p 3 38) (codes "n2")) (more (symbol (p 3 41) (codes "text")) none)))) none)))) (more (list (p 3 48) (more (symbol (p 3 49) (codes "trace")) (more (list (p 3 55) (more (symbol (p 3 56) (codes "recv")) (more (list (p 3 61) (more (symbol (p 3 62) (codes "enc")) (more (symbol (p 3 66) (codes "n1")) (more (symbol (p 3 69) (codes "a")) (more (list (p 3 71) (more (symbol (p 3 72) (codes "pubk")) (more (symbol (p 3 77) (codes "b")) none))) none))))) none))) (more (list (p 3 82) (more (symbol (p 3 83) (codes "send")) (more (list (p 3 88) (more (symbol (p 3 89) (codes "enc")) (more (symbol (p 3 93) (codes "n1")) (more (symbol (p 3 96) (codes "n2")) (more (list (p 3 99) (more (symbol (p 3 100) (codes "pubk")) (more (symbol (p 3 105) (codes "a")) none))) none))))) none))) (more (list (p 3 110) (more (symbol (p 3 111) (codes "recv")) (more (list (p 3 116) (more (symbol (p 3 117) (codes "enc")) (more (symbol (p 3 121) (codes "n2")) (more (list (p 3 124) (more (symbol (p 3 125) (codes "pubk")) (more (symbol (p 3 130) (codes "b")) none))) none)))) none))) none))))) none))))) none)))))) (more (list (p 4 1) (more (symbol (p 4 2) (codes "defskeleton")) (more (symbol (p 4 14) (codes "ns")) (more (list (p 4 17) (more (symbol (p 4 18) (codes "vars")) none)) (more (list (p 4 24) (more (symbol (p 4 25) (codes "defstrand")) (more (symbol (p 4 35) (codes "init")) (more (number (p 4 40) 3) none)))) (more (list (p 4 43) (more (symbol (p 4 44) (codes "defstrand")) (more (symbol (p 4 54) (codes "resp")) (more (number (p 4 59) 3) none)))) (more (list (p 4 62) (more (symbol (p 4 63) (codes "precedes")) (more (list (p 4 72) (more (list (p 4 73) (more (number (p 4 74) 9) (more (number (p 4 76) 0) (more (number (p 4 78) 0) none)))) (more (list (p 4 81) (more (number (p 4 82) 0) (more (number (p 4 84) 2) none))) none))) none))) none))))))) none))) ≡ Some (record { place = p 4 73; code = BadNode })
+reading_12 : first (faults_of (more needham_schroeder (more (list (p 4 1) (more (symbol (p 4 2) (codes "defskeleton")) (more (symbol (p 4 14) (codes "ns")) (more (list (p 4 17) (more (symbol (p 4 18) (codes "vars")) none)) (more (list (p 4 24) (more (symbol (p 4 25) (codes "defstrand")) (more (symbol (p 4 35) (codes "init")) (more (number (p 4 40) 3) none)))) (more (list (p 4 43) (more (symbol (p 4 44) (codes "defstrand")) (more (symbol (p 4 54) (codes "resp")) (more (number (p 4 59) 3) none)))) (more (list (p 4 62) (more (symbol (p 4 63) (codes "precedes")) (more (list (p 4 72) (more (list (p 4 73) (more (number (p 4 74) 9) (more (number (p 4 76) 0) (more (number (p 4 78) 0) none)))) (more (list (p 4 81) (more (number (p 4 82) 0) (more (number (p 4 84) 2) none))) none))) none))) none))))))) none))) ≡ Some (record { place = p 4 73; code = BadNode })
 reading_12 = refl
 
--- (defprotocol ns basic
---   (defrole init (vars (a b name) (n1 n2 text)) (trace (send (enc n1 a (pubk b))) (recv (enc n1 n2 (pubk a))) (send (enc n2 (pubk b)))))
---   (defrole resp (vars (a b name) (n1 n2 text)) (trace (recv (enc n1 a (pubk b))) (send (enc n1 n2 (pubk a))) (recv (enc n2 (pubk b))))))
 -- (defskeleton ns (vars) (defstrand init 3) (defstrand resp 3) (precedes ((0 0 0) (0 2))))
-reading_13 : first (faults_of (more (list (p 1 1) (more (symbol (p 1 2) (codes "defprotocol")) (more (symbol (p 1 14) (codes "ns")) (more (symbol (p 1 17) (codes "basic")) (more (list (p 2 3) (more (symbol (p 2 4) (codes "defrole")) (more (symbol (p 2 12) (codes "init")) (more (list (p 2 17) (more (symbol (p 2 18) (codes "vars")) (more (list (p 2 23) (more (symbol (p 2 24) (codes "a")) (more (symbol (p 2 26) (codes "b")) (more (symbol (p 2 28) (codes "name")) none)))) (more (list (p 2 34) (more (symbol (p 2 35) (codes "n1")) (more (symbol (p 2 38) (codes "n2")) (more (symbol (p 2 41) (codes "text")) none)))) none)))) (more (list (p 2 48) (more (symbol (p 2 49) (codes "trace")) (more (list (p 2 55) (more (symbol (p 2 56) (codes "send")) (more (list (p 2 61) (more (symbol (p 2 62) (codes "enc")) (more (symbol (p 2 66) (codes "n1")) (more (symbol (p 2 69) (codes "a")) (more (list (p 2 71) (more (symbol (p 2 72) (codes "pubk")) (more (symbol (p 2 77) (codes "b")) none))) none))))) none))) (more (list (p 2 82) (more (symbol (p 2 83) (codes "recv")) (more (list (p 2 88) (more (symbol (p 2 89) (codes "enc")) (more (symbol (p 2 93) (codes "n1")) (more (symbol (p 2 96) (codes "n2")) (more (list (p 2 99) (more (symbol (p 2 100) (codes "pubk")) (more (symbol (p 2 105) (codes "a")) none))) none))))) none))) (more (list (p 2 110) (more (symbol (p 2 111) (codes "send")) (more (list (p 2 116) (more (symbol (p 2 117) (codes "enc")) (more (symbol (p 2 121) (codes "n2")) (more (list (p 2 124) (more (symbol (p 2 125) (codes "pubk")) (more (symbol (p 2 130) (codes "b")) none))) none)))) none))) none))))) none))))) (more (list (p 3 3) (more (symbol (p 3 4) (codes "defrole")) (more (symbol (p 3 12) (codes "resp")) (more (list (p 3 17) (more (symbol (p 3 18) (codes "vars")) (more (list (p 3 23) (more (symbol (p 3 24) (codes "a")) (more (symbol (p 3 26) (codes "b")) (more (symbol (p 3 28) (codes "name")) none)))) (more (list (p 3 34) (more (symbol (p 3 35) (codes "n1")) (more (symbol (p 3 38) (codes "n2")) (more (symbol (p 3 41) (codes "text")) none)))) none)))) (more (list (p 3 48) (more (symbol (p 3 49) (codes "trace")) (more (list (p 3 55) (more (symbol (p 3 56) (codes "recv")) (more (list (p 3 61) (more (symbol (p 3 62) (codes "enc")) (more (symbol (p 3 66) (codes "n1")) (more (symbol (p 3 69) (codes "a")) (more (list (p 3 71) (more (symbol (p 3 72) (codes "pubk")) (more (symbol (p 3 77) (codes "b")) none))) none))))) none))) (more (list (p 3 82) (more (symbol (p 3 83) (codes "send")) (more (list (p 3 88) (more (symbol (p 3 89) (codes "enc")) (more (symbol (p 3 93) (codes "n1")) (more (symbol (p 3 96) (codes "n2")) (more (list (p 3 99) (more (symbol (p 3 100) (codes "pubk")) (more (symbol (p 3 105) (codes "a")) none))) none))))) none))) (more (list (p 3 110) (more (symbol (p 3 111) (codes "recv")) (more (list (p 3 116) (more (symbol (p 3 117) (codes "enc")) (more (symbol (p 3 121) (codes "n2")) (more (list (p 3 124) (more (symbol (p 3 125) (codes "pubk")) (more (symbol (p 3 130) (codes "b")) none))) none)))) none))) none))))) none))))) none)))))) (more (list (p 4 1) (more (symbol (p 4 2) (codes "defskeleton")) (more (symbol (p 4 14) (codes "ns")) (more (list (p 4 17) (more (symbol (p 4 18) (codes "vars")) none)) (more (list (p 4 24) (more (symbol (p 4 25) (codes "defstrand")) (more (symbol (p 4 35) (codes "init")) (more (number (p 4 40) 3) none)))) (more (list (p 4 43) (more (symbol (p 4 44) (codes "defstrand")) (more (symbol (p 4 54) (codes "resp")) (more (number (p 4 59) 3) none)))) (more (list (p 4 62) (more (symbol (p 4 63) (codes "precedes")) (more (list (p 4 72) (more (list (p 4 73) (more (number (p 4 74) 0) (more (number (p 4 76) 0) (more (number (p 4 78) 0) none)))) (more (list (p 4 81) (more (number (p 4 82) 0) (more (number (p 4 84) 2) none))) none))) none))) none))))))) none))) ≡ Some (record { place = p 4 78; code = BadShape })
+reading_13 : first (faults_of (more needham_schroeder (more (list (p 4 1) (more (symbol (p 4 2) (codes "defskeleton")) (more (symbol (p 4 14) (codes "ns")) (more (list (p 4 17) (more (symbol (p 4 18) (codes "vars")) none)) (more (list (p 4 24) (more (symbol (p 4 25) (codes "defstrand")) (more (symbol (p 4 35) (codes "init")) (more (number (p 4 40) 3) none)))) (more (list (p 4 43) (more (symbol (p 4 44) (codes "defstrand")) (more (symbol (p 4 54) (codes "resp")) (more (number (p 4 59) 3) none)))) (more (list (p 4 62) (more (symbol (p 4 63) (codes "precedes")) (more (list (p 4 72) (more (list (p 4 73) (more (number (p 4 74) 0) (more (number (p 4 76) 0) (more (number (p 4 78) 0) none)))) (more (list (p 4 81) (more (number (p 4 82) 0) (more (number (p 4 84) 2) none))) none))) none))) none))))))) none))) ≡ Some (record { place = p 4 78; code = BadShape })
 reading_13 = refl
 
--- (defprotocol ns basic
---   (defrole init (vars (a b name) (n1 n2 text)) (trace (send (enc n1 a (pubk b))) (recv (enc n1 n2 (pubk a))) (send (enc n2 (pubk b)))))
---   (defrole resp (vars (a b name) (n1 n2 text)) (trace (recv (enc n1 a (pubk b))) (send (enc n1 n2 (pubk a))) (recv (enc n2 (pubk b))))))
 -- (defskeleton ns (vars) (defstrand init 3) (defstrand resp 3) (precedes ((0 1) (1 0))))
-reading_14 : first (faults_of (more (list (p 1 1) (more (symbol (p 1 2) (codes "defprotocol")) (more (symbol (p 1 14) (codes "ns")) (more (symbol (p 1 17) (codes "basic")) (more (list (p 2 3) (more (symbol (p 2 4) (codes "defrole")) (more (symbol (p 2 12) (codes "init")) (more (list (p 2 17) (more (symbol (p 2 18) (codes "vars")) (more (list (p 2 23) (more (symbol (p 2 24) (codes "a")) (more (symbol (p 2 26) (codes "b")) (more (symbol (p 2 28) (codes "name")) none)))) (more (list (p 2 34) (more (symbol (p 2 35) (codes "n1")) (more (symbol (p 2 38) (codes "n2")) (more (symbol (p 2 41) (codes "text")) none)))) none)))) (more (list (p 2 48) (more (symbol (p 2 49) (codes "trace")) (more (list (p 2 55) (more (symbol (p 2 56) (codes "send")) (more (list (p 2 61) (more (symbol (p 2 62) (codes "enc")) (more (symbol (p 2 66) (codes "n1")) (more (symbol (p 2 69) (codes "a")) (more (list (p 2 71) (more (symbol (p 2 72) (codes "pubk")) (more (symbol (p 2 77) (codes "b")) none))) none))))) none))) (more (list (p 2 82) (more (symbol (p 2 83) (codes "recv")) (more (list (p 2 88) (more (symbol (p 2 89) (codes "enc")) (more (symbol (p 2 93) (codes "n1")) (more (symbol (p 2 96) (codes "n2")) (more (list (p 2 99) (more (symbol (p 2 100) (codes "pubk")) (more (symbol (p 2 105) (codes "a")) none))) none))))) none))) (more (list (p 2 110) (more (symbol (p 2 111) (codes "send")) (more (list (p 2 116) (more (symbol (p 2 117) (codes "enc")) (more (symbol (p 2 121) (codes "n2")) (more (list (p 2 124) (more (symbol (p 2 125) (codes "pubk")) (more (symbol (p 2 130) (codes "b")) none))) none)))) none))) none))))) none))))) (more (list (p 3 3) (more (symbol (p 3 4) (codes "defrole")) (more (symbol (p 3 12) (codes "resp")) (more (list (p 3 17) (more (symbol (p 3 18) (codes "vars")) (more (list (p 3 23) (more (symbol (p 3 24) (codes "a")) (more (symbol (p 3 26) (codes "b")) (more (symbol (p 3 28) (codes "name")) none)))) (more (list (p 3 34) (more (symbol (p 3 35) (codes "n1")) (more (symbol (p 3 38) (codes "n2")) (more (symbol (p 3 41) (codes "text")) none)))) none)))) (more (list (p 3 48) (more (symbol (p 3 49) (codes "trace")) (more (list (p 3 55) (more (symbol (p 3 56) (codes "recv")) (more (list (p 3 61) (more (symbol (p 3 62) (codes "enc")) (more (symbol (p 3 66) (codes "n1")) (more (symbol (p 3 69) (codes "a")) (more (list (p 3 71) (more (symbol (p 3 72) (codes "pubk")) (more (symbol (p 3 77) (codes "b")) none))) none))))) none))) (more (list (p 3 82) (more (symbol (p 3 83) (codes "send")) (more (list (p 3 88) (more (symbol (p 3 89) (codes "enc")) (more (symbol (p 3 93) (codes "n1")) (more (symbol (p 3 96) (codes "n2")) (more (list (p 3 99) (more (symbol (p 3 100) (codes "pubk")) (more (symbol (p 3 105) (codes "a")) none))) none))))) none))) (more (list (p 3 110) (more (symbol (p 3 111) (codes "recv")) (more (list (p 3 116) (more (symbol (p 3 117) (codes "enc")) (more (symbol (p 3 121) (codes "n2")) (more (list (p 3 124) (more (symbol (p 3 125) (codes "pubk")) (more (symbol (p 3 130) (codes "b")) none))) none)))) none))) none))))) none))))) none)))))) (more (list (p 4 1) (more (symbol (p 4 2) (codes "defskeleton")) (more (symbol (p 4 14) (codes "ns")) (more (list (p 4 17) (more (symbol (p 4 18) (codes "vars")) none)) (more (list (p 4 24) (more (symbol (p 4 25) (codes "defstrand")) (more (symbol (p 4 35) (codes "init")) (more (number (p 4 40) 3) none)))) (more (list (p 4 43) (more (symbol (p 4 44) (codes "defstrand")) (more (symbol (p 4 54) (codes "resp")) (more (number (p 4 59) 3) none)))) (more (list (p 4 62) (more (symbol (p 4 63) (codes "precedes")) (more (list (p 4 72) (more (list (p 4 73) (more (number (p 4 74) 0) (more (number (p 4 76) 1) none))) (more (list (p 4 79) (more (number (p 4 80) 1) (more (number (p 4 82) 0) none))) none))) none))) none))))))) none))) ≡ Some (record { place = p 4 73; code = BadNode })
+reading_14 : first (faults_of (more needham_schroeder (more (list (p 4 1) (more (symbol (p 4 2) (codes "defskeleton")) (more (symbol (p 4 14) (codes "ns")) (more (list (p 4 17) (more (symbol (p 4 18) (codes "vars")) none)) (more (list (p 4 24) (more (symbol (p 4 25) (codes "defstrand")) (more (symbol (p 4 35) (codes "init")) (more (number (p 4 40) 3) none)))) (more (list (p 4 43) (more (symbol (p 4 44) (codes "defstrand")) (more (symbol (p 4 54) (codes "resp")) (more (number (p 4 59) 3) none)))) (more (list (p 4 62) (more (symbol (p 4 63) (codes "precedes")) (more (list (p 4 72) (more (list (p 4 73) (more (number (p 4 74) 0) (more (number (p 4 76) 1) none))) (more (list (p 4 79) (more (number (p 4 80) 1) (more (number (p 4 82) 0) none))) none))) none))) none))))))) none))) ≡ Some (record { place = p 4 73; code = BadNode })
 reading_14 = refl
 
--- (defprotocol ns basic
---   (defrole init (vars (a b name) (n1 n2 text)) (trace (send (enc n1 a (pubk b))) (recv (enc n1 n2 (pubk a))) (send (enc n2 (pubk b)))))
---   (defrole resp (vars (a b name) (n1 n2 text)) (trace (recv (enc n1 a (pubk b))) (send (enc n1 n2 (pubk a))) (recv (enc n2 (pubk b))))))
 -- (defskeleton ns (vars) (defstrand init 3) (defstrand resp 3) (precedes ((0 0) (1 1))))
-reading_15 : first (faults_of (more (list (p 1 1) (more (symbol (p 1 2) (codes "defprotocol")) (more (symbol (p 1 14) (codes "ns")) (more (symbol (p 1 17) (codes "basic")) (more (list (p 2 3) (more (symbol (p 2 4) (codes "defrole")) (more (symbol (p 2 12) (codes "init")) (more (list (p 2 17) (more (symbol (p 2 18) (codes "vars")) (more (list (p 2 23) (more (symbol (p 2 24) (codes "a")) (more (symbol (p 2 26) (codes "b")) (more (symbol (p 2 28) (codes "name")) none)))) (more (list (p 2 34) (more (symbol (p 2 35) (codes "n1")) (more (symbol (p 2 38) (codes "n2")) (more (symbol (p 2 41) (codes "text")) none)))) none)))) (more (list (p 2 48) (more (symbol (p 2 49) (codes "trace")) (more (list (p 2 55) (more (symbol (p 2 56) (codes "send")) (more (list (p 2 61) (more (symbol (p 2 62) (codes "enc")) (more (symbol (p 2 66) (codes "n1")) (more (symbol (p 2 69) (codes "a")) (more (list (p 2 71) (more (symbol (p 2 72) (codes "pubk")) (more (symbol (p 2 77) (codes "b")) none))) none))))) none))) (more (list (p 2 82) (more (symbol (p 2 83) (codes "recv")) (more (list (p 2 88) (more (symbol (p 2 89) (codes "enc")) (more (symbol (p 2 93) (codes "n1")) (more (symbol (p 2 96) (codes "n2")) (more (list (p 2 99) (more (symbol (p 2 100) (codes "pubk")) (more (symbol (p 2 105) (codes "a")) none))) none))))) none))) (more (list (p 2 110) (more (symbol (p 2 111) (codes "send")) (more (list (p 2 116) (more (symbol (p 2 117) (codes "enc")) (more (symbol (p 2 121) (codes "n2")) (more (list (p 2 124) (more (symbol (p 2 125) (codes "pubk")) (more (symbol (p 2 130) (codes "b")) none))) none)))) none))) none))))) none))))) (more (list (p 3 3) (more (symbol (p 3 4) (codes "defrole")) (more (symbol (p 3 12) (codes "resp")) (more (list (p 3 17) (more (symbol (p 3 18) (codes "vars")) (more (list (p 3 23) (more (symbol (p 3 24) (codes "a")) (more (symbol (p 3 26) (codes "b")) (more (symbol (p 3 28) (codes "name")) none)))) (more (list (p 3 34) (more (symbol (p 3 35) (codes "n1")) (more (symbol (p 3 38) (codes "n2")) (more (symbol (p 3 41) (codes "text")) none)))) none)))) (more (list (p 3 48) (more (symbol (p 3 49) (codes "trace")) (more (list (p 3 55) (more (symbol (p 3 56) (codes "recv")) (more (list (p 3 61) (more (symbol (p 3 62) (codes "enc")) (more (symbol (p 3 66) (codes "n1")) (more (symbol (p 3 69) (codes "a")) (more (list (p 3 71) (more (symbol (p 3 72) (codes "pubk")) (more (symbol (p 3 77) (codes "b")) none))) none))))) none))) (more (list (p 3 82) (more (symbol (p 3 83) (codes "send")) (more (list (p 3 88) (more (symbol (p 3 89) (codes "enc")) (more (symbol (p 3 93) (codes "n1")) (more (symbol (p 3 96) (codes "n2")) (more (list (p 3 99) (more (symbol (p 3 100) (codes "pubk")) (more (symbol (p 3 105) (codes "a")) none))) none))))) none))) (more (list (p 3 110) (more (symbol (p 3 111) (codes "recv")) (more (list (p 3 116) (more (symbol (p 3 117) (codes "enc")) (more (symbol (p 3 121) (codes "n2")) (more (list (p 3 124) (more (symbol (p 3 125) (codes "pubk")) (more (symbol (p 3 130) (codes "b")) none))) none)))) none))) none))))) none))))) none)))))) (more (list (p 4 1) (more (symbol (p 4 2) (codes "defskeleton")) (more (symbol (p 4 14) (codes "ns")) (more (list (p 4 17) (more (symbol (p 4 18) (codes "vars")) none)) (more (list (p 4 24) (more (symbol (p 4 25) (codes "defstrand")) (more (symbol (p 4 35) (codes "init")) (more (number (p 4 40) 3) none)))) (more (list (p 4 43) (more (symbol (p 4 44) (codes "defstrand")) (more (symbol (p 4 54) (codes "resp")) (more (number (p 4 59) 3) none)))) (more (list (p 4 62) (more (symbol (p 4 63) (codes "precedes")) (more (list (p 4 72) (more (list (p 4 73) (more (number (p 4 74) 0) (more (number (p 4 76) 0) none))) (more (list (p 4 79) (more (number (p 4 80) 1) (more (number (p 4 82) 1) none))) none))) none))) none))))))) none))) ≡ Some (record { place = p 4 79; code = BadNode })
+reading_15 : first (faults_of (more needham_schroeder (more (list (p 4 1) (more (symbol (p 4 2) (codes "defskeleton")) (more (symbol (p 4 14) (codes "ns")) (more (list (p 4 17) (more (symbol (p 4 18) (codes "vars")) none)) (more (list (p 4 24) (more (symbol (p 4 25) (codes "defstrand")) (more (symbol (p 4 35) (codes "init")) (more (number (p 4 40) 3) none)))) (more (list (p 4 43) (more (symbol (p 4 44) (codes "defstrand")) (more (symbol (p 4 54) (codes "resp")) (more (number (p 4 59) 3) none)))) (more (list (p 4 62) (more (symbol (p 4 63) (codes "precedes")) (more (list (p 4 72) (more (list (p 4 73) (more (number (p 4 74) 0) (more (number (p 4 76) 0) none))) (more (list (p 4 79) (more (number (p 4 80) 1) (more (number (p 4 82) 1) none))) none))) none))) none))))))) none))) ≡ Some (record { place = p 4 79; code = BadNode })
 reading_15 = refl
 
 -- (defskeleton p (vars))
@@ -333,25 +312,16 @@ reading_39 = refl
 reading_40 : first (faults_of (more (list (p 1 1) (more (symbol (p 1 2) (codes "defprotocol")) (more (symbol (p 1 14) (codes "p")) (more (symbol (p 1 16) (codes "basic")) (more (list (p 1 22) (more (symbol (p 1 23) (codes "defrole")) (more (symbol (p 1 31) (codes "r")) (more (list (p 1 33) (more (symbol (p 1 34) (codes "vars")) (more (list (p 1 39) (more (symbol (p 1 40) (codes "a")) (more (symbol (p 1 42) (codes "name")) none))) none))) (more (list (p 1 49) (more (symbol (p 1 50) (codes "trace")) (more (list (p 1 56) (more (symbol (p 1 57) (codes "send")) (more (symbol (p 1 62) (codes "a")) none))) none))) none))))) none))))) (more (list (p 2 1) (more (symbol (p 2 2) (codes "defskeleton")) (more (symbol (p 2 14) (codes "p")) (more (list (p 2 16) (more (symbol (p 2 17) (codes "vars")) none)) (more (list (p 2 23) (more (symbol (p 2 24) (codes "defstrand")) (more (symbol (p 2 34) (codes "r")) (more (number (p 2 36) 0) none)))) none))))) none))) ≡ Some (record { place = p 2 36; code = BadHeight })
 reading_40 = refl
 
--- (defprotocol ns basic
---   (defrole init (vars (a b name) (n1 n2 text)) (trace (send (enc n1 a (pubk b))) (recv (enc n1 n2 (pubk a))) (send (enc n2 (pubk b)))))
---   (defrole resp (vars (a b name) (n1 n2 text)) (trace (recv (enc n1 a (pubk b))) (send (enc n1 n2 (pubk a))) (recv (enc n2 (pubk b))))))
 -- (defskeleton ns (vars (t text)) (defstrand init 1 (n2 t)))
-reading_41 : first (faults_of (more (list (p 1 1) (more (symbol (p 1 2) (codes "defprotocol")) (more (symbol (p 1 14) (codes "ns")) (more (symbol (p 1 17) (codes "basic")) (more (list (p 2 3) (more (symbol (p 2 4) (codes "defrole")) (more (symbol (p 2 12) (codes "init")) (more (list (p 2 17) (more (symbol (p 2 18) (codes "vars")) (more (list (p 2 23) (more (symbol (p 2 24) (codes "a")) (more (symbol (p 2 26) (codes "b")) (more (symbol (p 2 28) (codes "name")) none)))) (more (list (p 2 34) (more (symbol (p 2 35) (codes "n1")) (more (symbol (p 2 38) (codes "n2")) (more (symbol (p 2 41) (codes "text")) none)))) none)))) (more (list (p 2 48) (more (symbol (p 2 49) (codes "trace")) (more (list (p 2 55) (more (symbol (p 2 56) (codes "send")) (more (list (p 2 61) (more (symbol (p 2 62) (codes "enc")) (more (symbol (p 2 66) (codes "n1")) (more (symbol (p 2 69) (codes "a")) (more (list (p 2 71) (more (symbol (p 2 72) (codes "pubk")) (more (symbol (p 2 77) (codes "b")) none))) none))))) none))) (more (list (p 2 82) (more (symbol (p 2 83) (codes "recv")) (more (list (p 2 88) (more (symbol (p 2 89) (codes "enc")) (more (symbol (p 2 93) (codes "n1")) (more (symbol (p 2 96) (codes "n2")) (more (list (p 2 99) (more (symbol (p 2 100) (codes "pubk")) (more (symbol (p 2 105) (codes "a")) none))) none))))) none))) (more (list (p 2 110) (more (symbol (p 2 111) (codes "send")) (more (list (p 2 116) (more (symbol (p 2 117) (codes "enc")) (more (symbol (p 2 121) (codes "n2")) (more (list (p 2 124) (more (symbol (p 2 125) (codes "pubk")) (more (symbol (p 2 130) (codes "b")) none))) none)))) none))) none))))) none))))) (more (list (p 3 3) (more (symbol (p 3 4) (codes "defrole")) (more (symbol (p 3 12) (codes "resp")) (more (list (p 3 17) (more (symbol (p 3 18) (codes "vars")) (more (list (p 3 23) (more (symbol (p 3 24) (codes "a")) (more (symbol (p 3 26) (codes "b")) (more (symbol (p 3 28) (codes "name")) none)))) (more (list (p 3 34) (more (symbol (p 3 35) (codes "n1")) (more (symbol (p 3 38) (codes "n2")) (more (symbol (p 3 41) (codes "text")) none)))) none)))) (more (list (p 3 48) (more (symbol (p 3 49) (codes "trace")) (more (list (p 3 55) (more (symbol (p 3 56) (codes "recv")) (more (list (p 3 61) (more (symbol (p 3 62) (codes "enc")) (more (symbol (p 3 66) (codes "n1")) (more (symbol (p 3 69) (codes "a")) (more (list (p 3 71) (more (symbol (p 3 72) (codes "pubk")) (more (symbol (p 3 77) (codes "b")) none))) none))))) none))) (more (list (p 3 82) (more (symbol (p 3 83) (codes "send")) (more (list (p 3 88) (more (symbol (p 3 89) (codes "enc")) (more (symbol (p 3 93) (codes "n1")) (more (symbol (p 3 96) (codes "n2")) (more (list (p 3 99) (more (symbol (p 3 100) (codes "pubk")) (more (symbol (p 3 105) (codes "a")) none))) none))))) none))) (more (list (p 3 110) (more (symbol (p 3 111) (codes "recv")) (more (list (p 3 116) (more (symbol (p 3 117) (codes "enc")) (more (symbol (p 3 121) (codes "n2")) (more (list (p 3 124) (more (symbol (p 3 125) (codes "pubk")) (more (symbol (p 3 130) (codes "b")) none))) none)))) none))) none))))) none))))) none)))))) (more (list (p 4 1) (more (symbol (p 4 2) (codes "defskeleton")) (more (symbol (p 4 14) (codes "ns")) (more (list (p 4 17) (more (symbol (p 4 18) (codes "vars")) (more (list (p 4 23) (more (symbol (p 4 24) (codes "t")) (more (symbol (p 4 26) (codes "text")) none))) none))) (more (list (p 4 33) (more (symbol (p 4 34) (codes "defstrand")) (more (symbol (p 4 44) (codes "init")) (more (number (p 4 49) 1) (more (list (p 4 51) (more (symbol (p 4 52) (codes "n2")) (more (symbol (p 4 55) (codes "t")) none))) none))))) none))))) none))) ≡ Some (record { place = p 4 52; code = NotInPrefix })
+reading_41 : first (faults_of (more needham_schroeder (more (list (p 4 1) (more (symbol (p 4 2) (codes "defskeleton")) (more (symbol (p 4 14) (codes "ns")) (more (list (p 4 17) (more (symbol (p 4 18) (codes "vars")) (more (list (p 4 23) (more (symbol (p 4 24) (codes "t")) (more (symbol (p 4 26) (codes "text")) none))) none))) (more (list (p 4 33) (more (symbol (p 4 34) (codes "defstrand")) (more (symbol (p 4 44) (codes "init")) (more (number (p 4 49) 1) (more (list (p 4 51) (more (symbol (p 4 52) (codes "n2")) (more (symbol (p 4 55) (codes "t")) none))) none))))) none))))) none))) ≡ Some (record { place = p 4 52; code = NotInPrefix })
 reading_41 = refl
 
--- (defprotocol ns basic
---   (defrole init (vars (a b name) (n1 n2 text)) (trace (send (enc n1 a (pubk b))) (recv (enc n1 n2 (pubk a))) (send (enc n2 (pubk b)))))
---   (defrole resp (vars (a b name) (n1 n2 text)) (trace (recv (enc n1 a (pubk b))) (send (enc n1 n2 (pubk a))) (recv (enc n2 (pubk b))))))
 -- (defskeleton ns (vars (t text)) (defstrand init 1 (n1 t) (n1 t)))
-reading_42 : first (faults_of (more (list (p 1 1) (more (symbol (p 1 2) (codes "defprotocol")) (more (symbol (p 1 14) (codes "ns")) (more (symbol (p 1 17) (codes "basic")) (more (list (p 2 3) (more (symbol (p 2 4) (codes "defrole")) (more (symbol (p 2 12) (codes "init")) (more (list (p 2 17) (more (symbol (p 2 18) (codes "vars")) (more (list (p 2 23) (more (symbol (p 2 24) (codes "a")) (more (symbol (p 2 26) (codes "b")) (more (symbol (p 2 28) (codes "name")) none)))) (more (list (p 2 34) (more (symbol (p 2 35) (codes "n1")) (more (symbol (p 2 38) (codes "n2")) (more (symbol (p 2 41) (codes "text")) none)))) none)))) (more (list (p 2 48) (more (symbol (p 2 49) (codes "trace")) (more (list (p 2 55) (more (symbol (p 2 56) (codes "send")) (more (list (p 2 61) (more (symbol (p 2 62) (codes "enc")) (more (symbol (p 2 66) (codes "n1")) (more (symbol (p 2 69) (codes "a")) (more (list (p 2 71) (more (symbol (p 2 72) (codes "pubk")) (more (symbol (p 2 77) (codes "b")) none))) none))))) none))) (more (list (p 2 82) (more (symbol (p 2 83) (codes "recv")) (more (list (p 2 88) (more (symbol (p 2 89) (codes "enc")) (more (symbol (p 2 93) (codes "n1")) (more (symbol (p 2 96) (codes "n2")) (more (list (p 2 99) (more (symbol (p 2 100) (codes "pubk")) (more (symbol (p 2 105) (codes "a")) none))) none))))) none))) (more (list (p 2 110) (more (symbol (p 2 111) (codes "send")) (more (list (p 2 116) (more (symbol (p 2 117) (codes "enc")) (more (symbol (p 2 121) (codes "n2")) (more (list (p 2 124) (more (symbol (p 2 125) (codes "pubk")) (more (symbol (p 2 130) (codes "b")) none))) none)))) none))) none))))) none))))) (more (list (p 3 3) (more (symbol (p 3 4) (codes "defrole")) (more (symbol (p 3 12) (codes "resp")) (more (list (p 3 17) (more (symbol (p 3 18) (codes "vars")) (more (list (p 3 23) (more (symbol (p 3 24) (codes "a")) (more (symbol (p 3 26) (codes "b")) (more (symbol (p 3 28) (codes "name")) none)))) (more (list (p 3 34) (more (symbol (p 3 35) (codes "n1")) (more (symbol (p 3 38) (codes "n2")) (more (symbol (p 3 41) (codes "text")) none)))) none)))) (more (list (p 3 48) (more (symbol (p 3 49) (codes "trace")) (more (list (p 3 55) (more (symbol (p 3 56) (codes "recv")) (more (list (p 3 61) (more (symbol (p 3 62) (codes "enc")) (more (symbol (p 3 66) (codes "n1")) (more (symbol (p 3 69) (codes "a")) (more (list (p 3 71) (more (symbol (p 3 72) (codes "pubk")) (more (symbol (p 3 77) (codes "b")) none))) none))))) none))) (more (list (p 3 82) (more (symbol (p 3 83) (codes "send")) (more (list (p 3 88) (more (symbol (p 3 89) (codes "enc")) (more (symbol (p 3 93) (codes "n1")) (more (symbol (p 3 96) (codes "n2")) (more (list (p 3 99) (more (symbol (p 3 100) (codes "pubk")) (more (symbol (p 3 105) (codes "a")) none))) none))))) none))) (more (list (p 3 110) (more (symbol (p 3 111) (codes "recv")) (more (list (p 3 116) (more (symbol (p 3 117) (codes "enc")) (more (symbol (p 3 121) (codes "n2")) (more (list (p 3 124) (more (symbol (p 3 125) (codes "pubk")) (more (symbol (p 3 130) (codes "b")) none))) none)))) none))) none))))) none))))) none)))))) (more (list (p 4 1) (more (symbol (p 4 2) (codes "defskeleton")) (more (symbol (p 4 14) (codes "ns")) (more (list (p 4 17) (more (symbol (p 4 18) (codes "vars")) (more (list (p 4 23) (more (symbol (p 4 24) (codes "t")) (more (symbol (p 4 26) (codes "text")) none))) none))) (more (list (p 4 33) (more (symbol (p 4 34) (codes "defstrand")) (more (symbol (p 4 44) (codes "init")) (more (number (p 4 49) 1) (more (list (p 4 51) (more (symbol (p 4 52) (codes "n1")) (more (symbol (p 4 55) (codes "t")) none))) (more (list (p 4 58) (more (symbol (p 4 59) (codes "n1")) (more (symbol (p 4 62) (codes "t")) none))) none)))))) none))))) none))) ≡ Some (record { place = p 4 59; code = DuplicateVar })
+reading_42 : first (faults_of (more needham_schroeder (more (list (p 4 1) (more (symbol (p 4 2) (codes "defskeleton")) (more (symbol (p 4 14) (codes "ns")) (more (list (p 4 17) (more (symbol (p 4 18) (codes "vars")) (more (list (p 4 23) (more (symbol (p 4 24) (codes "t")) (more (symbol (p 4 26) (codes "text")) none))) none))) (more (list (p 4 33) (more (symbol (p 4 34) (codes "defstrand")) (more (symbol (p 4 44) (codes "init")) (more (number (p 4 49) 1) (more (list (p 4 51) (more (symbol (p 4 52) (codes "n1")) (more (symbol (p 4 55) (codes "t")) none))) (more (list (p 4 58) (more (symbol (p 4 59) (codes "n1")) (more (symbol (p 4 62) (codes "t")) none))) none)))))) none))))) none))) ≡ Some (record { place = p 4 59; code = DuplicateVar })
 reading_42 = refl
 
--- (defprotocol ns basic
---   (defrole init (vars (a b name) (n1 n2 text)) (trace (send (enc n1 a (pubk b))) (recv (enc n1 n2 (pubk a))) (send (enc n2 (pubk b)))))
---   (defrole resp (vars (a b name) (n1 n2 text)) (trace (recv (enc n1 a (pubk b))) (send (enc n1 n2 (pubk a))) (recv (enc n2 (pubk b))))))
 -- (defskeleton ns (vars (t text)) (defstrand init 1 (n1 (ltk a z))))
-reading_43 : first (faults_of (more (list (p 1 1) (more (symbol (p 1 2) (codes "defprotocol")) (more (symbol (p 1 14) (codes "ns")) (more (symbol (p 1 17) (codes "basic")) (more (list (p 2 3) (more (symbol (p 2 4) (codes "defrole")) (more (symbol (p 2 12) (codes "init")) (more (list (p 2 17) (more (symbol (p 2 18) (codes "vars")) (more (list (p 2 23) (more (symbol (p 2 24) (codes "a")) (more (symbol (p 2 26) (codes "b")) (more (symbol (p 2 28) (codes "name")) none)))) (more (list (p 2 34) (more (symbol (p 2 35) (codes "n1")) (more (symbol (p 2 38) (codes "n2")) (more (symbol (p 2 41) (codes "text")) none)))) none)))) (more (list (p 2 48) (more (symbol (p 2 49) (codes "trace")) (more (list (p 2 55) (more (symbol (p 2 56) (codes "send")) (more (list (p 2 61) (more (symbol (p 2 62) (codes "enc")) (more (symbol (p 2 66) (codes "n1")) (more (symbol (p 2 69) (codes "a")) (more (list (p 2 71) (more (symbol (p 2 72) (codes "pubk")) (more (symbol (p 2 77) (codes "b")) none))) none))))) none))) (more (list (p 2 82) (more (symbol (p 2 83) (codes "recv")) (more (list (p 2 88) (more (symbol (p 2 89) (codes "enc")) (more (symbol (p 2 93) (codes "n1")) (more (symbol (p 2 96) (codes "n2")) (more (list (p 2 99) (more (symbol (p 2 100) (codes "pubk")) (more (symbol (p 2 105) (codes "a")) none))) none))))) none))) (more (list (p 2 110) (more (symbol (p 2 111) (codes "send")) (more (list (p 2 116) (more (symbol (p 2 117) (codes "enc")) (more (symbol (p 2 121) (codes "n2")) (more (list (p 2 124) (more (symbol (p 2 125) (codes "pubk")) (more (symbol (p 2 130) (codes "b")) none))) none)))) none))) none))))) none))))) (more (list (p 3 3) (more (symbol (p 3 4) (codes "defrole")) (more (symbol (p 3 12) (codes "resp")) (more (list (p 3 17) (more (symbol (p 3 18) (codes "vars")) (more (list (p 3 23) (more (symbol (p 3 24) (codes "a")) (more (symbol (p 3 26) (codes "b")) (more (symbol (p 3 28) (codes "name")) none)))) (more (list (p 3 34) (more (symbol (p 3 35) (codes "n1")) (more (symbol (p 3 38) (codes "n2")) (more (symbol (p 3 41) (codes "text")) none)))) none)))) (more (list (p 3 48) (more (symbol (p 3 49) (codes "trace")) (more (list (p 3 55) (more (symbol (p 3 56) (codes "recv")) (more (list (p 3 61) (more (symbol (p 3 62) (codes "enc")) (more (symbol (p 3 66) (codes "n1")) (more (symbol (p 3 69) (codes "a")) (more (list (p 3 71) (more (symbol (p 3 72) (codes "pubk")) (more (symbol (p 3 77) (codes "b")) none))) none))))) none))) (more (list (p 3 82) (more (symbol (p 3 83) (codes "send")) (more (list (p 3 88) (more (symbol (p 3 89) (codes "enc")) (more (symbol (p 3 93) (codes "n1")) (more (symbol (p 3 96) (codes "n2")) (more (list (p 3 99) (more (symbol (p 3 100) (codes "pubk")) (more (symbol (p 3 105) (codes "a")) none))) none))))) none))) (more (list (p 3 110) (more (symbol (p 3 111) (codes "recv")) (more (list (p 3 116) (more (symbol (p 3 117) (codes "enc")) (more (symbol (p 3 121) (codes "n2")) (more (list (p 3 124) (more (symbol (p 3 125) (codes "pubk")) (more (symbol (p 3 130) (codes "b")) none))) none)))) none))) none))))) none))))) none)))))) (more (list (p 4 1) (more (symbol (p 4 2) (codes "defskeleton")) (more (symbol (p 4 14) (codes "ns")) (more (list (p 4 17) (more (symbol (p 4 18) (codes "vars")) (more (list (p 4 23) (more (symbol (p 4 24) (codes "t")) (more (symbol (p 4 26) (codes "text")) none))) none))) (more (list (p 4 33) (more (symbol (p 4 34) (codes "defstrand")) (more (symbol (p 4 44) (codes "init")) (more (number (p 4 49) 1) (more (list (p 4 51) (more (symbol (p 4 52) (codes "n1")) (more (list (p 4 55) (more (symbol (p 4 56) (codes "ltk")) (more (symbol (p 4 60) (codes "a")) (more (symbol (p 4 62) (codes "z")) none)))) none))) none))))) none))))) none))) ≡ Some (record { place = p 4 55; code = IllSorted })
+reading_43 : first (faults_of (more needham_schroeder (more (list (p 4 1) (more (symbol (p 4 2) (codes "defskeleton")) (more (symbol (p 4 14) (codes "ns")) (more (list (p 4 17) (more (symbol (p 4 18) (codes "vars")) (more (list (p 4 23) (more (symbol (p 4 24) (codes "t")) (more (symbol (p 4 26) (codes "text")) none))) none))) (more (list (p 4 33) (more (symbol (p 4 34) (codes "defstrand")) (more (symbol (p 4 44) (codes "init")) (more (number (p 4 49) 1) (more (list (p 4 51) (more (symbol (p 4 52) (codes "n1")) (more (list (p 4 55) (more (symbol (p 4 56) (codes "ltk")) (more (symbol (p 4 60) (codes "a")) (more (symbol (p 4 62) (codes "z")) none)))) none))) none))))) none))))) none))) ≡ Some (record { place = p 4 55; code = IllSorted })
 reading_43 = refl
 
 -- (defprotocol p basic (defrole r (vars (a name)) (trace (send a))))

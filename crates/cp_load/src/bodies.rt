@@ -24,9 +24,11 @@ use cp_skel::{Declaration, OrderPair, Role, Strand};
 use std::alloc::{AllocError, Global};
 use std::rc::Rc;
 
-/// What the items of a problem speak of: the roles of its protocol, its declared variables, and its strands.
+/// What the items of a problem speak of, the roles of its protocol, its declared variables, and its strands; and where
+/// memory comes from.
 #[derive(Clone, Copy)]
 pub(crate) struct Scope<'a> {
+    pub(crate) alloc: Global,
     pub(crate) roles: &'a [Rc<Role>],
     pub(crate) variables: &'a [Declaration],
     pub(crate) strands: &'a [Strand],
@@ -51,123 +53,108 @@ impl Stage {
     }
 }
 
-/// The faults of an instance with these items behind its head, which no assumption and no order stands before.
-fn instance_item_faults(
-    scope: Scope<'_>,
+/// An item of a problem behind its head: what stood before it, its place, and its own items.
+#[derive(Clone, Copy)]
+struct Item<'a> {
     stage: Stage,
     place: Place,
-    items: &[Form],
-    first: &mut FirstFault,
-)
-    ensures { first.new ≡ first_onto first.old (misplaced_unless (not stage.after_item) place
-        (instance_faults (shared_roles_view scope.entry.roles.now) (map declaration_view scope.entry.variables.now) place (map view items.now))) }
+    items: &'a [Form],
+}
+
+/// The faults of an instance, which no assumption and no order stands before.
+fn instance_item_faults(scope: Scope<'_>, item: Item<'_>, first: &mut FirstFault)
+    ensures { first.new ≡ first_onto first.old (misplaced_unless (not item.entry.stage.after_item) item.entry.place
+        (instance_faults (shared_roles_view scope.entry.roles.now) (map declaration_view scope.entry.variables.now) item.entry.place (map view item.entry.items.now))) }
 {
-    if stage.after_item {
-        first.note(place, Code::UnknownForm);
+    if item.stage.after_item {
+        first.note(item.place, Code::UnknownForm);
     } else {
-        instance_faults(scope.roles, scope.variables, place, items, first);
+        instance_faults(scope.roles, scope.variables, item.place, item.items, first);
     }
 }
 
-/// The faults of a listener with these items behind its head, which no assumption and no order stands before.
-fn listener_item_faults(
-    scope: Scope<'_>,
-    stage: Stage,
-    place: Place,
-    items: &[Form],
-    first: &mut FirstFault,
-)
-    ensures { first.new ≡ first_onto first.old (misplaced_unless (not stage.after_item) place
-        (listener_faults (map declaration_view scope.entry.variables.now) place (map view items.now))) }
+/// The faults of a listener, which no assumption and no order stands before.
+fn listener_item_faults(scope: Scope<'_>, item: Item<'_>, first: &mut FirstFault)
+    ensures { first.new ≡ first_onto first.old (misplaced_unless (not item.entry.stage.after_item) item.entry.place
+        (listener_faults (map declaration_view scope.entry.variables.now) item.entry.place (map view item.entry.items.now))) }
 {
-    if stage.after_item {
-        first.note(place, Code::UnknownForm);
+    if item.stage.after_item {
+        first.note(item.place, Code::UnknownForm);
     } else {
-        listener_faults(scope.variables, place, items, first);
+        listener_faults(scope.variables, item.place, item.items, first);
     }
 }
 
-/// The faults of an assumption with these items behind its head, which a strand stands before.
-fn atoms_item_faults(
-    scope: Scope<'_>,
-    stage: Stage,
-    place: Place,
-    items: &[Form],
-    first: &mut FirstFault,
-)
-    ensures { first.new ≡ first_onto first.old (misplaced_unless stage.after_strand place
-        (each_faults (atom_faults (map declaration_view scope.entry.variables.now)) (map view items.now))) }
+/// The faults of an assumption, which a strand stands before.
+fn atoms_item_faults(scope: Scope<'_>, item: Item<'_>, first: &mut FirstFault)
+    ensures { first.new ≡ first_onto first.old (misplaced_unless item.entry.stage.after_strand item.entry.place
+        (each_faults (atom_faults (map declaration_view scope.entry.variables.now)) (map view item.entry.items.now))) }
 {
-    if stage.after_strand {
-        atoms_faults(scope.variables, items, first);
+    if item.stage.after_strand {
+        atoms_faults(scope.variables, item.items, first);
     } else {
-        first.note(place, Code::UnknownForm);
+        first.note(item.place, Code::UnknownForm);
     }
 }
 
 /// The faults of the unique values of a problem.
-fn uniques_faults(
-    alloc: Global,
-    scope: Scope<'_>,
-    items: &[Form],
-    first: &mut FirstFault,
-) -> Result<(), AllocError>
+fn values_faults(scope: Scope<'_>, items: &[Form], first: &mut FirstFault) -> Result<(), AllocError>
     ensures { OnOk result (first.new ≡ first_onto first.old
         (each_faults (unique_faults (map strand_view scope.entry.strands.now) (map declaration_view scope.entry.variables.now)) (map view items.now))) }
 {
     for item in items {
-        unique_faults(alloc, scope.strands, scope.variables, item, first)?;
+        unique_faults(scope.alloc, scope.strands, scope.variables, item, first)?;
     }
     Ok(())
 }
 
-/// The faults of unique values with these items behind their head, which a strand stands before.
+/// The faults of unique values, which a strand stands before.
 fn uniques_item_faults(
-    alloc: Global,
     scope: Scope<'_>,
-    stage: Stage,
-    place: Place,
-    items: &[Form],
+    item: Item<'_>,
     first: &mut FirstFault,
 ) -> Result<(), AllocError>
-    ensures { OnOk result (first.new ≡ first_onto first.old (misplaced_unless stage.after_strand place
-        (each_faults (unique_faults (map strand_view scope.entry.strands.now) (map declaration_view scope.entry.variables.now)) (map view items.now)))) }
+    ensures { OnOk result (first.new ≡ first_onto first.old (misplaced_unless item.entry.stage.after_strand item.entry.place
+        (each_faults (unique_faults (map strand_view scope.entry.strands.now) (map declaration_view scope.entry.variables.now)) (map view item.entry.items.now)))) }
 {
-    if stage.after_strand {
-        return uniques_faults(alloc, scope, items, first);
+    if item.stage.after_strand {
+        return values_faults(scope, item.items, first);
     }
-    first.note(place, Code::UnknownForm);
+    first.note(item.place, Code::UnknownForm);
     Ok(())
 }
 
-/// The faults of an order with these items behind its head, which a strand stands before; its pairs go behind those
-/// before. Where they are said to be acyclic, they have no cycle with those before.
+/// The faults of an order, which a strand stands before; its pairs go behind those before. Where they are said to be
+/// acyclic, they have no cycle with those before.
 fn order_item_faults(
-    alloc: Global,
     scope: Scope<'_>,
     before: &mut Vec<OrderPair>,
     acyclic: bool,
-    stage: Stage,
-    place: Place,
-    items: &[Form],
+    item: Item<'_>,
     first: &mut FirstFault,
 ) -> Result<(), AllocError>
-    requires { IsAcyclicIf acyclic (before.old.items ++ pairs_in (map view items.now)) }
-    ensures faults { OnOk result (first.new ≡ first_onto first.old (misplaced_unless stage.after_strand place
-        (pairs_faults (map strand_view scope.entry.strands.now) before.old.items (map view items.now)))) }
-    ensures pairs { OnOk result (before.new.items ≡ before.old.items ++ pairs_in (map view items.now)) }
+    requires { IsAcyclicIf acyclic (before.old.items ++ pairs_in (map view item.items.now)) }
+    ensures faults { OnOk result (first.new ≡ first_onto first.old (misplaced_unless item.entry.stage.after_strand item.entry.place
+        (pairs_faults (map strand_view scope.entry.strands.now) before.old.items (map view item.entry.items.now)))) }
+    ensures pairs { OnOk result (before.new.items ≡ before.old.items ++ pairs_in (map view item.entry.items.now)) }
 {
-    if stage.after_strand {
-        return pairs_faults(alloc, scope.strands, before, acyclic, items, first);
+    if item.stage.after_strand {
+        return pairs_faults(
+            scope.alloc,
+            scope.strands,
+            before,
+            acyclic,
+            item.items,
+            first,
+        );
     }
-    first.note(place, Code::UnknownForm);
-    add_pairs(items, before)
+    first.note(item.place, Code::UnknownForm);
+    add_pairs(item.items, before)
 }
 
 /// The faults of an item of a problem; the pairs that it states go behind those before. Where they are said to be
 /// acyclic, they have no cycle with those before.
 fn item_faults(
-    alloc: Global,
     scope: Scope<'_>,
     before: &mut Vec<OrderPair>,
     acyclic: bool,
@@ -186,20 +173,17 @@ fn item_faults(
         first.note(place, Code::BadShape);
         return Ok(());
     };
+    let item = Item {
+        stage,
+        place,
+        items: list.items,
+    };
     match item_head(list.head) {
-        ItemHead::Strand => instance_item_faults(scope, stage, place, list.items, first),
-        ItemHead::Listener => listener_item_faults(scope, stage, place, list.items, first),
-        ItemHead::Non | ItemHead::PenetratorNon => {
-            atoms_item_faults(scope, stage, place, list.items, first)
-        }
-        ItemHead::Unique => {
-            return uniques_item_faults(alloc, scope, stage, place, list.items, first);
-        }
-        ItemHead::Precedes => {
-            return order_item_faults(
-                alloc, scope, before, acyclic, stage, place, list.items, first,
-            );
-        }
+        ItemHead::Strand => instance_item_faults(scope, item, first),
+        ItemHead::Listener => listener_item_faults(scope, item, first),
+        ItemHead::Non | ItemHead::PenetratorNon => atoms_item_faults(scope, item, first),
+        ItemHead::Unique => return uniques_item_faults(scope, item, first),
+        ItemHead::Precedes => return order_item_faults(scope, before, acyclic, item, first),
         ItemHead::Comment => {}
         ItemHead::OutOfProfile => first.note(place, Code::OutOfProfile),
         ItemHead::Role | ItemHead::Unknown => first.note(place, Code::UnknownForm),
@@ -209,7 +193,6 @@ fn item_faults(
 
 /// The faults of the items of a problem.
 pub(crate) fn body_faults(
-    alloc: Global,
     scope: Scope<'_>,
     items: &[Form],
     first: &mut FirstFault,
@@ -217,14 +200,14 @@ pub(crate) fn body_faults(
     ensures { OnOk result (first.new ≡ first_onto first.old (body_faults (shared_roles_view scope.entry.roles.now) (map declaration_view scope.entry.variables.now)
         (map strand_view scope.entry.strands.now) [] no_stage (map view items.now))) }
 {
-    let acyclic = state_no_cycle(alloc, items)?;
-    let mut before = Vec::new(alloc);
+    let acyclic = state_no_cycle(scope.alloc, items)?;
+    let mut before = Vec::new(scope.alloc);
     let mut stage = Stage {
         after_strand: false,
         after_item: false,
     };
     for item in items {
-        item_faults(alloc, scope, &mut before, acyclic, stage, item, first)?;
+        item_faults(scope, &mut before, acyclic, stage, item, first)?;
         stage = stage.after(item);
     }
     Ok(())

@@ -94,26 +94,33 @@ struct Before<'a> {
     acyclic: bool,
 }
 
-/// The faults of the pair that two forms state, at this place: a cycle, or else its directions. Where the pairs are said
-/// to be acyclic, here and below, those before and the pair have no cycle.
+/// A pair at its place, by the two forms that state its nodes.
+#[derive(Clone, Copy)]
+struct Stated<'a> {
+    place: Place,
+    earlier: &'a Form,
+    later: &'a Form,
+}
+
+/// The faults of the pair that two forms state: a cycle, or else its directions. Where the pairs are said to be acyclic,
+/// here and below, those before and the pair have no cycle.
 fn order_faults(
     alloc: Global,
     before: Before<'_>,
-    place: Place,
-    earlier: &Form,
-    later: &Form,
+    stated: Stated<'_>,
     first: &mut FirstFault,
 ) -> Result<(), AllocError>
-    requires { IsAcyclicIf before.acyclic (before.pairs.now ++ between_strands (pair_of_nodes (node_of (view earlier.now)) (node_of (view later.now)))) }
-    ensures { OnOk result (first.new ≡ first_onto first.old (order_faults (map strand_view before.entry.strands.now) before.entry.pairs.now place (view earlier.now) (view later.now) (pair_of_nodes (node_of (view earlier.now)) (node_of (view later.now))))) }
+    requires { IsAcyclicIf before.acyclic (before.pairs.now ++ between_strands (pair_of_nodes (node_of (view stated.earlier.now)) (node_of (view stated.later.now)))) }
+    ensures { OnOk result (first.new ≡ first_onto first.old (order_faults (map strand_view before.entry.strands.now) before.entry.pairs.now stated.entry.place (view stated.entry.earlier.now) (view stated.entry.later.now)
+        (pair_of_nodes (node_of (view stated.entry.earlier.now)) (node_of (view stated.entry.later.now))))) }
 {
-    let Some(pair) = pair_of_nodes(node_of(earlier), node_of(later)) else {
+    let Some(pair) = pair_of_nodes(node_of(stated.earlier), node_of(stated.later)) else {
         return Ok(());
     };
     if closes_cycle(alloc, before.pairs, before.acyclic, pair)? {
-        first.note(place, Code::CyclicOrder);
+        first.note(stated.place, Code::CyclicOrder);
     } else {
-        direction_faults(before.strands, earlier, later, pair, first);
+        direction_faults(before.strands, stated.earlier, stated.later, pair, first);
     }
     Ok(())
 }
@@ -135,7 +142,12 @@ fn nodes_or_order_faults(
     node_faults(before.strands, earlier, &mut inside);
     node_faults(before.strands, later, &mut inside);
     if inside.is_none() {
-        order_faults(alloc, before, place, earlier, later, &mut inside)?;
+        let stated = Stated {
+            place,
+            earlier,
+            later,
+        };
+        order_faults(alloc, before, stated, &mut inside)?;
     }
     first.merge(inside);
     Ok(())

@@ -114,11 +114,12 @@ pub(crate) fn problem_of(
     let protocol = protocol_or_none(alloc, above, symbol_or_empty(name))?;
     let Parts { strands, variables } = parts_of(alloc, &protocol, &declared, body)?;
     let scope = Scope {
+        alloc,
         roles: protocol.roles(),
         variables: &declared,
         strands: &strands,
     };
-    body_faults(alloc, scope, body, first)?;
+    body_faults(scope, body, first)?;
     let skeleton = own_skeleton(alloc, &declared, strands, body, &variables)?;
     Ok(Draft {
         protocol,

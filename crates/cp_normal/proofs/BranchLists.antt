@@ -2,16 +2,16 @@
 use Rattle.std.proofs.Common.{◌≡◌, ◌⊎◌, inl, inr, ℕ, ◌+◌, ◌<◌, List, [], ◌∷◌, ◌++◌, length, get_or, take, map, sym, ap, ◌∙◌, subst}
 use Rattle.std.proofs.lemmas.List.{take_more, map-append}
 use Rattle.cp_lists.specs.Lists.{IsIn, here, there}
-use Rattle.cp_model.specs.Term.{AtomTerm, Term, atom_term, Substitution}
+use Rattle.cp_model.specs.Term.{AtomTerm, Term, atom_term, Substitution, apply_to}
 use Rattle.cp_model.specs.Skeleton.{Skeleton as Plain}
 use Rattle.cp_lists.proofs.Members.{in_append, in_append_left, in_append_right}
 use Rattle.cp_completeness.specs.Normal.{skeleton_under}
 use Rattle.cp_unify.specs.Bindings.{Binding, as_substitution}
 use Rattle.cp_unify.specs.Unifiers.{IsMostGeneral, HasNoUnifier}
-use Rattle.cp_skel.specs.View.{skeleton_view}
-use Rattle.cp_skel.specs.Data.{SkeletonData as Skeleton}
 use Rattle.cp_collapse.specs.Agreeing.{SaysTheSame}
 use Rattle.cp_collapse.specs.Directed.{IsMostGeneralFor}
+use Rattle.cp_normal.specs.declared.form.Form.{Form}
+use Rattle.cp_normal.specs.FormView.{form_view}
 use Rattle.cp_normal.specs.Branching.{NeverEqual, HasBranch}
 use Rattle.cp_normal.specs.Branched.{AreInOrder, no_atoms, never_equal_to, unified_with, IsBranch, AreBranchesOf}
 use Rattle.cp_collapse.proofs.Unifying.{most_general_for, never_equal}
@@ -41,34 +41,35 @@ all_have_branches k v a xs ls no_atoms i = elim i [ ]
 
 -- ---- the loop
 
-module _ (k : Skeleton) (v : AtomTerm) where
-  pub none_yet : (ls : List Skeleton) → ls ≡ [] → AreBranchesOf k v [] ls
+module _ (k : Form) (v : AtomTerm) where
+  pub none_yet : (ls : List Form) → ls ≡ [] → AreBranchesOf k v [] ls
   none_yet ls e = record {
     each = λ l i. elim (subst (IsIn l) e i) [ ];
-    in_order = subst (λ ms. AreInOrder (skeleton_view k) v [] (map skeleton_view ms)) (sym e) no_atoms;
+    in_order = subst (λ ms. AreInOrder (form_view k) v [] (map form_view ms)) (sym e) no_atoms;
   }
 
-  wider : (xs ys : List AtomTerm) (l : Skeleton) → IsBranch k v xs l → IsBranch k v (xs ++ ys) l
-  wider xs ys l b = record { heard = b.heard; listed = in_append_left ys b.listed; bindings = b.bindings; most_general = b.most_general; same = b.same; variables = b.variables }
+  wider : (xs ys : List AtomTerm) (l : Form) → IsBranch k v xs l → IsBranch k v (xs ++ ys) l
+  wider xs ys l b = record { heard = b.heard; listed = in_append_left ys b.listed; bindings = b.bindings; most_general = b.most_general; same = b.same; variables = b.variables; followed = b.followed }
 
-  module _ (xs : List AtomTerm) (i : ℕ) (a : AtomTerm) (lt : i < length xs) (is : a ≡ get_or xs i a) (ls : List Skeleton) (so_far : AreBranchesOf k v (take i xs) ls) where
+  module _ (xs : List AtomTerm) (i : ℕ) (a : AtomTerm) (lt : i < length xs) (is : a ≡ get_or xs i a) (ls : List Form) (so_far : AreBranchesOf k v (take i xs) ls) where
     taken : take (i + 1) xs ≡ take i xs ++ a ∷ []
     taken = take_more xs i a lt ∙ ap (λ z. take i xs ++ z ∷ []) (sym is)
 
     skipped_with : HasNoUnifier (atom_term v) (atom_term a) [] → AreBranchesOf k v (take i xs ++ a ∷ []) ls
     skipped_with never = record {
       each = λ l m. wider (take i xs) (a ∷ []) l (so_far.each l m);
-      in_order = none_more (skeleton_view k) v a (take i xs) (map skeleton_view ls) (never_equal v a never) so_far.in_order;
+      in_order = none_more (form_view k) v a (take i xs) (map form_view ls) (never_equal v a never) so_far.in_order;
     }
 
     pub skipped : HasNoUnifier (atom_term v) (atom_term a) [] → AreBranchesOf k v (take (i + 1) xs) ls
     skipped never = subst (λ ys. AreBranchesOf k v ys ls) (sym taken) (skipped_with never)
 
-    module _ (r : List Binding) (l : Skeleton) (m : IsMostGeneral (atom_term v) (atom_term a) [] r) (same : SaysTheSame (skeleton_under (as_substitution r) (skeleton_view k)) (skeleton_view l)) (variables : l.variables ≡ k.variables) where
+    module _ (r : List Binding) (l : Form) (m : IsMostGeneral (atom_term v) (atom_term a) [] r) (same : SaysTheSame (skeleton_under (as_substitution r) (form_view k)) (form_view l)) (variables : l.skeleton.variables ≡ k.skeleton.variables)
+        (followed : (t : Term) → apply_to (as_substitution l.substitution) t ≡ apply_to (as_substitution r) (apply_to (as_substitution k.substitution) t)) where
       new_branch : IsBranch k v (take i xs ++ a ∷ []) l
-      new_branch = record { heard = a; listed = in_append_right (take i xs) here; bindings = r; most_general = m; same = same; variables = variables }
+      new_branch = record { heard = a; listed = in_append_right (take i xs) here; bindings = r; most_general = m; same = same; variables = variables; followed = followed }
 
-      of_either : (b : Skeleton) → IsIn b ls ⊎ IsIn b (l ∷ []) → IsBranch k v (take i xs ++ a ∷ []) b
+      of_either : (b : Form) → IsIn b ls ⊎ IsIn b (l ∷ []) → IsBranch k v (take i xs ++ a ∷ []) b
       of_either b (inl j) = wider (take i xs) (a ∷ []) b (so_far.each b j)
       of_either b (inr here) = new_branch
       of_either b (inr (there j)) = elim j [ ]
@@ -76,11 +77,11 @@ module _ (k : Skeleton) (v : AtomTerm) where
       added_with : AreBranchesOf k v (take i xs ++ a ∷ []) (ls ++ l ∷ [])
       added_with = record {
         each = λ b j. of_either b (in_append ls (l ∷ []) j);
-        in_order = subst (AreInOrder (skeleton_view k) v (take i xs ++ a ∷ [])) (sym (map-append skeleton_view ls (l ∷ [])))
-            (one_more (skeleton_view k) v a (as_substitution r) (skeleton_view l) (take i xs) (map skeleton_view ls) (most_general_for v a r m) same so_far.in_order);
+        in_order = subst (AreInOrder (form_view k) v (take i xs ++ a ∷ [])) (sym (map-append form_view ls (l ∷ [])))
+            (one_more (form_view k) v a (as_substitution r) (form_view l) (take i xs) (map form_view ls) (most_general_for v a r m) same so_far.in_order);
       }
 
-      pub branch_added : (new : List Skeleton) → new ≡ ls ++ l ∷ [] → AreBranchesOf k v (take (i + 1) xs) new
+      pub branch_added : (new : List Form) → new ≡ ls ++ l ∷ [] → AreBranchesOf k v (take (i + 1) xs) new
       branch_added new e = subst (λ ms. AreBranchesOf k v (take (i + 1) xs) ms) (sym e) (subst (λ ys. AreBranchesOf k v ys (ls ++ l ∷ [])) (sym taken) added_with)
 
 -- ---- the answers of unification

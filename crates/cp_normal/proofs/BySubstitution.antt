@@ -14,6 +14,7 @@ use Rattle.cp_completeness.specs.Normal.{skeleton_under, with_pairs, variables_o
 use Rattle.cp_completeness.proofs.Weaker.{stands_too}
 use Rattle.cp_collapse.specs.Agreeing.{SaysTheSame}
 use Rattle.cp_normal.specs.BySubstitution.{StaysWithin, ComesBySubstitution, StandsAmongForms, ComeBySubstitutions}
+use Rattle.cp_normal.specs.Candidates.{unifiers_of}
 use Rattle.cp_normal.specs.Exact.{HasForms}
 use Rattle.cp_normal.specs.Narrowing.{IsNarrowed, NarrowsTo, none, one, IsNormalFormOf}
 use Rattle.cp_normal.proofs.FormsOf.{are_normal_forms, lose_no_standing}
@@ -67,6 +68,16 @@ form_comes k r f =
       same = subst (SaysTheSame (with_pairs d r.pairs)) (sym f.same) (says_with_pairs d f.narrowed r.pairs under.same);
       pairs = same_normal_pairs f.narrowed d r.pairs (says_back d f.narrowed under.same) f.pairs;
     }
+
+-- That substitution is the unifiers of the steps, one after the other.
+same_unifiers : {k l : Skeleton} (p : NarrowsTo k l) → (comes_under p).substitution ≡ unifiers_of p
+unfolding comes_under
+same_unifiers none = refl
+same_unifiers (one step p) = ap (composed step.unifier) (same_unifiers p)
+
+pub form_unifiers : (k r : Skeleton) (f : IsNormalFormOf k r) → (form_comes k r f).substitution ≡ unifiers_of f.by_steps
+unfolding form_comes
+form_unifiers k r f = same_unifiers f.by_steps
 
 -- What is narrowed says no more than the normal form.
 says_no_more : (narrowed : Skeleton) (pairs : List OrderPair) → ((p : OrderPair) → IsIn p narrowed.pairs → IsIn p pairs) → SaysNoMore narrowed (with_pairs narrowed pairs)

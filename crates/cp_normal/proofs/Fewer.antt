@@ -16,10 +16,9 @@ use Rattle.cp_completeness.proofs.Images.{event_on}
 use Rattle.cp_unify.specs.Bindings.{Binding, as_substitution}
 use Rattle.cp_unify.specs.Unifiers.{AreAmong, IsMostGeneral}
 use Rattle.cp_collapse.specs.Agreeing.{SaysTheSame}
-use Rattle.cp_normal.specs.Narrowing.{IsStray, IsHeardAt, IsNarrowed}
+use Rattle.cp_normal.specs.Narrowing.{IsStray, IsHeardAt}
 use Rattle.cp_normal.specs.Branching.{HasFewerVariables}
 use Rattle.cp_skel.proofs.UnderVariables.{carried_variables}
-use Rattle.cp_collapse.proofs.Unifying.{most_general_for}
 use Rattle.cp_normal.proofs.Distinct.{distinct, fewer_distinct}
 use Rattle.cp_normal.proofs.Narrowed.{same_variables, under_has_fewer}
 
@@ -52,19 +51,6 @@ narrowed_has_fewer k l u x heard r stray h m same =
       was_there = f.was_there;
       is_gone = λ i. f.is_gone (subst (IsIn f.taken) (sym e) i);
     }
-
-pub is_narrowed : (k l : Skeleton) (u : UniqueAt) (x : Node) (heard : AtomTerm) (r : List Binding) → IsStray k u x → IsHeardAt k heard x → IsMostGeneral (atom_term u.value) (atom_term heard) [] r →
-    SaysTheSame (skeleton_under (as_substitution r) k) l → IsNarrowed k l
-is_narrowed k l u x heard r stray h m same = record {
-  entry = u;
-  node = x;
-  heard = heard;
-  unifier = as_substitution r;
-  stray = stray;
-  heard_before = h;
-  most_general = most_general_for u.value heard r m;
-  same = same;
-}
 
 -- The count of different variables falls.
 pub fewer_counted : (k l : Skeleton) → HasFewerVariables k l → distinct (variables_of_skeleton l) < distinct (variables_of_skeleton k)

@@ -3,61 +3,49 @@ use Rattle.std.proofs.Common.{◌≡◌, ◌↔◌, ◌⊎◌, inl, inr, List, [
 use Rattle.std.proofs.lemmas.List.{reverse-append, reverse-reverse, map-append, append-nil}
 use Rattle.cp_lists.specs.Lists.{IsIn, here}
 use Rattle.cp_lists.proofs.Items.{at_place}
+use Rattle.cp_lists.proofs.Members.{in_append, in_append_left, in_append_right, from_map, from_reverse, only_item}
 use Rattle.cp_model.specs.Term.{AtomTerm, atom_term}
 use Rattle.cp_model.specs.declared.node.Node.{Node}
 use Rattle.cp_model.specs.Skeleton.{UniqueAt, Skeleton}
-use Rattle.cp_lists.proofs.Members.{in_append, in_append_left, in_append_right, from_map, from_reverse, only_item}
-use Rattle.cp_skel.specs.View.{skeleton_view}
-use Rattle.cp_skel.specs.Data.{SkeletonData as Program}
 use Rattle.cp_skel.proofs.EachOnce.{listed-unique}
+use Rattle.cp_normal.specs.declared.form.Form.{Form}
 use Rattle.cp_normal.specs.declared.candidates.Candidate.{Candidate}
 use Rattle.cp_normal.specs.declared.candidates.Candidate.TheVariants.{Open, Settled}
-use Rattle.cp_normal.specs.Normalising.{IsContradictory}
-use Rattle.cp_normal.specs.Narrowing.{IsStray, IsHeardAt, IsNarrowed}
-use Rattle.cp_normal.specs.Branching.{NeverEqual, HasBranch, HasBranches, IsSettled, AreNarrowedFrom}
+use Rattle.cp_normal.specs.Narrowing.{IsStray, IsHeardAt}
+use Rattle.cp_normal.specs.Branching.{IsSettled}
 use Rattle.cp_normal.specs.Branched.{AreInOrder, IsBranch, AreBranchesOf}
 use Rattle.cp_normal.specs.Exact.{IsRefuted, HaveForms, refuted_one, stray_one}
+use Rattle.cp_normal.specs.FormView.{form_view}
 use Rattle.cp_normal.specs.Hearing.{heard_before}
 use Rattle.cp_normal.specs.Straying.{IsFirstStray}
-use Rattle.cp_normal.specs.Candidates.{skeleton_of, candidate_view, IsSound, Follows, TakesPlace, Puts, AllFollow, IsRound}
+use Rattle.cp_normal.specs.Candidates.{form_of, candidate_view, IsSound, Follows, TakesPlace, Puts, AllFollow, IsRound}
 use Rattle.cp_unify.specs.Unifiers.{IsMostGeneral}
-use Rattle.cp_normal.proofs.BranchLists.{all_have_branches}
-use Rattle.cp_normal.proofs.Fewer.{narrowed_has_fewer, is_narrowed}
+use Rattle.cp_normal.proofs.ComingOn.{comes_itself, comes_by}
+use Rattle.cp_normal.proofs.Fewer.{narrowed_has_fewer}
 use Rattle.cp_normal.proofs.Exactly.{placed}
-use Rattle.cp_normal.proofs.Reaching.{dropped, stays, branched}
 
 -- ---- what takes the place of one candidate
 
-refuted : (k : Skeleton) → IsRefuted k → IsContradictory k
-refuted k (inl c) = inl c
-refuted k (inr (inl t)) = inr (inl t)
-refuted k (inr (inr l)) = inr (inr (inl l))
+nothing_follows : (f : Form) → IsRefuted (form_view f) → TakesPlace (Open f) []
+nothing_follows f r = record { each = λ d i. elim i [ ]; exact = λ rest rs h. refuted_one r h }
 
-nothing_follows : (k : Program) → IsRefuted (skeleton_view k) → IsContradictory (skeleton_view k) → TakesPlace (Open k) []
-nothing_follows k r c = record {
-  each = λ d i. elim i [ ];
-  narrowed = λ first done rest so_far. subst (λ (ds : List Skeleton). AreNarrowedFrom first (ds ++ rest)) (sym (append-nil done)) (dropped first (skeleton_view k) done rest so_far c);
-  exact = λ rest rs h. refuted_one r h;
-}
-
-pub dropped_place : (k : Program) (old : List Candidate) → IsRefuted (skeleton_view k) → Puts (Open k) old old
-dropped_place k old r = record { added = []; behind = sym (append-nil old); takes_place = nothing_follows k r (refuted (skeleton_view k) r) }
+pub dropped_place : (f : Form) (old : List Candidate) → IsRefuted (form_view f) → Puts (Open f) old old
+dropped_place f old r = record { added = []; behind = sym (append-nil old); takes_place = nothing_follows f r }
 
 -- In the place of a candidate without stray values its skeleton stands, settled.
-settled_takes : (c : Candidate) → IsSettled (candidate_view c) → TakesPlace c (Settled (skeleton_of c) ∷ [])
+settled_takes : (c : Candidate) → IsSettled (candidate_view c) → TakesPlace c (Settled (form_of c) ∷ [])
 settled_takes c settled = record {
-  each = λ d i. subst (Follows c) (sym (only_item i)) (record { sound = settled; falls = tt; variables = refl });
-  narrowed = λ first done rest so_far. stays first (candidate_view c) done rest so_far;
+  each = λ d i. subst (Follows c) (sym (only_item i)) (record { sound = settled; falls = tt; variables = refl; comes_on = comes_itself (form_of c) });
   exact = λ rest rs h. h;
 }
 
-pub settled_place : (k : Program) (old new : List Candidate) → IsSettled (skeleton_view k) → new ≡ old ++ Settled k ∷ [] → Puts (Open k) old new
+pub settled_place : (k : Form) (old new : List Candidate) → IsSettled (form_view k) → new ≡ old ++ Settled k ∷ [] → Puts (Open k) old new
 settled_place k old new settled e = record { added = Settled k ∷ []; behind = e; takes_place = settled_takes (Open k) settled }
 
-same_place : (k : Program) (old new : List Candidate) → IsSettled (skeleton_view k) → new ≡ old ++ Settled k ∷ [] → Puts (Settled k) old new
+same_place : (k : Form) (old new : List Candidate) → IsSettled (form_view k) → new ≡ old ++ Settled k ∷ [] → Puts (Settled k) old new
 same_place k old new settled e = record { added = Settled k ∷ []; behind = e; takes_place = settled_takes (Settled k) settled }
 
-pub settled_stays : (c : Candidate) (k : Program) (old new : List Candidate) → c ≡ Settled k → IsSound c → new ≡ old ++ Settled k ∷ [] → Puts c old new
+pub settled_stays : (c : Candidate) (k : Form) (old new : List Candidate) → c ≡ Settled k → IsSound c → new ≡ old ++ Settled k ∷ [] → Puts c old new
 settled_stays c k old new is sound e = subst (λ (d : Candidate). Puts d old new) (sym is) (same_place k old new (subst IsSound is sound) e)
 
 -- ---- a round
@@ -66,14 +54,12 @@ settled_stays c k old new is sound e = subst (λ (d : Candidate). Puts d old new
 pub record IsPartWay (all left new : List Candidate) : Type 0 where
   pub each_left : (c : Candidate) → IsIn c left → IsIn c all
   pub all_follow : AllFollow all new
-  pub narrowed : (k : Skeleton) → AreNarrowedFrom k (map candidate_view (reverse all)) → AreNarrowedFrom k (map candidate_view new ++ map candidate_view (reverse left))
   pub exact : (rs : List Skeleton) → HaveForms (map candidate_view new ++ map candidate_view (reverse left)) rs → HaveForms (map candidate_view (reverse all)) rs
 
 pub at_first : (all new : List Candidate) → new ≡ [] → IsPartWay all all new
 at_first all new e = record {
   each_left = λ c i. i;
   all_follow = λ d i. elim (subst (IsIn d) e i) [ ];
-  narrowed = λ k so_far. subst (λ (ds : List Candidate). AreNarrowedFrom k (map candidate_view ds ++ map candidate_view (reverse all))) (sym e) so_far;
   exact = λ rs h. subst (λ (ds : List Candidate). HaveForms (map candidate_view ds ++ map candidate_view (reverse all)) rs) e h;
 }
 
@@ -97,16 +83,10 @@ module _ (all left rest old new : List Candidate) (c : Candidate) (so_far : IsPa
       (placed (candidate_view c) (map candidate_view puts.added) puts.takes_place.exact (map candidate_view old) (map candidate_view (reverse rest)) rs
       (subst (λ (ds : List Skeleton). HaveForms (ds ++ map candidate_view (reverse rest)) rs) behind h)))
 
-  narrowed_next : (k : Skeleton) → AreNarrowedFrom k (map candidate_view (reverse all)) → AreNarrowedFrom k (map candidate_view new ++ map candidate_view (reverse rest))
-  narrowed_next k first =
-      let before : AreNarrowedFrom k (map candidate_view old ++ candidate_view c ∷ map candidate_view (reverse rest)) = subst (λ (ds : List Candidate). AreNarrowedFrom k (map candidate_view old ++ map candidate_view ds)) next_first (so_far.narrowed k first) in
-      subst (λ (ds : List Skeleton). AreNarrowedFrom k (ds ++ map candidate_view (reverse rest))) (sym behind) (puts.takes_place.narrowed k (map candidate_view old) (map candidate_view (reverse rest)) before)
-
   pub next_part : IsPartWay all rest new
   next_part = record {
     each_left = λ b i. so_far.each_left b (subst (IsIn b) (sym popped) (in_append_left (c ∷ []) i));
     all_follow = λ d i. follows_either d (in_append old puts.added (subst (IsIn d) puts.behind i));
-    narrowed = narrowed_next;
     exact = exact_next;
   }
 
@@ -116,9 +96,6 @@ next_is_in candidates all left rest new c e part popped = from_reverse candidate
 pub all_done : (candidates all left new : List Candidate) → all ≡ reverse candidates → left ≡ [] → IsPartWay all left new → IsRound candidates new
 all_done candidates all left new e done part = record {
   all_follow = λ d i. let r = part.all_follow d i in (r.0, from_reverse candidates (subst (IsIn r.0) e r.1), r.2);
-  narrowed = λ k first. subst (AreNarrowedFrom k) (append-nil (map candidate_view new))
-      (subst (λ (ds : List Candidate). AreNarrowedFrom k (map candidate_view new ++ map candidate_view (reverse ds))) done
-      (part.narrowed k (subst (λ (ds : List Candidate). AreNarrowedFrom k (map candidate_view ds)) (sym (ap reverse e ∙ reverse-reverse candidates)) first)));
   exact = λ rs h. subst (λ (ds : List Candidate). HaveForms (map candidate_view ds) rs) (ap reverse e ∙ reverse-reverse candidates)
       (part.exact rs (subst (λ (ds : List Candidate). HaveForms (map candidate_view new ++ map candidate_view (reverse ds)) rs) (sym done)
       (subst (λ (ds : List Skeleton). HaveForms ds rs) (sym (append-nil (map candidate_view new))) h)));
@@ -126,53 +103,42 @@ all_done candidates all left new e done part = record {
 
 -- ---- branches
 
-module _ (k : Program) (v : AtomTerm) (x : Node) (atoms : List AtomTerm) (made : List Program) where
-  module _ (consistent : IsRefuted (skeleton_view k) → ⊥) (stray : IsFirstStray (skeleton_view k) v x) (in_order : atoms ≡ heard_before (skeleton_view k) x) (heard : (a : AtomTerm) → IsIn a atoms ↔ IsHeardAt (skeleton_view k) a x)
-      (are : AreBranchesOf k v atoms made) where
+module _ (f : Form) (v : AtomTerm) (x : Node) (atoms : List AtomTerm) (made : List Form) where
+  module _ (consistent : IsRefuted (form_view f) → ⊥) (stray : IsFirstStray (form_view f) v x) (in_order : atoms ≡ heard_before (form_view f) x) (heard : (a : AtomTerm) → IsIn a atoms ↔ IsHeardAt (form_view f) a x)
+      (are : AreBranchesOf f v atoms made) where
     abbrev entry : UniqueAt
     entry = stray.here.entry
 
-    is_stray : IsStray (skeleton_view k) entry x
-    is_stray = record { listed = ((listed-unique (skeleton_view k)).same entry).0 (at_place _ stray.here.place entry stray.here.at_place); originates = stray.here.strays.1; elsewhere = stray.here.strays.0 }
+    is_stray : IsStray (form_view f) entry x
+    is_stray = record { listed = ((listed-unique (form_view f)).same entry).0 (at_place _ stray.here.place entry stray.here.at_place); originates = stray.here.strays.1; elsewhere = stray.here.strays.0 }
 
-    have_branches : HasBranches (skeleton_view k) entry x (map skeleton_view made)
-    have_branches a h = subst (λ (u : AtomTerm). NeverEqual u a ⊎ HasBranch (skeleton_view k) u a (map skeleton_view made)) (sym stray.here.is_value)
-        (all_have_branches (skeleton_view k) v a atoms (map skeleton_view made) are.in_order ((heard a).1 h))
-
-    module _ (l : Program) (b : IsBranch k v atoms l) where
+    module _ (g : Form) (b : IsBranch f v atoms g) where
       most_general : IsMostGeneral (atom_term entry.value) (atom_term b.heard) [] b.bindings
       most_general = subst (λ (u : AtomTerm). IsMostGeneral (atom_term u) (atom_term b.heard) [] b.bindings) (sym stray.here.is_value) b.most_general
 
-      follows : Follows (Open k) (Open l)
+      follows : Follows (Open f) (Open g)
       follows = record {
         sound = tt;
-        falls = narrowed_has_fewer (skeleton_view k) (skeleton_view l) entry x b.heard b.bindings is_stray ((heard b.heard).0 b.listed) most_general b.same;
+        falls = narrowed_has_fewer (form_view f) (form_view g) entry x b.heard b.bindings is_stray ((heard b.heard).0 b.listed) most_general b.same;
         variables = b.variables;
+        comes_on = comes_by f g entry x b.heard b.bindings is_stray ((heard b.heard).0 b.listed) most_general b.same b.followed;
       }
 
-      narrowed_so : IsNarrowed (skeleton_view k) (skeleton_view l)
-      narrowed_so = is_narrowed (skeleton_view k) (skeleton_view l) entry x b.heard b.bindings is_stray ((heard b.heard).0 b.listed) most_general b.same
+    each_follows : (d : Candidate) → (g : Form) × IsIn g made × (Open g ≡ d) → Follows (Open f) d
+    each_follows d r = subst (Follows (Open f)) r.2 (follows r.0 (are.each r.0 r.1))
 
-    each_follows : (d : Candidate) → (l : Program) × IsIn l made × (Open l ≡ d) → Follows (Open k) d
-    each_follows d r = subst (Follows (Open k)) r.2 (follows r.0 (are.each r.0 r.1))
-
-    each_narrowed : (m : Skeleton) → (l : Program) × IsIn l made × (skeleton_view l ≡ m) → IsNarrowed (skeleton_view k) m
-    each_narrowed m r = subst (IsNarrowed (skeleton_view k)) r.2 (narrowed_so r.0 (are.each r.0 r.1))
-
-    view_open : (ls : List Program) → map candidate_view (map Open ls) ≡ map skeleton_view ls
+    view_open : (gs : List Form) → map candidate_view (map Open gs) ≡ map form_view gs
     view_open [] = refl
-    view_open (l ∷ ls) = ap (λ ms. skeleton_view l ∷ ms) (view_open ls)
+    view_open (g ∷ gs) = ap (λ ms. form_view g ∷ ms) (view_open gs)
 
-    pub branches_place : (old new : List Candidate) → new ≡ old ++ map Open made → Puts (Open k) old new
+    pub branches_place : (old new : List Candidate) → new ≡ old ++ map Open made → Puts (Open f) old new
     branches_place old new e = record {
       added = map Open made;
       behind = e;
       takes_place = record {
         each = λ d i. each_follows d (from_map Open made i);
-        narrowed = λ first done rest so_far. subst (λ (ms : List Skeleton). AreNarrowedFrom first ((done ++ ms) ++ rest)) (sym (view_open made))
-            (branched first (skeleton_view k) done rest so_far entry x (map skeleton_view made) is_stray have_branches (λ m i. each_narrowed m (from_map skeleton_view made i)));
         exact = λ rest rs h.
-            stray_one consistent stray (subst (λ (vs : List AtomTerm). AreInOrder (skeleton_view k) v vs (map skeleton_view made)) in_order are.in_order)
+            stray_one consistent stray (subst (λ (vs : List AtomTerm). AreInOrder (form_view f) v vs (map form_view made)) in_order are.in_order)
             (subst (λ (ms : List Skeleton). HaveForms (ms ++ rest) rs) (view_open made) h);
       };
     }

@@ -1,5 +1,5 @@
 -- A skeleton with no stray value and the pairs that its unique values add is a normal form.
-use Rattle.std.proofs.Common.{◌⊎◌, inl, inr, List, [], ◌∷◌, refl}
+use Rattle.std.proofs.Common.{◌≡◌, ◌⊎◌, inl, inr, List, [], ◌∷◌, refl}
 use Rattle.cp_lists.specs.Lists.{IsIn, one_step}
 use Rattle.cp_model.specs.Term.{AtomTerm}
 use Rattle.cp_model.specs.declared.node.Node.{Node}
@@ -11,6 +11,7 @@ use Rattle.cp_completeness.specs.Normal.{IsCarriedAt, with_pairs, LosesNoStandin
 use Rattle.cp_completeness.proofs.Losing.{pairs_lose_none}
 use Rattle.cp_normal.proofs.Losses.{only_origin_pairs}
 use Rattle.cp_normal.specs.Normalising.{ClosesCycle, IsAddedPair, AreNormalPairs, IsContradictory}
+use Rattle.cp_normal.specs.Candidates.{unifiers_of}
 use Rattle.cp_normal.specs.Narrowing.{IsStray, NarrowsTo, IsNormal, IsNormalFormOf}
 
 module _ (k : Skeleton) (pairs : List OrderPair) where
@@ -65,6 +66,12 @@ normal_form k narrowed pairs steps found settled = record {
   same = refl;
   normal = normal_with_pairs narrowed pairs found.0 found.1 settled;
 }
+
+-- It comes by the unifiers of the steps.
+pub normal_form_unifiers : (k narrowed : Skeleton) (pairs : List OrderPair) (steps : NarrowsTo k narrowed) (found : AreNormalPairs narrowed pairs × (IsContradictory narrowed → ⊥)) (settled : (u : UniqueAt) (x : Node) → IsStray narrowed u x → ⊥) →
+    unifiers_of (normal_form k narrowed pairs steps found settled).by_steps ≡ unifiers_of steps
+unfolding normal_form
+normal_form_unifiers k narrowed pairs steps found settled = refl
 
 -- With its pairs it loses no standing.
 pub pairs_lose_no_standing : (protocol : Protocol) (k : Skeleton) (pairs : List OrderPair) → IsSkeleton protocol k → AreNormalPairs k pairs → LosesNoStanding protocol k (with_pairs k pairs ∷ [])

@@ -1,3 +1,4 @@
+pub mod Having
 pub mod Losses
 pub mod Found
 pub mod Gathering
@@ -12,7 +13,10 @@ pub mod Narrowed
 pub mod NarrowedStandings
 pub mod NarrowedUnder
 pub mod Fewer
-pub mod Reaching
+pub mod ComingOn
+pub mod FormedBeside
+pub mod FormsAlone
+pub mod WithSubstitutions
 pub mod Keeping
 pub mod Homomorphic
 pub mod StatedForms

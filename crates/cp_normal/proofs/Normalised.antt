@@ -3,10 +3,9 @@ use Rattle.std.proofs.Common.{◌≡◌, ◌⊎◌, inl, inr, List, sym, subst}
 use Rattle.cp_lists.specs.Lists.{IsIn}
 use Rattle.cp_model.specs.declared.node.Node.{Node}
 use Rattle.cp_model.specs.Skeleton.{UniqueAt, Skeleton, Before, IsOrderPair, IsOrigin}
-use Rattle.cp_model.specs.declared.node.OrderPair.{OrderPair, OrderPair as Pair}
-use Rattle.cp_order.specs.Leading.{Target}
+use Rattle.cp_model.specs.declared.node.OrderPair.{OrderPair}
 use Rattle.cp_collapse.specs.Having.{Has}
-use Rattle.cp_collapse.specs.Cycles.{LeadsOn, IsClosedAt}
+use Rattle.cp_collapse.specs.Cycles.{IsClosedAt}
 use Rattle.cp_normal.specs.Normalising.{CarriesNonOriginating, HasTwoOrigins, LosesOrigin, ClosesCycle, AreNormalPairs, IsContradictory}
 use Rattle.cp_normal.proofs.Found.{unique_has, has_unique}
 use Rattle.cp_normal.proofs.Cycling.{closed_if_cycle, cycle_if_closed, cycle_of_these}

@@ -1,14 +1,13 @@
--- The branches of a skeleton in which a unique value strays, and what narrowing has made of a skeleton so far.
-use Rattle.std.specs.Prelude.{◌≡◌, ◌⊎◌, List, ◌++◌}
+-- The branches of a skeleton in which a unique value strays.
+use Rattle.std.specs.Prelude.{◌≡◌, ◌⊎◌, List}
 use Rattle.cp_lists.specs.Lists.{IsIn}
 use Rattle.cp_model.specs.Term.{Variable, AtomTerm, Assignment, value_of_atom, Substitution}
-use Rattle.cp_model.specs.Strand.{Protocol}
 use Rattle.cp_model.specs.declared.node.Node.{Node}
-use Rattle.cp_model.specs.Skeleton.{UniqueAt, Skeleton, IsSkeleton}
+use Rattle.cp_model.specs.Skeleton.{UniqueAt, Skeleton}
 use Rattle.cp_model.specs.Problem.{variables_of_skeleton}
-use Rattle.cp_completeness.specs.Normal.{skeleton_under, LosesNoStanding}
+use Rattle.cp_completeness.specs.Normal.{skeleton_under}
 use Rattle.cp_collapse.specs.Agreeing.{SaysTheSame}
-use Rattle.cp_normal.specs.Narrowing.{IsStray, IsHeardAt, NarrowsTo, IsNormalFormOf}
+use Rattle.cp_normal.specs.Narrowing.{IsStray, IsHeardAt}
 use Rattle.cp_collapse.specs.Directed.{IsMostGeneralFor}
 
 -- No assignment gives the two atoms one value.
@@ -37,16 +36,3 @@ pub record HasFewerVariables (k l : Skeleton) : Type 0 where
 -- No unique value strays.
 abbrev pub IsSettled : Skeleton → Type 0
 IsSettled k = (u : UniqueAt) (x : Node) → IsStray k u x → ⊥
-
--- The skeletons are narrowed from k by steps, and together they lose none of its standings.
-pub record AreNarrowedFrom (k : Skeleton) (narrowed : List Skeleton) : Type 0 where
-  pub by_steps : (l : Skeleton) → IsIn l narrowed → NarrowsTo k l
-  pub loses_none : (protocol : Protocol) → IsSkeleton protocol k → LosesNoStanding protocol k narrowed
-
--- The forms are normal forms of k, and with the skeletons that are left, which are narrowed from k and settled, they lose
--- none of its standings.
-pub record AreFormsBeside (k : Skeleton) (forms left : List Skeleton) : Type 0 where
-  pub are_forms : (r : Skeleton) → IsIn r forms → IsNormalFormOf k r
-  pub by_steps : (l : Skeleton) → IsIn l left → NarrowsTo k l
-  pub settled : (l : Skeleton) → IsIn l left → IsSettled l
-  pub loses_none : (protocol : Protocol) → IsSkeleton protocol k → LosesNoStanding protocol k (forms ++ left)

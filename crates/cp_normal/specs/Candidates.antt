@@ -1,52 +1,65 @@
 -- Skeletons on the way to normal forms.
 use Rattle.std.specs.Prelude.{◌≡◌, List, [], ◌∷◌, ◌++◌, map}
 use Rattle.cp_lists.specs.Lists.{IsIn}
+use Rattle.cp_model.specs.Term.{Term, Substitution, apply_to, unchanged, composed}
 use Rattle.cp_model.specs.Skeleton.{Skeleton}
 use Rattle.cp_model.specs.declared.node.OrderPair.{OrderPair}
-use Rattle.cp_skel.specs.View.{skeleton_view}
-use Rattle.cp_skel.specs.Data.{SkeletonData as Program}
+use Rattle.cp_unify.specs.Bindings.{as_substitution}
 use Rattle.cp_completeness.specs.Normal.{with_pairs}
 use Rattle.cp_normal.specs.Normalising.{AreNormalPairs, IsContradictory}
-use Rattle.cp_normal.specs.Branching.{HasFewerVariables, IsSettled, AreNarrowedFrom, AreFormsBeside}
+use Rattle.cp_normal.specs.Narrowing.{NarrowsTo, none, one}
+use Rattle.cp_normal.specs.Branching.{HasFewerVariables, IsSettled}
 use Rattle.cp_normal.specs.Exact.{HaveForms}
+use Rattle.cp_normal.specs.FormView.{form_view}
+use Rattle.cp_normal.specs.declared.form.Form.{Form}
 use Rattle.cp_normal.specs.declared.candidates.Candidate.{Candidate}
 use Rattle.cp_normal.specs.declared.candidates.Candidate.TheVariants.{Open, Settled}
 
--- The skeleton of a candidate, and what it says.
-abbrev pub skeleton_of : Candidate → Program
-skeleton_of (Open k) = k
-skeleton_of (Settled k) = k
+-- The skeleton of a candidate with its substitution, and what the skeleton says.
+abbrev pub form_of : Candidate → Form
+form_of (Open f) = f
+form_of (Settled f) = f
 
 abbrev pub candidate_view : Candidate → Skeleton
-candidate_view c = skeleton_view (skeleton_of c)
+candidate_view c = form_view (form_of c)
 
 -- Unique values may stray in it.
 abbrev pub IsOpen : Candidate → Type 0
-IsOpen (Open k) = Unit {0}
-IsOpen (Settled k) = ⊥
+IsOpen (Open f) = Unit {0}
+IsOpen (Settled f) = ⊥
 
 -- In a settled one no unique value strays.
 abbrev pub IsSound : Candidate → Type 0
-IsSound (Open k) = Unit {0}
-IsSound (Settled k) = IsSettled (skeleton_view k)
+IsSound (Open f) = Unit {0}
+IsSound (Settled f) = IsSettled (form_view f)
 
 -- The second is settled, or both are open and it has fewer variables.
 abbrev pub FallsTo : Candidate → Candidate → Type 0
-FallsTo c (Settled l) = Unit {0}
-FallsTo (Open k) (Open l) = HasFewerVariables (skeleton_view k) (skeleton_view l)
-FallsTo (Settled k) (Open l) = ⊥
+FallsTo c (Settled g) = Unit {0}
+FallsTo (Open f) (Open g) = HasFewerVariables (form_view f) (form_view g)
+FallsTo (Settled f) (Open g) = ⊥
 
--- d is sound, follows on c, and has its variables.
+-- The unifiers of the steps of narrowing, one after the other.
+abbrev pub unifiers_of : {k l : Skeleton} → NarrowsTo k l → Substitution
+unifiers_of none = unchanged
+unifiers_of (one step p) = composed step.unifier (unifiers_of p)
+
+-- g is narrowed from f by steps, and its substitution is that of f followed by the unifiers of the steps.
+pub record ComesOn (f g : Form) : Type 0 where
+  pub steps : NarrowsTo (form_view f) (form_view g)
+  pub followed : (t : Term) → apply_to (as_substitution g.substitution) t ≡ apply_to (unifiers_of steps) (apply_to (as_substitution f.substitution) t)
+
+-- d is sound, follows on c, has its variables, and comes from it by steps.
 pub record Follows (c d : Candidate) : Type 0 where
   pub sound : IsSound d
   pub falls : FallsTo c d
-  pub variables : (skeleton_of d).variables ≡ (skeleton_of c).variables
+  pub variables : (form_of d).skeleton.variables ≡ (form_of c).skeleton.variables
+  pub comes_on : ComesOn (form_of c) (form_of d)
 
--- What takes the place of a candidate: in each list that is narrowed from some skeleton it may, so that the list still is;
--- and it has the candidate's normal forms.
+-- What takes the place of a candidate: each of it follows on the candidate, and in each list it has the candidate's normal
+-- forms.
 pub record TakesPlace (c : Candidate) (new : List Candidate) : Type 0 where
   pub each : (d : Candidate) → IsIn d new → Follows c d
-  pub narrowed : (k : Skeleton) (done rest : List Skeleton) → AreNarrowedFrom k (done ++ candidate_view c ∷ rest) → AreNarrowedFrom k ((done ++ map candidate_view new) ++ rest)
   pub exact : (rest rs : List Skeleton) → HaveForms (map candidate_view new ++ rest) rs → HaveForms (candidate_view c ∷ rest) rs
 
 -- The list, with what takes the place of the candidate behind it.
@@ -59,27 +72,26 @@ pub record Puts (c : Candidate) (old new : List Candidate) : Type 0 where
 abbrev pub AllFollow : List Candidate → List Candidate → Type 0
 AllFollow old new = (d : Candidate) → IsIn d new → (c : Candidate) × IsIn c old × Follows c d
 
--- The new candidates follow on the old, are narrowed from what these are narrowed from, and have their normal forms.
+-- The new candidates follow on the old, and have their normal forms.
 pub record IsRound (old new : List Candidate) : Type 0 where
   pub all_follow : AllFollow old new
-  pub narrowed : (k : Skeleton) → AreNarrowedFrom k (map candidate_view old) → AreNarrowedFrom k (map candidate_view new)
   pub exact : (rs : List Skeleton) → HaveForms (map candidate_view new) rs → HaveForms (map candidate_view old) rs
 
--- A normal form of a settled skeleton: it with its normal pairs.
-pub record IsFormOf (l r : Program) : Type 0 where
+-- A normal form of a settled skeleton: it with its normal pairs, and with the same substitution.
+pub record IsFormOf (l r : Form) : Type 0 where
   pub pairs : List OrderPair
-  pub normal : AreNormalPairs (skeleton_view l) pairs
-  pub consistent : IsContradictory (skeleton_view l) → ⊥
-  pub same : skeleton_view r ≡ with_pairs (skeleton_view l) pairs
-  pub variables : r.variables ≡ l.variables
+  pub normal : AreNormalPairs (form_view l) pairs
+  pub consistent : IsContradictory (form_view l) → ⊥
+  pub same : form_view r ≡ with_pairs (form_view l) pairs
+  pub variables : r.skeleton.variables ≡ l.skeleton.variables
+  pub substitution : r.substitution ≡ l.substitution
 
 -- The list of forms, with the form of l behind it if it has one; it has none where it contradicts itself.
-pub data PutsForm (l : Program) (old new : List Program) : Type 0 where
-  no_form : IsContradictory (skeleton_view l) → new ≡ old → PutsForm l old new
-  form : {r : Program} → IsFormOf l r → new ≡ old ++ r ∷ [] → PutsForm l old new
+pub data PutsForm (l : Form) (old new : List Form) : Type 0 where
+  no_form : IsContradictory (form_view l) → new ≡ old → PutsForm l old new
+  form : {r : Form} → IsFormOf l r → new ≡ old ++ r ∷ [] → PutsForm l old new
 
 -- The forms of the candidates, which are settled.
-pub record AreForms (settled : List Candidate) (forms : List Program) : Type 0 where
-  pub beside : (k : Skeleton) → AreFormsBeside k [] (map candidate_view settled) → AreFormsBeside k (map skeleton_view forms) []
-  pub exact : ((c : Candidate) → IsIn c settled → IsSettled (candidate_view c)) → HaveForms (map candidate_view settled) (map skeleton_view forms)
-  pub variables : (r : Program) → IsIn r forms → (c : Candidate) × IsIn c settled × (r.variables ≡ (skeleton_of c).variables)
+pub record AreForms (settled : List Candidate) (forms : List Form) : Type 0 where
+  pub exact : ((c : Candidate) → IsIn c settled → IsSettled (candidate_view c)) → HaveForms (map candidate_view settled) (map form_view forms)
+  pub each : (r : Form) → IsIn r forms → (c : Candidate) × IsIn c settled × IsFormOf (form_of c) r

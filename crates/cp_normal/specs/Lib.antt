@@ -10,3 +10,5 @@ pub mod Exact
 pub mod Candidates
 pub mod Example
 pub mod BySubstitution
+pub mod Formed
+pub mod FormView

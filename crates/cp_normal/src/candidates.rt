@@ -2,48 +2,50 @@
 ghost use Rattle.std.specs.Prelude.{◌≡◌, ◌↔◌, ◌++◌, map, IsTrue, IfOk, OnOk};
 ghost use Rattle.cp_lists.specs.Lists.{IsIn};
 ghost use Rattle.cp_skel.specs.Events.{occurrence_view, events_of};
-ghost use Rattle.cp_skel.specs.View.{skeleton_view};
-ghost use Rattle.cp_normal.specs.Candidates.{skeleton_of, IsOpen, IsSound, Puts, IsRound};
+ghost use Rattle.cp_normal.specs.Candidates.{form_of, IsOpen, IsSound, Puts, IsRound};
 ghost use Rattle.cp_collapse.specs.Having.{Has};
 ghost use Rattle.cp_normal.specs.Exact.{IsRefuted};
+ghost use Rattle.cp_normal.specs.FormView.{form_view};
 ghost use Rattle.cp_normal.specs.Straying.{IsFirstStray};
 ghost use Rattle.cp_normal.specs.declared.candidates.Candidate as program;
 ghost use Rattle.cp_normal.specs.declared.candidates.Candidate.TheVariants as variants;
 
+use crate::form::Form;
 use crate::hearing::heard_atoms;
 use crate::narrowing::branches;
 use crate::normal::is_refuted;
 use crate::straying::{Stray, first_stray};
-use cp_skel::{Occurrence, Skeleton};
+use cp_skel::Occurrence;
 use std::alloc::{AllocError, Global};
 
-/// A skeleton on the way to normal forms: one in which unique values may stray, or one in which none does.
+/// A skeleton on the way to normal forms, with its substitution: one in which unique values may stray, or one in which none
+/// does.
 #[derive(Drop)]
 pub(crate) enum Candidate {
-    Open(Skeleton),
-    Settled(Skeleton),
+    Open(Form),
+    Settled(Form),
 }
 
 impl Candidate {
-    /// The skeleton.
-    pub(crate) fn into_skeleton(self) -> Skeleton
-        ensures { result ≡ skeleton_of self }
+    /// The skeleton with its substitution.
+    pub(crate) fn into_form(self) -> Form
+        ensures { result ≡ form_of self }
     {
         match self {
-            Candidate::Open(skeleton) => skeleton,
-            Candidate::Settled(skeleton) => skeleton,
+            Candidate::Open(form) => form,
+            Candidate::Settled(form) => form,
         }
     }
 }
 
 /// Puts skeletons in which unique values may stray behind others.
-fn put_open(skeletons: Vec<Skeleton>, next: &mut Vec<Candidate>) -> Result<(), AllocError>
-    ensures { OnOk result (next.new.items ≡ next.old.items ++ map variants.Open skeletons.items) }
+fn put_open(forms: Vec<Form>, next: &mut Vec<Candidate>) -> Result<(), AllocError>
+    ensures { OnOk result (next.new.items ≡ next.old.items ++ map variants.Open forms.items) }
 {
-    let mut rest = skeletons;
+    let mut rest = forms;
     rest.reverse();
-    while let Some(skeleton) = rest.pop() {
-        next.push(Candidate::Open(skeleton))?;
+    while let Some(form) = rest.pop() {
+        next.push(Candidate::Open(form))?;
     }
     Ok(())
 }
@@ -51,34 +53,34 @@ fn put_open(skeletons: Vec<Skeleton>, next: &mut Vec<Candidate>) -> Result<(), A
 /// Puts the branches of a skeleton in which a unique value strays, where these are its events, behind others.
 fn put_branches(
     alloc: Global,
-    skeleton: &Skeleton,
+    form: &Form,
     occurrences: &[Occurrence],
     stray: &Stray,
     next: &mut Vec<Candidate>,
 ) -> Result<(), AllocError>
-    requires listed { map occurrence_view occurrences.now ≡ events_of (skeleton_view skeleton.now) }
-    requires consistent { IsRefuted (skeleton_view skeleton.now) → ⊥ }
-    requires stray { IsFirstStray (skeleton_view skeleton.now) stray.now.value stray.now.node }
-    ensures { OnOk result (Puts (variants.Open skeleton.now) next.old.items next.new.items) }
+    requires listed { map occurrence_view occurrences.now ≡ events_of (form_view form.now) }
+    requires consistent { IsRefuted (form_view form.now) → ⊥ }
+    requires stray { IsFirstStray (form_view form.now) stray.now.value stray.now.node }
+    ensures { OnOk result (Puts (variants.Open form.now) next.old.items next.new.items) }
 {
     let atoms = heard_atoms(alloc, occurrences, stray.node)?;
-    let branches = branches(alloc, skeleton, &stray.value, &atoms)?;
+    let branches = branches(alloc, form, &stray.value, &atoms)?;
     put_open(branches, next)
 }
 
 /// Puts what a skeleton in which unique values may stray leads to behind others: nothing where its assumptions contradict
 /// what its nodes carry, its branches where a unique value strays, and else itself.
-fn narrow(alloc: Global, skeleton: Skeleton, next: &mut Vec<Candidate>) -> Result<(), AllocError>
-    ensures { OnOk result (Puts (variants.Open skeleton) next.old.items next.new.items) }
+fn narrow(alloc: Global, form: Form, next: &mut Vec<Candidate>) -> Result<(), AllocError>
+    ensures { OnOk result (Puts (variants.Open form) next.old.items next.new.items) }
 {
-    let occurrences = skeleton.events(alloc)?;
-    if is_refuted(&skeleton, &occurrences) {
+    let occurrences = form.skeleton.events(alloc)?;
+    if is_refuted(&form.skeleton, &occurrences) {
         return Ok(());
     }
-    match first_stray(alloc, &skeleton, &occurrences)? {
-        Some(stray) => put_branches(alloc, &skeleton, &occurrences, &stray, next),
+    match first_stray(alloc, &form.skeleton, &occurrences)? {
+        Some(stray) => put_branches(alloc, &form, &occurrences, &stray, next),
         None => {
-            next.push(Candidate::Settled(skeleton))?;
+            next.push(Candidate::Settled(form))?;
             Ok(())
         }
     }
@@ -90,9 +92,9 @@ fn advance(alloc: Global, candidate: Candidate, next: &mut Vec<Candidate>) -> Re
     ensures { OnOk result (Puts candidate next.old.items next.new.items) }
 {
     match candidate {
-        Candidate::Open(skeleton) => narrow(alloc, skeleton, next),
-        Candidate::Settled(skeleton) => {
-            next.push(Candidate::Settled(skeleton))?;
+        Candidate::Open(form) => narrow(alloc, form, next),
+        Candidate::Settled(form) => {
+            next.push(Candidate::Settled(form))?;
             Ok(())
         }
     }

@@ -36,12 +36,9 @@ fn carries_one(occurrence: &Occurrence, values: &[Atom]) -> bool
 fn some_carries_one(occurrences: &[Occurrence], values: &[Atom]) -> bool
     ensures { IsTrue result ↔ Has (λ o. CarriesOne values.now (occurrence_view o)) occurrences.now }
 {
-    for occurrence in occurrences {
-        if carries_one(occurrence, values) {
-            return true;
-        }
-    }
-    false
+    occurrences
+        .iter()
+        .any(|occurrence| carries_one(occurrence, values))
 }
 
 /// Whether some node carries a non-originating value, where these are the events of the skeleton.

@@ -1,15 +1,20 @@
-// The law that normal forms come by substitutions: it stands as the contract of a function that does nothing.
-ghost use Rattle.std.specs.Prelude.{◌≡◌, List};
+// The laws that normal forms come by substitutions: they stand as contracts of functions that do nothing.
+ghost use Rattle.std.specs.Prelude.{◌≡◌, List, map};
 ghost use Rattle.cp_lists.specs.Lists.{IsIn};
-ghost use Rattle.cp_model.specs.Term.{Term, value_of, after};
+ghost use Rattle.cp_model.specs.Term.{Term, Assignment, value_of, after};
 ghost use Rattle.cp_model.specs.Strand.{Protocol};
+ghost use Rattle.cp_model.specs.Bundle.{Bundle};
 ghost use Rattle.cp_model.specs.Skeleton.{Skeleton, IsSkeleton};
 ghost use Rattle.cp_model.specs.Standing.{Standing};
 ghost use Rattle.cp_model.specs.Homomorphism.{FactorsThrough};
+ghost use Rattle.cp_unify.specs.Bindings.{Binding, as_substitution};
 ghost use Rattle.cp_completeness.specs.Normal.{LosesNoStanding};
+ghost use Rattle.cp_skel.specs.Data.{SkeletonData};
 ghost use Rattle.cp_normal.specs.BySubstitution.{ComesBySubstitution, ComeBySubstitutions};
 ghost use Rattle.cp_normal.specs.Exact.{HasForms};
+ghost use Rattle.cp_normal.specs.Formed.{Formed, StandsAmongFormed, AreNormalForms, IsFormBeside};
 ghost use Rattle.cp_normal.specs.Narrowing.{IsNormalFormOf};
+ghost use Rattle.cp_normal.specs.declared.form.Form.{Form};
 
 /// The normal forms that the rules give a skeleton are normal forms of it, and of a skeleton over a protocol they lose no
 /// standing. Each comes from the skeleton by one substitution, whatever the bundle; and wherever the skeleton stands apart,
@@ -21,4 +26,13 @@ pub fn forms_come_by_substitutions()
     ensures each { (k r : Skeleton) → IsNormalFormOf k r → ComesBySubstitution k r }
     ensures factors { (k r : Skeleton) (h : Standing) → (c : ComesBySubstitution k r) → ((t : Term) → value_of (after h.values c.substitution) t ≡ value_of h.values t) → FactorsThrough k h r h }
     ensures all { (protocol : Protocol) (k : Skeleton) (rs : List Skeleton) → IsSkeleton protocol k → HasForms k rs → ComeBySubstitutions protocol k rs }
+{}
+
+/// The normal forms that the rules give a skeleton have substitutions by which they come. A standing that agrees with the one
+/// of a normal form factors through it; and with another substitution in front, an assignment that agrees gives each term the
+/// value of the term under that one.
+pub fn normal_forms_have_substitutions()
+    ensures exist { (k : Skeleton) (rs : List Skeleton) → HasForms k rs → (forms : List Formed) × AreNormalForms k forms × (map (λ f. f.skeleton) forms ≡ rs) }
+    ensures factors { (k : Skeleton) (forms : List Formed) (b : Bundle) (h : Standing) → AreNormalForms k forms → (among : StandsAmongFormed forms b h) → FactorsThrough k h among.form.skeleton h }
+    ensures beside { (k : SkeletonData) (given : List Binding) (answer : Form) (f : Formed) (g : Assignment) → IsFormBeside k given answer f → ((t : Term) → value_of (after g f.substitution) t ≡ value_of g t) → (t : Term) → value_of (after g (as_substitution answer.substitution)) t ≡ value_of (after g (as_substitution given)) t }
 {}

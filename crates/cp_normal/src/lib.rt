@@ -6,6 +6,7 @@
 mod candidates;
 mod carrying;
 mod examples;
+mod form;
 mod forms_law;
 mod hearing;
 mod laws;
@@ -25,10 +26,11 @@ pub use cp_collapse::{
     two_strands_of_one_role_example, under, unifiers_are_determined,
 };
 pub use examples::stray_text_example;
-pub use forms_law::forms_come_by_substitutions;
+pub use form::Form;
+pub use forms_law::{forms_come_by_substitutions, normal_forms_have_substitutions};
 pub use laws::{contradictory_skeletons_stand_nowhere, normal_forms_keep_what_is_stated};
 pub use normal::normal_pairs;
-pub use normalising::normalise;
+pub use normalising::{normalise, normalise_beside};
 pub use origins::{has_two_origins, loses_origin};
 pub use pairs::added_pairs;
 pub use variables_laws::{

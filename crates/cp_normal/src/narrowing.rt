@@ -1,22 +1,22 @@
 // One step of narrowing.
 ghost use Rattle.std.specs.Prelude.{IfOk};
-ghost use Rattle.cp_skel.specs.View.{skeleton_view};
 ghost use Rattle.cp_normal.specs.Branched.{AreBranchesOf};
 
+use crate::form::Form;
 use cp_collapse::under;
-use cp_skel::{Atom, Skeleton};
-use cp_unify::{Subst, unify};
+use cp_skel::Atom;
+use cp_unify::{Subst, compose, unify};
 use std::alloc::{AllocError, Global};
 
-/// The skeleton under the most general unifier of a value and an atom, for each of the atoms that unifies with the value,
-/// in their order.
+/// The skeleton under the most general unifier of a value and an atom, and its substitution followed by the unifier, for each
+/// of the atoms that unifies with the value, in their order.
 pub(crate) fn branches(
     alloc: Global,
-    k: &Skeleton,
+    form: &Form,
     value: &Atom,
     atoms: &[Atom],
-) -> Result<Vec<Skeleton>, AllocError>
-    ensures { IfOk result (λ ls. AreBranchesOf k.now value.now atoms.now ls.items) }
+) -> Result<Vec<Form>, AllocError>
+    ensures { IfOk result (λ ls. AreBranchesOf form.now value.now atoms.now ls.items) }
 {
     let nothing = Subst::new(alloc);
     let mut branches = Vec::new(alloc);
@@ -25,7 +25,12 @@ pub(crate) fn branches(
             Some(s) => s,
             None => continue,
         };
-        branches.push(under(alloc, k, &s)?)?;
+        let skeleton = under(alloc, &form.skeleton, &s)?;
+        let substitution = compose(alloc, &form.substitution, &s)?;
+        branches.push(Form {
+            skeleton,
+            substitution,
+        })?;
     }
     Ok(branches)
 }

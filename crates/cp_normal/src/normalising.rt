@@ -9,22 +9,32 @@ ghost use Rattle.cp_skel.specs.Data.{SkeletonData};
 ghost use Rattle.cp_normal.specs.BySubstitution.{ComeBySubstitutions};
 ghost use Rattle.cp_normal.specs.Candidates.{PutsForm, AreForms};
 ghost use Rattle.cp_normal.specs.Exact.{HasForms};
+ghost use Rattle.cp_normal.specs.Formed.{AreFormsBeside};
 ghost use Rattle.cp_normal.specs.Narrowing.{IsNormalFormOf};
 
 use crate::candidates::{Candidate, round, some_is_open};
+use crate::form::Form;
 use crate::normal::normal_pairs;
 use cp_skel::Skeleton;
+use cp_unify::Subst;
 use std::alloc::{AllocError, Global};
 
 /// Puts the normal form of a skeleton in which no unique value strays behind others, if it has one.
-fn add_form(alloc: Global, skeleton: Skeleton, forms: &mut Vec<Skeleton>) -> Result<(), AllocError>
-    ensures { OnOk result (PutsForm skeleton forms.old.items forms.new.items) }
+fn add_form(alloc: Global, form: Form, forms: &mut Vec<Form>) -> Result<(), AllocError>
+    ensures { OnOk result (PutsForm form forms.old.items forms.new.items) }
 {
+    let Form {
+        skeleton,
+        substitution,
+    } = form;
     skeleton.is_sound();
     match normal_pairs(alloc, &skeleton)? {
         Some(pairs) => {
-            let form = skeleton.with_pairs(alloc, pairs)?;
-            forms.push(form)?;
+            let skeleton = skeleton.with_pairs(alloc, pairs)?;
+            forms.push(Form {
+                skeleton,
+                substitution,
+            })?;
             Ok(())
         }
         None => Ok(()),
@@ -32,16 +42,51 @@ fn add_form(alloc: Global, skeleton: Skeleton, forms: &mut Vec<Skeleton>) -> Res
 }
 
 /// The normal forms of skeletons in which no unique value strays, in their order.
-fn forms_of(alloc: Global, candidates: Vec<Candidate>) -> Result<Vec<Skeleton>, AllocError>
+fn forms_of(alloc: Global, candidates: Vec<Candidate>) -> Result<Vec<Form>, AllocError>
     ensures { IfOk result (λ forms. AreForms candidates.items forms.items) }
 {
     let mut rest = candidates;
     rest.reverse();
     let mut forms = Vec::new(alloc);
     while let Some(candidate) = rest.pop() {
-        add_form(alloc, candidate.into_skeleton(), &mut forms)?;
+        add_form(alloc, candidate.into_form(), &mut forms)?;
     }
     Ok(forms)
+}
+
+/// The normal forms of a skeleton, in the order in which `normalise` gives them, each with what a substitution has become:
+/// the given one, followed by the one by which the normal form comes from the skeleton, whatever the bundle that this stands
+/// in. So terms that the given substitution makes terms of the skeleton are made terms of the normal form.
+///
+/// The error is that memory ran out.
+pub fn normalise_beside(alloc: Global, k: Skeleton, beside: &Subst) -> Result<Vec<Form>, AllocError>
+    ensures forms { IfOk result (λ fs. AreFormsBeside k beside.now fs.items) }
+{
+    let substitution = beside.copy(alloc)?;
+    let first = Form {
+        skeleton: k,
+        substitution,
+    };
+    let mut candidates = Vec::new(alloc);
+    candidates.push(Candidate::Open(first))?;
+    while some_is_open(&candidates) {
+        candidates = round(alloc, candidates)?;
+    }
+    forms_of(alloc, candidates)
+}
+
+/// The skeletons of forms, in their order.
+fn skeletons_of(alloc: Global, forms: Vec<Form>) -> Result<Vec<Skeleton>, AllocError>
+    ensures { IfOk result (λ ks. ks.items ≡ map (λ f. f.skeleton) forms.items) }
+{
+    let mut rest = forms;
+    rest.reverse();
+    let mut skeletons = Vec::new(alloc);
+    while let Some(form) = rest.pop() {
+        let Form { skeleton, .. } = form;
+        skeletons.push(skeleton)?;
+    }
+    Ok(skeletons)
 }
 
 /// The normal forms of a skeleton. The rules are tried in order, from the start after each change. There is no normal
@@ -64,10 +109,7 @@ pub fn normalise(alloc: Global, k: Skeleton) -> Result<Vec<Skeleton>, AllocError
     ensures by_substitutions { IfOk result (λ ks. (protocol : Protocol) → IsSkeleton protocol (skeleton_view k) → ComeBySubstitutions protocol (skeleton_view k) (map skeleton_view ks.items)) }
     ensures variables { IfOk result (λ ks. (r : SkeletonData) → IsIn r ks.items → r.variables ≡ k.variables) }
 {
-    let mut candidates = Vec::new(alloc);
-    candidates.push(Candidate::Open(k))?;
-    while some_is_open(&candidates) {
-        candidates = round(alloc, candidates)?;
-    }
-    forms_of(alloc, candidates)
+    let nothing = Subst::new(alloc);
+    let forms = normalise_beside(alloc, k, &nothing)?;
+    skeletons_of(alloc, forms)
 }

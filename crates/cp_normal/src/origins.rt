@@ -75,24 +75,18 @@ fn is_carried_before(occurrence: &Occurrence, unique: &UniqueAt) -> bool
 fn some_is_sent_at_origin(occurrences: &[Occurrence], unique: &UniqueAt) -> bool
     ensures { IsTrue result ↔ Has (λ o. IsSentAtOrigin unique.now (occurrence_view o)) occurrences.now }
 {
-    for occurrence in occurrences {
-        if is_sent_at_origin(occurrence, unique) {
-            return true;
-        }
-    }
-    false
+    occurrences
+        .iter()
+        .any(|occurrence| is_sent_at_origin(occurrence, unique))
 }
 
 /// Whether one of the events carries the value before the recorded origin, on its strand.
 fn some_is_carried_before(occurrences: &[Occurrence], unique: &UniqueAt) -> bool
     ensures { IsTrue result ↔ Has (λ o. IsCarriedBefore unique.now (occurrence_view o)) occurrences.now }
 {
-    for occurrence in occurrences {
-        if is_carried_before(occurrence, unique) {
-            return true;
-        }
-    }
-    false
+    occurrences
+        .iter()
+        .any(|occurrence| is_carried_before(occurrence, unique))
 }
 
 /// Whether one of the strands is there and is a role strand.

@@ -21,12 +21,7 @@ use std::alloc::{AllocError, Global};
 use std::rc::Rc;
 
 /// The faults of an item of a role with these variables and this trace.
-fn role_item_faults(
-    alloc: Global,
-    scope: Scope<'_>,
-    form: &Form,
-    first: &mut FirstFault,
-) -> Result<(), AllocError>
+fn role_item_faults(scope: Scope<'_>, form: &Form, first: &mut FirstFault) -> Result<(), AllocError>
     ensures { OnOk result (first.new ≡ first_onto first.old
         (item_faults (role_item_faults (map declaration_view scope.entry.variables.now) (map event_view scope.entry.trace.now)) (view form.now))) }
 {
@@ -36,7 +31,7 @@ fn role_item_faults(
     };
     match item_head(list.head) {
         ItemHead::Non | ItemHead::PenetratorNon => atoms_faults(scope.variables, list.items, first),
-        ItemHead::Unique => return role_uniques_faults(alloc, scope, list.items, first),
+        ItemHead::Unique => return role_uniques_faults(scope, list.items, first),
         ItemHead::Comment => {}
         ItemHead::OutOfProfile => first.note(place_of(form), Code::OutOfProfile),
         _ => first.note(place_of(form), Code::UnknownForm),
@@ -46,7 +41,6 @@ fn role_item_faults(
 
 /// The faults of the items of a role with these variables and this trace.
 fn role_items_faults(
-    alloc: Global,
     scope: Scope<'_>,
     items: &[Form],
     first: &mut FirstFault,
@@ -55,7 +49,7 @@ fn role_items_faults(
         (each_faults (item_faults (role_item_faults (map declaration_view scope.entry.variables.now) (map event_view scope.entry.trace.now))) (map view items.now))) }
 {
     for item in items {
-        role_item_faults(alloc, scope, item, first)?;
+        role_item_faults(scope, item, first)?;
     }
     Ok(())
 }
@@ -132,10 +126,11 @@ fn role_of(
     trace_faults(&variables, trace, first);
     let trace = events_of(alloc, &variables, trace)?;
     let scope = Scope {
+        alloc,
         variables: &variables,
         trace: &trace,
     };
-    role_items_faults(alloc, scope, items, first)?;
+    role_items_faults(scope, items, first)?;
     let name = name_of(alloc, name)?;
     let non_originating = atoms_of(alloc, &variables, Kind::Non, items)?;
     let penetrator_non_originating = atoms_of(alloc, &variables, Kind::PenetratorNon, items)?;

@@ -14,9 +14,10 @@ use cp_strand::{Declaration, Event};
 use cp_term::Term;
 use std::alloc::{AllocError, Global};
 
-/// What the items of a role speak of: its variables and its trace.
+/// What the items of a role speak of, its variables and its trace; and where memory comes from.
 #[derive(Clone, Copy)]
 pub(crate) struct Scope<'a> {
+    pub(crate) alloc: Global,
     pub(crate) variables: &'a [Declaration],
     pub(crate) trace: &'a [Event],
 }
@@ -30,7 +31,6 @@ fn origin(events: &[Event], value: &Term) -> Option<usize>
 
 /// The faults of a unique value of a role with this trace: where it has no other, it has to originate in the trace.
 fn role_unique_faults(
-    alloc: Global,
     scope: Scope<'_>,
     form: &Form,
     first: &mut FirstFault,
@@ -38,7 +38,7 @@ fn role_unique_faults(
     ensures { OnOk result (first.new ≡ first_onto first.old
         (role_unique_faults (map declaration_view scope.entry.variables.now) (map event_view scope.entry.trace.now) (view form.now))) }
 {
-    let value = term_of(alloc, scope.variables, form)?;
+    let value = term_of(scope.alloc, scope.variables, form)?;
     let mut inside = FirstFault::new();
     atom_faults(scope.variables, form, &mut inside);
     inside.note_unless_faulty(
@@ -52,7 +52,6 @@ fn role_unique_faults(
 
 /// The faults of the unique values of a role with this trace.
 pub(crate) fn role_uniques_faults(
-    alloc: Global,
     scope: Scope<'_>,
     items: &[Form],
     first: &mut FirstFault,
@@ -61,7 +60,7 @@ pub(crate) fn role_uniques_faults(
         (each_faults (role_unique_faults (map declaration_view scope.entry.variables.now) (map event_view scope.entry.trace.now)) (map view items.now))) }
 {
     for item in items {
-        role_unique_faults(alloc, scope, item, first)?;
+        role_unique_faults(scope, item, first)?;
     }
     Ok(())
 }

@@ -7,4 +7,5 @@ pub mod EachCollapse
 pub mod RootsSoFar
 pub mod SoundRoots
 pub mod AllRoots
+pub mod Over
 pub mod FewInstances

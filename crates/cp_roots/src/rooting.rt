@@ -2,11 +2,11 @@
 ghost use Rattle.std.specs.Prelude.{◌≡◌, map, IfOk};
 ghost use Rattle.cp_lists.specs.Lists.{IsIn};
 ghost use Rattle.cp_model.specs.Problem.{IsPointOfView};
-ghost use Rattle.cp_model.specs.Skeleton.{IsSkeleton};
 ghost use Rattle.cp_skel.specs.Trees.{variables_view};
 ghost use Rattle.cp_skel.specs.View.{skeleton_view};
 ghost use Rattle.cp_roots.specs.declared.root.Root as program;
 ghost use Rattle.cp_roots.specs.RootView.{root_view};
+ghost use Rattle.cp_roots.specs.Over.{IsOver};
 ghost use Rattle.cp_roots.specs.Roots.{AreRoots};
 ghost use Rattle.cp_roots.specs.Sound.{AreSound};
 
@@ -23,18 +23,20 @@ use std::alloc::{AllocError, Global};
 /// a collapse that has no normal form there is no root. Equal roots are kept. The assumptions of a root that is not dead are
 /// in the order of a report, each once.
 ///
-/// The problem has to be a skeleton over the protocol that maps to itself. The error is that memory ran out.
+/// The problem has to be of the protocol, in that its strands' roles are, and to map to itself. The error is that memory ran
+/// out.
 pub fn roots(
     alloc: Global,
     protocol: &Protocol,
     problem: &Skeleton,
 ) -> Result<Vec<Root>, AllocError>
-    requires skeleton { IsSkeleton protocol.now (skeleton_view problem.now) }
+    requires over { IsOver protocol.now (skeleton_view problem.now) }
     requires own { IsPointOfView (variables_view problem.now.variables) (skeleton_view problem.now) }
     ensures exact { IfOk result (λ rs. AreRoots (skeleton_view problem.now) (map root_view rs.items)) }
     ensures sound { IfOk result (λ rs. AreSound protocol.now (skeleton_view problem.now) (map root_view rs.items)) }
     ensures variables { IfOk result (λ rs. (r : program.Root) → IsIn r rs.items → r.skeleton.variables ≡ problem.now.variables) }
 {
+    problem.is_sound();
     let mut roots = first_roots(alloc, problem)?;
     // Fewer than two instances leave nothing to identify. Looking for partitions would go over all pairs of strands.
     if !has_two_instances(problem.strands()) {

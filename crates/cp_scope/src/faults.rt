@@ -117,14 +117,14 @@ fn name_faults<'a>(
 /// The long-term key of two names; the names.
 fn two_name_faults<'a>(
     variables: &[Declaration],
-    place: Place,
-    items: &'a [Form],
+    list: HeadedList<'a>,
     first: &mut FirstFault,
 ) -> &'a [Form]
-    ensures arguments { map view result.now ≡ take 2 (map view items.now) }
-    ensures faults { first.new ≡ first_onto first.old (two_name_faults (map declaration_view variables.now) place (map view items.now)) }
+    ensures arguments { map view result.now ≡ take 2 (map view list.entry.items.now) }
+    ensures faults { first.new ≡ first_onto first.old (two_name_faults (map declaration_view variables.now) list.entry.place (map view list.entry.items.now)) }
 {
-    lacks(2, place, items, first);
+    let items = list.items;
+    lacks(2, list.place, items, first);
     item_sort_faults(variables, Sort::Name, items, 0, first);
     item_sort_faults(variables, Sort::Name, items, 1, first);
     exceeds(2, items, first);
@@ -153,7 +153,7 @@ fn own_faults<'a>(
             last_key_faults(variables, items, first);
             items
         }
-        TermHead::Ltk => two_name_faults(variables, place, items, first),
+        TermHead::Ltk => two_name_faults(variables, list, first),
         TermHead::Pubk | TermHead::Privk => name_faults(variables, place, items, first),
         TermHead::Invk => argument_faults(variables, Sort::Akey, place, items, first),
         TermHead::OutOfProfile => {

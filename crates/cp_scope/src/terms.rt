@@ -39,22 +39,14 @@ fn is_name(term: &Term) -> bool
     matches!(term.shape(), Shape::Variable(_, Sort::Name))
 }
 
-/// What stands where there is no name.
-fn no_name(alloc: Global) -> Result<Term, AllocError>
-    ensures { IfOk result (λ t. t ≡ name_of 0) }
-{
-    var(alloc, VarId::numbered(0), Sort::Name)
-}
-
-/// A term as one of sort name.
+/// A term as one of sort name; any other counts as the first name.
 fn name_term(alloc: Global, term: &Term) -> Result<Term, AllocError>
     ensures { IfOk result (λ t. t ≡ name_of (as_name term.now)) }
 {
     if is_name(term) {
-        term.copy()
-    } else {
-        no_name(alloc)
+        return term.copy();
     }
+    var(alloc, VarId::numbered(0), Sort::Name)
 }
 
 /// Whether a term is a key.

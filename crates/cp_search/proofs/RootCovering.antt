@@ -8,6 +8,7 @@ use Rattle.cp_model.specs.Standing.{Standing, StandsIn, StandsApart}
 use Rattle.cp_model.specs.Homomorphism.{Embeds, Covers}
 use Rattle.cp_model.specs.Tree.{Mark, shape, dead, seen, instance_of, limit_steps, limit_strands, Label, Limits, if_shape, shapes_of, if_left, skeletons_left}
 use Rattle.cp_lists.proofs.Items.{item_of_map, map_of_item, place_of}
+use Rattle.cp_completeness.proofs.LabelsLeft.{listed_where_left, left_is_shape}
 use Rattle.cp_shapes.specs.Shapes.{IsLeast, EmbedsAt, IsInstanceWithin, IsShapeAt}
 use Rattle.cp_shapes.specs.Through.{StandsThrough}
 use Rattle.cp_shapes.proofs.Instances.{same_item, embeds_on}
@@ -34,34 +35,11 @@ left_first mark k ks at_shape = here
 left_first mark k ks at_steps = here
 left_first mark k ks at_strands = here
 
-left_behind : (mark : Option Mark) (k l : Skeleton) (ks : List Skeleton) → IsIn l ks → IsIn l (if_left mark k ks)
-left_behind None k l ks h = h
-left_behind (Some shape) k l ks h = there h
-left_behind (Some dead) k l ks h = h
-left_behind (Some (seen n)) k l ks h = h
-left_behind (Some (instance_of n)) k l ks h = h
-left_behind (Some limit_steps) k l ks h = there h
-left_behind (Some limit_strands) k l ks h = there h
-
 -- The skeleton of a label that is left is listed.
 left_listed : (labels : List Label) (i : ℕ) (l : Label) (mark : Mark) → item_at labels i ≡ Some l → l.mark ≡ Some mark → IsLeft mark → IsIn l.skeleton (skeletons_left labels)
-left_listed [] i l mark at e left = absurd (cc)
-left_listed (m ∷ ms) zero l mark at e left =
-    let q : m ≡ l = cc in
-    let marked : m.mark ≡ Some mark = ap (λ (x : Label). x.mark) q ∙ e in
-    subst (λ (x : Label). IsIn x.skeleton (skeletons_left (m ∷ ms))) q (subst (λ (o : Option Mark). IsIn m.skeleton (if_left o m.skeleton (skeletons_left ms))) (sym marked) (left_first mark m.skeleton (skeletons_left ms) left))
-left_listed (m ∷ ms) (suc i) l mark at e left = left_behind m.mark m.skeleton l.skeleton (skeletons_left ms) (left_listed ms i l mark at e left)
+left_listed labels i l mark at e left = listed_where_left labels i l at (λ k ks. subst (λ (o : Option Mark). IsIn k (if_left o k ks)) (sym e) (left_first mark k ks left))
 
 -- Where no label is at a limit, the shapes alone are left.
-left_is_shape : (mark : Option Mark) (k : Skeleton) (ks : List Skeleton) → (mark ≡ Some limit_steps → ⊥) → (mark ≡ Some limit_strands → ⊥) → if_left mark k ks ≡ if_shape mark k ks
-left_is_shape None k ks a c = refl
-left_is_shape (Some shape) k ks a c = refl
-left_is_shape (Some dead) k ks a c = refl
-left_is_shape (Some (seen n)) k ks a c = refl
-left_is_shape (Some (instance_of n)) k ks a c = refl
-left_is_shape (Some limit_steps) k ks a c = absurd (a refl)
-left_is_shape (Some limit_strands) k ks a c = absurd (c refl)
-
 none_behind : (l : Label) (ls : List Label) (mark : Mark) → (IsMarked (l ∷ ls) mark → ⊥) → IsMarked ls mark → ⊥
 none_behind l ls mark none m = none (m.0, there m.1, m.2)
 

@@ -1,10 +1,10 @@
 // The tree of a problem when no label may be expanded.
 ghost use Rattle.std.specs.Prelude.{◌≡◌, IfOk};
 ghost use Rattle.cp_model.specs.Problem.{IsPointOfView};
-ghost use Rattle.cp_model.specs.Skeleton.{IsSkeleton};
 ghost use Rattle.cp_model.specs.Tree.{IsTrueOf};
 ghost use Rattle.cp_skel.specs.View.{skeleton_view};
 ghost use Rattle.cp_skel.specs.Trees.{variables_view, limits_view, tree_view};
+ghost use Rattle.cp_roots.specs.Over.{IsOver};
 ghost use Rattle.cp_search.specs.Unexpanded.{IsUnexpanded};
 
 use crate::labelling::tree_of;
@@ -24,15 +24,15 @@ use std::alloc::{AllocError, Global};
 /// complete: then every execution of the problem is an execution of a shape. At a limit too every execution of the problem
 /// is one of a shape or of a label at the limit.
 ///
-/// The problem has to be a skeleton over the protocol that maps to itself, and no step may be allowed. The error is that
-/// memory ran out.
+/// The problem has to be of the protocol, in that its strands' roles are, and to map to itself; and no step may be allowed.
+/// The error is that memory ran out.
 pub fn unexpanded(
     alloc: Global,
     protocol: &Protocol,
     problem: &Skeleton,
     limits: Limits,
 ) -> Result<Tree, AllocError>
-    requires skeleton { IsSkeleton protocol.now (skeleton_view problem.now) }
+    requires over { IsOver protocol.now (skeleton_view problem.now) }
     requires own { IsPointOfView (variables_view problem.now.variables) (skeleton_view problem.now) }
     requires no_steps { limits.steps ≡ 0 }
     ensures true_tree { IfOk result (λ t. IsTrueOf protocol.now (skeleton_view problem.now) (limits_view limits) (tree_view t)) }

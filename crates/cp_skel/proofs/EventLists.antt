@@ -11,7 +11,7 @@ use Rattle.cp_model.specs.Derivable.{IsOnInstance}
 use Rattle.cp_strand.specs.View.{event_view}
 use Rattle.cp_strand.specs.declared.protocol.Event.{Event as ProgramEvent}
 use Rattle.cp_skel.specs.Events.{Occurrence, is_role_strand, occurrences_on, occurrences_from, events_of}
-use Rattle.cp_lists.proofs.Members.{in_append, in_append_left, in_append_right}
+use Rattle.cp_lists.proofs.Members.{in_cases, in_append, in_append_left, in_append_right}
 
 -- ---- the loops that list them
 
@@ -45,10 +45,6 @@ event_there i n es None at h l none = some_within es i (omega arith) (sym at)
 event_there i n es (Some e) at h l none = none e refl
 
 -- ---- on one strand
-
-in_cases : {A : Type 0} {x y : A} {ys : List A} → IsIn x (y ∷ ys) → (y ≡ x) ⊎ IsIn x ys
-in_cases here = inl refl
-in_cases (there h) = inr h
 
 -- The event stands at some place of the strand's events.
 pub record StandsOn (s i : ℕ) (r : Bool) (es : List (Event Term)) (o : Occurrence) : Type 0 where

@@ -8,6 +8,7 @@ mod changes_laws;
 mod changing;
 mod collecting;
 mod copying;
+mod declaring;
 mod deleting;
 mod events;
 mod forgetting;

@@ -1,5 +1,5 @@
 // The order of a skeleton's nodes.
-ghost use Rattle.std.specs.Prelude.{◌≡◌, ◌↔◌, ◌∷◌, map, true, false, IsTrue, IfOk, OnOk, OnErr};
+ghost use Rattle.std.specs.Prelude.{◌≡◌, ◌↔◌, [], ◌∷◌, ◌++◌, map, true, false, IsTrue, IfOk, OnOk, OnErr};
 ghost use Rattle.cp_model.specs.declared.node.Node.{Node as PlainNode};
 ghost use Rattle.cp_model.specs.Skeleton.{IsNodeOf, Before, IsOrderPair};
 ghost use Rattle.cp_order.specs.Closed.{IsClosed};
@@ -55,6 +55,7 @@ impl Skeleton {
         ensures refused { IfOk result (λ added. (added ≡ false) ↔ Before (skeleton_view self.old) m n) }
         ensures same { IfOk result (λ added. added ≡ false → self.new ≡ self.old) }
         ensures rest { IfOk result (λ added. added ≡ true → ChangesOrderOnly self.old self.new) }
+        ensures pairs { IfOk result (λ added. added ≡ true → (skeleton_view self.new).pairs ≡ (skeleton_view self.old).pairs ++ record { earlier = n; later = m } ∷ []) }
         ensures before { IfOk result (λ added. added ≡ true → (x y : PlainNode)
             → Before (skeleton_view self.new) x y ↔ Before (ordered_by (skeleton_view self.old) (record { earlier = n; later = m } ∷ (skeleton_view self.old).pairs)) x y) }
         ensures unchanged { OnErr result (self.new ≡ self.old) }

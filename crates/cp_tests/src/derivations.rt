@@ -1,10 +1,10 @@
 // What can be derived, and what is critical, worked out by hand, and a long chain.
-use crate::stated::{NEEDHAM_SCHROEDER, event_at, is_there, skeleton_of, terms_of};
+use crate::stated::{NEEDHAM_SCHROEDER, chain, event_at, is_there, skeleton_of, terms_of};
 use cp_derive::{Critical, Known, buildable, critical, critical_in, known, unrealised};
 use cp_model::Node;
 use cp_skel::{Event, Skeleton};
-use cp_term::{Sort, Step, Term, VarId, pair, var};
-use std::alloc::{AllocError, Global};
+use cp_term::{Sort, Step, Term, VarId, var};
+use std::alloc::Global;
 use std::test::Fail;
 
 // What was sent, what is secret, a message, and what is critical in it, with the path there; the empty text where all of it
@@ -161,15 +161,6 @@ fn nodes_of_skeletons(rt: HostRuntime) -> Result<(), Fail> {
         assert!(rt; are_nodes(&unrealised(alloc, &k)?, places), "{problem}");
     }
     Ok(())
-}
-
-/// A pair of a and a pair of a and so on, this many deep, and then the last.
-fn chain(alloc: Global, a: &Term, last: &Term, len: u32) -> Result<Term, AllocError> {
-    let mut chain = last.copy()?;
-    for _ in 0..len {
-        chain = pair(alloc, a.copy()?, chain)?;
-    }
-    Ok(chain)
 }
 
 // The work on a chain is a loop: it needs no deep stack.

@@ -169,6 +169,15 @@ fn with_its_pairs(alloc: Global, k: Skeleton) -> Result<Skeleton, AllocError> {
     k.with_pairs(alloc, pairs)
 }
 
+/// The skeleton of two strands with a pair from the first node of the one to the first of the other.
+fn with_first_pair(alloc: Global) -> Result<Skeleton, Fail> {
+    let mut k = skeleton_of(alloc, NEEDHAM_SCHROEDER, TWO_STRANDS)?;
+    if !add_pair(alloc, &mut k, node(0, 0), node(1, 0))? {
+        return Err(Fail::new("the pair closes a cycle"));
+    }
+    Ok(k)
+}
+
 const TWO_STRANDS: &str = "(defskeleton ns (vars) (defstrand init 3) (defstrand resp 3))";
 
 // The second pair would close a cycle, and is not added.
@@ -189,8 +198,7 @@ fn pair_that_closes_a_cycle(rt: HostRuntime) -> Result<(), Fail> {
 #[test]
 fn the_same_pairs_again(rt: HostRuntime) -> Result<(), Fail> {
     let alloc = rt.alloc();
-    let mut k = skeleton_of(alloc, NEEDHAM_SCHROEDER, TWO_STRANDS)?;
-    assert!(rt; add_pair(alloc, &mut k, node(0, 0), node(1, 0))?);
+    let k = with_first_pair(alloc)?;
     let again = with_its_pairs(alloc, k.copy(alloc)?)?;
     assert_eq!(rt; again.order().pairs(), k.order().pairs());
     assert!(rt; is_before(alloc, &again, node(0, 0), node(1, 2))?);
@@ -201,8 +209,7 @@ fn the_same_pairs_again(rt: HostRuntime) -> Result<(), Fail> {
 #[test]
 fn before(rt: HostRuntime) -> Result<(), Fail> {
     let alloc = rt.alloc();
-    let mut k = skeleton_of(alloc, NEEDHAM_SCHROEDER, TWO_STRANDS)?;
-    assert!(rt; add_pair(alloc, &mut k, node(0, 0), node(1, 0))?);
+    let mut k = with_first_pair(alloc)?;
     assert!(rt; is_before(alloc, &k, node(0, 0), node(1, 2))?);
     k.order_close(alloc)?;
     assert!(rt; is_before(alloc, &k, node(0, 0), node(1, 2))?);

@@ -1,8 +1,8 @@
 // The text of one small report, and where its top forms end.
-use crate::stated::{forms_of, input_of, last_problem};
+use crate::stated::{forms_of, input_of, label, last_problem};
 use cp_load::Input;
 use cp_print::{print, print_pieces};
-use cp_skel::{Mark, Operation, Outcome, Skeleton, Tree, TreeNode};
+use cp_skel::{Mark, Outcome, Skeleton, Tree};
 use std::alloc::{AllocError, Global};
 use std::test::Fail;
 
@@ -18,16 +18,9 @@ const ENDS: &[usize] = &[9, 31, 83, 172, 219];
 /// The tree of a problem that is its own shape.
 fn tree(alloc: Global, skeleton: Skeleton) -> Result<Tree, AllocError> {
     let mut nodes = Vec::new(alloc);
-    nodes.push(TreeNode {
-        parent: None,
-        operation: Operation::Problem,
-        skeleton,
-        unrealised: Vec::new(alloc),
-        test: None,
-        patterns: Vec::new(alloc),
-        children: Vec::new(alloc),
-        mark: Some(Mark::Shape),
-    })?;
+    let mut shape = label(alloc, skeleton);
+    shape.mark = Some(Mark::Shape);
+    nodes.push(shape)?;
     Ok(Tree {
         nodes,
         outcome: Outcome::Complete,

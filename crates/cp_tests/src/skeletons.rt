@@ -287,14 +287,6 @@ fn are_listed(alloc: Global, k: &Skeleton, wanted: &[Term]) -> Result<bool, Allo
     Ok(are_given(&listed, wanted))
 }
 
-#[test]
-fn what_a_report_lists(rt: HostRuntime) -> Result<(), Fail> {
-    let k = initiator(rt.alloc())?;
-    let wanted = given_terms(rt.alloc())?;
-    assert!(rt; are_listed(rt.alloc(), &k, &wanted)?);
-    Ok(())
-}
-
 /// Whether these are what the first strand gives, where nothing is assumed.
 fn are_missing(alloc: Global, k: &Skeleton, wanted: &[Term]) -> Result<bool, AllocError> {
     match first_instance(k.strands()) {
@@ -306,14 +298,6 @@ fn are_missing(alloc: Global, k: &Skeleton, wanted: &[Term]) -> Result<bool, All
     }
 }
 
-#[test]
-fn what_is_missing(rt: HostRuntime) -> Result<(), Fail> {
-    let k = initiator(rt.alloc())?;
-    let wanted = given_terms(rt.alloc())?;
-    assert!(rt; are_missing(rt.alloc(), &k, &wanted)?);
-    Ok(())
-}
-
 /// What the strands give, added twice.
 fn given_twice(alloc: Global, strands: &[Strand]) -> Result<Assumptions, AllocError> {
     let mut assumed = none_assumed(alloc);
@@ -323,11 +307,13 @@ fn given_twice(alloc: Global, strands: &[Strand]) -> Result<Assumptions, AllocEr
     Ok(assumed)
 }
 
-// What is given twice is added once.
+// A report lists what is given, it is missing where nothing is assumed, and what is given twice is added once.
 #[test]
-fn what_is_added(rt: HostRuntime) -> Result<(), Fail> {
+fn what_is_listed_missing_and_added(rt: HostRuntime) -> Result<(), Fail> {
     let k = initiator(rt.alloc())?;
     let wanted = given_terms(rt.alloc())?;
+    assert!(rt; are_listed(rt.alloc(), &k, &wanted)?);
+    assert!(rt; are_missing(rt.alloc(), &k, &wanted)?);
     let assumed = given_twice(rt.alloc(), k.strands())?;
     assert!(rt; are_given(&assumed, &wanted));
     Ok(())
@@ -399,22 +385,15 @@ fn carried_under_values(rt: HostRuntime) -> Result<(), Fail> {
 }
 
 #[test]
-fn copies_of_terms(rt: HostRuntime) -> Result<(), Fail> {
+fn copies(rt: HostRuntime) -> Result<(), Fail> {
     let terms = terms_of(rt.alloc(), "(n text) (a name)", &["n", "(cat n a)"])?;
     let again = copy_terms(rt.alloc(), &terms)?;
     assert_eq!(rt; again.len(), 2);
     assert!(rt; again.iter().zip(&terms).all(|(one, other)| one.same(other)));
-    Ok(())
-}
-
-#[test]
-fn copies_of_atoms(rt: HostRuntime) -> Result<(), Fail> {
     let atoms = atoms(rt.alloc(), "(n text) (a name)", &["n", "(privk a)"])?;
     let again = copy_atoms(rt.alloc(), &atoms)?;
     assert_eq!(rt; again.len(), 2);
-    for atom in &again {
-        assert!(rt; has(&atoms, atom));
-    }
+    assert!(rt; again.iter().all(|atom| has(&atoms, atom)));
     Ok(())
 }
 

@@ -10,7 +10,7 @@ use cp_model::Node;
 use cp_print::print;
 use cp_sexpr::{Form, MAX_LENGTH, read, write};
 use cp_skel::{Event, Operation, Outcome, Skeleton, Strand, StrandShape, Tree, TreeNode};
-use cp_term::Term;
+use cp_term::{Term, pair};
 use std::alloc::{AllocError, Global};
 use std::test::Fail;
 
@@ -115,6 +115,15 @@ pub(crate) fn terms_of(alloc: Global, variables: &str, terms: &[&str]) -> Result
     let forms = forms_of(alloc, &text)?;
     let k = last_problem(alloc, &forms)?;
     Ok(heard(alloc, k.strands())?)
+}
+
+/// A pair of a term and a pair of it and so on, this many deep, and then the last.
+pub(crate) fn chain(alloc: Global, term: &Term, last: &Term, len: u32) -> Result<Term, AllocError> {
+    let mut chain = last.copy()?;
+    for _ in 0..len {
+        chain = pair(alloc, term.copy()?, chain)?;
+    }
+    Ok(chain)
 }
 
 /// The label of a skeleton in a tree, as if it were the problem's.

@@ -3,6 +3,7 @@ ghost use Rattle.std.specs.Prelude.{◌≡◌, IfOk};
 ghost use Rattle.cp_term.specs.Keys.{IsKey};
 ghost use Rattle.cp_term.specs.Variables.{variable_term};
 
+use crate::stated::chain;
 use cp_term::{
     Locals, Path, Pattern, Shape, Sort, Step, Term, VarId, VarTable, at, carries, depth, enc,
     invert, ltk, pair, paths_of, pubk, tag, var,
@@ -157,20 +158,11 @@ fn patterns(rt: HostRuntime) -> Result<(), Fail> {
     Ok(())
 }
 
-/// A pair of n and a pair of n and so on, this many deep.
-fn chain(alloc: Global, len: u32) -> Result<Term, AllocError> {
-    let n = variable(alloc, Sort::Text)?;
-    let mut chain = n.copy()?;
-    for _ in 0..len {
-        chain = pair(alloc, n.copy()?, chain)?;
-    }
-    Ok(chain)
-}
-
 // The work on a chain and its drop are loops: neither needs a deep stack.
 #[test]
 fn long_chain(rt: HostRuntime) -> Result<(), Fail> {
-    let chain = chain(rt.alloc(), 300_000)?;
+    let n = variable(rt.alloc(), Sort::Text)?;
+    let chain = chain(rt.alloc(), &n, &n, 300_000)?;
     let other = tag(rt.alloc(), "other")?;
     assert_eq!(rt; depth(&chain), 300_001);
     assert!(rt; chain.same(&chain) && !carries(&chain, &other));

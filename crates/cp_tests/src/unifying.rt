@@ -2,8 +2,8 @@
 ghost use Rattle.std.specs.Prelude.{◌≡◌, IfOk};
 ghost use Rattle.cp_model.specs.Term.{atom_term, text_variable};
 
-use crate::stated::terms_of;
-use cp_term::{Sort, Term, VarId, pair, tag, var};
+use crate::stated::{chain, terms_of};
+use cp_term::{Sort, Term, VarId, tag, var};
 use cp_unify::{Binding, Subst, apply, compose, matching, matching_beside, unify};
 use std::alloc::{AllocError, Global};
 use std::test::Fail;
@@ -172,15 +172,6 @@ fn variables_apart(rt: HostRuntime) -> Result<(), Fail> {
     Ok(())
 }
 
-/// Pairs of a term and a pair and so on, this many deep.
-fn chain(alloc: Global, term: &Term, len: u32) -> Result<Term, AllocError> {
-    let mut chain = term.copy()?;
-    for _ in 0..len {
-        chain = pair(alloc, term.copy()?, chain)?;
-    }
-    Ok(chain)
-}
-
 // The work on long terms needs no deep stack.
 #[test]
 fn long_terms(rt: HostRuntime) -> Result<(), Fail> {
@@ -188,8 +179,8 @@ fn long_terms(rt: HostRuntime) -> Result<(), Fail> {
     let none = Subst::new(rt.alloc());
     let earlier = text(rt.alloc(), 0)?;
     let later = text(rt.alloc(), 1)?;
-    let one = chain(rt.alloc(), &earlier, 300_000)?;
-    let other = chain(rt.alloc(), &later, 300_000)?;
+    let one = chain(rt.alloc(), &earlier, &earlier, 300_000)?;
+    let other = chain(rt.alloc(), &later, &later, 300_000)?;
     assert!(rt; binds(&unify(rt.alloc(), &one, &other, &none)?, y, &earlier));
     assert!(rt; binds(&matching(rt.alloc(), &other, &one, &[y])?, y, &earlier));
     assert!(rt; unify(rt.alloc(), &one, &tag(rt.alloc(), "other")?, &none)?.is_none());

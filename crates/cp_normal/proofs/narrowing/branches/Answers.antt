@@ -2,15 +2,15 @@ use Rattle.cp_normal.proofs.BranchLists.{none_yet, skipped, branch_added, unifie
 use Rattle.cp_normal.proofs.narrowing.branches.Goals as goal
 
 pub loop-atom-init : goal.loop-atom-init
-loop-atom-init c = none_yet c.args.k.now c.args.value.now _ c.new-branches.ensures.items
+loop-atom-init c = none_yet c.args.form.now c.args.value.now _ c.new-branches.ensures.items
 
 pub loop-atom-preserved-in-None : goal.loop-atom-preserved-in-None
 loop-atom-preserved-in-None c =
-    skipped c.args.k.now c.args.value.now c.args.atoms.now c.loop-atom.atom-index c.atom-item.result c.loop-atom-test.true c.atom-item.is _ c.loop-atom.invariant
+    skipped c.args.form.now c.args.value.now c.args.atoms.now c.loop-atom.atom-index c.atom-item.result c.loop-atom-test.true c.atom-item.is _ c.loop-atom.invariant
     (no_unifier_of _ _ _ c.args.value.now c.atom-item.result c.as_term.ensures c.as_term-in-loop-atom.ensures c.new-nothing.ensures (rw c.in-None.is at c.in_ok-s.ensures.none))
 
 pub loop-atom-preserved : goal.loop-atom-preserved
 loop-atom-preserved c =
-    branch_added c.args.k.now c.args.value.now c.args.atoms.now c.loop-atom.atom-index c.atom-item.result c.loop-atom-test.true c.atom-item.is _ c.loop-atom.invariant c.in-Some.s
-    c.in_ok-under.field-0 (unifier_of _ _ _ c.args.value.now c.atom-item.result c.as_term.ensures c.as_term-in-loop-atom.ensures c.new-nothing.ensures c.in-Some.s (rw c.in-Some.is at c.in_ok-s.ensures.some))
-    c.in_ok-under.ensures.same c.in_ok-under.ensures.variables _ c.in_ok-push.ensures.items
+    branch_added c.args.form.now c.args.value.now c.args.atoms.now c.loop-atom.atom-index c.atom-item.result c.loop-atom-test.true c.atom-item.is _ c.loop-atom.invariant c.in-Some.s
+    _ (unifier_of _ _ _ c.args.value.now c.atom-item.result c.as_term.ensures c.as_term-in-loop-atom.ensures c.new-nothing.ensures c.in-Some.s (rw c.in-Some.is at c.in_ok-s.ensures.some))
+    c.in_ok-skeleton.ensures.same c.in_ok-skeleton.ensures.variables c.in_ok-substitution.ensures.plain _ c.in_ok-push.ensures.items

@@ -3,4 +3,4 @@ use Rattle.cp_normal.specs.Branched.{AreBranchesOf}
 use Rattle.cp_normal.proofs.narrowing.branches.Given as goal
 
 abbrev pub invariant-loop-atom : goal.invariant-loop-atom
-invariant-loop-atom l = AreBranchesOf l.k l.value (take l.atom-index l.atoms) l.branches.items
+invariant-loop-atom l = AreBranchesOf l.form l.value (take l.atom-index l.atoms) l.branches.items

@@ -1,6 +1,6 @@
 use Rattle.std.proofs.Common.{sym, subst, ◌∙◌}
 use Rattle.std.proofs.lemmas.List.{nil_from_length}
-use Rattle.cp_skel.specs.Data.{SkeletonData as Skeleton}
+use Rattle.cp_normal.specs.declared.form.Form.{Form}
 use Rattle.cp_normal.specs.Candidates.{PutsForm}
 use Rattle.cp_normal.proofs.Gathered.{none_so_far, next_form, all_forms}
 use Rattle.cp_normal.proofs.normalising.forms_of.Goals as goal
@@ -11,7 +11,7 @@ loop-candidate-init c = none_so_far _ _ c.new-forms.ensures.items
 pub loop-candidate-preserved : goal.loop-candidate-preserved
 loop-candidate-preserved c =
     next_form _ _ _ _ _ c.in-Some.candidate c.loop-candidate.invariant c.in-Some.ensures.items
-    (subst (λ (k : Skeleton). PutsForm k c.loop-candidate.forms.items c.add_form.new.forms.items) c.into_skeleton.ensures c.in_ok-add_form.ensures)
+    (subst (λ (f : Form). PutsForm f c.loop-candidate.forms.items c.add_form.new.forms.items) c.into_form.ensures c.in_ok-add_form.ensures)
 
 pub returns : goal.returns
 returns c =

@@ -11,7 +11,7 @@ use Rattle.cp_scope.proofs.faults.two_name_faults.Goals as goal
 pub returns-clause-faults : goal.returns-clause-faults
 returns-clause-faults c =
     let ds = map declaration_view c.args.variables.now in
-    let fs = map view c.args.items.now in
+    let fs = map view c.args.list.items.now in
     first_then_four c.args.first.now c.lacks.new.first c.item_sort_faults.new.first c.item_sort_faults-2.new.first c.exceeds.new.first
-    (lacks 2 c.args.place fs) (sort_faults_if ds name_sort (item_at fs 0)) (sort_faults_if ds name_sort (item_at fs 1)) (exceeds 2 fs)
+    (lacks 2 c.args.list.place fs) (sort_faults_if ds name_sort (item_at fs 0)) (sort_faults_if ds name_sort (item_at fs 1)) (exceeds 2 fs)
     c.lacks.ensures c.item_sort_faults.ensures c.item_sort_faults-2.ensures c.exceeds.ensures

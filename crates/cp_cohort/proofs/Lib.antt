@@ -1,0 +1,9 @@
+pub mod Putting
+pub mod Hearing
+pub mod Positions
+pub mod Contracting
+pub mod Raising
+pub mod Letting
+pub mod Listening
+pub mod Fitting
+pub mod Joining

@@ -1,0 +1,9 @@
+use Rattle.std.proofs.Common.{take}
+use Rattle.cp_model.specs.Problem.{numbers_from}
+use Rattle.cp_covering.specs.Listing.{EachGives}
+use Rattle.cp_covering.specs.Cohort.{AddsEvent}
+use Rattle.cp_cohort.specs.Views.{question_view, PutsChildren}
+use Rattle.cp_cohort.proofs.added.add.Given as goal
+
+abbrev pub invariant-loop-role : goal.invariant-loop-role
+invariant-loop-role l = PutsChildren (EachGives (λ role. EachGives (AddsEvent (question_view l.question) role.value) (numbers_from 0 role.value.trace)) (take l.role-index l.all)) l.initial.children.items l.children.items

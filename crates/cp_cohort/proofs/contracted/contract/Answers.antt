@@ -1,0 +1,34 @@
+use Rattle.std.proofs.Common.{◌≡◌, List, map, ap, ◌∙◌, subst}
+use Rattle.cp_lists.specs.Lists.{IsIn}
+use Rattle.cp_lists.proofs.Items.{item_of_read}
+use Rattle.cp_lists.proofs.Members.{item_is_in, into_map}
+use Rattle.cp_skel.specs.Events.{Occurrence, occurrence_view, events_of}
+use Rattle.cp_cohort.specs.Growing.{ContractsEvent}
+use Rattle.cp_cohort.specs.Views.{question_view}
+use Rattle.cp_cohort.proofs.Putting.{puts_other, puts_first, puts_next, puts_last}
+use Rattle.cp_cohort.proofs.Contracting.{all_contracted}
+use Rattle.cp_cohort.proofs.contracted.contract.Goals as goal
+
+pub loop-occurrence-init : goal.loop-occurrence-init
+loop-occurrence-init c = puts_first (λ o. ContractsEvent (question_view c.args.question.now) (occurrence_view o)) c.deref-occurrence-items.result.now c.args.children.now.items
+
+pub contract_event-requires : goal.contract_event-requires
+contract_event-requires c =
+    let all : map occurrence_view c.deref-occurrence-items.result.now ≡ events_of (question_view c.args.question.now).skeleton = ap (map occurrence_view) c.deref-occurrence-items.ensures.value ∙ c.in_ok-occurrences.ensures.listed in
+    record {
+      there = c.requires;
+      listed = subst (λ (os : List Occurrence). IsIn (occurrence_view c.occurrence-item.result) os) all
+          (into_map occurrence_view (item_is_in c.deref-occurrence-items.result.now c.loop-occurrence.occurrence-index c.occurrence-item.result c.loop-occurrence-test.true c.occurrence-item.is));
+    }
+
+pub loop-occurrence-preserved : goal.loop-occurrence-preserved
+loop-occurrence-preserved c =
+    puts_next (λ o. ContractsEvent (question_view c.args.question.now) (occurrence_view o)) c.deref-occurrence-items.result.now c.loop-occurrence.occurrence-index c.occurrence-item.result
+    (item_of_read c.deref-occurrence-items.result.now c.loop-occurrence.occurrence-index c.occurrence-item.result c.loop-occurrence-test.true c.occurrence-item.is) _ _ _ c.loop-occurrence.invariant c.in_ok-contract_event.ensures
+
+pub returns : goal.returns
+returns c =
+    let q = question_view c.args.question.now in
+    let all : map occurrence_view c.deref-occurrence-items.result.now ≡ events_of q.skeleton = ap (map occurrence_view) c.deref-occurrence-items.ensures.value ∙ c.in_ok-occurrences.ensures.listed in
+    puts_other c.args.children.now.items c.loop-occurrence.children.items (all_contracted q c.deref-occurrence-items.result.now all)
+    (puts_last (λ o. ContractsEvent q (occurrence_view o)) c.deref-occurrence-items.result.now c.loop-occurrence.occurrence-index c.loop-occurrence-test.false c.args.children.now.items c.loop-occurrence.children.items c.loop-occurrence.invariant)

@@ -1,0 +1,45 @@
+use Rattle.std.proofs.Common.{◌≡◌, ◌↔◌, IsTrue, Some, sym, ap, ◌∙◌}
+use Rattle.std.proofs.lemmas.Result.{on_ok_weaker}
+use Rattle.cp_model.proofs.CarriedParts.{not_both}
+use Rattle.cp_model.specs.Term.{Term, unchanged}
+use Rattle.cp_model.specs.Strand.{payload}
+use Rattle.cp_guard.specs.Inside.{IsInside}
+use Rattle.cp_match.specs.Unifying.{UnifiesMostGenerally, NeverEqual}
+use Rattle.cp_skel.specs.Events.{occurrence_view}
+use Rattle.cp_skel.specs.Trees.{variables_view}
+use Rattle.cp_skel.specs.View.{skeleton_view}
+use Rattle.cp_term.specs.Positions.{term_at}
+use Rattle.cp_unify.specs.Bindings.{as_substitution}
+use Rattle.cp_covering.specs.Cohort.{is_inside, is_critical, never_equal}
+use Rattle.cp_cohort.specs.Views.{question_view}
+use Rattle.cp_cohort.proofs.Putting.{puts_nothing, puts_other}
+use Rattle.cp_cohort.proofs.Contracting.{contracted_by, at_start, read_at}
+use Rattle.cp_cohort.proofs.contracted.contract_at.Goals as goal
+
+pub returns-then-branch : goal.returns-then-branch
+returns-then-branch c =
+    let inside : IsTrue c.in_ok-is_inside.field-0 ↔ IsInside c.args.question.now.patterns.now unchanged (payload (occurrence_view c.args.occurrence.now).event) c.args.path.now =
+    at_start _ _ _ _ _ _ _ c.in_ok-is_inside.ensures c.new-nothing.ensures c.payload-message.ensures c.as_slice.ensures in
+    puts_nothing c.args.children.now.items (is_inside (inside.0 c.if-branch.true))
+
+pub returns-then-same : goal.returns-then-same
+returns-then-same c =
+    puts_nothing c.args.children.now.items (is_critical (read_at c.payload-message.result.now _ _ c.args.path.now c.in-Some.ensures c.payload-message.ensures ∙ ap Some (c.same.ensures.0 c.if-same.true)))
+
+pub returns-in_default-2 : goal.returns-in_default-2
+returns-in_default-2 c =
+    let never : NeverEqual c.in-Some.term.now c.args.question.now.critical.now = rw c.in_default-2.is at c.in_ok-s.ensures.none in
+    puts_nothing c.args.children.now.items (never_equal (read_at c.payload-message.result.now _ _ c.args.path.now c.in-Some.ensures c.payload-message.ensures) never)
+
+pub returns : goal.returns
+returns c =
+    let q = question_view c.args.question.now in
+    let o = occurrence_view c.args.occurrence.now in
+    let inside : IsTrue c.in_ok-is_inside.field-0 ↔ IsInside c.args.question.now.patterns.now unchanged (payload o.event) c.args.path.now =
+    at_start _ _ _ _ _ _ _ c.in_ok-is_inside.ensures c.new-nothing.ensures c.payload-message.ensures c.as_slice.ensures in
+    let unifies : UnifiesMostGenerally c.in-Some.term.now c.args.question.now.critical.now (as_substitution c.in-Some-2.s) = rw c.in-Some-2.is at c.in_ok-s.ensures.some in
+    on_ok_weaker c.put_forms.result
+    (λ p. puts_other c.args.children.now.items c.put_forms.new.children.items
+    (contracted_by q o c.args.path.now c.in-Some.term.now (as_substitution c.in-Some-2.s) (skeleton_view c.in_ok-skeleton.skeleton) (variables_view c.in_ok-skeleton.skeleton.variables) (λ i. not_both c.if-branch.false (inside.1 i))
+    (read_at c.payload-message.result.now _ _ c.args.path.now c.in-Some.ensures c.payload-message.ensures) (λ e. not_both c.if-same.false (c.same.ensures.1 e)) unifies c.in_ok-skeleton.ensures.same (ap variables_view c.in_ok-skeleton.ensures.variables)) p)
+    c.put_forms.ensures

@@ -1,0 +1,46 @@
+-- What questions and children of the program stand for, and how a list of children grows.
+use Rattle.std.specs.Prelude.{◌≡◌, List, ◌++◌, map}
+use Rattle.cp_model.specs.Term.{Term}
+use Rattle.cp_model.specs.declared.node.Node.{Node}
+use Rattle.cp_model.specs.Tree.{Operation, by_contraction, by_displacement, by_added_strand, by_added_listener, Pattern}
+use Rattle.cp_term.specs.declared.path.Step.{Step}
+use Rattle.cp_skel.specs.Data.{SkeletonData}
+use Rattle.cp_skel.specs.View.{skeleton_view}
+use Rattle.cp_skel.specs.Trees.{variables_view, operation_view}
+use Rattle.cp_settle.specs.declared.release.Tried as tries
+use Rattle.cp_cohort.specs.declared.child.Child as program
+use Rattle.cp_cohort.specs.declared.child.Made.{Made}
+use Rattle.cp_cohort.specs.declared.child.Made.TheVariants as ways
+use Rattle.cp_cohort.specs.declared.question.Question as questions
+use Rattle.cp_covering.specs.Children.{Child, child}
+use Rattle.cp_covering.specs.Cohort.{Question}
+
+-- What is asked of a skeleton of the program.
+abbrev pub question_of : SkeletonData → Node → Term → List Pattern → Question
+question_of k n c ps = record { variables = variables_view k.variables; skeleton = skeleton_view k; node = n; critical = c; patterns = ps }
+
+abbrev pub question_view : questions.Question → Question
+question_view q = question_of q.skeleton.now q.node q.critical.now q.patterns.now
+
+abbrev pub child_view : program.Child → Child
+child_view c = child (variables_view c.skeleton.variables) (operation_view c.operation) c.path (skeleton_view c.skeleton)
+
+abbrev pub made_view : Made → Operation
+made_view (ways.Contracted n) = by_contraction n
+made_view (ways.Displaced n) = by_displacement n
+made_view (ways.AddedStrand s) = by_added_strand s
+made_view (ways.AddedListener s) = by_added_listener s
+
+-- The skeleton as a child, made by this operation with this position.
+abbrev pub child_of : Operation → List Step → SkeletonData → Child
+child_of operation path k = child (variables_view k.variables) operation path (skeleton_view k)
+
+-- A skeleton that was tried, as a child.
+abbrev pub settled_child : Operation → List Step → tries.Tried → Child
+settled_child operation path x = child_of operation path x.skeleton
+
+-- Behind the old children stand those that are given.
+pub record PutsChildren (gives : List Child → Type 0) (old new : List program.Child) : Type 0 where
+  pub added : List Child
+  pub behind : map child_view new ≡ map child_view old ++ added
+  pub given : gives added

@@ -1,0 +1,85 @@
+// Children with a strand added, whose last event is put before the node, to release the critical term.
+ghost use Rattle.std.specs.Prelude.{◌<◌, length, OnOk};
+ghost use Rattle.cp_guard.specs.Critical.{IsTest};
+ghost use Rattle.cp_lists.specs.Lists.{IsIn};
+ghost use Rattle.cp_model.specs.Problem.{numbers_from};
+ghost use Rattle.cp_model.specs.Strand.{Role as PlainRole};
+ghost use Rattle.cp_skel.specs.Sound.{DeclaresItsVariables};
+ghost use Rattle.cp_covering.specs.Cohort.{AddsEvent};
+ghost use Rattle.cp_covering.specs.Listing.{EachGives};
+ghost use Rattle.cp_cohort.specs.Views.{question_view, PutsChildren};
+
+use crate::child::{Child, Made};
+use crate::growing::with_strand;
+use crate::question::Question;
+use crate::releasing::release;
+use cp_skel::{Event, Node, Protocol, Role};
+use std::alloc::{AllocError, Global};
+use std::rc::Rc;
+
+/// Puts what an event of a role gives behind others.
+fn add_event(
+    alloc: Global,
+    question: &Question,
+    role: &Rc<Role>,
+    index: usize,
+    children: &mut Vec<Child>,
+) -> Result<(), AllocError>
+    requires test { IsTest (question_view question.now).skeleton (question_view question.now).node (question_view question.now).critical }
+    requires declared { DeclaresItsVariables role.now.value }
+    requires reached { index < length role.now.value.trace }
+    ensures { OnOk result (PutsChildren (AddsEvent (question_view question.now) role.now.value index) children.old.items children.new.items) }
+{
+    let events = role.trace();
+    let Event::Send(_) = &events[index] else {
+        return Ok(());
+    };
+    let strand = question.skeleton.strands().len();
+    let node = Node { strand, index };
+    let height = index + 1;
+    let grown = with_strand(alloc, question, role, height)?;
+    release(
+        alloc,
+        question,
+        grown,
+        node,
+        Made::AddedStrand(strand),
+        children,
+    )
+}
+
+/// Puts what the events of a role give behind others.
+fn add_role(
+    alloc: Global,
+    question: &Question,
+    role: &Rc<Role>,
+    children: &mut Vec<Child>,
+) -> Result<(), AllocError>
+    requires test { IsTest (question_view question.now).skeleton (question_view question.now).node (question_view question.now).critical }
+    requires declared { DeclaresItsVariables role.now.value }
+    ensures { OnOk result (PutsChildren (EachGives (AddsEvent (question_view question.now) role.now.value) (numbers_from 0 role.now.value.trace)) children.old.items children.new.items) }
+{
+    let events = role.trace();
+    for index in 0..events.len() {
+        add_event(alloc, question, role, index, children)?;
+    }
+    Ok(())
+}
+
+/// Puts the children with a strand added behind others.
+pub(crate) fn add(
+    alloc: Global,
+    protocol: &Protocol,
+    question: &Question,
+    children: &mut Vec<Child>,
+) -> Result<(), AllocError>
+    requires test { IsTest (question_view question.now).skeleton (question_view question.now).node (question_view question.now).critical }
+    requires roles { (role : PlainRole) → IsIn role protocol.now.roles → DeclaresItsVariables role }
+    ensures { OnOk result (PutsChildren (EachGives (λ role. EachGives (AddsEvent (question_view question.now) role) (numbers_from 0 role.trace)) protocol.now.roles) children.old.items children.new.items) }
+{
+    let all = protocol.roles();
+    for role in all {
+        add_role(alloc, question, role, children)?;
+    }
+    Ok(())
+}

@@ -1,0 +1,107 @@
+// Contracted children: the term at a position of what was sent before is made the critical one.
+ghost use Rattle.std.specs.Prelude.{OnOk};
+ghost use Rattle.cp_lists.specs.Lists.{IsIn};
+ghost use Rattle.cp_model.specs.Skeleton.{IsNodeOf};
+ghost use Rattle.cp_model.specs.Strand.{payload};
+ghost use Rattle.cp_skel.specs.Events.{occurrence_view, events_of};
+ghost use Rattle.cp_skel.specs.Trees.{variables_view};
+ghost use Rattle.cp_skel.specs.View.{skeleton_view};
+ghost use Rattle.cp_covering.specs.Cohort.{Contracts, AreContracted};
+ghost use Rattle.cp_cohort.specs.Growing.{AreForms, ContractsEvent, IsPosition};
+ghost use Rattle.cp_cohort.specs.Views.{question_view, made_view, PutsChildren};
+
+use crate::child::{Child, Made, put_children};
+use crate::question::Question;
+use crate::sent::is_sent_before;
+use cp_match::{is_inside, positions_for, unifier};
+use cp_normal::{normalise, under};
+use cp_skel::{Occurrence, Skeleton};
+use cp_term::{Path, at};
+use cp_unify::Subst;
+use std::alloc::{AllocError, Global};
+
+/// Puts the normal forms of a skeleton behind others as children.
+pub(crate) fn put_forms(
+    alloc: Global,
+    skeleton: Skeleton,
+    made: Made,
+    path: &Path,
+    children: &mut Vec<Child>,
+) -> Result<(), AllocError>
+    ensures { OnOk result (PutsChildren (AreForms (variables_view skeleton.variables) (made_view made) path.now (skeleton_view skeleton)) children.old.items children.new.items) }
+{
+    let forms = normalise(alloc, skeleton)?;
+    put_children(forms, made, path, children)
+}
+
+/// Puts what a position of a transmission before the node gives behind others.
+fn contract_at(
+    alloc: Global,
+    question: &Question,
+    occurrence: &Occurrence,
+    path: &Path,
+    children: &mut Vec<Child>,
+) -> Result<(), AllocError>
+    requires { IsPosition (payload (occurrence_view occurrence.now).event) path.now }
+    ensures { OnOk result (PutsChildren (Contracts (question_view question.now) (occurrence_view occurrence.now) path.now) children.old.items children.new.items) }
+{
+    let message = occurrence.event.payload();
+    let nothing = Subst::new(alloc);
+    if is_inside(alloc, question.patterns, &nothing, message, path.as_slice())? {
+        return Ok(());
+    }
+    let Some(term) = at(message, path) else {
+        unreachable!();
+    };
+    if term.same(question.critical) {
+        return Ok(());
+    }
+    let Some(s) = unifier(alloc, term, question.critical)? else {
+        return Ok(());
+    };
+    let skeleton = under(alloc, question.skeleton, &s)?;
+    put_forms(
+        alloc,
+        skeleton,
+        Made::Contracted(occurrence.node),
+        path,
+        children,
+    )
+}
+
+/// Puts what an event gives behind others.
+fn contract_event(
+    alloc: Global,
+    question: &Question,
+    occurrence: &Occurrence,
+    children: &mut Vec<Child>,
+) -> Result<(), AllocError>
+    requires there { IsNodeOf (question_view question.now).skeleton.strands (question_view question.now).node }
+    requires listed { IsIn (occurrence_view occurrence.now) (events_of (question_view question.now).skeleton) }
+    ensures { OnOk result (PutsChildren (ContractsEvent (question_view question.now) (occurrence_view occurrence.now)) children.old.items children.new.items) }
+{
+    if !is_sent_before(question, occurrence) {
+        return Ok(());
+    }
+    let paths = positions_for(alloc, occurrence.event.payload(), question.critical)?;
+    for path in &paths {
+        contract_at(alloc, question, occurrence, path, children)?;
+    }
+    Ok(())
+}
+
+/// Puts the contracted children behind others.
+pub(crate) fn contract(
+    alloc: Global,
+    question: &Question,
+    children: &mut Vec<Child>,
+) -> Result<(), AllocError>
+    requires { IsNodeOf (question_view question.now).skeleton.strands (question_view question.now).node }
+    ensures { OnOk result (PutsChildren (AreContracted (question_view question.now)) children.old.items children.new.items) }
+{
+    let occurrences = question.skeleton.events(alloc)?;
+    for occurrence in &occurrences {
+        contract_event(alloc, question, occurrence, children)?;
+    }
+    Ok(())
+}

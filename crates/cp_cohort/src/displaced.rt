@@ -1,0 +1,125 @@
+// Displaced children: an event of a strand that is there is put before the node, to release the critical term.
+ghost use Rattle.std.specs.Prelude.{◌≡◌, ◌≢◌, ◌↔◌, ◌<◌, Some, length, IsTrue, OnOk};
+ghost use Rattle.cp_guard.specs.Critical.{IsTest};
+ghost use Rattle.cp_model.specs.Bundle.{node_at};
+ghost use Rattle.cp_model.specs.Problem.{numbers_from};
+ghost use Rattle.cp_model.specs.Skeleton.{Before, IsNodeOf};
+ghost use Rattle.cp_lists.specs.Lists.{item_at};
+ghost use Rattle.cp_strand.specs.View.{strand_view};
+ghost use Rattle.cp_covering.specs.Cohort.{DisplacesEvent, DisplacesStrand};
+ghost use Rattle.cp_cohort.specs.Growing.{IsThere};
+ghost use Rattle.cp_covering.specs.Listing.{EachGives};
+ghost use Rattle.cp_cohort.specs.Views.{question_view, PutsChildren};
+
+use crate::child::{Child, Made};
+use crate::growing::with_events;
+use crate::question::Question;
+use crate::releasing::release;
+use cp_skel::{Event, Instance, Node, Strand, StrandShape};
+use std::alloc::{AllocError, Global};
+
+/// Whether the event of this index of the instance on this strand is before the node. One that it does not have is not.
+fn is_before(question: &Question, instance: &Instance, node: Node) -> bool
+    requires asked { IsNodeOf (question_view question.now).skeleton.strands (question_view question.now).node }
+    requires there { IsThere (question_view question.now).skeleton node.strand instance.now }
+    ensures { IsTrue result ↔ Before (question_view question.now).skeleton node (question_view question.now).node }
+{
+    question.skeleton.is_sound();
+    if node.index >= instance.height() {
+        return false;
+    }
+    question.skeleton.before(node, question.node)
+}
+
+/// Puts what an event of the role of the instance on this strand gives behind others.
+fn displace_event(
+    alloc: Global,
+    question: &Question,
+    strand: usize,
+    instance: &Instance,
+    index: usize,
+    children: &mut Vec<Child>,
+) -> Result<(), AllocError>
+    requires test { IsTest (question_view question.now).skeleton (question_view question.now).node (question_view question.now).critical }
+    requires there { IsThere (question_view question.now).skeleton strand instance.now }
+    requires other { strand ≢ (question_view question.now).node.strand }
+    requires reached { index < length instance.now.role.trace }
+    ensures { OnOk result (PutsChildren (DisplacesEvent (question_view question.now) strand instance.now.role instance.now.height index) children.old.items children.new.items) }
+{
+    let events = instance.role().trace();
+    let Event::Send(_) = &events[index] else {
+        return Ok(());
+    };
+    let node = Node { strand, index };
+    if is_before(question, instance, node) {
+        return Ok(());
+    }
+    let height = index + 1;
+    let grown = with_events(alloc, question, strand, instance, height)?;
+    release(
+        alloc,
+        question,
+        grown,
+        node,
+        Made::Displaced(node),
+        children,
+    )
+}
+
+/// Puts what the events of the role of the instance on this strand give behind others.
+fn displace_instance(
+    alloc: Global,
+    question: &Question,
+    strand: usize,
+    instance: &Instance,
+    children: &mut Vec<Child>,
+) -> Result<(), AllocError>
+    requires test { IsTest (question_view question.now).skeleton (question_view question.now).node (question_view question.now).critical }
+    requires there { IsThere (question_view question.now).skeleton strand instance.now }
+    requires other { strand ≢ (question_view question.now).node.strand }
+    ensures { OnOk result (PutsChildren (EachGives (DisplacesEvent (question_view question.now) strand instance.now.role instance.now.height) (numbers_from 0 instance.now.role.trace)) children.old.items children.new.items) }
+{
+    let events = instance.role().trace();
+    for index in 0..events.len() {
+        displace_event(alloc, question, strand, instance, index, children)?;
+    }
+    Ok(())
+}
+
+/// Puts what a strand gives behind others.
+fn displace_strand(
+    alloc: Global,
+    question: &Question,
+    number: usize,
+    strand: &Strand,
+    children: &mut Vec<Child>,
+) -> Result<(), AllocError>
+    requires test { IsTest (question_view question.now).skeleton (question_view question.now).node (question_view question.now).critical }
+    requires there { item_at (question_view question.now).skeleton.strands number ≡ Some (strand_view strand.now) }
+    ensures { OnOk result (PutsChildren (DisplacesStrand (question_view question.now) number) children.old.items children.new.items) }
+{
+    match strand.shape() {
+        StrandShape::Instance(instance) => {
+            if number == question.node.strand {
+                return Ok(());
+            }
+            displace_instance(alloc, question, number, instance, children)
+        }
+        StrandShape::Listener(_) => Ok(()),
+    }
+}
+
+/// Puts the displaced children behind others.
+pub(crate) fn displace(
+    alloc: Global,
+    question: &Question,
+    children: &mut Vec<Child>,
+) -> Result<(), AllocError>
+    requires { IsTest (question_view question.now).skeleton (question_view question.now).node (question_view question.now).critical }
+    ensures { OnOk result (PutsChildren (EachGives (DisplacesStrand (question_view question.now)) (numbers_from 0 (question_view question.now).skeleton.strands)) children.old.items children.new.items) }
+{
+    for (number, strand) in question.skeleton.strands().iter().enumerate() {
+        displace_strand(alloc, question, number, strand, children)?;
+    }
+    Ok(())
+}

@@ -1,0 +1,120 @@
+// Children with a listener added, on what may set the critical term free and on what opens the patterns.
+ghost use Rattle.std.specs.Prelude.{◌≡◌, ◌∷◌, [], IfOk, OnOk};
+ghost use Rattle.cp_guard.specs.Critical.{IsTest};
+ghost use Rattle.cp_covering.specs.Cohort.{Listens, OpensPattern, AreListeners};
+ghost use Rattle.cp_cohort.specs.Hearing.{FreesOnto, AreHeard};
+ghost use Rattle.cp_covering.specs.Listing.{has_term, terms_onto};
+ghost use Rattle.cp_cohort.specs.Views.{question_view, PutsChildren};
+ghost use Rattle.cp_model.specs.Skeleton.{IsNodeOf};
+
+use crate::child::{Child, Made};
+use crate::contracted::put_forms;
+use crate::question::Question;
+use cp_derive::{buildable, known};
+use cp_skel::Node;
+use cp_term::{Path, Pattern, Shape, Term, invert};
+use std::alloc::{AllocError, Global};
+
+/// Whether the term is one of these.
+fn has_term(terms: &[Term], term: &Term) -> bool
+    ensures { result ≡ has_term terms.now term.now }
+{
+    for other in terms {
+        if other.same(term) {
+            return true;
+        }
+    }
+    false
+}
+
+/// Puts a term behind others, unless it is one of them.
+fn add_term(term: Term, terms: &mut Vec<Term>) -> Result<(), AllocError>
+    ensures { OnOk result (terms.new.items ≡ terms_onto terms.old.items (term ∷ [])) }
+{
+    if has_term(terms, &term) {
+        return Ok(());
+    }
+    terms.push(term)?;
+    Ok(())
+}
+
+/// Puts what may set the critical term free behind others: where it is an encryption, its key, if that cannot be derived at
+/// the node, and else its plaintext.
+fn add_freeing(alloc: Global, question: &Question, terms: &mut Vec<Term>) -> Result<(), AllocError>
+    requires { IsNodeOf (question_view question.now).skeleton.strands (question_view question.now).node }
+    ensures { OnOk result (FreesOnto (question_view question.now) terms.old.items terms.new.items) }
+{
+    let Shape::Encryption(body, key) = question.critical.shape() else {
+        return Ok(());
+    };
+    let known = known(alloc, question.skeleton, question.node)?;
+    if buildable(&known, key) {
+        let plaintext = body.copy()?;
+        return add_term(plaintext, terms);
+    }
+    let key = key.copy()?;
+    add_term(key, terms)
+}
+
+/// The inverse of a pattern's key.
+fn opening(alloc: Global, pattern: &Pattern) -> Result<Term, AllocError>
+    ensures { IfOk result (λ t. OpensPattern pattern.now (t ∷ [])) }
+{
+    match pattern.term().shape() {
+        Shape::Encryption(_, key) => invert(alloc, key),
+        _ => unreachable!(),
+    }
+}
+
+/// What is to be heard, each term once.
+fn heard(alloc: Global, question: &Question) -> Result<Vec<Term>, AllocError>
+    requires { IsNodeOf (question_view question.now).skeleton.strands (question_view question.now).node }
+    ensures { IfOk result (λ ts. AreHeard (question_view question.now) ts.items) }
+{
+    let mut terms = Vec::new(alloc);
+    add_freeing(alloc, question, &mut terms)?;
+    let patterns = question.patterns;
+    for pattern in patterns {
+        let term = opening(alloc, pattern)?;
+        add_term(term, &mut terms)?;
+    }
+    Ok(terms)
+}
+
+/// Puts what a listener on the term gives behind others.
+fn listen_to(
+    alloc: Global,
+    question: &Question,
+    term: &Term,
+    children: &mut Vec<Child>,
+) -> Result<(), AllocError>
+    requires { IsTest (question_view question.now).skeleton (question_view question.now).node (question_view question.now).critical }
+    ensures { OnOk result (PutsChildren (Listens (question_view question.now) term.now) children.old.items children.new.items) }
+{
+    let mut k = question.skeleton.copy(alloc)?;
+    k.is_sound();
+    let message = term.copy()?;
+    let strand = k.add_listener(alloc, message)?;
+    let sent = Node { strand, index: 1 };
+    if !k.add_order(alloc, sent, question.node)? {
+        unreachable!();
+    }
+    let path = Path::new(alloc);
+    put_forms(alloc, k, Made::AddedListener(strand), &path, children)
+}
+
+/// Puts the children with a listener added behind others.
+pub(crate) fn listen(
+    alloc: Global,
+    question: &Question,
+    children: &mut Vec<Child>,
+) -> Result<(), AllocError>
+    requires { IsTest (question_view question.now).skeleton (question_view question.now).node (question_view question.now).critical }
+    ensures { OnOk result (PutsChildren (AreListeners (question_view question.now)) children.old.items children.new.items) }
+{
+    let terms = heard(alloc, question)?;
+    for term in &terms {
+        listen_to(alloc, question, term, children)?;
+    }
+    Ok(())
+}

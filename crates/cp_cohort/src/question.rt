@@ -1,0 +1,12 @@
+// What is asked of a cohort.
+use cp_skel::{Node, Skeleton};
+use cp_term::{Pattern, Term};
+
+/// Under which patterns which component of the message received at a node of a skeleton is to be released.
+#[derive(Clone, Copy)]
+pub(crate) struct Question<'a> {
+    pub(crate) skeleton: &'a Skeleton,
+    pub(crate) node: Node,
+    pub(crate) critical: &'a Term,
+    pub(crate) patterns: &'a [Pattern],
+}

@@ -1,0 +1,15 @@
+pub mod Opening
+pub mod Alike
+pub mod OnTheWay
+pub mod Settled
+pub mod Listed
+pub mod Putting
+pub mod CohortCovers
+pub mod Problems
+pub mod SoundChildren
+pub mod Leading
+pub mod Sending
+pub mod Operations
+pub mod EqualValues
+pub mod ThroughChild
+pub mod OneChild

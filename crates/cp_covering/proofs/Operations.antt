@@ -1,0 +1,310 @@
+-- The children of a test are what their operations say.
+use Rattle.std.proofs.Common.{◌≡◌, ℕ, suc, ◌≤◌, List, [], ◌∷◌, ◌++◌, length, Some, refl, sym, ap, ◌∙◌, subst, ⊎_elim, arith}
+use Rattle.std.specs.Prelude.{◌≢◌}
+use Rattle.cp_lists.specs.Lists.{item_at, IsIn, one_step}
+use Rattle.cp_lists.proofs.Members.{not_in_none, only_item, in_append, in_append_left, in_last, from_map}
+use Rattle.cp_model.specs.Term.{Term, Substitution, apply_to, composed}
+use Rattle.cp_model.specs.Strand.{Event, send, payload, Declaration, Role, Protocol}
+use Rattle.cp_model.specs.Bundle.{node_at}
+use Rattle.cp_model.specs.declared.node.Node.{Node}
+use Rattle.cp_model.specs.declared.node.OrderPair.{OrderPair}
+use Rattle.cp_model.specs.Skeleton.{instance, listener, term_event_at, Skeleton, along_pair, Before}
+use Rattle.cp_model.specs.Tree.{Operation, by_contraction, by_displacement, by_added_strand, by_added_listener, Pattern}
+use Rattle.cp_model.proofs.LawTerms.{term_composed}
+use Rattle.cp_term.specs.declared.path.Step.{Step}
+use Rattle.cp_term.specs.Positions.{term_at}
+use Rattle.cp_completeness.specs.Normal.{skeleton_under}
+use Rattle.cp_collapse.specs.Agreeing.{SaysTheSame}
+use Rattle.cp_strand.specs.Occurring.{prefix_variables, added_variables}
+use Rattle.cp_skel.specs.Changing.{AddsListener}
+use Rattle.cp_skel.specs.Events.{Occurrence, events_of}
+use Rattle.cp_skel.proofs.Carrying.{SaysMore, listener_says_more, strand_says_more, extended_says_more, reordered_says_more, before_wider}
+use Rattle.cp_skel.proofs.EventLists.{listed_event, listed_role}
+use Rattle.cp_skel.proofs.StaySkeletons.{appended-last}
+use Rattle.cp_normal.specs.BySubstitution.{ComesBySubstitution}
+use Rattle.cp_normal.proofs.BySubstitution.{form_comes}
+use Rattle.cp_normal.proofs.FormsOf.{are_normal_forms}
+use Rattle.cp_answers.specs.Covering.{put_before}
+use Rattle.cp_answers.specs.Fresh.{fresh_terms}
+use Rattle.cp_answers.proofs.Places.{term_at_under}
+use Rattle.cp_match.specs.Unifying.{UnifiesMostGenerally}
+use Rattle.cp_settle.specs.Releasing.{Tried, MeetsBoth}
+use Rattle.cp_covering.specs.Listing.{terms_onto}
+use Rattle.cp_covering.specs.Children.{Child, child, IsSentBefore, HasGrown}
+use Rattle.cp_covering.specs.Cohort.{Question, Contracts, AreContracted, release_at, DisplacesAt, DisplacesEvent, DisplacesStrand, AddsAt, AddsEvent, FreesCritical, by_key, by_body, by_nothing, OpensPattern, Listens, AreListeners, IsCohort, is_before, is_displaced, is_added, of_listener, of_node, of_role, is_inside, is_critical, cyclic}
+use Rattle.cp_covering.specs.Cohort as cohort
+use Rattle.cp_covering.specs.Released.{ComesFrom, ReleasesCritical, ReleasesFromElsewhere, EndsByReleasing, SetsFree, critical_key, critical_body, pattern_key, Says, IsAsSaid}
+use Rattle.cp_covering.proofs.Listed.{given, those_have, of_terms_onto}
+use Rattle.cp_covering.proofs.Leading.{Leads, IsStep, step_alike, step_form, step_event, step_instance, step_listener, step_before, step_leads, more_leads, first_then, more_then}
+use Rattle.cp_covering.proofs.Sending.{IsSending, settles_sending}
+
+-- With an event put before a node a skeleton says more.
+put_says_more : (k e : Skeleton) (m n : Node) → SaysMore k e → SaysMore k (put_before m n e)
+put_says_more k e m n more =
+    let pair : OrderPair = record { earlier = m; later = n } in
+    record {
+      instances = more.instances;
+      listeners = more.listeners;
+      ordered = λ x y b. before_wider e (e.pairs ++ pair ∷ []) (λ p i. in_append_left (pair ∷ []) i) (more.ordered x y b);
+      non = more.non;
+      penetrator_non = more.penetrator_non;
+      unique = more.unique;
+      from_problem = more.from_problem;
+    }
+
+put_there : (e : Skeleton) (m n : Node) → Before (put_before m n e) m n
+put_there e m n = let pair : OrderPair = record { earlier = m; later = n } in one_step (along_pair (in_last e.pairs pair))
+
+says_itself_more : (k : Skeleton) → SaysMore k k
+says_itself_more k = reordered_says_more k k (record { strands = refl; assumptions = refl; from_problem = refl }) (λ x y b. b)
+
+module _ (q : Question) where
+  abbrev k : Skeleton
+  k = q.skeleton
+
+  abbrev comes : (c : Child) (s : Substitution) → Leads k c.skeleton s → ComesFrom q c
+  comes c s leads = record { substitution = s; homomorphism = leads.homomorphism; problem_strands = leads.problem_strands; problem_values = leads.problem_values }
+
+  -- ---- contracted
+
+  module _ (o : Occurrence) (path : List Step) (there_is : IsIn o (events_of k)) (before : IsSentBefore k q.node o) (t : Term) (s : Substitution) (l : Skeleton) (at : term_at (payload o.event) path ≡ Some t) (unifies : UnifiesMostGenerally t q.critical s)
+      (same : SaysTheSame (skeleton_under s k) l) (r : Skeleton) (c : ComesBySubstitution l r) where
+    abbrev d : Child
+    d = child q.variables (by_contraction o.node) path r
+
+    first : IsStep k l s
+    first = step_alike k l s same
+
+    second : IsStep l r c.substitution
+    second = step_form l r c
+
+    abbrev by : ComesFrom q d
+    by = comes d (composed s c.substitution) (first_then k l r s c.substitution (step_leads k l s first) (step_leads l r c.substitution second))
+
+    at_message : term_at before.message path ≡ Some t
+    at_message = ap (λ (e : Event Term). term_at (payload e) path) (sym before.sent) ∙ at
+
+    contracted_child : IsAsSaid q d
+    contracted_child = record {
+      by = by;
+      is_so = record {
+        on_instance = listed_role k o there_is before.by_role;
+        before_already = before.before;
+        carries = record {
+          message = apply_to c.substitution (apply_to s before.message);
+          sent = step_event l r c.substitution second o.node (send (apply_to s before.message)) (step_event k l s first o.node (send before.message) (listed_event k o there_is ∙ ap Some before.sent));
+          before = step_before l r c.substitution second (step_before k l s first before.before);
+          stands = term_at_under c.substitution (apply_to s before.message) path (apply_to s q.critical) (term_at_under s before.message path t at_message ∙ ap Some unifies.unifies) ∙ ap Some (sym (term_composed s c.substitution q.critical));
+        };
+      };
+    }
+
+  contracts_said : (o : Occurrence) (path : List Step) (children : List Child) → IsIn o (events_of k) → IsSentBefore k q.node o → Contracts q o path children → (d : Child) → IsIn d children → IsAsSaid q d
+  contracts_said o path children there_is before (is_inside inside) d i = absurd (not_in_none i)
+  contracts_said o path children there_is before (is_critical at) d i = absurd (not_in_none i)
+  contracts_said o path children there_is before (cohort.never_equal at never) d i = absurd (not_in_none i)
+  contracts_said o path children there_is before (cohort.unified {t = t} {s = s} {l = l} {forms = forms} outside at ne unifies same has) d i =
+      let m = from_map (child q.variables (by_contraction o.node) path) forms i in
+      subst (IsAsSaid q) m.2 (contracted_child o path there_is before t s l at unifies same m.0 (form_comes l m.0 (are_normal_forms has m.0 m.1)))
+
+  contracted_said : (children : List Child) → AreContracted q children → (d : Child) → IsIn d children → IsAsSaid q d
+  contracted_said children are d i =
+      let event = given are.each d i in
+      let path = given event.gives_it d event.among in
+      let has = those_have are.before event.giver event.listed in
+      contracts_said event.giver path.giver path.given has.0 has.1 path.gives_it d path.among
+
+  -- ---- what is put before the node
+
+  module _ (s j : ℕ) (path : List Step) (operation : Operation) (grown : Skeleton) (more : SaysMore k grown) (role : Role) (height : ℕ) (terms : Substitution) (on : item_at grown.strands s ≡ Some (instance role height terms)) where
+    abbrev node : Node
+    node = node_at s j
+
+    abbrev put : Skeleton
+    put = put_before node q.node grown
+
+    sends_first : (variables : List Declaration) (t u : Term) (f : Substitution) (l : Skeleton) → term_event_at grown.strands node ≡ Some (send t) → term_at t path ≡ Some u → UnifiesMostGenerally u q.critical f → SaysTheSame (skeleton_under f put) l →
+        IsSending k q.node (release_at q s j path) role height (record { variables = variables; substitution = f; skeleton = l })
+    sends_first variables t u f l ev at m same =
+        let step = step_alike put l f same in
+        let stays = step_instance put l f step s role height terms on in
+        record {
+          leads = more_then k put l f (more_leads k put (put_says_more k grown node q.node more)) (step_leads put l f step);
+          terms = stays.0;
+          on_instance = stays.1;
+          message = apply_to f t;
+          sent = step_event put l f step node (send t) ev;
+          before = step_before put l f step (put_there grown node q.node);
+          stands = term_at_under f t path u at ∙ ap Some m.unifies;
+        }
+
+    -- A child, of what was settled, releases the critical term.
+    record Releasing (d : Child) : Type 0 where
+      by : ComesFrom q d
+      releases : ReleasesCritical q d by node
+      of_operation : d.operation ≡ operation
+      to_terms : Substitution
+      on_instance : item_at d.skeleton.strands s ≡ Some (instance role height to_terms)
+
+    releasing : (x : Tried) → IsSending k q.node (release_at q s j path) role height x → MeetsBoth (release_at q s j path) x → Releasing (child x.variables operation path x.skeleton)
+    releasing x sending both = record {
+      by = comes (child x.variables operation path x.skeleton) x.substitution sending.leads;
+      releases = record {
+        carries = record { message = sending.message; sent = sending.sent; before = sending.before; stands = sending.stands };
+        outside = λ inside. both.outside (record { event = send sending.message; there = sending.sent; inside = inside });
+        inside_before = λ i event l there_is. both.inside_before i l event there_is;
+      };
+      of_operation = refl;
+      to_terms = sending.terms;
+      on_instance = sending.on_instance;
+    }
+
+    releases_said : (variables : List Declaration) (children : List Child) → cohort.Releases q variables operation (release_at q s j path) grown children → (d : Child) → IsIn d children → Releasing d
+    releases_said variables children (cyclic before) d i = absurd (not_in_none i)
+    releases_said variables children (cohort.never_equal ev at never) d i = absurd (not_in_none i)
+    releases_said variables children (cohort.unified {t = t} {u = u} {s = f} {l = l} {settled = settled} none ev at m same settles) d i =
+        let o = from_map (λ (x : Tried). child x.variables operation path x.skeleton) settled i in
+        let last = settles_sending k q.node (release_at q s j path) role height settles (sends_first variables t u f l ev at m same) o.0 o.1 in
+        subst Releasing o.2 (releasing o.0 last.0 last.1)
+
+  -- ---- displaced
+
+  module _ (s : ℕ) (role : Role) (height : ℕ) (terms : Substitution) (on : item_at k.strands s ≡ Some (instance role height terms)) (apart : s ≢ q.node.strand) (j : ℕ) (none : Before k (node_at s j) q.node → ⊥) (path : List Step) where
+    -- The grown skeleton says more, and has an instance on the strand.
+    record IsHigher (grown : Skeleton) : Type 0 where
+      more : SaysMore k grown
+      to_role : Role
+      to_height : ℕ
+      to_terms : Substitution
+      to_instance : item_at grown.strands s ≡ Some (instance to_role to_height to_terms)
+
+    higher : (grown : Skeleton) (variables : List Declaration) → HasGrown s role height j q.variables k variables grown → IsHigher grown
+    higher grown variables h =
+        ⊎_elim
+        (λ r. subst IsHigher (sym r.2) (record { more = says_itself_more k; to_role = role; to_height = height; to_terms = terms; to_instance = on }))
+        (λ r.
+        let ext = r.2 in
+        let le : height ≤ j = r.0 in
+        let both : Some (instance role height terms) ≡ Some (instance ext.role ext.before ext.old_terms) = sym on ∙ ext.was_instance in
+        let same : height ≡ ext.before = cc in
+        let least : ext.before ≤ suc j = subst (λ (n : ℕ). n ≤ suc j) same (omega (arith, le)) in
+        record {
+          more = extended_says_more s (suc j) (fresh_terms (length q.variables) (added_variables role height (suc j))) k grown ext least;
+          to_role = ext.role;
+          to_height = suc j;
+          to_terms = ext.terms;
+          to_instance = ext.on_instance;
+        }) h.how
+
+    displaced_at : (children : List Child) → DisplacesAt q s role height j path children → (d : Child) → IsIn d children → IsAsSaid q d
+    displaced_at children a d i =
+        let h = higher a.grown a.variables a.grows in
+        let r = releases_said s j path (by_displacement (node_at s j)) a.grown h.more h.to_role h.to_height h.to_terms h.to_instance a.variables children a.releases d i in
+        displaced_said d r.by
+        (record {
+          on_instance = record { role = h.to_role; height = h.to_height; terms = r.to_terms; on_instance = r.on_instance };
+          was_instance = record { role = role; height = height; terms = terms; on_instance = on };
+          apart = apart;
+          not_before = none;
+          releases = r.releases;
+        }) r.of_operation
+      where
+        displaced_said : (c : Child) (by : ComesFrom q c) → ReleasesFromElsewhere q c by (node_at s j) → c.operation ≡ by_displacement (node_at s j) → IsAsSaid q c
+        displaced_said c by releases e = record { by = by; is_so = subst (Says q c by) (sym e) releases }
+
+  displaced_event : (s : ℕ) (role : Role) (height : ℕ) (terms : Substitution) → item_at k.strands s ≡ Some (instance role height terms) → s ≢ q.node.strand → (j : ℕ) (children : List Child) → DisplacesEvent q s role height j children → (d : Child) → IsIn d children → IsAsSaid q d
+  displaced_event s role height terms on apart j children (cohort.is_reception there_is) d i = absurd (not_in_none i)
+  displaced_event s role height terms on apart j children (is_before before) d i = absurd (not_in_none i)
+  displaced_event s role height terms on apart j children (is_displaced there_is none each) d i = let one = given each d i in displaced_at s role height terms on apart j none one.giver one.given one.gives_it d one.among
+
+  displaced_strand : (s : ℕ) (children : List Child) → DisplacesStrand q s children → (d : Child) → IsIn d children → IsAsSaid q d
+  displaced_strand s children (of_listener there_is) d i = absurd (not_in_none i)
+  displaced_strand s children (of_node same) d i = absurd (not_in_none i)
+  displaced_strand s children (of_role {role = role} {height = height} {terms = terms} there_is ne each) d i =
+      let one = given each d i in displaced_event s role height terms there_is ne one.giver one.given one.gives_it d one.among
+
+  -- ---- added
+
+  module _ (role : Role) (j : ℕ) where
+    added_at : (path : List Step) (children : List Child) → AddsAt q role j path children → (d : Child) → IsIn d children → IsAsSaid q d
+    added_at path children a d i =
+        let place = length k.strands in
+        let values = fresh_terms (length q.variables) (prefix_variables role (suc j)) in
+        let on = appended-last k a.grown (instance role (suc j) a.adds.terms) a.adds.strands a.adds.pairs in
+        let r = releases_said place j path (by_added_strand place) a.grown (strand_says_more role (suc j) values k a.grown a.adds) role (suc j) a.adds.terms on _ children a.releases d i in
+        added_said d r.by (record { is_new = refl; role = role; index = j; terms = r.to_terms; on_instance = r.on_instance; releases = r.releases }) r.of_operation
+      where
+        added_said : (c : Child) (by : ComesFrom q c) → EndsByReleasing q c by (length k.strands) → c.operation ≡ by_added_strand (length k.strands) → IsAsSaid q c
+        added_said c by ends e = record { by = by; is_so = subst (Says q c by) (sym e) ends }
+
+    added_event : (children : List Child) → AddsEvent q role j children → (d : Child) → IsIn d children → IsAsSaid q d
+    added_event children (cohort.is_reception there_is) d i = absurd (not_in_none i)
+    added_event children (is_added there_is each) d i = let one = given each d i in added_at one.giver one.given one.gives_it d one.among
+
+  -- ---- listeners
+
+  module _ (t : Term) (added : Skeleton) (adds : AddsListener t k added) (sets_free : SetsFree q t) (r : Skeleton) where
+    abbrev place : ℕ
+    place = length k.strands
+
+    abbrev put_listener : Skeleton
+    put_listener = put_before (node_at place 1) q.node added
+
+    listener_child : ComesBySubstitution put_listener r → IsAsSaid q (child q.variables (by_added_listener place) [] r)
+    listener_child c =
+        let step = step_form put_listener r c in
+        record {
+          by = comes (child q.variables (by_added_listener place) [] r) c.substitution
+              (more_then k put_listener r c.substitution (more_leads k put_listener (put_says_more k added (node_at place 1) q.node (listener_says_more t k added adds))) (step_leads put_listener r c.substitution step));
+          is_so = record {
+            is_new = refl;
+            term = t;
+            sets_free = sets_free;
+            on_listener = step_listener put_listener r c.substitution step place t (appended-last k added (listener t) (ap (λ (z : Skeleton). z.strands) adds) (ap (λ (z : Skeleton). z.pairs) adds));
+            before = step_before put_listener r c.substitution step (put_there added (node_at place 1) q.node);
+          };
+        }
+
+  listens_said : (t : Term) (children : List Child) → SetsFree q t → Listens q t children → (d : Child) → IsIn d children → IsAsSaid q d
+  listens_said t children sets_free l d i =
+      let m = from_map (child q.variables (by_added_listener (length k.strands)) []) l.forms (subst (IsIn d) l.are_children i) in
+      subst (IsAsSaid q) m.2 (listener_child t l.added l.adds sets_free m.0 (form_comes (put_before (node_at (length k.strands) 1) q.node l.added) m.0 (are_normal_forms l.normal m.0 m.1)))
+
+  freed : (frees : List Term) → FreesCritical q frees → (t : Term) → IsIn t frees → SetsFree q t
+  freed frees (by_key e none) t i = subst (SetsFree q) (sym (only_item i)) (critical_key e none)
+  freed frees (by_body e some) t i = subst (SetsFree q) (sym (only_item i)) (critical_body e some)
+  freed frees (by_nothing none) t i = absurd (not_in_none i)
+
+  opens : (p : Pattern) (ts : List Term) → IsIn p q.patterns → OpensPattern p ts → (t : Term) → IsIn t ts → SetsFree q t
+  opens p ts listed o t i = subst (SetsFree q) (sym (only_item (subst (IsIn t) o.inverse i))) (pattern_key listed o.is_pattern)
+
+  listeners_said : (children : List Child) → AreListeners q children → (d : Child) → IsIn d children → IsAsSaid q d
+  listeners_said children are d i =
+      let one = given are.each d i in
+      listens_said one.giver one.given (of_term one.giver one.listed) one.gives_it d one.among
+    where
+      opens_term : (t : Term) → IsIn t are.opens → SetsFree q t
+      opens_term t j = let o = given are.patterns t j in opens o.giver o.given o.listed o.gives_it t o.among
+
+      of_term : (t : Term) → IsIn t (terms_onto [] (are.frees ++ are.opens)) → SetsFree q t
+      of_term t j =
+          ⊎_elim (λ (none : IsIn t []). absurd (not_in_none none)) (λ m. ⊎_elim (λ f. freed are.frees are.critical t f) (λ o. opens_term t o) (in_append are.frees are.opens m)) (of_terms_onto [] (are.frees ++ are.opens) t j)
+
+  -- ---- all of them
+
+  pub said : (protocol : Protocol) (children : List Child) → IsCohort protocol q children → (d : Child) → IsIn d children → IsAsSaid q d
+  said protocol children is d i =
+      ⊎_elim (λ m. contracted_said is.contracted is.are_contracted d m)
+      (λ m. ⊎_elim (λ n. let one = given is.are_displaced d n in displaced_strand one.giver one.given one.gives_it d one.among)
+      (λ n. ⊎_elim (λ o. added_said o) (λ o. listeners_said is.listeners is.are_listeners d o) (in_append is.added is.listeners n))
+      (in_append is.displaced (is.added ++ is.listeners) m))
+      (in_append is.contracted (is.displaced ++ (is.added ++ is.listeners)) (subst (IsIn d) is.whole i))
+    where
+      added_said : IsIn d is.added → IsAsSaid q d
+      added_said o =
+          let role = given is.are_added d o in
+          let event = given role.gives_it d role.among in
+          added_event role.giver event.giver event.given event.gives_it d event.among
+
+pub children_said : (protocol : Protocol) (q : Question) (children : List Child) → IsCohort protocol q children → (d : Child) → IsIn d children → IsAsSaid q d
+children_said protocol q children is d i = said q protocol children is d i

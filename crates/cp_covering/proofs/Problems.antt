@@ -1,0 +1,83 @@
+-- What goes on carrying a homomorphism from a problem, and keeping what the problem states.
+use Rattle.std.proofs.Common.{List, [], ◌∷◌, ◌++◌, map, ⊎_elim, subst}
+use Rattle.cp_lists.specs.Lists.{IsIn, here, there}
+use Rattle.cp_lists.proofs.Members.{not_in_none, in_append_left, in_append, into_map, from_map}
+use Rattle.cp_model.specs.Term.{Substitution}
+use Rattle.cp_model.specs.declared.node.Node.{Node}
+use Rattle.cp_model.specs.declared.node.OrderPair.{OrderPair}
+use Rattle.cp_model.specs.Skeleton.{Skeleton}
+use Rattle.cp_model.proofs.StatedStays.{stated_stays}
+use Rattle.cp_completeness.specs.Normal.{skeleton_under}
+use Rattle.cp_completeness.proofs.Mapped.{carried_under, carried_with_pairs}
+use Rattle.cp_completeness.proofs.StatedSteps.{stated_under, stated_with_pairs}
+use Rattle.cp_collapse.specs.Agreeing.{SaysTheSame}
+use Rattle.cp_collapse.proofs.SameStrands.{as_many}
+use Rattle.cp_collapse.proofs.SameFacts.{same_assumptions, same_before}
+use Rattle.cp_skel.proofs.Carrying.{SaysMore, carries_on, keeps_stated}
+use Rattle.cp_normal.specs.Narrowing.{IsNormalFormOf}
+use Rattle.cp_normal.specs.Exact.{HasForms}
+use Rattle.cp_normal.specs.Formed.{Formed}
+use Rattle.cp_normal.proofs.FormsOf.{are_normal_forms}
+use Rattle.cp_normal.proofs.Homomorphic.{same_carries, form_carries}
+use Rattle.cp_normal.proofs.StatedForms.{form_keeps}
+use Rattle.cp_answers.specs.Covering.{put_before}
+use Rattle.cp_settle.specs.Releasing.{Release, Tried}
+use Rattle.cp_settle.specs.Settling.{Choice, form_of, Stage, Settles, released_inside, branching, normalising, settled, Branches, no_choices, never_matches, matches_by, EachSettles, no_forms, next_form}
+use Rattle.cp_covering.specs.Sound.{KeepsProblems}
+
+pub keeps_itself : (k : Skeleton) → KeepsProblems k k
+keeps_itself k variables problem own carries = (carries, λ stated. stated)
+
+pub keeps_then : (k l m : Skeleton) → KeepsProblems k l → KeepsProblems l m → KeepsProblems k m
+keeps_then k l m first second variables problem own carries =
+    let a = first variables problem own carries in
+    let b = second variables problem own a.0 in
+    (b.0, λ stated. b.1 (a.1 stated))
+
+pub keeps_under : (s : Substitution) (k : Skeleton) → KeepsProblems k (skeleton_under s k)
+keeps_under s k variables problem own carries = (carried_under variables problem k s own carries, λ stated. stated_under variables problem k s own carries stated)
+
+pub keeps_alike : (k l : Skeleton) → SaysTheSame k l → KeepsProblems k l
+keeps_alike k l same variables problem own carries = (same_carries problem k l same carries, λ stated. stated_stays problem k l same.from_problem (as_many same.strands) (same_assumptions k l same) (λ x y b. same_before k l same b) stated)
+
+pub keeps_form : (k r : Skeleton) → IsNormalFormOf k r → KeepsProblems k r
+keeps_form k r form variables problem own carries = (form_carries variables problem own k r form carries, λ stated. form_keeps variables problem own k r form carries stated)
+
+pub keeps_forms : (k : Skeleton) (rs : List Skeleton) → HasForms k rs → (r : Skeleton) → IsIn r rs → KeepsProblems k r
+keeps_forms k rs has r i = keeps_form k r (are_normal_forms has r i)
+
+pub keeps_more : (k l : Skeleton) → SaysMore k l → KeepsProblems k l
+keeps_more k l more variables problem own carries = (carries_on problem k l more carries, λ stated. keeps_stated k l more problem stated)
+
+pub keeps_put : (m n : Node) (k : Skeleton) → KeepsProblems k (put_before m n k)
+keeps_put m n k variables problem own carries =
+    let pair : OrderPair = record { earlier = m; later = n } in
+    (carried_with_pairs problem k (k.pairs ++ pair ∷ []) (λ p i. in_append_left (pair ∷ []) i) carries, λ stated. stated_with_pairs problem k (k.pairs ++ pair ∷ []) (λ p i. in_append_left (pair ∷ []) i) stated)
+
+-- ---- what is tried until both conditions hold
+
+module _ (r : Release) where
+  mutual
+    pub settles_keeps : {stage : Stage} {x : Tried} {ys : List Tried} → Settles r stage x ys → (y : Tried) → IsIn y ys → KeepsProblems x.skeleton y.skeleton
+    settles_keeps (released_inside inside) y i = absurd (not_in_none i)
+    settles_keeps (branching outside o branches) y i = branches_keep branches y i
+    settles_keeps (normalising {x = x} {forms = forms} both are each) y i =
+        let s = each_keeps each y i in
+        let m = from_map (form_of x) forms s.1 in
+        let first : KeepsProblems x.skeleton s.0.skeleton = subst (λ (z : Tried). KeepsProblems x.skeleton z.skeleton) m.2 (keeps_forms x.skeleton (map (λ (f : Formed). f.skeleton) forms) are.exact m.0.skeleton (into_map (λ (f : Formed). f.skeleton) m.1)) in
+        keeps_then x.skeleton s.0.skeleton y.skeleton first s.2
+    settles_keeps (settled {x = x} both) y here = keeps_itself x.skeleton
+    settles_keeps (settled {x = x} both) y (there i) = absurd (not_in_none i)
+
+    branches_keep : {x : Tried} {cs : List Choice} {ys : List Tried} → Branches r x cs ys → (y : Tried) → IsIn y ys → KeepsProblems x.skeleton y.skeleton
+    branches_keep no_choices y i = absurd (not_in_none i)
+    branches_keep (never_matches never rest) y i = branches_keep rest y i
+    branches_keep (matches_by {x = x} {u = u} {l = l} {ys = ys} {zs = zs} m same first_settles rest) y i =
+        ⊎_elim
+        (λ j. keeps_then x.skeleton l y.skeleton (keeps_then x.skeleton (skeleton_under u x.skeleton) l (keeps_under u x.skeleton) (keeps_alike (skeleton_under u x.skeleton) l same)) (settles_keeps first_settles y j))
+        (λ j. branches_keep rest y j) (in_append ys zs i)
+
+    each_keeps : {xs ys : List Tried} → EachSettles r xs ys → (y : Tried) → IsIn y ys → (x : Tried) × IsIn x xs × KeepsProblems x.skeleton y.skeleton
+    each_keeps no_forms y i = absurd (not_in_none i)
+    each_keeps (next_form {x = x} {ys = ys} {zs = zs} one rest) y i =
+        ⊎_elim (λ j. (x, here, settles_keeps one y j)) (λ j. let s = each_keeps rest y j in (s.0, there s.1, s.2)) (in_append ys zs i)

@@ -1,0 +1,255 @@
+-- What is tried until both conditions hold is tried with what it leads to.
+use Rattle.std.proofs.Common.{◌≡◌, ℕ, List, [], ◌∷◌, ◌++◌, length, map, Option, Some, None, refl, sym, ap, ◌∙◌, subst, ◌⊎◌, inl, inr, ⊎_elim, append_assoc}
+use Rattle.cp_lists.specs.Lists.{item_at, IsIn, here, there}
+use Rattle.cp_lists.proofs.Members.{not_in_none, in_append_left, in_append_right, in_append, into_map, from_map}
+use Rattle.cp_model.specs.Term.{Variable, Term, pair_term, enc_term, tag_term, atom_term, atom_of_variable, variables_of, variables_of_atom, variables_of_key, Assignment, value_of, after, Substitution, apply_to, apply_to_atom, composed}
+use Rattle.cp_model.specs.Strand.{Declaration, Event, payload, Protocol}
+use Rattle.cp_model.specs.Bundle.{node_at}
+use Rattle.cp_model.specs.declared.node.Node.{Node}
+use Rattle.cp_model.specs.Skeleton.{SkeletonStrand, skeleton_trace, skeleton_trace_or_none, term_event_at, Skeleton}
+use Rattle.cp_model.specs.Problem.{IsDeclared, HasDeclaredVariables}
+use Rattle.cp_model.specs.Same.{same_term}
+use Rattle.cp_model.specs.Tree.{Pattern}
+use Rattle.cp_model.proofs.LawTerms.{atom_after}
+use Rattle.cp_model.proofs.LawAgreement.{agree_value, agree_atom_value}
+use Rattle.cp_model.proofs.LawPrefixes.{in_trace}
+use Rattle.cp_term.specs.declared.path.Step.{Step}
+use Rattle.cp_term.specs.declared.path.Step.TheVariants.{Left, Right, Plaintext}
+use Rattle.cp_term.specs.Positions.{term_at, positions_where}
+use Rattle.cp_term.proofs.PositionLaws.{part_found}
+use Rattle.cp_completeness.specs.Normal.{skeleton_under}
+use Rattle.cp_skel.proofs.UnderVariables.{in_strands}
+use Rattle.cp_guard.specs.Above.{encryptions_above}
+use Rattle.cp_guard.specs.Critical.{used_variables}
+use Rattle.cp_guard.specs.Inside.{IsBroughtInside}
+use Rattle.cp_normal.specs.Formed.{Formed, AreNormalForms}
+use Rattle.cp_normal.proofs.VariablesUnder.{all_declared}
+use Rattle.cp_answers.specs.Forms.{Form}
+use Rattle.cp_answers.specs.Fresh.{AreBelow}
+use Rattle.cp_answers.specs.Fitting.{Fits}
+use Rattle.cp_answers.specs.Trying.{Trial, IsCarriedEarlier, Tries}
+use Rattle.cp_answers.specs.Trying as trying
+use Rattle.cp_answers.proofs.Built.{listed_comes_down}
+use Rattle.cp_answers.proofs.NewValues.{beside, old_values}
+use Rattle.cp_match.specs.Unifying.{UnifiesMostGenerally, NeverEqual}
+use Rattle.cp_match.specs.Opened.{declared_as}
+use Rattle.cp_settle.specs.Releasing.{Release, Tried, IsFirstOutside}
+use Rattle.cp_settle.specs.Settling.{Choice, choices, pattern_in, branch_of, form_of, Stage, Settles, released_inside, branching, normalising, settled, Branches, no_choices, never_matches, matches_by, EachSettles, no_forms, next_form}
+use Rattle.cp_covering.specs.Way.{trial_of, AreUsedVariables, IsOnTheWay, DeclaresMore}
+use Rattle.cp_covering.proofs.Opening.{opened_value, declared_below}
+use Rattle.cp_covering.proofs.Alike.{alike_tried, as_form, formed_keep}
+use Rattle.cp_covering.proofs.OnTheWay.{branch_on_the_way, form_on_the_way, at_index}
+
+pub append_none : {A : Type 0} (xs : List A) → xs ++ [] ≡ xs
+append_none [] = refl
+append_none (x ∷ xs) = ap (λ ys. x ∷ ys) (append_none xs)
+
+-- ---- enclosing encryptions, and choices
+
+-- The variables of an enclosing encryption are those of the term.
+pub above_variables : (t : Term) (path : List Step) (e : Term) → IsIn e (encryptions_above t path) → (x : Variable) → IsIn x (variables_of e) → IsIn x (variables_of t)
+above_variables (pair_term a b) (Left ∷ path) e i x j = in_append_left (variables_of b) (above_variables a path e i x j)
+above_variables (pair_term a b) (Right ∷ path) e i x j = in_append_right (variables_of a) (above_variables b path e i x j)
+above_variables (enc_term a k) (Plaintext ∷ path) e here x j = j
+above_variables (enc_term a k) (Plaintext ∷ path) e (there i) x j = in_append_left (variables_of_key k) (above_variables a path e i x j)
+above_variables (pair_term a b) (Plaintext ∷ path) e i x j = absurd (not_in_none i)
+above_variables (pair_term a b) [] e i x j = absurd (not_in_none i)
+above_variables (enc_term a k) (Left ∷ path) e i x j = absurd (not_in_none i)
+above_variables (enc_term a k) (Right ∷ path) e i x j = absurd (not_in_none i)
+above_variables (enc_term a k) [] e i x j = absurd (not_in_none i)
+above_variables (tag_term bytes) path e i x j = absurd (not_in_none i)
+above_variables (atom_term a) path e i x j = absurd (not_in_none i)
+
+abbrev choice : Term → Pattern → Choice
+choice e p = record { encryption = e; pattern = p }
+
+in_choices : (es : List Term) (ps : List Pattern) (e : Term) (p : Pattern) → IsIn e es → IsIn p ps → IsIn (choice e p) (choices es ps)
+in_choices [] ps e p i j = absurd (not_in_none i)
+in_choices (e ∷ es) ps f p here j = in_append_left (choices es ps) (into_map (choice e) j)
+in_choices (d ∷ es) ps e p (there i) j = in_append_right (map (choice d) ps) (in_choices es ps e p i j)
+
+of_choices : (es : List Term) (ps : List Pattern) (c : Choice) → IsIn c (choices es ps) → IsIn c.encryption es × IsIn c.pattern ps
+of_choices [] ps c i = absurd (not_in_none i)
+of_choices (e ∷ es) ps c i =
+    ⊎_elim (λ j. let m = from_map (choice e) ps j in subst (λ (d : Choice). IsIn d.encryption (e ∷ es) × IsIn d.pattern ps) m.2 (here, m.1))
+    (λ j. let r = of_choices es ps c j in (there r.0, r.1)) (in_append (map (choice e) ps) (choices es ps) i)
+
+-- ---- the variables of an event
+
+strand_of_event : (o : Option SkeletonStrand) (i : ℕ) (e : Event Term) → item_at (skeleton_trace_or_none o) i ≡ Some e → (st : SkeletonStrand) × (o ≡ Some st) × (item_at (skeleton_trace st) i ≡ Some e)
+strand_of_event None i e at = absurd (cc)
+strand_of_event (Some st) i e at = (st, refl, at)
+
+pub event_declared : (ds : List Declaration) (k : Skeleton) → HasDeclaredVariables ds k → (n : Node) (e : Event Term) → term_event_at k.strands n ≡ Some e → (x : Variable) → IsIn x (variables_of (payload e)) → IsDeclared ds x
+event_declared ds k h n e at x i =
+    let s = strand_of_event (item_at k.strands n.strand) n.index e at in
+    h.occurring x (in_append_left _ (in_strands k.strands n.strand s.0 x s.1 (in_trace (skeleton_trace s.0) n.index e x s.2 i)))
+
+pub used_below : (ds : List Declaration) (k : Skeleton) → HasDeclaredVariables ds k → AreBelow (length ds) (used_variables k)
+used_below ds k h x i = declared_below ds x.number x.sort (all_declared ds k h x i)
+
+module _ (protocol : Protocol) (first : Skeleton) (r : Release) (used : AreUsedVariables first r) where
+  abbrev trial : Trial
+  trial = trial_of protocol first r
+
+  -- ---- values that bring an occurrence inside
+
+  module _ (x : Tried) (w : IsOnTheWay protocol first r x) (event : Event Term) (n : Node) (at : term_event_at x.skeleton.strands n ≡ Some event) (path : List Step) (g : Assignment)
+      (inside : IsBroughtInside r.patterns (after g x.substitution) g (payload event) path) where
+    abbrev e : Term
+    e = inside.encryption
+
+    abbrev p : Pattern
+    p = inside.protected.pattern
+
+    abbrev filled : Assignment
+    filled = inside.protected.matches.filled
+
+    abbrev new : Assignment
+    new = beside (length x.variables) p.locals g filled
+
+    below_given : (y : Variable) → IsIn y (used_variables first) → AreBelow (length x.variables) (variables_of_atom (apply_to_atom x.substitution (atom_of_variable y)))
+    below_given y is z i = declared_below x.variables z.number z.sort (w.gives_declared y z is i)
+
+    e_declared : (y : Variable) → IsIn y (variables_of e) → IsDeclared x.variables y
+    e_declared y i = event_declared x.variables x.skeleton w.declared n event at y (above_variables (payload event) path e inside.above y i)
+
+    same_e : value_of g e ≡ value_of new e
+    same_e = agree_value g new e (old_values (length x.variables) p.locals g filled (variables_of e) (λ y i. declared_below x.variables y.number y.sort (e_declared y i)))
+
+    pub made_equal : value_of new e ≡ value_of new (pattern_in x p)
+    made_equal =
+        sym same_e ∙ sym inside.protected.matches.same
+        ∙ sym (opened_value p x.substitution (length x.variables) g filled (λ y free. inside.protected.matches.as_said y free) (λ y free. below_given y (used p y inside.protected.listed free)))
+
+    pub made_fits : (u : Substitution) → UnifiesMostGenerally e (pattern_in x p) u → Fits first x.substitution x.skeleton g u
+    made_fits u m = record {
+      values = new;
+      same_inside = old_values (length x.variables) p.locals g filled (used_variables x.skeleton) (used_below x.variables x.skeleton w.declared);
+      same_of_first = λ y is.
+          let v = apply_to_atom x.substitution (atom_of_variable y) in
+          atom_after g x.substitution (atom_of_variable y)
+          ∙ agree_atom_value g new v (old_values (length x.variables) p.locals g filled (variables_of_atom v) (below_given y is))
+          ∙ sym (atom_after new x.substitution (atom_of_variable y));
+      fits = m.general new made_equal;
+    }
+
+  -- ---- along the way
+
+  -- Of a choice of what is tried: its two are never equal, or it is tried under a unifier of them.
+  abbrev IsDone : List Skeleton → Tried → Choice → Type 0
+  IsDone ks x c = NeverEqual c.encryption (pattern_in x c.pattern) ⊎ ((u : Substitution) × UnifiesMostGenerally c.encryption (pattern_in x c.pattern) u × Tries trial ks (composed x.substitution u) (skeleton_under u x.skeleton))
+
+  -- The choices are of encryptions over variables of what is tried, with patterns of the release.
+  abbrev IsChoiceOf : Tried → Choice → Type 0
+  IsChoiceOf x c = ((y : Variable) → IsIn y (variables_of c.encryption) → IsDeclared x.variables y) × IsIn c.pattern r.patterns
+
+  abbrev AreListed : List Skeleton → List Tried → Type 0
+  AreListed ks ys = (y : Tried) → IsIn y ys → IsIn y.skeleton ks
+
+  record IsBranched (ks : List Skeleton) (x : Tried) (g : Assignment) : Type 0 where
+    substitution : Substitution
+    fits : Fits first x.substitution x.skeleton g substitution
+    tried : Tries trial ks (composed x.substitution substitution) (skeleton_under substitution x.skeleton)
+
+  module _ (ks : List Skeleton) (x : Tried) (w : IsOnTheWay protocol first r x) (t : Term) (path : List Step) (o : IsFirstOutside r x t path) where
+    abbrev occurrence : IsCarriedEarlier trial x.substitution x.skeleton
+    occurrence = record {
+      index = o.index;
+      earlier = o.earlier;
+      on_instance = at_index x.skeleton r.strand r.index o.index w.on_instance;
+      event = o.event;
+      there = o.there;
+      path = path;
+      carried = subst (λ (u : Term). term_at u path ≡ Some (apply_to x.substitution r.critical)) o.of_event
+          ((part_found (apply_to x.substitution r.critical) t (positions_where (same_term (apply_to x.substitution r.critical)) t) refl path).0
+          (subst (IsIn path) (sym o.first.among) (in_append_right o.first.before here)));
+    }
+
+    are_choices : (c : Choice) → IsIn c (choices (encryptions_above t path) r.patterns) → IsChoiceOf x c
+    are_choices c i =
+        let m = of_choices (encryptions_above t path) r.patterns c i in (
+          λ y j. event_declared x.variables x.skeleton w.declared (node_at r.strand o.index) o.event o.there y
+              (above_variables (payload o.event) path c.encryption (subst (λ (u : Term). IsIn c.encryption (encryptions_above u path)) o.of_event m.0) y j),
+          m.1,
+        )
+
+    branched_by : ((c : Choice) → IsIn c (choices (encryptions_above t path) r.patterns) → IsDone ks x c) → (g : Assignment) → IsBroughtInside r.patterns (after g x.substitution) g (payload o.event) path → IsBranched ks x g
+    branched_by done g inside =
+        ⊎_elim
+        (λ never. absurd (never (new x w o.event (node_at r.strand o.index) o.there path g inside) (made_equal x w o.event (node_at r.strand o.index) o.there path g inside)))
+        (λ d. record { substitution = d.0; fits = made_fits x w o.event (node_at r.strand o.index) o.there path g inside d.0 d.1; tried = d.2 })
+        (done (choice inside.encryption inside.protected.pattern)
+        (in_choices (encryptions_above t path) r.patterns inside.encryption inside.protected.pattern
+        (subst (λ (u : Term). IsIn inside.encryption (encryptions_above u path)) (sym o.of_event) inside.above) inside.protected.listed))
+
+    pub branched_tried : ((c : Choice) → IsIn c (choices (encryptions_above t path) r.patterns) → IsDone ks x c) → Tries trial ks x.substitution x.skeleton
+    branched_tried done = trying.branched occurrence (λ g inside. (branched_by done g inside).substitution) (λ g inside. (branched_by done g inside).fits) (λ g inside. (branched_by done g inside).tried)
+
+  pub forms_are_on_the_way : (x : Tried) → IsOnTheWay protocol first r x → (forms : List Formed) → AreNormalForms x.skeleton forms → (y : Tried) → IsIn y (map (form_of x) forms) → IsOnTheWay protocol first r y
+  forms_are_on_the_way x w forms are y i = let m = from_map (form_of x) forms i in subst (IsOnTheWay protocol first r) m.2 (form_on_the_way protocol first r used x w forms are m.0 m.1)
+
+  forms_tried : (ks : List Skeleton) (x : Tried) → IsOnTheWay protocol first r x → (forms : List Formed) → AreNormalForms x.skeleton forms →
+      ((y : Tried) → IsIn y (map (form_of x) forms) → Tries trial ks y.substitution y.skeleton) → Tries trial ks x.substitution x.skeleton
+  forms_tried ks x w forms are each = trying.normalised (map as_form forms) (formed_keep protocol x.skeleton forms w.skeleton are)
+      (λ form i. let m = from_map as_form forms i in subst (λ (f : Form). Tries trial ks (composed x.substitution f.substitution) f.skeleton) m.2 (each (form_of x m.0) (into_map (form_of x) m.1)))
+
+  mutual
+    pub settles_tried : (ks : List Skeleton) {stage : Stage} {x : Tried} {ys : List Tried} → Settles r stage x ys → IsOnTheWay protocol first r x → AreListed ks ys → Tries trial ks x.substitution x.skeleton
+    settles_tried ks (released_inside inside) w listed = trying.never (record { on_instance = w.on_instance; event = inside.event; there = inside.there; inside = inside.inside })
+    settles_tried ks (branching {x = x} {t = t} {path = path} outside o branches) w listed = branched_tried ks x w t path o (branches_done ks branches w (are_choices ks x w t path o) listed)
+    settles_tried ks (normalising {x = x} {forms = forms} both are each) w listed = forms_tried ks x w forms are (each_tried ks each (forms_are_on_the_way x w forms are) listed)
+    settles_tried ks (settled {x = x} both) w listed = trying.settled (listed_comes_down protocol ks x.skeleton (listed x here))
+
+    branches_done : (ks : List Skeleton) {x : Tried} {cs : List Choice} {ys : List Tried} → Branches r x cs ys → IsOnTheWay protocol first r x → ((c : Choice) → IsIn c cs → IsChoiceOf x c) → AreListed ks ys →
+        (c : Choice) → IsIn c cs → IsDone ks x c
+    branches_done ks no_choices w are listed c i = absurd (not_in_none i)
+    branches_done ks (never_matches never rest) w are listed c here = inl never
+    branches_done ks (never_matches never rest) w are listed c (there i) = branches_done ks rest w (λ d j. are d (there j)) listed c i
+    branches_done ks (matches_by {x = x} {u = u} {l = l} {ys = ys} {zs = zs} m same first_settles rest) w are listed c here =
+        let a = are c here in
+        inr (
+          u,
+          m,
+          alike_tried trial ks (composed x.substitution u) (skeleton_under u x.skeleton) l same
+              (settles_tried ks first_settles (branch_on_the_way protocol first r used x w c.encryption c.pattern a.0 a.1 u m l same) (λ y j. listed y (in_append_left zs j))),
+        )
+    branches_done ks (matches_by {ys = ys} m same first_settles rest) w are listed c (there i) = branches_done ks rest w (λ d j. are d (there j)) (λ y j. listed y (in_append_right ys j)) c i
+
+    each_tried : (ks : List Skeleton) {xs ys : List Tried} → EachSettles r xs ys → ((x : Tried) → IsIn x xs → IsOnTheWay protocol first r x) → AreListed ks ys → (x : Tried) → IsIn x xs → Tries trial ks x.substitution x.skeleton
+    each_tried ks no_forms are listed x i = absurd (not_in_none i)
+    each_tried ks (next_form {zs = zs} one rest) are listed x here = settles_tried ks one (are x here) (λ y j. listed y (in_append_left zs j))
+    each_tried ks (next_form {ys = ys} one rest) are listed x (there i) = each_tried ks rest (λ z j. are z (there j)) (λ y j. listed y (in_append_right ys j)) x i
+
+  -- ---- what it leads to
+
+  abbrev IsLater : Tried → Tried → Type 0
+  IsLater x y = IsOnTheWay protocol first r y × DeclaresMore x.variables y.variables
+
+  later_than_more : (x : Tried) (more : List Declaration) (z y : Tried) → z.variables ≡ x.variables ++ more → IsLater z y → IsLater x y
+  later_than_more x more z y e l =
+      (l.0, record { more = more ++ l.1.more; behind = l.1.behind ∙ ap (λ (ds : List Declaration). ds ++ l.1.more) e ∙ append_assoc x.variables more l.1.more })
+
+  mutual
+    pub settles_later : {stage : Stage} {x : Tried} {ys : List Tried} → Settles r stage x ys → IsOnTheWay protocol first r x → (y : Tried) → IsIn y ys → IsLater x y
+    settles_later (released_inside inside) w y i = absurd (not_in_none i)
+    settles_later (branching {x = x} {t = t} {path = path} outside o branches) w y i = branches_later branches w (are_choices [] x w t path o) y i
+    settles_later (normalising {x = x} {forms = forms} both are each) w y i =
+        let s = each_later each (forms_are_on_the_way x w forms are) y i in
+        let m = from_map (form_of x) forms s.1 in
+        (s.2.0, subst (λ (z : Tried). DeclaresMore z.variables y.variables) (sym m.2) s.2.1)
+    settles_later (settled {x = x} both) w y here = (w, record { more = []; behind = sym (append_none x.variables) })
+    settles_later (settled {x = x} both) w y (there i) = absurd (not_in_none i)
+
+    branches_later : {x : Tried} {cs : List Choice} {ys : List Tried} → Branches r x cs ys → IsOnTheWay protocol first r x → ((c : Choice) → IsIn c cs → IsChoiceOf x c) → (y : Tried) → IsIn y ys → IsLater x y
+    branches_later no_choices w are y i = absurd (not_in_none i)
+    branches_later (never_matches never rest) w are y i = branches_later rest w (λ d j. are d (there j)) y i
+    branches_later (matches_by {x = x} {c = c} {u = u} {l = l} {ys = ys} {zs = zs} m same first_settles rest) w are y i =
+        let a = are c here in
+        ⊎_elim (λ j. later_than_more x (declared_as x.variables c.pattern.locals) (branch_of x c.pattern u l) y refl (settles_later first_settles (branch_on_the_way protocol first r used x w c.encryption c.pattern a.0 a.1 u m l same) y j))
+        (λ j. branches_later rest w (λ d j. are d (there j)) y j) (in_append ys zs i)
+
+    each_later : {xs ys : List Tried} → EachSettles r xs ys → ((x : Tried) → IsIn x xs → IsOnTheWay protocol first r x) → (y : Tried) → IsIn y ys → (x : Tried) × IsIn x xs × IsLater x y
+    each_later no_forms are y i = absurd (not_in_none i)
+    each_later (next_form {x = x} {ys = ys} {zs = zs} one rest) are y i =
+        ⊎_elim (λ j. (x, here, settles_later one (are x here) y j)) (λ j. let s = each_later rest (λ z j. are z (there j)) y j in (s.0, there s.1, s.2)) (in_append ys zs i)

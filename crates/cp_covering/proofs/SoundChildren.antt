@@ -1,0 +1,233 @@
+-- The children of a test are sound.
+use Rattle.std.proofs.Common.{◌≡◌, ℕ, suc, ◌<◌, ◌≤◌, List, [], ◌++◌, length, map, Some, refl, sym, ap, ◌∙◌, subst, ◌⊎◌, inl, inr, ⊎_elim, append_assoc, arith}
+use Rattle.std.specs.Prelude.{◌≢◌}
+use Rattle.cp_lists.specs.Lists.{item_at, IsIn}
+use Rattle.cp_lists.proofs.Members.{not_in_none, only_item, in_append, in_append_left, in_append_right, from_map}
+use Rattle.cp_model.specs.Term.{Variable, KeyTerm, symmetric_term, asymmetric_term, key_term, inverse_term, Term, atom_term, variables_of, variables_of_key, Substitution}
+use Rattle.cp_model.specs.Strand.{send, payload, Declaration, Role, Protocol}
+use Rattle.cp_model.specs.Bundle.{node_at}
+use Rattle.cp_model.specs.Skeleton.{instance, Skeleton, IsSkeleton}
+use Rattle.cp_model.specs.Problem.{IsDeclared, HasDeclaredVariables}
+use Rattle.cp_model.specs.Tree.{Operation, by_contraction, Pattern}
+use Rattle.cp_term.specs.declared.path.Step.{Step}
+use Rattle.cp_completeness.specs.Normal.{skeleton_under}
+use Rattle.cp_completeness.proofs.Skeletons.{skeleton_under_is_skeleton}
+use Rattle.cp_collapse.proofs.SameSkeletons.{same_is_skeleton}
+use Rattle.cp_collapse.proofs.NoNewVariables.{KeepsDeclared}
+use Rattle.cp_strand.specs.Occurring.{prefix_variables, added_variables}
+use Rattle.cp_skel.specs.Sound.{DeclaresItsVariables}
+use Rattle.cp_skel.specs.Changing.{Extends}
+use Rattle.cp_skel.specs.Events.{Occurrence, events_of}
+use Rattle.cp_skel.proofs.Carrying.{listener_says_more, strand_says_more, extended_says_more}
+use Rattle.cp_skel.proofs.DeclaredChanges.{listener_declared, ordered_declared}
+use Rattle.cp_skel.proofs.EventLists.{listed_event}
+use Rattle.cp_normal.specs.Exact.{HasForms}
+use Rattle.cp_normal.proofs.FormsOf.{are_normal_forms}
+use Rattle.cp_normal.proofs.Keeping.{form_is_skeleton}
+use Rattle.cp_normal.proofs.VariablesUnder.{all_declared, under_declared, agreeing_declared}
+use Rattle.cp_normal.proofs.VariablesOfForms.{forms_declared}
+use Rattle.cp_guard.specs.Critical.{IsTest}
+use Rattle.cp_guard.specs.Guarding.{Guards}
+use Rattle.cp_answers.specs.Covering.{put_before}
+use Rattle.cp_answers.specs.Fresh.{fresh_terms}
+use Rattle.cp_answers.proofs.Places.{position_variables}
+use Rattle.cp_settle.specs.Releasing.{Tried}
+use Rattle.cp_covering.specs.Listing.{terms_onto}
+use Rattle.cp_covering.specs.Children.{Child, child, declarations_of}
+use Rattle.cp_covering.specs.Cohort.{Question, positions, Contracts, AreContracted, release_at, DisplacesAt, DisplacesEvent, DisplacesStrand, AddsAt, AddsEvent, FreesCritical, by_key, by_body, by_nothing, OpensPattern, Listens, AreListeners, IsCohort, is_before, is_displaced, is_added, of_listener, of_node, of_role, is_inside, is_critical, cyclic}
+use Rattle.cp_covering.specs.Cohort as cohort
+use Rattle.cp_covering.specs.Way.{DeclaresMore}
+use Rattle.cp_covering.specs.Sound.{KeepsProblems, IsSoundChild}
+use Rattle.cp_covering.proofs.OnTheWay.{unifier_keeps}
+use Rattle.cp_covering.proofs.Settled.{append_none, event_declared, settles_later}
+use Rattle.cp_covering.proofs.Listed.{given, those_have, of_terms_onto}
+use Rattle.cp_covering.proofs.Putting.{listening_is_skeleton}
+use Rattle.cp_covering.proofs.CohortCovers.{IsGrown, put_on_the_way, displaced_grown, added_grown}
+use Rattle.cp_covering.proofs.Problems.{keeps_itself, keeps_then, keeps_under, keeps_alike, keeps_forms, keeps_more, keeps_put, settles_keeps}
+
+more_itself : (ds : List Declaration) → DeclaresMore ds ds
+more_itself ds = record { more = []; behind = sym (append_none ds) }
+
+more_then : (ds es fs : List Declaration) → DeclaresMore ds es → DeclaresMore es fs → DeclaresMore ds fs
+more_then ds es fs a b = record { more = a.more ++ b.more; behind = b.behind ∙ ap (λ (xs : List Declaration). xs ++ b.more) a.behind ∙ append_assoc ds a.more b.more }
+
+same_key_variables : (key : KeyTerm) → variables_of_key (inverse_term key) ≡ variables_of_key key
+same_key_variables (symmetric_term k) = refl
+same_key_variables (asymmetric_term flag k) = refl
+
+module _ (protocol : Protocol) (q : Question) (sk : IsSkeleton protocol q.skeleton) (declares : (role : Role) → IsIn role protocol.roles → DeclaresItsVariables role) (declared : HasDeclaredVariables q.variables q.skeleton)
+    (is_test : IsTest q.skeleton q.node q.critical) (guards : Guards q.patterns q.skeleton q.node q.critical) where
+  abbrev k : Skeleton
+  k = q.skeleton
+
+  abbrev IsSound : Child → Type 0
+  IsSound = IsSoundChild protocol q
+
+  critical_declared : (x : Variable) → IsIn x (variables_of q.critical) → IsDeclared q.variables x
+  critical_declared x i = all_declared q.variables k declared x (guards.used_by_critical x i)
+
+  -- ---- normal forms
+
+  -- Normal forms of a skeleton that is sound, with the variables of the first.
+  forms_sound : (l : Skeleton) (rs : List Skeleton) → IsSkeleton protocol l → HasDeclaredVariables q.variables l → KeepsProblems k l → HasForms l rs → (operation : Operation) (path : List Step) (d : Child) → IsIn d (map (child q.variables operation path) rs) → IsSound d
+  forms_sound l rs is has keeps forms operation path d i =
+      let m = from_map (child q.variables operation path) rs i in
+      subst IsSound m.2 (record {
+        skeleton = form_is_skeleton protocol l m.0 (are_normal_forms forms m.0 m.1) is;
+        declared = forms_declared q.variables forms has m.0 m.1;
+        more = more_itself q.variables;
+        keeps = keeps_then k l m.0 keeps (keeps_forms l rs forms m.0 m.1);
+      })
+
+  -- ---- contracted
+
+  contracts_sound : (o : Occurrence) (path : List Step) (children : List Child) → IsIn o (events_of k) → Contracts q o path children → (d : Child) → IsIn d children → IsSound d
+  contracts_sound o path children there_is (is_inside inside) d i = absurd (not_in_none i)
+  contracts_sound o path children there_is (is_critical at) d i = absurd (not_in_none i)
+  contracts_sound o path children there_is (cohort.never_equal at never) d i = absurd (not_in_none i)
+  contracts_sound o path children there_is (cohort.unified {t = t} {s = s} {l = l} {forms = forms} outside at ne unifies same has) d i =
+      let event = listed_event k o there_is in
+      let gives : KeepsDeclared q.variables s = unifier_keeps q.variables t q.critical s (λ x m. event_declared q.variables k declared o.node o.event event x (position_variables (payload o.event) path t at x m)) critical_declared unifies in
+      let under : Skeleton = skeleton_under s k in
+      forms_sound l forms (same_is_skeleton under l same protocol (skeleton_under_is_skeleton protocol s k sk)) (agreeing_declared q.variables under l same (under_declared q.variables s k gives declared))
+      (keeps_then k under l (keeps_under s k) (keeps_alike under l same)) has (by_contraction o.node) path d i
+
+  contracted_sound : (children : List Child) → AreContracted q children → (d : Child) → IsIn d children → IsSound d
+  contracted_sound children are d i =
+      let event = given are.each d i in
+      let path = given event.gives_it d event.among in
+      contracts_sound event.giver path.giver path.given (those_have are.before event.giver event.listed).0 path.gives_it d path.among
+
+  -- ---- what is put before the node
+
+  module _ (variables : List Declaration) (s j : ℕ) (path : List Step) (grown : Skeleton) (is : IsGrown protocol q sk declares declared is_test guards variables s grown) (more : DeclaresMore q.variables variables) (keeps : KeepsProblems k grown) where
+    abbrev put : Skeleton
+    put = put_before (node_at s j) q.node grown
+
+    releases_sound : (operation : Operation) (children : List Child) → cohort.Releases q variables operation (release_at q s j path) grown children → (d : Child) → IsIn d children → IsSound d
+    releases_sound operation children (cyclic before) d i = absurd (not_in_none i)
+    releases_sound operation children (cohort.never_equal ev at never) d i = absurd (not_in_none i)
+    releases_sound operation children (cohort.unified {t = t} {u = u} {s = f} {l = l} {settled = settled} none ev at m same settles) d i =
+        let r = release_at q s j path in
+        let under : Skeleton = skeleton_under f put in
+        let o = from_map (λ (x : Tried). child x.variables operation path x.skeleton) settled i in
+        let w = put_on_the_way protocol q sk declares declared is_test guards variables s j path grown is t u ev at none f m l same in
+        let later = settles_later protocol k r (λ p x listed free. guards.used_by_patterns p x listed free) settles w o.0 o.1 in
+        let first = keeps_then k grown put keeps (keeps_put (node_at s j) q.node grown) in
+        let second = keeps_then put under l (keeps_under f put) (keeps_alike under l same) in
+        subst IsSound o.2 (record {
+          skeleton = later.0.skeleton;
+          declared = later.0.declared;
+          more = more_then q.variables variables o.0.variables more later.1;
+          keeps = keeps_then k l o.0.skeleton (keeps_then k put l first second) (settles_keeps r settles o.0 o.1);
+        })
+
+  -- ---- displaced
+
+  module _ (s : ℕ) (role : Role) (height : ℕ) (terms : Substitution) (on : item_at k.strands s ≡ Some (instance role height terms)) (apart : s ≢ q.node.strand) where
+    module _ (j : ℕ) (t : Term) (sent : item_at role.trace j ≡ Some (send t)) where
+      abbrev HowGrown : List Declaration → Skeleton → Type 0
+      HowGrown variables grown = ((j < height) × (variables ≡ q.variables) × (grown ≡ k))
+          ⊎ ((height ≤ j) × (variables ≡ q.variables ++ declarations_of role (added_variables role height (suc j))) × Extends s (suc j) (fresh_terms (length q.variables) (added_variables role height (suc j))) k grown)
+
+      has_more : (variables : List Declaration) (grown : Skeleton) → HowGrown variables grown → DeclaresMore q.variables variables
+      has_more variables grown (inl r) = record { more = []; behind = r.1 ∙ sym (append_none q.variables) }
+      has_more variables grown (inr r) = record { more = declarations_of role (added_variables role height (suc j)); behind = r.1 }
+
+      grown_keeps : (variables : List Declaration) (grown : Skeleton) → HowGrown variables grown → KeepsProblems k grown
+      grown_keeps variables grown (inl r) = subst (KeepsProblems k) (sym r.2) (keeps_itself k)
+      grown_keeps variables grown (inr r) =
+          let ext = r.2 in
+          let le : height ≤ j = r.0 in
+          let both : Some (instance role height terms) ≡ Some (instance ext.role ext.before ext.old_terms) = sym on ∙ ext.was_instance in
+          let same : height ≡ ext.before = cc in
+          let higher : ext.before ≤ suc j = subst (λ (n : ℕ). n ≤ suc j) same (omega (arith, le)) in
+          keeps_more k grown (extended_says_more s (suc j) (fresh_terms (length q.variables) (added_variables role height (suc j))) k grown ext higher)
+
+      displaced_at : (path : List Step) (children : List Child) → DisplacesAt q s role height j path children → (d : Child) → IsIn d children → IsSound d
+      displaced_at path children a d i =
+          releases_sound a.variables s j path a.grown (displaced_grown protocol q sk declares declared is_test guards s role height terms on apart j t sent a.variables a.grown a.grows.how) (has_more a.variables a.grown a.grows.how)
+          (grown_keeps a.variables a.grown a.grows.how) _ children a.releases d i
+
+    displaced_event : (j : ℕ) (children : List Child) → DisplacesEvent q s role height j children → (d : Child) → IsIn d children → IsSound d
+    displaced_event j children (cohort.is_reception there_is) d i = absurd (not_in_none i)
+    displaced_event j children (is_before before) d i = absurd (not_in_none i)
+    displaced_event j children (is_displaced {t = t} there_is none each) d i =
+        let one = given each d i in displaced_at j t there_is one.giver one.given one.gives_it d one.among
+
+  displaced_strand : (s : ℕ) (children : List Child) → DisplacesStrand q s children → (d : Child) → IsIn d children → IsSound d
+  displaced_strand s children (of_listener there_is) d i = absurd (not_in_none i)
+  displaced_strand s children (of_node same) d i = absurd (not_in_none i)
+  displaced_strand s children (of_role {role = role} {height = height} {terms = terms} there_is ne each) d i =
+      let one = given each d i in displaced_event s role height terms there_is ne one.giver one.given one.gives_it d one.among
+
+  -- ---- added
+
+  module _ (role : Role) (in_roles : IsIn role protocol.roles) (j : ℕ) where
+    added_at : (t : Term) → item_at role.trace j ≡ Some (send t) → (path : List Step) (children : List Child) → AddsAt q role j path children → (d : Child) → IsIn d children → IsSound d
+    added_at t sent path children a d i =
+        releases_sound (q.variables ++ declarations_of role (prefix_variables role (suc j))) (length k.strands) j path a.grown (added_grown protocol q sk declares declared is_test guards role in_roles j t sent a.grown a.adds)
+        (record { more = declarations_of role (prefix_variables role (suc j)); behind = refl }) (keeps_more k a.grown (strand_says_more role (suc j) (fresh_terms (length q.variables) (prefix_variables role (suc j))) k a.grown a.adds)) _ children a.releases d i
+
+    added_event : (children : List Child) → AddsEvent q role j children → (d : Child) → IsIn d children → IsSound d
+    added_event children (cohort.is_reception there_is) d i = absurd (not_in_none i)
+    added_event children (is_added {t = t} there_is each) d i = let one = given each d i in added_at t there_is one.giver one.given one.gives_it d one.among
+
+  -- ---- listeners
+
+  listens_sound : (t : Term) (children : List Child) → ((x : Variable) → IsIn x (variables_of t) → IsDeclared q.variables x) → Listens q t children → (d : Child) → IsIn d children → IsSound d
+  listens_sound t children of_t l d i =
+      let node = node_at (length k.strands) 1 in
+      let put : Skeleton = put_before node q.node l.added in
+      forms_sound put l.forms (listening_is_skeleton protocol t k l.added sk l.adds q.node is_test.message is_test.reception)
+      (ordered_declared q.variables l.added put.pairs (listener_declared q.variables t k l.added l.adds of_t declared))
+      (keeps_then k l.added put (keeps_more k l.added (listener_says_more t k l.added l.adds)) (keeps_put node q.node l.added)) l.normal _ [] d (subst (IsIn d) l.are_children i)
+
+  freed_declared : (frees : List Term) → FreesCritical q frees → (t : Term) → IsIn t frees → (x : Variable) → IsIn x (variables_of t) → IsDeclared q.variables x
+  freed_declared frees (by_key {body = body} {key = key} e none) t i x m =
+      critical_declared x (subst (λ (u : Term). IsIn x (variables_of u)) (sym e) (in_append_right (variables_of body) (subst (λ (u : Term). IsIn x (variables_of u)) (only_item i) m)))
+  freed_declared frees (by_body {body = body} {key = key} e some) t i x m =
+      critical_declared x (subst (λ (u : Term). IsIn x (variables_of u)) (sym e) (in_append_left (variables_of_key key) (subst (λ (u : Term). IsIn x (variables_of u)) (only_item i) m)))
+  freed_declared frees (by_nothing none) t i x m = absurd (not_in_none i)
+
+  opened_declared : (p : Pattern) (ts : List Term) → IsIn p q.patterns → OpensPattern p ts → (t : Term) → IsIn t ts → (x : Variable) → IsIn x (variables_of t) → IsDeclared q.variables x
+  opened_declared p ts listed o t i x m =
+      let same : t ≡ atom_term (key_term (inverse_term o.key)) = only_item (subst (IsIn t) o.inverse i) in
+      let in_inverse : IsIn x (variables_of_key (inverse_term o.key)) = subst (λ (u : Term). IsIn x (variables_of u)) same m in
+      let in_key : IsIn x (variables_of_key o.key) = subst (IsIn x) (same_key_variables o.key) in_inverse in
+      all_declared q.variables k declared x (guards.used_by_patterns p x listed (record {
+        occurs = subst (λ (u : Term). IsIn x (variables_of u)) (sym o.is_pattern) (in_append_right (variables_of o.body) in_key);
+        no_local = λ local. guards.keys p listed o.body o.key x o.is_pattern in_key local;
+      }))
+
+  listeners_sound : (children : List Child) → AreListeners q children → (d : Child) → IsIn d children → IsSound d
+  listeners_sound children are d i =
+      let one = given are.each d i in
+      listens_sound one.giver one.given (of_term one.giver one.listed) one.gives_it d one.among
+    where
+      opens_term : (t : Term) → IsIn t are.opens → (x : Variable) → IsIn x (variables_of t) → IsDeclared q.variables x
+      opens_term t j = let o = given are.patterns t j in opened_declared o.giver o.given o.listed o.gives_it t o.among
+
+      of_term : (t : Term) → IsIn t (terms_onto [] (are.frees ++ are.opens)) → (x : Variable) → IsIn x (variables_of t) → IsDeclared q.variables x
+      of_term t j =
+          ⊎_elim (λ (none : IsIn t []). absurd (not_in_none none)) (λ m. ⊎_elim (λ f. freed_declared are.frees are.critical t f) (λ o. opens_term t o) (in_append are.frees are.opens m)) (of_terms_onto [] (are.frees ++ are.opens) t j)
+
+  -- ---- all of them
+
+  pub sound : (children : List Child) → IsCohort protocol q children → (d : Child) → IsIn d children → IsSound d
+  sound children is d i =
+      ⊎_elim (λ m. contracted_sound is.contracted is.are_contracted d m)
+      (λ m. ⊎_elim (λ n. let one = given is.are_displaced d n in displaced_strand one.giver one.given one.gives_it d one.among)
+      (λ n. ⊎_elim (λ o. added_sound o) (λ o. listeners_sound is.listeners is.are_listeners d o) (in_append is.added is.listeners n))
+      (in_append is.displaced (is.added ++ is.listeners) m))
+      (in_append is.contracted (is.displaced ++ (is.added ++ is.listeners)) (subst (IsIn d) is.whole i))
+    where
+      added_sound : IsIn d is.added → IsSound d
+      added_sound o =
+          let role = given is.are_added d o in
+          let event = given role.gives_it d role.among in
+          added_event role.giver role.listed event.giver event.given event.gives_it d event.among
+
+pub sound_child : (protocol : Protocol) (q : Question) (children : List Child) → IsSkeleton protocol q.skeleton → ((role : Role) → IsIn role protocol.roles → DeclaresItsVariables role) → HasDeclaredVariables q.variables q.skeleton →
+    IsTest q.skeleton q.node q.critical → Guards q.patterns q.skeleton q.node q.critical → IsCohort protocol q children → (d : Child) → IsIn d children → IsSoundChild protocol q d
+sound_child protocol q children sk declares declared is_test guards is d i = sound protocol q sk declares declared is_test guards children is d i

@@ -1,0 +1,20 @@
+//! An example of a cohort.
+ghost use Rattle.std.specs.Prelude.{[], ◌∷◌};
+ghost use Rattle.cp_lists.specs.Lists.{IsIn};
+ghost use Rattle.cp_model.specs.Strand.{Role};
+ghost use Rattle.cp_model.specs.Problem.{HasDeclaredVariables};
+ghost use Rattle.cp_skel.specs.Sound.{DeclaresItsVariables};
+ghost use Rattle.cp_answers.specs.Example.{protocol, heard};
+ghost use Rattle.cp_answers.specs.LeavingOut.{LeavesNoneOut};
+ghost use Rattle.cp_covering.specs.Cohort.{IsCohort};
+ghost use Rattle.cp_covering.specs.Example.{asked, one_child};
+
+/// An encryption is heard, under a key that does not originate; one role sends such encryptions, and declares its variables.
+/// The one child of the test is that a strand of the role has sent it before: what stands inside the encryption never equals
+/// it, and a listener on the key would hear what does not originate. So the child leaves out no standing.
+pub fn heard_encryption_has_one_child()
+    ensures declares { (role : Role) → IsIn role protocol.roles → DeclaresItsVariables role }
+    ensures declared { HasDeclaredVariables asked.variables heard }
+    ensures cohort { IsCohort protocol asked (one_child ∷ []) }
+    ensures leaves_none_out { LeavesNoneOut protocol heard (one_child.skeleton ∷ []) }
+{}

@@ -1,0 +1,9 @@
+pub mod LawMatching
+pub mod Unifiers
+pub mod Differing
+pub mod Agreeing
+pub mod Matched
+pub mod Inside
+pub mod FirstOutside
+pub mod Alike
+pub mod Opened

@@ -1,0 +1,5 @@
+use Rattle.cp_match.proofs.LawMatching.{matching_stays}
+use Rattle.cp_match.proofs.laws.matching_stays.Goals as goal
+
+pub returns : goal.returns
+returns c = matching_stays

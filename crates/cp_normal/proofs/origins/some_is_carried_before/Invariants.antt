@@ -1,8 +1,0 @@
-use Rattle.std.proofs.Common.{drop}
-use Rattle.cp_skel.specs.Events.{occurrence_view}
-use Rattle.cp_collapse.specs.Having.{Has}
-use Rattle.cp_normal.specs.Events.{IsCarriedBefore}
-use Rattle.cp_normal.proofs.origins.some_is_carried_before.Given as goal
-
-abbrev pub invariant-loop-occurrence : goal.invariant-loop-occurrence
-invariant-loop-occurrence l = Has (λ o. IsCarriedBefore l.unique (occurrence_view o)) l.occurrences → Has (λ o. IsCarriedBefore l.unique (occurrence_view o)) (drop l.occurrence-index l.occurrences)

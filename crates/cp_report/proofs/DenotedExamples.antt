@@ -1,0 +1,96 @@
+-- What the reports of the examples denote. Each holds by computing the definitions.
+use Rattle.std.specs.Prelude.{◌≡◌, ℕ, List, [], ◌∷◌, false, refl, option_map, Option, Some, None}
+use Rattle.std.specs.Fmt.{digits}
+use Rattle.cp_lists.specs.Lists.{item_at}
+use Rattle.cp_model.specs.Term.{text_sort, text_variable, name_variable, key_term, asymmetric_term, symmetric_term, ltk_term, pubk_term, Term, atom_term, pair_term, enc_term}
+use Rattle.cp_model.specs.Bundle.{node_at}
+use Rattle.cp_model.specs.Tree.{by_added_listener, Label, Tree}
+use Rattle.cp_sexpr.specs.Syntax.{Forms, forms_of}
+use Rattle.cp_sexpr.specs.ReadingBack.{all_unplaced}
+use Rattle.cp_language.specs.Problems.{Problem}
+use Rattle.cp_language.specs.Input.{Entry}
+use Rattle.cp_language.specs.Report.{report_forms}
+use Rattle.cp_report.specs.ReadBack.{Report, report_of}
+use Rattle.cp_report.proofs.Texts.{text_single, text_exchange, text_twice, text_keys}
+
+-- ---- the same text again
+
+-- The forms that are printed for a report.
+abbrev printed : Report → Forms
+printed r = forms_of (report_forms r.entries r.trees)
+
+single_again : all_unplaced (printed (report_of text_single)) ≡ all_unplaced text_single
+unfolding digits
+single_again = refl
+
+exchange_again : all_unplaced (printed (report_of text_exchange)) ≡ all_unplaced text_exchange
+unfolding digits
+exchange_again = refl
+
+twice_again : all_unplaced (printed (report_of text_twice)) ≡ all_unplaced text_twice
+unfolding digits
+twice_again = refl
+
+keys_again : all_unplaced (printed (report_of text_keys)) ≡ all_unplaced text_keys
+unfolding digits
+keys_again = refl
+
+-- ---- some labels
+
+-- A label of the first tree.
+abbrev label_in : Report → ℕ → Option Label
+label_in r n = of_first r.trees
+  where
+    of_first : List Tree → Option Label
+    of_first [] = None
+    of_first (t ∷ ts) = item_at t.labels n
+
+abbrev text_of : ℕ → Term
+text_of n = atom_term (text_variable n)
+
+abbrev name_of : ℕ → Term
+name_of n = atom_term (name_variable n)
+
+-- The problem of the last form.
+abbrev last_problem : List Entry → Option Problem
+last_problem [] = None
+last_problem (e ∷ []) = e.problem
+last_problem (e ∷ f ∷ es) = last_problem (f ∷ es)
+
+-- Label 0 is the problem.
+single_skeleton : option_map (λ l. l.skeleton) (label_in (report_of text_single) 0) ≡ option_map (λ p. p.skeleton) (last_problem (report_of text_single).entries)
+unfolding digits
+single_skeleton = refl
+
+-- A local is a variable behind those of the label.
+exchange_patterns : option_map (λ l. l.escape) (label_in (report_of text_exchange) 2) ≡ Some (
+    record { term = enc_term (pair_term (text_of 2) (name_of 0)) (asymmetric_term false (pubk_term None 1)); locals = [] }
+    ∷ record { term = enc_term (pair_term (text_of 2) (text_of 4)) (asymmetric_term false (pubk_term None 0)); locals = record { sort = text_sort; number = 4 } ∷ [] } ∷ [])
+unfolding digits
+exchange_patterns = refl
+
+exchange_test : option_map (λ l. l.test) (label_in (report_of text_exchange) 2) ≡ Some (Some (record { node = node_at 1 0; critical = text_of 2 }))
+unfolding digits
+exchange_test = refl
+
+exchange_operation : option_map (λ l. l.operation) (label_in (report_of text_exchange) 2) ≡ Some (by_added_listener 1)
+unfolding digits
+exchange_operation = refl
+
+exchange_children : option_map (λ l. l.children) (label_in (report_of text_exchange) 1) ≡ Some (3 ∷ 4 ∷ [])
+unfolding digits
+exchange_children = refl
+
+-- The collapse maps both strands to one, and both recorded origins with them.
+twice_origins : option_map (λ l. l.skeleton.from_problem.assumptions.uniquely_originating) (label_in (report_of text_twice) 1) ≡ Some (
+    record { value = text_variable 0; origin = node_at 0 0 } ∷ record { value = text_variable 0; origin = node_at 0 0 } ∷ [])
+unfolding digits
+twice_origins = refl
+
+twice_values : option_map (λ l. l.skeleton.from_problem.values) (label_in (report_of text_twice) 1) ≡ Some (text_of 0 ∷ name_of 1 ∷ name_of 2 ∷ name_of 1 ∷ name_of 2 ∷ [])
+unfolding digits
+twice_values = refl
+
+keys_assumption : option_map (λ l. l.skeleton.assumptions.non_originating) (label_in (report_of text_keys) 0) ≡ Some (key_term (symmetric_term (ltk_term 0 1)) ∷ [])
+unfolding digits
+keys_assumption = refl

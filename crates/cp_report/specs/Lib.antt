@@ -1,0 +1,9 @@
+pub mod Misfits
+pub mod Heads
+pub mod Spelled
+pub mod Skeletons
+pub mod Labels
+pub mod ReadBack
+pub mod UpToNames
+pub mod Fitting
+pub mod Laws

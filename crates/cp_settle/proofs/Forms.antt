@@ -1,0 +1,98 @@
+-- What stands in the place of a candidate that is released inside, whose normal forms are tried again, or that is settled.
+use Rattle.std.proofs.Common.{◌≡◌, List, [], ◌∷◌, ◌++◌, map, sym, ap, ◌∙◌, subst}
+use Rattle.std.proofs.lemmas.List.{append-nil}
+use Rattle.cp_lists.specs.Lists.{IsIn, here, there}
+use Rattle.cp_lists.proofs.Members.{from_map, only_item, not_in_none}
+use Rattle.cp_model.specs.Term.{Substitution, apply_to, composed}
+use Rattle.cp_model.specs.Linking.{ArePaired}
+use Rattle.cp_skel.specs.Trees.{variables_view}
+use Rattle.cp_normal.specs.declared.form.Form.{Form}
+use Rattle.cp_normal.specs.Formed.{Formed, IsFormedFrom, IsFormBeside, AreFormsBeside}
+use Rattle.cp_settle.specs.Releasing.{Release, Tried, IsReleasedInside, MeetsBoth}
+use Rattle.cp_settle.specs.Settling.{form_of, Stage, on_the_way, normal, Settles, released_inside, normalising, settled, EachSettles, no_forms, next_form}
+use Rattle.cp_settle.specs.Views.{tried_view}
+use Rattle.cp_settle.specs.declared.release.Tried as program
+use Rattle.cp_settle.specs.declared.candidates.Candidate.{Candidate}
+use Rattle.cp_settle.specs.declared.candidates.Candidate.TheVariants.{OnTheWay, Normal, Settled}
+use Rattle.cp_settle.specs.Leading.{LeadTo}
+use Rattle.cp_settle.specs.Candidates.{tried_form, normal_form, OneMatches, ComesFrom, FallsTo, Puts}
+use Rattle.cp_settle.proofs.Branching.{same_trace}
+use Rattle.cp_settle.proofs.Matching.{one_matches_under}
+
+-- ---- released inside
+
+inside_leads : (r : Release) (x : Tried) (stage : Stage) → IsReleasedInside r x → (ys : List Tried) → ys ≡ [] → Settles r stage x ys
+inside_leads r x stage inside ys e = subst (Settles r stage x) (sym e) (released_inside inside)
+
+pub inside_on_the_way : (r : Release) (x : program.Tried) (old : List Candidate) → IsReleasedInside r (tried_view x) → Puts r (OnTheWay x) old old
+inside_on_the_way r x old inside = record { added = []; behind = sym (append-nil old); takes_place = record { each = λ d i. absurd (not_in_none i); leads = inside_leads r (tried_view x) on_the_way inside } }
+
+pub inside_normal : (r : Release) (x : program.Tried) (old : List Candidate) → IsReleasedInside r (tried_view x) → Puts r (Normal x) old old
+inside_normal r x old inside = record { added = []; behind = sym (append-nil old); takes_place = record { each = λ d i. absurd (not_in_none i); leads = inside_leads r (tried_view x) normal inside } }
+
+-- ---- settled
+
+settled_leads : (r : Release) (x : program.Tried) → MeetsBoth r (tried_view x) → (ys : List Tried) → LeadTo r (Settled x ∷ []) ys → Settles r normal (tried_view x) ys
+settled_leads r x meets ys l = subst (Settles r normal (tried_view x)) (sym (l.2 ∙ ap (λ (zs : List Tried). l.0 ++ zs) l.4 ∙ append-nil l.0 ∙ l.3)) (settled meets)
+
+pub settled_place : (r : Release) (x : program.Tried) (old new : List Candidate) → MeetsBoth r (tried_view x) → new ≡ old ++ Settled x ∷ [] → Puts r (Normal x) old new
+settled_place r x old new meets e = record {
+  added = Settled x ∷ [];
+  behind = e;
+  takes_place = record { each = λ d i. subst (FallsTo r (Normal x)) (sym (only_item i)) tt; leads = settled_leads r x meets };
+}
+
+-- ---- normal forms
+
+-- A normal form with the given substitution in front says what it says as one of what was tried.
+form_is : (x : program.Tried) (answer : Form) (f : Formed) → IsFormBeside x.skeleton x.substitution answer f → tried_view (tried_form answer) ≡ form_of (tried_view x) f
+form_is x answer f is = λ i. record {
+  variables = ap variables_view is.variables i;
+  substitution = is.substitution i;
+  skeleton = is.skeleton i;
+}
+
+each_leads : (r : Release) (x : program.Tried) (answers : List Form) (forms : List Formed) → ArePaired (IsFormBeside x.skeleton x.substitution) answers forms → (ys : List Tried) → LeadTo r (map normal_form answers) ys →
+    EachSettles r (map (form_of (tried_view x)) forms) ys
+each_leads r x [] [] are ys l = subst (EachSettles r []) (sym l) no_forms
+each_leads r x (a ∷ answers) (f ∷ forms) are ys l =
+    subst (EachSettles r (form_of (tried_view x) f ∷ map (form_of (tried_view x)) forms)) (sym l.2)
+    (next_form (subst (λ (y : Tried). Settles r normal y l.0) (form_is x a f are.0) l.3) (each_leads r x answers forms are.1 l.1 l.4))
+each_leads r x [] (f ∷ forms) are ys l = absurd are
+each_leads r x (a ∷ answers) [] are ys l = absurd are
+
+-- Each of the answers has a form that is its own.
+record HasForm (x : program.Tried) (forms : List Formed) (answer : Form) : Type 0 where
+  pub form : Formed
+  pub listed : IsIn form forms
+  pub beside : IsFormBeside x.skeleton x.substitution answer form
+
+has_form : (x : program.Tried) (answers : List Form) (forms : List Formed) → ArePaired (IsFormBeside x.skeleton x.substitution) answers forms → (a : Form) → IsIn a answers → HasForm x forms a
+has_form x (b ∷ answers) (f ∷ forms) are a here = record { form = f; listed = here; beside = are.0 }
+has_form x (b ∷ answers) (f ∷ forms) are a (there i) = let h = has_form x answers forms are.1 a i in record { form = h.form; listed = there h.listed; beside = h.beside }
+has_form x [] forms are a i = absurd (not_in_none i)
+has_form x (b ∷ answers) [] are a i = absurd are
+
+formed_comes : (r : Release) (x : Tried) (f : Formed) → IsFormedFrom x.skeleton f → ComesFrom r x (form_of x f)
+formed_comes r x f from = record {
+  by = from.comes.substitution;
+  trace = same_trace from.comes.substitution x.skeleton f.skeleton r.strand from.comes.same.strands;
+  stays = λ e m. subst (λ (s : Substitution). OneMatches r.patterns (composed x.substitution s) (apply_to from.comes.substitution e)) from.by (one_matches_under r.patterns x.substitution from.comes.substitution e m);
+}
+
+module _ (r : Release) (x : program.Tried) (answers : List Form) (are : AreFormsBeside x.skeleton x.substitution answers) where
+  form_comes : (a : Form) → HasForm x are.forms a → ComesFrom r (tried_view x) (tried_view (tried_form a))
+  form_comes a h = subst (ComesFrom r (tried_view x)) (sym (form_is x a h.form h.beside)) (formed_comes r (tried_view x) h.form (are.normal.formed h.form h.listed))
+
+  form_falls : (d : Candidate) → (a : Form) × IsIn a answers × (normal_form a ≡ d) → FallsTo r (OnTheWay x) d
+  form_falls d h = subst (FallsTo r (OnTheWay x)) h.2 (form_comes h.0 (has_form x answers are.forms are.each h.0 h.1))
+
+  pub forms_place : MeetsBoth r (tried_view x) → (old new : List Candidate) → new ≡ old ++ map normal_form answers → Puts r (OnTheWay x) old new
+  forms_place meets old new e = record {
+    added = map normal_form answers;
+    behind = e;
+    takes_place = record {
+      each = λ d i. form_falls d (from_map normal_form answers i);
+      leads = λ ys l. normalising meets are.normal (each_leads r x answers are.forms are.each ys l);
+    };
+  }

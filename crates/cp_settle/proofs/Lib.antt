@@ -1,0 +1,12 @@
+pub mod AllAbove
+pub mod Filled
+pub mod Deciding
+pub mod Counting
+pub mod Matching
+pub mod Ranked
+pub mod Rounds
+pub mod Branching
+pub mod Forms
+pub mod Putting
+pub mod Made
+pub mod Occurrences

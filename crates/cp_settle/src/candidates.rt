@@ -1,0 +1,176 @@
+// What is tried, on the way to what it leads to, and rounds of trying.
+ghost use Rattle.std.specs.Prelude.{◌≡◌, ◌↔◌, ◌++◌, map, IsTrue, IfOk, OnOk};
+ghost use Rattle.cp_collapse.specs.Having.{Has};
+ghost use Rattle.cp_settle.specs.Releasing.{Release as Plain, IsReleasedInside, IsFirstOutside, MeetsBoth};
+ghost use Rattle.cp_settle.specs.Views.{release_view, tried_view};
+ghost use Rattle.cp_settle.specs.Candidates.{tried_of, normal_form, IsOpen, Puts, IsRound};
+ghost use Rattle.cp_settle.specs.declared.candidates.Candidate.TheVariants as variants;
+
+use crate::branches::put_branches;
+use crate::conditions::{Position, first_outside_before, is_released_inside};
+use crate::enclosing::encryptions_above;
+use crate::release::{Release, Tried};
+use cp_normal::{Form, normalise_beside};
+use std::alloc::{AllocError, Global};
+
+/// A skeleton that is tried: one that may not be normal, a normal form, or a normal form for which both conditions hold.
+#[derive(Drop)]
+pub(crate) enum Candidate {
+    OnTheWay(Tried),
+    Normal(Tried),
+    Settled(Tried),
+}
+
+impl Candidate {
+    /// What is tried.
+    pub(crate) fn into_tried(self) -> Tried
+        ensures { result ≡ tried_of self }
+    {
+        match self {
+            Candidate::OnTheWay(tried) => tried,
+            Candidate::Normal(tried) => tried,
+            Candidate::Settled(tried) => tried,
+        }
+    }
+}
+
+/// Puts the branches by a position behind others.
+fn put_by_position(
+    alloc: Global,
+    release: &Release,
+    tried: &Tried,
+    position: &Position,
+    next: &mut Vec<Candidate>,
+) -> Result<(), AllocError>
+    requires outside { IsReleasedInside (release_view release.now) (tried_view tried.now) → ⊥ }
+    requires first { IsFirstOutside (release_view release.now) (tried_view tried.now) position.now.term position.now.path }
+    ensures on_the_way { OnOk result (Puts (release_view release.now) (variants.OnTheWay tried.now) next.old.items next.new.items) }
+    ensures normal { OnOk result (Puts (release_view release.now) (variants.Normal tried.now) next.old.items next.new.items) }
+{
+    let encryptions = encryptions_above(alloc, &position.term, &position.path)?;
+    put_branches(alloc, tried, &encryptions, release.patterns, next)
+}
+
+/// Puts normal forms behind others, to be tried again.
+fn put_normal(forms: Vec<Form>, next: &mut Vec<Candidate>) -> Result<(), AllocError>
+    ensures { OnOk result (next.new.items ≡ next.old.items ++ map normal_form forms.items) }
+{
+    let mut rest = forms;
+    rest.reverse();
+    while let Some(form) = rest.pop() {
+        let Form {
+            skeleton,
+            substitution,
+        } = form;
+        next.push(Candidate::Normal(Tried {
+            skeleton,
+            substitution,
+        }))?;
+    }
+    Ok(())
+}
+
+/// Puts the normal forms of a skeleton for which both conditions hold behind others.
+fn normalise_tried(alloc: Global, tried: Tried, next: &mut Vec<Candidate>) -> Result<(), AllocError>
+    ensures { OnOk result ((r : Plain) → MeetsBoth r (tried_view tried) → Puts r (variants.OnTheWay tried) next.old.items next.new.items) }
+{
+    let Tried {
+        skeleton,
+        substitution,
+    } = tried;
+    let forms = normalise_beside(alloc, skeleton, &substitution)?;
+    put_normal(forms, next)
+}
+
+/// Puts what takes the place of a skeleton that may not be normal behind others.
+fn try_first(
+    alloc: Global,
+    release: &Release,
+    tried: Tried,
+    next: &mut Vec<Candidate>,
+) -> Result<(), AllocError>
+    ensures { OnOk result (Puts (release_view release.now) (variants.OnTheWay tried) next.old.items next.new.items) }
+{
+    if is_released_inside(alloc, release, &tried)? {
+        return Ok(());
+    }
+    match first_outside_before(alloc, release, &tried)? {
+        Some(position) => put_by_position(alloc, release, &tried, &position, next),
+        None => normalise_tried(alloc, tried, next),
+    }
+}
+
+/// Puts what takes the place of a normal form behind others.
+fn try_again(
+    alloc: Global,
+    release: &Release,
+    tried: Tried,
+    next: &mut Vec<Candidate>,
+) -> Result<(), AllocError>
+    ensures { OnOk result (Puts (release_view release.now) (variants.Normal tried) next.old.items next.new.items) }
+{
+    if is_released_inside(alloc, release, &tried)? {
+        return Ok(());
+    }
+    match first_outside_before(alloc, release, &tried)? {
+        Some(position) => put_by_position(alloc, release, &tried, &position, next),
+        None => {
+            next.push(Candidate::Settled(tried))?;
+            Ok(())
+        }
+    }
+}
+
+/// Puts what takes the place of a candidate behind others.
+fn advance(
+    alloc: Global,
+    release: &Release,
+    candidate: Candidate,
+    next: &mut Vec<Candidate>,
+) -> Result<(), AllocError>
+    ensures { OnOk result (Puts (release_view release.now) candidate next.old.items next.new.items) }
+{
+    match candidate {
+        Candidate::OnTheWay(tried) => try_first(alloc, release, tried, next),
+        Candidate::Normal(tried) => try_again(alloc, release, tried, next),
+        Candidate::Settled(tried) => {
+            next.push(Candidate::Settled(tried))?;
+            Ok(())
+        }
+    }
+}
+
+/// Tries each candidate that is not settled once; what it leads to stands in its place.
+pub(crate) fn round(
+    alloc: Global,
+    release: &Release,
+    candidates: Vec<Candidate>,
+) -> Result<Vec<Candidate>, AllocError>
+    ensures { IfOk result (λ next. IsRound (release_view release.now) candidates.items next.items) }
+{
+    let mut rest = candidates;
+    rest.reverse();
+    let mut next = Vec::new(alloc);
+    while let Some(candidate) = rest.pop() {
+        advance(alloc, release, candidate, &mut next)?;
+    }
+    Ok(next)
+}
+
+fn is_open(candidate: &Candidate) -> bool
+    ensures { IsTrue result ↔ IsOpen candidate.now }
+{
+    !matches!(candidate, Candidate::Settled(_))
+}
+
+/// Whether some candidate is not settled.
+pub(crate) fn some_is_open(candidates: &[Candidate]) -> bool
+    ensures { IsTrue result ↔ Has IsOpen candidates.now }
+{
+    for candidate in candidates {
+        if is_open(candidate) {
+            return true;
+        }
+    }
+    false
+}

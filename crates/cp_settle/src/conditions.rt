@@ -1,0 +1,114 @@
+// The two conditions on a release.
+ghost use Rattle.std.specs.Prelude.{◌≡◌, ◌↔◌, IsTrue, IfOk, MatchOption};
+ghost use Rattle.std.specs.Option.{option_map};
+ghost use Rattle.cp_model.specs.Term.{apply_to};
+ghost use Rattle.cp_model.specs.Strand.{payload};
+ghost use Rattle.cp_model.specs.Skeleton.{term_event_at};
+ghost use Rattle.cp_skel.specs.View.{skeleton_view};
+ghost use Rattle.cp_settle.specs.Releasing.{IsReleasedInside, IsInsideAlone, IsFirstOutside};
+ghost use Rattle.cp_settle.specs.Views.{release_view, tried_view};
+ghost use Rattle.cp_settle.specs.Conditions.{IsFirstAt, HasNoneBefore};
+
+use crate::release::{Release, Tried};
+use cp_match::{first_outside, is_inside};
+use cp_skel::{Node, Skeleton};
+use cp_term::{Path, Term};
+use cp_unify::apply;
+use std::alloc::{AllocError, Global};
+
+/// A position of a term.
+#[derive(Drop)]
+pub(crate) struct Position {
+    pub(crate) term: Term,
+    pub(crate) path: Path,
+}
+
+/// The message of the event at a node, if there is one.
+fn message_at(alloc: Global, k: &Skeleton, node: Node) -> Result<Option<Term>, AllocError>
+    ensures { IfOk result (λ m. m ≡ option_map payload (term_event_at (skeleton_view k.now).strands node)) }
+{
+    match k.strands().get(node.strand) {
+        Some(strand) => match strand.event(alloc, node.index)? {
+            Some(event) => {
+                let message = event.payload().copy()?;
+                Ok(Some(message))
+            }
+            None => Ok(None),
+        },
+        None => Ok(None),
+    }
+}
+
+/// Whether the position of the release is inside the patterns.
+pub(crate) fn is_released_inside(
+    alloc: Global,
+    release: &Release,
+    tried: &Tried,
+) -> Result<bool, AllocError>
+    ensures { IfOk result (λ inside. IsTrue inside ↔ IsReleasedInside (release_view release.now) (tried_view tried.now)) }
+{
+    match message_at(alloc, &tried.skeleton, release.node)? {
+        Some(message) => is_inside(
+            alloc,
+            release.patterns,
+            &tried.substitution,
+            &message,
+            release.path.as_slice(),
+        ),
+        None => Ok(false),
+    }
+}
+
+/// The first position outside the patterns at which the event at this index of the release's strand carries the term, which
+/// is the release's under the substitution.
+fn first_outside_at(
+    alloc: Global,
+    release: &Release,
+    tried: &Tried,
+    critical: &Term,
+    index: usize,
+) -> Result<Option<Position>, AllocError>
+    requires { critical.now ≡ apply_to (tried_view tried.now).substitution (release_view release.now).critical }
+    ensures { IfOk result (λ found. MatchOption found
+        (IsInsideAlone (release_view release.now) (tried_view tried.now) index)
+        (λ p. IsFirstAt (release_view release.now) (tried_view tried.now) index p.term p.path)) }
+{
+    let node = Node {
+        strand: release.node.strand,
+        index,
+    };
+    let Some(term) = message_at(alloc, &tried.skeleton, node)? else {
+        return Ok(None);
+    };
+    match first_outside(
+        alloc,
+        release.patterns,
+        &tried.substitution,
+        critical,
+        &term,
+    )? {
+        Some(path) => Ok(Some(Position { term, path })),
+        None => Ok(None),
+    }
+}
+
+/// The first position outside the patterns at which an event of the release's strand before its node carries the term, by
+/// event and then by position.
+pub(crate) fn first_outside_before(
+    alloc: Global,
+    release: &Release,
+    tried: &Tried,
+) -> Result<Option<Position>, AllocError>
+    ensures { IfOk result (λ found. MatchOption found
+        (HasNoneBefore (release_view release.now) (tried_view tried.now))
+        (λ p. IsFirstOutside (release_view release.now) (tried_view tried.now) p.term p.path)) }
+{
+    let critical = apply(alloc, &tried.substitution, release.critical)?;
+    for index in 0..release.node.index {
+        match first_outside_at(alloc, release, tried, &critical, index)? {
+            Some(position) => return Ok(Some(position)),
+            None => {}
+        }
+    }
+    Ok(None)
+}
