@@ -55,19 +55,34 @@ line_of() {
     if [ -f "$1" ]; then cat "$1"; else printf '%s' "$2"; fi
 }
 
-for case in reports/*/; do
-    set -- analyse --limit 0
-    if [ -f "${case}words" ]; then
+# Runs the program on the file $1 with the words of the file $2, one a line, or, where there is none, those behind it.
+run_words() {
+    input=$1
+    words=$2
+    shift 2
+    if [ -f "$words" ]; then
         set --
-        while IFS= read -r word; do set -- "$@" "$word"; done <"${case}words"
+        while IFS= read -r word; do set -- "$@" "$word"; done <"$words"
     fi
-    run "${case}input.scm" "$@"
+    run "$input" "$@"
+}
+
+for case in reports/*/; do
+    run_words "${case}input.scm" "${case}words" analyse --limit 0
     judge "${case%/}" "$(line_of "${case}status" 0)" "${case}output.scm" "$(line_of "${case}error" '')"
 done
 
 for wanted in examples/*.scm; do
-    run "../$wanted" analyse --limit 0
-    judge "$wanted" 0 "$wanted" ''
+    case=${wanted%.scm}
+    run_words "../$wanted" "$case.words" analyse
+    judge "$wanted" "$(line_of "$case.status" 0)" "$wanted" ''
+done
+
+for input in ../examples/*.scm; do
+    [ -f "${input#../}" ] || {
+        failed=$((failed + 1))
+        echo "failed: ${input#../}: no report of it"
+    }
 done
 
 tab=$(printf '\t')
@@ -89,18 +104,54 @@ for input in accepted/*.scm; do
     judge "$input" '0 1' - ''
 done
 
-# A problem of $1 listeners whose text cannot be derived, and the report of $2, which names the limit.
+# A problem of $1 listeners on a text that nobody says: its one label is expanded and dead, where the limits allow it.
 listeners() {
     {
-        echo '(defprotocol p basic (defrole r (vars (n text)) (trace (send n))))'
+        echo '(defprotocol p basic (defrole r (vars (a name)) (trace (send a))))'
         printf '(defskeleton p (vars (n text))'
         copies "$1" ' (deflistener n)'
         echo ' (pen-non-orig n))'
     } >"$dir/input"
 }
 
-# As many listeners as the bound are at the step limit, and one more is above the bound.
-while IFS="$tab" read -r bound words; do
+# A problem of eight strands that any partition may identify: of its 4,140 labels those of at most $1 strands, as many as
+# $allowed says, are expanded and dead, where the step limit allows it.
+strands() {
+    {
+        echo '(defprotocol p basic (defrole r (vars (x text) (k skey)) (trace (recv (enc x k)))))'
+        printf '(defskeleton p (vars (k skey))'
+        copies 8 ' (defstrand r 1 (k k))'
+        echo ' (non-orig k))'
+    } >"$dir/input"
+    case $1 in
+        1) allowed=1 ;;
+        2) allowed=128 ;;
+        3) allowed=1094 ;;
+        4) allowed=2795 ;;
+        5) allowed=3845 ;;
+        6) allowed=4111 ;;
+        7) allowed=4139 ;;
+        *) allowed=4140 ;;
+    esac
+}
+
+# The last line of the last run is the status form of $3 labels, of which the limits of $1 steps and of strands allow to
+# expand $2. $4 names the case.
+counts() {
+    expanded=$2
+    outcome=complete
+    code=0
+    [ "$2" -eq "$3" ] || outcome='limit strands'
+    [ "$2" -le "$1" ] || { outcome='limit steps' expanded=$1; }
+    [ "$outcome" = complete ] || code=1
+    tail -n 1 "$dir/output" >"$dir/last" && mv "$dir/last" "$dir/output"
+    echo "(status $outcome labels $3 expanded $expanded shapes 0)" >"$dir/status"
+    judge "$4" "$code" "$dir/status" ''
+}
+
+# Each command's limits: as many listeners as the bound are not above it, and one more is; and of a problem of many labels
+# as many are expanded as the limits allow.
+while IFS="$tab" read -r limit bound words; do
     # shellcheck disable=SC2086
     set -- $words
     for word; do
@@ -108,7 +159,7 @@ while IFS="$tab" read -r bound words; do
         [ "$word" = '""' ] && word=
         set -- "$@" "$word"
     done
-    if [ "$bound" = - ]; then
+    if [ "$limit" = - ]; then
         run /dev/null "$@"
         judge "no command: $words" 2 "$dir/nothing" 'usage: cpsa COMMAND [--limit N] [--bound N]'
         continue
@@ -116,13 +167,30 @@ while IFS="$tab" read -r bound words; do
     for more in 0 1; do
         listeners $((bound + more))
         run "$dir/input" "$@"
-        tail -n 1 "$dir/output" >"$dir/last" && mv "$dir/last" "$dir/output"
-        limit=steps
-        [ $more = 0 ] || limit=strands
-        echo "(status limit $limit labels 1 expanded 0 shapes 0)" >"$dir/status"
-        judge "command with $((bound + more)) listeners: $words" 1 "$dir/status" ''
+        counts "$limit" $((1 - more)) 1 "command with $((bound + more)) listeners: $words"
     done
+    strands "$bound"
+    run "$dir/input" "$@"
+    counts "$limit" "$allowed" 4140 "command with eight strands: $words"
 done <commands.tsv
+
+# A text that three roles say, each of which has to hear another one first, which needs them again: each label that is
+# expanded has three children, no two labels are alike, and there is no end.
+{
+    echo '(defprotocol p basic'
+    for role in r s t; do
+        echo "(defrole $role (vars (n m text)) (trace (recv m) (send n)) (pen-non-orig m))"
+    done
+    echo ') (defskeleton p (vars (n text)) (deflistener n) (pen-non-orig n))'
+} >"$dir/endless"
+for limit in 1 2 13 50 200; do
+    run "$dir/endless" analyse --limit "$limit"
+    counts "$limit" $((3 * limit + 1)) $((3 * limit + 1)) "a search without end, at the limit $limit"
+done
+
+# Within a bound of three strands that search ends: 13 labels have at most three strands, and 27 have four.
+run "$dir/endless" analyse --bound 3
+counts 2000 13 40 'a search without end, at the bound 3'
 
 # $2 bytes $3 end with the status $4 and the line $5.
 bytes() {
@@ -146,6 +214,17 @@ run "$dir/input" analyse --limit 0
 tail -n 1 "$dir/output" >"$dir/last" && mv "$dir/last" "$dir/output"
 echo '(status complete labels 1 expanded 0 shapes 1)' >"$dir/status"
 judge 'a message of 300,000 items' 0 "$dir/status" ''
+
+# A role whose message has as many items, with a value that originates there.
+{
+    printf '(defprotocol p basic (defrole r (vars (n text)) (trace (send (cat'
+    copies 300000 ' n'
+    echo ')))))'
+    echo '(defskeleton p (vars (t text)) (defstrand r 1 (n t)) (uniq-orig t))'
+} >"$dir/input"
+run "$dir/input" analyse --limit 0
+tail -n 1 "$dir/output" >"$dir/last" && mv "$dir/last" "$dir/output"
+judge "a role's message of 300,000 items" 0 "$dir/status" ''
 
 # Streams that fail: a folder cannot be read, and a full device takes nothing.
 run / analyse --limit 0

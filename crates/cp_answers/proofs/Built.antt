@@ -53,11 +53,12 @@ listed_comes_down protocol ks k i = record {
 pub more_comes_down : (protocol : Protocol) (ks ls : List Skeleton) (k : Skeleton) → ((l : Skeleton) → IsIn l ks → IsIn l ls) → ComesDownTo protocol ks k → ComesDownTo protocol ls k
 more_comes_down protocol ks ls k more d = record { forms = d.forms; keep = d.keep; listed = λ form i. more form.skeleton (d.listed form i) }
 
-pub weaker_comes_down : (protocol : Protocol) (ks : List Skeleton) (l k : Skeleton) → SaysNoMore l k → ComesDownTo protocol ks l → ComesDownTo protocol ks k
-weaker_comes_down protocol ks l k says d = record {
+-- Where l keeps the standings of k, k comes down to what l comes down to.
+pub comes_down_by : (protocol : Protocol) (ks : List Skeleton) (l k : Skeleton) → KeepStandings protocol k (as_it_is l ∷ []) → ComesDownTo protocol ks l → ComesDownTo protocol ks k
+comes_down_by protocol ks l k keep d = record {
   forms = d.forms;
   keep = λ b h is stands apart.
-      let w = weaker_keeps protocol l k says b h is stands apart in
+      let w = keep b h is stands apart in
       let same : w.form ≡ as_it_is l = only_item w.listed in
       let r = d.keep b h is (subst (λ (f : Form). StandsIn f.skeleton b h) same w.stands) (subst (λ (f : Form). StandsApart f.skeleton h) same w.apart) in
       record {
@@ -66,11 +67,16 @@ weaker_comes_down protocol ks l k says d = record {
         stands = r.stands;
         apart = r.apart;
         fits = r.fits;
-        problem_strands = r.problem_strands ∙ says.problem_strands;
-        problem_values = r.problem_values ∙ ap (map (apply_to r.form.substitution)) says.problem_values;
+        problem_strands = r.problem_strands ∙ subst (λ (f : Form). f.skeleton.from_problem.strands ≡ k.from_problem.strands) same w.problem_strands;
+        problem_values = r.problem_values
+            ∙ ap (map (apply_to r.form.substitution))
+            (subst (λ (f : Form). f.skeleton.from_problem.values ≡ map (apply_to f.substitution) k.from_problem.values) same w.problem_values ∙ map_same (apply_to unchanged) term_unchanged k.from_problem.values);
       };
   listed = d.listed;
 }
+
+pub weaker_comes_down : (protocol : Protocol) (ks : List Skeleton) (l k : Skeleton) → SaysNoMore l k → ComesDownTo protocol ks l → ComesDownTo protocol ks k
+weaker_comes_down protocol ks l k says d = comes_down_by protocol ks l k (weaker_keeps protocol l k says) d
 
 pub more_tried : (trial : Trial) (ks ls : List Skeleton) {s : Substitution} {k : Skeleton} → ((l : Skeleton) → IsIn l ks → IsIn l ls) → Tries trial ks s k → Tries trial ls s k
 more_tried trial ks ls {k = k} more (settled d) = settled (more_comes_down trial.protocol ks ls k more d)

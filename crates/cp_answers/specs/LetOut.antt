@@ -15,16 +15,9 @@ use Rattle.cp_answers.specs.Example.{shared, locked, locker, new_terms}
 abbrev pub secret : Term
 secret = atom_term (text_variable 0)
 
--- The role receives a text under a key, and sends it with none.
+-- The role has the variables of the one that sends a text under a key; it receives that, and sends the text with none.
 abbrev pub opener : Role
-opener = record {
-  name = 111 ∷ [];
-  variables = locker.variables;
-  trace = recv locked ∷ send secret ∷ [];
-  non_originating = [];
-  penetrator_non_originating = [];
-  uniquely_originating = [];
-}
+opener = record locker { name = 111 ∷ []; trace = recv locked ∷ send secret ∷ [] }
 
 abbrev pub protocol : Protocol
 protocol = record { name = 101 ∷ []; roles = locker ∷ opener ∷ [] }

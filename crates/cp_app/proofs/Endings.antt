@@ -21,7 +21,7 @@ use Rattle.cp_language.specs.Input.{Entry, faults_of, input_of, IsInput}
 use Rattle.cp_language.specs.Report.{report_text, HasItsVariables}
 use Rattle.cp_load.specs.declared.error.LoadError.{LoadError}
 use Rattle.cp_load.specs.declared.error.LoadError.TheVariants as loading
-use Rattle.cp_search.specs.Unexpanded.{IsUnexpanded}
+use Rattle.cp_tree.specs.Searched.{IsTreeOf}
 use Rattle.cp_app.specs.declared.stopped.Stopped.{Stopped}
 use Rattle.cp_app.specs.declared.stopped.Stopped.TheVariants as stopped
 use Rattle.cp_app.proofs.Putting.{append-empty}
@@ -170,7 +170,7 @@ whole_report limits bytes text fs entries trees b short reading loaded analysed 
         variables = zip_onto (IsAnalysisOf limits) (λ p t. (l : Label) → IsIn l t.labels → HasItsVariables p l) (λ p t h. h.variables) problems trees all;
         printed = printed ∙ ap (λ es. report_text es trees) loaded.1;
       };
-      searched = zip_onto (IsAnalysisOf limits) (λ p t. IsUnexpanded p.skeleton p.variables limits t) (λ p t h. h.searched) problems trees all;
+      searched = zip_onto (IsAnalysisOf limits) (λ p t. IsTreeOf p.protocol p.skeleton p.variables limits t) (λ p t h. h.searched) problems trees all;
       outcomes = says;
     }
 

@@ -1,5 +1,5 @@
 -- The trees of the problems of an input.
-use Rattle.std.proofs.Common.{◌≡◌, ℕ, zero, suc, ◌+◌, ◌<◌, ◌≤◌, List, [], ◌∷◌, ◌++◌, length, get_or, take, map, Option, Some, None, ◌⊎◌, inl, inr, refl, sym, ap, ◌∙◌, subst, arith, ⊎_elim, Result, Ok, Err, add-one, Bool, true, false}
+use Rattle.std.proofs.Common.{◌≡◌, ℕ, zero, suc, ◌+◌, ◌<◌, ◌≤◌, List, [], ◌∷◌, ◌++◌, length, get_or, take, map, Option, Some, None, ◌⊎◌, inl, inr, refl, sym, ap, ◌∙◌, subst, arith, ⊎_elim, Result, Ok, Err, add-one, Bool, true, false, if◌then◌else◌}
 use Rattle.std.specs.Prelude.{option_map}
 use Rattle.std.specs.List.{AllZip, cons_option, filter_map}
 use Rattle.std.proofs.lemmas.List.{append-nil, take_all}
@@ -15,110 +15,92 @@ use Rattle.cp_model.specs.Term.{Sort, text_sort, datum_sort, name_sort, skey_sor
 use Rattle.cp_model.specs.Strand.{Declaration}
 use Rattle.cp_model.specs.declared.node.Node.{Node}
 use Rattle.cp_model.specs.Problem.{variable_terms, declared_sort, IsDeclared, IsPointOfView, variables_of_skeleton, HasDeclaredVariables}
-use Rattle.cp_model.specs.Tree.{Mark, Outcome, complete, at_step_limit, at_strand_limit, Label, Tree, Limits, IsTrueOf}
+use Rattle.cp_model.specs.Tree.{Pattern, Test, Outcome, complete, at_step_limit, at_strand_limit, Label, Tree, Limits, IsTrueOf}
 use Rattle.cp_sexpr.specs.Syntax as syntax
 use Rattle.cp_sexpr.specs.Syntax.{Forms}
 use Rattle.cp_sexpr.specs.View.{view, views}
 use Rattle.cp_language.specs.Problems.{Problem}
-use Rattle.cp_language.specs.Report.{variables_of_terms, occurring, HasItsVariables}
+use Rattle.cp_language.specs.Report.{variables_of_terms, variables_of_test, variables_but, variables_of_patterns, occurring, HasItsVariables}
 use Rattle.cp_language.specs.Input.{Entry, faults_of, input_of, IsInput}
 use Rattle.cp_load.specs.Inputs.{problem_view, entries_view, entries_of}
 use Rattle.cp_load.specs.declared.input.Problem.{Problem as ProgramProblem}
 use Rattle.cp_load.specs.declared.input.Input.{Input}
 use Rattle.cp_sexpr.specs.declared.form.Form as form
-use Rattle.cp_roots.specs.Roots.{Root}
-use Rattle.cp_search.specs.Unexpanded.{label_of, IsUnexpanded}
-use Rattle.cp_roots.proofs.VariablesOfRoots.{roots_declared}
+use Rattle.cp_model.specs.Same.{has_variable}
+use Rattle.cp_model.proofs.SameTests.{in_has_variable}
+use Rattle.cp_guard.specs.Matching.{IsFreeIn}
+use Rattle.cp_tree.specs.Searched.{IsTreeOf}
+use Rattle.cp_tree.specs.Declared.{DeclaresItsOwn}
 use Rattle.cp_wellformed.proofs.Problems as wellformed
 use Rattle.cp_app.specs.Headline.{HaveTrees}
 use Rattle.cp_app.specs.Analysis.{IsAnalysable, IsAnalysisOf}
 
 -- ---- variables
 
--- what is in a list of one is its item
-only_in : {x y : Variable} → IsIn x (y ∷ []) → x ≡ y
-only_in here = refl
-only_in (there m) = elim m [ ]
-
--- a variable has no variable but itself
-own_variable : (s : Sort) (n : ℕ) (x : Variable) → IsIn x (variables_of (atom_term (atom_of_variable (record { sort = s; number = n })))) → x ≡ record { sort = s; number = n }
-own_variable text_sort n x h = only_in h
-own_variable datum_sort n x h = only_in h
-own_variable name_sort n x h = only_in h
-own_variable skey_sort n x h = only_in h
-own_variable akey_sort n x h = only_in h
-
--- the variables of declared variables' terms are declared
-own_term_declared : (all : List Declaration) (n : ℕ) (ds : List Declaration) → ((i : ℕ) (d : Declaration) → item_at ds i ≡ Some d → item_at all (n + i) ≡ Some d) →
-    (x : Variable) → IsIn x (variables_of_terms (variable_terms n ds)) → IsDeclared all x
-own_term_declared all n [] h x m = elim m [ ]
-own_term_declared all n (d ∷ ds) h x m =
-    ⊎_elim (λ q.
-    let same : x ≡ record { sort = d.sort; number = n } = own_variable d.sort n x q in
-    let first : item_at all (n + 0) ≡ Some d = h 0 d refl in
-    let e : n + 0 ≡ n = omega arith in
-    let there' : item_at all n ≡ Some d = subst (λ k. item_at all k ≡ Some d) e first in
-    subst (IsDeclared all) (sym same) (ap declared_sort there'))
-    (own_term_declared all (suc n) ds (λ i d' at. let e : n + suc i ≡ suc n + i = omega arith in subst (λ k. item_at all k ≡ Some d') e (h (suc i) d' at)) x)
-    (in_append (variables_of (atom_term (atom_of_variable (record { sort = d.sort; number = n })))) (variables_of_terms (variable_terms (suc n) ds)) m)
-
--- what is in the variables of terms is in those of one of them, and back
+-- what is in the variables of terms is in those of one of them
 in_one_term : (ts : List Term) (x : Variable) → IsIn x (variables_of_terms ts) → (t : Term) × IsIn t ts × IsIn x (variables_of t)
 in_one_term [] x m = elim m [ ]
 in_one_term (t ∷ ts) x m = ⊎_elim (λ q. (t, here, q)) (λ q. let r = in_one_term ts x q in (r.0, there r.1, r.2)) (in_append (variables_of t) (variables_of_terms ts) m)
 
-in_all_terms : (ts : List Term) (t : Term) (x : Variable) → IsIn t ts → IsIn x (variables_of t) → IsIn x (variables_of_terms ts)
-in_all_terms [] t x l m = elim l [ ]
-in_all_terms (t ∷ ts) _ x here m = in_append_left (variables_of_terms ts) m
-in_all_terms (t ∷ ts) u x (there l) m = in_append_right (variables_of t) (in_all_terms ts u x l m)
+-- those of a test are its critical term's
+in_test : (o : Option Test) (x : Variable) → IsIn x (variables_of_test o) → (t : Test) × (o ≡ Some t) × IsIn x (variables_of t.critical)
+in_test None x m = elim m [ ]
+in_test (Some t) x m = (t, refl, m)
 
--- the problem's own variables are declared
-own_declared : (p : Problem) → IsPointOfView p.variables p.skeleton → HasDeclaredVariables p.variables p.skeleton
-own_declared p h = record {
-  occurring = h.closed;
-  mapped = λ t x inp m. own_term_declared p.variables 0 p.variables (λ i d at. let e : i ≡ 0 + i = omega arith in subst (λ k. item_at p.variables k ≡ Some d) e at) x
-      (subst (λ ts. IsIn x (variables_of_terms ts)) h.values (in_all_terms p.skeleton.from_problem.values t x inp m));
-}
+-- those but for locals are no locals
+but_by : (locals : List Variable) (y : Variable) (ys : List Variable) (x : Variable) (b : Bool) → has_variable locals y ≡ b → (IsIn x (variables_but locals ys) → IsIn x ys × (IsIn x locals → ⊥))
+    → IsIn x (if b then variables_but locals ys else y ∷ variables_but locals ys) → IsIn x (y ∷ ys) × (IsIn x locals → ⊥)
+but_by locals y ys x true e hyp m = let r = hyp m in (there r.0, r.1)
+but_by locals y ys x false e hyp here = (here, λ l. let h : has_variable locals x ≡ true = in_has_variable locals x l in cc)
+but_by locals y ys x false e hyp (there n) = let r = hyp n in (there r.0, r.1)
 
--- so are those of a label without a test and patterns, where those of its skeleton and its map are
-label_declared : (variables : List Declaration) (root : Root) (nodes : List Node) (mark : Mark) → HasDeclaredVariables variables root.skeleton → (x : Variable) → IsIn x (occurring (label_of variables root nodes mark)) → IsDeclared variables x
-label_declared variables root nodes mark h x m =
-    let own : List Variable = variables_of_skeleton root.skeleton in
-    let mapped : List Variable = variables_of_terms root.skeleton.from_problem.values in
-    let short : IsIn x (own ++ mapped) = subst (λ (ys : List Variable). IsIn x ys) (append-nil ((own ++ mapped) ++ []) ∙ append-nil (own ++ mapped)) m in
-    ⊎_elim (h.occurring x) (λ q. let r = in_one_term root.skeleton.from_problem.values x q in h.mapped r.0 x r.1 r.2) (in_append own mapped short)
+in_but : (locals xs : List Variable) (x : Variable) → IsIn x (variables_but locals xs) → IsIn x xs × (IsIn x locals → ⊥)
+in_but locals [] x m = elim m [ ]
+in_but locals (y ∷ ys) x m = but_by locals y ys x (has_variable locals y) refl (in_but locals ys x) m
+
+-- those of patterns are one's, and no locals of it
+in_patterns : (ps : List Pattern) (x : Variable) → IsIn x (variables_of_patterns ps) → (p : Pattern) × IsIn p ps × IsFreeIn x p
+in_patterns [] x m = elim m [ ]
+in_patterns (p ∷ ps) x m =
+    ⊎_elim (λ q. let r = in_but p.locals (variables_of p.term) x q in (p, here, record { occurs = r.0; no_local = r.1 })) (λ q. let r = in_patterns ps x q in (r.0, there r.1, r.2))
+    (in_append (variables_but p.locals (variables_of p.term)) (variables_of_patterns ps) m)
 
 place_of_listed : (ls : List Label) (l : Label) → IsIn l ls → (i : ℕ) × (item_at ls i ≡ Some l)
 place_of_listed [] l listed = elim listed [ ]
 place_of_listed (l ∷ ls) _ here = (0, refl)
 place_of_listed (l ∷ ls) m (there listed) = let r = place_of_listed ls m listed in (suc r.0, r.1)
 
-item_of_as_long : (ls : List Label) (rs : List Root) (i : ℕ) (l : Label) → length ls ≡ length rs → item_at ls i ≡ Some l → (r : Root) × (item_at rs i ≡ Some r)
-item_of_as_long [] rs i l e at = absurd (cc)
-item_of_as_long (m ∷ ls) [] i l e at = absurd (omega (arith, e))
-item_of_as_long (m ∷ ls) (r ∷ rs) zero l e at = (r, refl)
-item_of_as_long (m ∷ ls) (r ∷ rs) (suc i) l e at = item_of_as_long ls rs i l (omega (arith, e)) at
+all_declared : (variables : List Declaration) (l : Label) → DeclaresItsOwn variables l → (x : Variable) → IsIn x (occurring l) → IsDeclared l.variables x
+all_declared variables l d x m =
+    let own : List Variable = variables_of_skeleton l.skeleton in
+    let mapped : List Variable = variables_of_terms l.skeleton.from_problem.values in
+    let tested : List Variable = variables_of_test l.test in
+    ⊎_elim
+    (λ a. ⊎_elim
+    (λ b. ⊎_elim (d.skeleton.occurring x) (λ q. let r = in_one_term l.skeleton.from_problem.values x q in d.skeleton.mapped r.0 x r.1 r.2) (in_append own mapped b))
+    (λ q. let r = in_test l.test x q in d.test r.0 x r.1 r.2)
+    (in_append (own ++ mapped) tested a))
+    (λ q. let r = in_patterns l.escape x q in d.patterns r.0 x r.1 r.2)
+    (in_append ((own ++ mapped) ++ tested) (variables_of_patterns l.escape) m)
 
-has_variables : (limits : Limits) (p : Problem) (t : Tree) → IsPointOfView p.variables p.skeleton → IsUnexpanded p.skeleton p.variables limits t → (l : Label) → IsIn l t.labels → HasItsVariables p l
-has_variables limits p t own exact l listed =
+-- Each label declares its variables.
+abbrev pub AllDeclare : Problem → Tree → Type 0
+AllDeclare p t = (i : ℕ) (l : Label) → item_at t.labels i ≡ Some l → DeclaresItsOwn p.variables l
+
+has_variables : (p : Problem) (t : Tree) → AllDeclare p t → (l : Label) → IsIn l t.labels → HasItsVariables p l
+has_variables p t all l listed =
     let place = place_of_listed t.labels l listed in
-    let root = item_of_as_long t.labels exact.roots place.0 l exact.labels.count place.1 in
-    let label = exact.labels.each place.0 root.0 l root.1 place.1 in
-    let declared = roots_declared p.variables p.skeleton exact.roots (own_declared p own) exact.are_roots place.0 root.0 root.1 in
-    subst (HasItsVariables p) (sym label.same) (record {
-      later = [];
-      variables = sym (append-nil p.variables);
-      declared = label_declared p.variables root.0 label.nodes label.mark declared;
-    })
+    let d = all place.0 l place.1 in
+    record { later = d.more.more; variables = d.more.behind; declared = all_declared p.variables l d }
 
 -- the tree of a problem is its analysis
-analysis_of : (limits : Limits) (p : Problem) (t : Tree) → IsAnalysable p → IsTrueOf p.protocol p.skeleton limits t → IsUnexpanded p.skeleton p.variables limits t → IsAnalysisOf limits p t
-analysis_of limits p t good truth searched = record { truth = truth; variables = has_variables limits p t good.own searched; searched = searched }
+analysis_of : (limits : Limits) (p : Problem) (t : Tree) → IsTrueOf p.protocol p.skeleton limits t → IsTreeOf p.protocol p.skeleton p.variables limits t → AllDeclare p t → IsAnalysisOf limits p t
+analysis_of limits p t truth searched declares = record { truth = truth; variables = has_variables p t declares; searched = searched }
 
 pub analysis_if : {A : Type 0} (limits : Limits) (p : Problem) (r : Result ProgramTree A) → IsAnalysable p → IfOk r (λ t. IsTrueOf p.protocol p.skeleton limits (tree_view t))
-    → IfOk r (λ t. IsUnexpanded p.skeleton p.variables limits (tree_view t)) → IfOk r (λ t. IsAnalysisOf limits p (tree_view t))
-analysis_if limits p (Ok t) good truth searched = analysis_of limits p (tree_view t) good truth searched
-analysis_if limits p (Err e) good truth searched = tt
+    → IfOk r (λ t. IsTreeOf p.protocol p.skeleton p.variables limits (tree_view t)) → IfOk r (λ t. AllDeclare p (tree_view t)) → IfOk r (λ t. IsAnalysisOf limits p (tree_view t))
+analysis_if limits p (Ok t) good truth searched declares = analysis_of limits p (tree_view t) truth searched declares
+analysis_if limits p (Err e) good truth searched declares = tt
 
 -- ---- each problem with its tree
 
@@ -206,6 +188,7 @@ analysable_input fs es none same p listed =
     record {
       is_over = record { of_role = (wellformed.are_skeletons fs found.0 p none found.1 found.2).of_role };
       own = wellformed.map_to_themselves fs found.0 p none found.1 found.2;
+      roles = λ r i. (wellformed.roles_are_well_formed fs found.0 p r none found.1 found.2 i).trace;
     }
 
 pub analysable_problems : (input : Input) (fs : List form.Form) → IsInput (views fs) (Ok (entries_of input)) → input.forms.now ≡ fs → length input.problems.items ≡ length fs → (p : Problem) → IsIn p (stated input.problems.items) → IsAnalysable p

@@ -4,13 +4,12 @@ use Rattle.cp_base.specs.declared.status.Status.{Status}
 use Rattle.cp_model.specs.Tree.{Limits, Tree}
 use Rattle.cp_sexpr.specs.Syntax.{Forms}
 use Rattle.cp_language.specs.Input.{input_of}
-use Rattle.cp_search.specs.Unexpanded.{IsUnexpanded}
+use Rattle.cp_tree.specs.Searched.{IsTreeOf}
 use Rattle.cp_app.specs.Headline.{HaveTrees, HasReported, HasBrokenOff}
 
--- The tree of each problem that the forms state is exactly that of the search: its labels are the problem's roots, and none is
--- expanded.
+-- The tree of each problem that the forms state is exactly the one that a search makes within these limits.
 abbrev pub AreSearched : Limits → Forms → List Tree → Type 0
-AreSearched limits forms trees = HaveTrees (λ p t. IsUnexpanded p.skeleton p.variables limits t) (input_of forms) trees
+AreSearched limits forms trees = HaveTrees (λ p t. IsTreeOf p.protocol p.skeleton p.variables limits t) (input_of forms) trees
 
 -- A report was put, and its trees are those of the search.
 pub record HasReportedSearch (limits : Limits) (input before : List ℕ) (left_new held_new : Option (List ℕ)) (status : Status) : Type 0 where

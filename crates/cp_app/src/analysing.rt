@@ -11,17 +11,16 @@ ghost use Rattle.cp_app.specs.Headline.{SaysOutcomes};
 ghost use Rattle.cp_app.specs.Steps.{is_complete, outcomes_status};
 
 use cp_load::Problem;
-use cp_search::unexpanded;
+use cp_search::search;
 use cp_skel::{Limits, Outcome, Tree};
 use std::alloc::{AllocError, Global};
 
 // The tree of a problem.
 fn tree_of(alloc: Global, problem: &Problem, limits: Limits) -> Result<Tree, AllocError>
     requires analysable { IsAnalysable (problem_view problem.now) }
-    requires no_steps { limits.steps ≡ 0 }
     ensures { IfOk result (λ t. IsAnalysisOf (limits_view limits) (problem_view problem.now) (tree_view t)) }
 {
-    unexpanded(alloc, &problem.protocol, &problem.skeleton, limits)
+    search(alloc, &problem.protocol, &problem.skeleton, limits)
 }
 
 // Puts the tree of a problem behind others.
@@ -32,7 +31,6 @@ fn add_tree(
     trees: &mut Vec<Tree>,
 ) -> Result<(), AllocError>
     requires analysable { IsAnalysable (problem_view problem.now) }
-    requires no_steps { limits.steps ≡ 0 }
     ensures { OnOk result ((t : PlainTree) × IsAnalysisOf (limits_view limits) (problem_view problem.now) t × (map tree_view trees.new.items ≡ map tree_view trees.old.items ++ t ∷ [])) }
 {
     let tree = tree_of(alloc, problem, limits)?;
@@ -47,7 +45,6 @@ pub(crate) fn trees_of(
     limits: Limits,
 ) -> Result<Vec<Tree>, AllocError>
     requires analysable { (p : PlainProblem) → IsIn p (filter_map (option_map problem_view) problems.now) → IsAnalysable p }
-    requires no_steps { limits.steps ≡ 0 }
     ensures { IfOk result (λ ts. AllZip (IsAnalysisOf (limits_view limits)) (filter_map (option_map problem_view) problems.now) (map tree_view ts.items)) }
 {
     let mut trees = Vec::new(alloc);

@@ -46,7 +46,6 @@ fn outcomes_status(complete: bool) -> Status
 // The report of an input, or why there is none.
 fn report_of(alloc: Global, limits: Limits, input: &[u8]) -> Result<Report, Stopped>
     requires short { length input.now ≤ most_bytes }
-    requires no_steps { limits.steps ≡ 0 }
     ensures report { IfOk result (λ report. IsWholeReport (limits_view limits) input.now report.text.items report.complete) }
     ensures cause { IfErr result (IsCauseFor input.now) }
 {
@@ -66,7 +65,6 @@ fn report_of(alloc: Global, limits: Limits, input: &[u8]) -> Result<Report, Stop
 
 // The report of what the source holds, or why there is none.
 fn make_report<S: Source>(alloc: Global, limits: Limits, source: &mut S) -> Result<Report, Stopped>
-    requires no_steps { limits.steps ≡ 0 }
     ensures report { (input : List ℕ) → S.left source.old ≡ Some input
         → IfOk result (λ report. IsWholeReport (limits_view limits) input report.text.items report.complete × (S.left source.new ≡ Some [])) }
     ensures stopped { (input : List ℕ) → S.left source.old ≡ Some input
@@ -89,7 +87,6 @@ fn put_report<O: Sink>(out: &mut O, report: &Report) -> Result<(), Failed>
 
 // Puts the report of what the source holds.
 fn analyse<S: Source, O: Sink>(alloc: Global, limits: Limits, source: &mut S, out: &mut O) -> Status
-    requires no_steps { limits.steps ≡ 0 }
     ensures ended { (input : List ℕ) → S.left source.old ≡ Some input
         → HasEnded (limits_view limits) input (S.left source.new) (O.held out.old) (O.held out.new) result }
     ensures not_usage { result ≢ Usage }
@@ -130,9 +127,9 @@ fn execute<S: Source, O: Sink>(
 
 /// Runs the command that the words name, over a source, a sink for its output and a sink for errors.
 ///
-/// The words are a name for the program and the command. The command `analyse --limit 0 [--bound N]` reads the source
-/// to its end, at most one byte more than 1,048,576, finds the tree of each problem, makes the whole text of the report,
-/// and only then puts it, one top form a piece. The status says how that ended:
+/// The words are a name for the program and the command. The command `analyse [--limit N] [--bound N]` reads the source
+/// to its end, at most one byte more than 1,048,576, searches for the shapes of each problem within these limits, makes the
+/// whole text of the report, and only then puts it, one top form a piece. The status says how that ended:
 ///
 /// - `Done`: the whole report was put, and each of its outcomes is complete;
 /// - `Limit`: the whole report was put, and some outcome is a limit;

@@ -62,24 +62,6 @@ module _ (q : Question) where
     each = h.each;
   }
 
--- ---- which terms are there
-
-module _ (us : List Term) (i : ℕ) (u t : Term) (lt : i < length us) (is : u ≡ get_or us i u) where
-  opened : has_term (drop i us) t ≡ (same_term u t || has_term (drop (i + 1) us) t)
-  opened = ap (λ (vs : List Term). has_term vs t) (drop_read us i u lt is)
-
-  tested : (r : Bool) → IsTrue r ↔ (u ≡ t) → same_term u t ≡ r
-  tested r d = test_is u t r d
-
-  pub has_found : (r : Bool) → IsTrue r ↔ (u ≡ t) → r ≡ true → (whole : Bool) → has_term (drop i us) t ≡ whole → true ≡ whole
-  has_found r d holds whole so_far = sym (ap (λ (b : Bool). b || has_term (drop (i + 1) us) t) (tested r d ∙ holds)) ∙ sym opened ∙ so_far
-
-  pub has_passed : (r : Bool) → IsTrue r ↔ (u ≡ t) → r ≡ false → (whole : Bool) → has_term (drop i us) t ≡ whole → has_term (drop (i + 1) us) t ≡ whole
-  has_passed r d fails whole so_far = sym (ap (λ (b : Bool). b || has_term (drop (i + 1) us) t) (tested r d ∙ fails)) ∙ sym opened ∙ so_far
-
-pub has_none : (us : List Term) (i : ℕ) (t : Term) → length us ≤ i → (whole : Bool) → has_term (drop i us) t ≡ whole → false ≡ whole
-has_none us i t past whole so_far = ap (λ (vs : List Term). has_term vs t) (sym (drop_all i us past)) ∙ so_far
-
 -- ---- encryptions
 
 pub no_encryption : (s : Shape) (t : Term) → IsShapeOf s t → ((b k : Bor Term) → s ≡ Encryption b k → ⊥) → (body : Term) (key : KeyTerm) → t ≡ enc_term body key → ⊥

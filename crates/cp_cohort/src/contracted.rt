@@ -12,7 +12,7 @@ ghost use Rattle.cp_cohort.specs.Views.{question_view, made_view, PutsChildren};
 
 use crate::child::{Child, Made, put_children};
 use crate::question::Question;
-use crate::sent::is_sent_before;
+use cp_covering::is_sent_before;
 use cp_match::{is_inside, positions_for, unifier};
 use cp_normal::{normalise, under};
 use cp_skel::{Occurrence, Skeleton};
@@ -80,7 +80,7 @@ fn contract_event(
     requires listed { IsIn (occurrence_view occurrence.now) (events_of (question_view question.now).skeleton) }
     ensures { OnOk result (PutsChildren (ContractsEvent (question_view question.now) (occurrence_view occurrence.now)) children.old.items children.new.items) }
 {
-    if !is_sent_before(question, occurrence) {
+    if !is_sent_before(question.skeleton, question.node, occurrence) {
         return Ok(());
     }
     let paths = positions_for(alloc, occurrence.event.payload(), question.critical)?;

@@ -10,7 +10,6 @@ mod growing;
 mod listeners;
 mod question;
 mod releasing;
-mod sent;
 
 pub use child::Child;
 pub use gathering::cohort;

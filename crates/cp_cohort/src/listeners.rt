@@ -1,42 +1,19 @@
 // Children with a listener added, on what may set the critical term free and on what opens the patterns.
-ghost use Rattle.std.specs.Prelude.{◌≡◌, ◌∷◌, [], IfOk, OnOk};
+ghost use Rattle.std.specs.Prelude.{◌∷◌, [], IfOk, OnOk};
 ghost use Rattle.cp_guard.specs.Critical.{IsTest};
 ghost use Rattle.cp_covering.specs.Cohort.{Listens, OpensPattern, AreListeners};
 ghost use Rattle.cp_cohort.specs.Hearing.{FreesOnto, AreHeard};
-ghost use Rattle.cp_covering.specs.Listing.{has_term, terms_onto};
 ghost use Rattle.cp_cohort.specs.Views.{question_view, PutsChildren};
 ghost use Rattle.cp_model.specs.Skeleton.{IsNodeOf};
 
 use crate::child::{Child, Made};
 use crate::contracted::put_forms;
 use crate::question::Question;
+use cp_covering::add_term;
 use cp_derive::{buildable, known};
 use cp_skel::Node;
 use cp_term::{Path, Pattern, Shape, Term, invert};
 use std::alloc::{AllocError, Global};
-
-/// Whether the term is one of these.
-fn has_term(terms: &[Term], term: &Term) -> bool
-    ensures { result ≡ has_term terms.now term.now }
-{
-    for other in terms {
-        if other.same(term) {
-            return true;
-        }
-    }
-    false
-}
-
-/// Puts a term behind others, unless it is one of them.
-fn add_term(term: Term, terms: &mut Vec<Term>) -> Result<(), AllocError>
-    ensures { OnOk result (terms.new.items ≡ terms_onto terms.old.items (term ∷ [])) }
-{
-    if has_term(terms, &term) {
-        return Ok(());
-    }
-    terms.push(term)?;
-    Ok(())
-}
 
 /// Puts what may set the critical term free behind others: where it is an encryption, its key, if that cannot be derived at
 /// the node, and else its plaintext.

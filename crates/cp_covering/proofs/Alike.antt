@@ -16,7 +16,7 @@ use Rattle.cp_normal.proofs.BySubstitution.{come_by_substitutions}
 use Rattle.cp_answers.specs.Forms.{Form, KeepStandings, ComesDownTo}
 use Rattle.cp_answers.specs.Trying.{Trial, Tries}
 use Rattle.cp_answers.specs.Trying as trying
-use Rattle.cp_answers.proofs.Built.{as_it_is, composed_stays}
+use Rattle.cp_answers.proofs.Built.{as_it_is, composed_stays, comes_down_by}
 
 -- ---- skeletons that say the same
 
@@ -36,21 +36,7 @@ alike_tried trial ks s k l same tried = trying.normalised (as_it_is l ∷ []) (a
     (λ form i. subst (λ (f : Form). Tries trial ks (composed s f.substitution) f.skeleton) (sym (only_item i)) (subst (λ (t : Substitution). Tries trial ks t l) (sym (composed_stays s)) tried))
 
 pub alike_comes_down : (protocol : Protocol) (ks : List Skeleton) (k l : Skeleton) → SaysTheSame k l → ComesDownTo protocol ks l → ComesDownTo protocol ks k
-alike_comes_down protocol ks k l same d = record {
-  forms = d.forms;
-  keep = λ b h is stands apart.
-      let r = d.keep b h is (same_stands k l same b h stands) (same_apart k l same h apart) in
-      record {
-        form = r.form;
-        listed = r.listed;
-        stands = r.stands;
-        apart = r.apart;
-        fits = r.fits;
-        problem_strands = r.problem_strands ∙ ap (λ (f : FromProblem). f.strands) (sym same.from_problem);
-        problem_values = r.problem_values ∙ ap (λ (f : FromProblem). map (apply_to r.form.substitution) f.values) (sym same.from_problem);
-      };
-  listed = d.listed;
-}
+alike_comes_down protocol ks k l same d = comes_down_by protocol ks l k (alike_keeps protocol k l same) d
 
 -- ---- normal forms
 

@@ -9,13 +9,11 @@ use Rattle.cp_model.specs.Skeleton.{SkeletonStrand, skeleton_trace}
 use Rattle.cp_model.specs.Problem.{variables_of_strands}
 use Rattle.cp_model.proofs.LawTerms.{value_after}
 use Rattle.cp_model.proofs.LawAgreement.{agree_value}
+use Rattle.cp_unify.proofs.Found.{swap}
 use Rattle.cp_completeness.specs.Normal.{variables_of_terms}
 
 flag_same : (f a b : Bool) → flag_of f a ≡ flag_of f b → a ≡ b
-flag_same true true true e = refl
-flag_same true true false e = absurd (let g : false ≡ true = e in cc)
-flag_same true false true e = absurd (let g : true ≡ false = e in cc)
-flag_same true false false e = refl
+flag_same true a b e = swap true true a b e
 flag_same false a b e = e
 
 key_agreed : (g h : Assignment) (k : KeyTerm) → value_of_key g k ≡ value_of_key h k → AgreeOn (variables_of_key k) g h

@@ -6,6 +6,7 @@ pub mod Listed
 pub mod Putting
 pub mod CohortCovers
 pub mod Problems
+pub mod EachChild
 pub mod SoundChildren
 pub mod Leading
 pub mod Sending
@@ -13,3 +14,4 @@ pub mod Operations
 pub mod EqualValues
 pub mod ThroughChild
 pub mod OneChild
+pub mod ListedTerms

@@ -34,6 +34,7 @@ use Rattle.cp_covering.specs.Children.{Child, child, IsSentBefore, HasGrown}
 use Rattle.cp_covering.specs.Cohort.{Question, Contracts, AreContracted, release_at, DisplacesAt, DisplacesEvent, DisplacesStrand, AddsAt, AddsEvent, FreesCritical, by_key, by_body, by_nothing, OpensPattern, Listens, AreListeners, IsCohort, is_before, is_displaced, is_added, of_listener, of_node, of_role, is_inside, is_critical, cyclic}
 use Rattle.cp_covering.specs.Cohort as cohort
 use Rattle.cp_covering.specs.Released.{ComesFrom, ReleasesCritical, ReleasesFromElsewhere, EndsByReleasing, SetsFree, critical_key, critical_body, pattern_key, Says, IsAsSaid}
+use Rattle.cp_covering.proofs.EachChild.{each_child}
 use Rattle.cp_covering.proofs.Listed.{given, those_have, of_terms_onto}
 use Rattle.cp_covering.proofs.Leading.{Leads, IsStep, step_alike, step_form, step_event, step_instance, step_listener, step_before, step_leads, more_leads, first_then, more_then}
 use Rattle.cp_covering.proofs.Sending.{IsSending, settles_sending}
@@ -294,17 +295,15 @@ module _ (q : Question) where
 
   pub said : (protocol : Protocol) (children : List Child) → IsCohort protocol q children → (d : Child) → IsIn d children → IsAsSaid q d
   said protocol children is d i =
-      ⊎_elim (λ m. contracted_said is.contracted is.are_contracted d m)
-      (λ m. ⊎_elim (λ n. let one = given is.are_displaced d n in displaced_strand one.giver one.given one.gives_it d one.among)
-      (λ n. ⊎_elim (λ o. added_said o) (λ o. listeners_said is.listeners is.are_listeners d o) (in_append is.added is.listeners n))
-      (in_append is.displaced (is.added ++ is.listeners) m))
-      (in_append is.contracted (is.displaced ++ (is.added ++ is.listeners)) (subst (IsIn d) is.whole i))
+      each_child protocol q children is (IsAsSaid q) (contracted_said is.contracted is.are_contracted) displaced_said added_said (listeners_said is.listeners is.are_listeners) d i
     where
-      added_said : IsIn d is.added → IsAsSaid q d
-      added_said o =
-          let role = given is.are_added d o in
-          let event = given role.gives_it d role.among in
-          added_event role.giver event.giver event.given event.gives_it d event.among
+      displaced_said : (e : Child) → IsIn e is.displaced → IsAsSaid q e
+      displaced_said e n = let one = given is.are_displaced e n in displaced_strand one.giver one.given one.gives_it e one.among
+
+      added_said : (e : Child) → IsIn e is.added → IsAsSaid q e
+      added_said e o =
+          let role = given is.are_added e o in
+          let event = given role.gives_it e role.among in added_event role.giver event.giver event.given event.gives_it e event.among
 
 pub children_said : (protocol : Protocol) (q : Question) (children : List Child) → IsCohort protocol q children → (d : Child) → IsIn d children → IsAsSaid q d
 children_said protocol q children is d i = said q protocol children is d i

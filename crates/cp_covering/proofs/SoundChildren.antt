@@ -41,14 +41,15 @@ use Rattle.cp_covering.specs.Sound.{KeepsProblems, IsSoundChild}
 use Rattle.cp_covering.proofs.OnTheWay.{unifier_keeps}
 use Rattle.cp_covering.proofs.Settled.{append_none, event_declared, settles_later}
 use Rattle.cp_covering.proofs.Listed.{given, those_have, of_terms_onto}
+use Rattle.cp_covering.proofs.EachChild.{each_child}
 use Rattle.cp_covering.proofs.Putting.{listening_is_skeleton}
 use Rattle.cp_covering.proofs.CohortCovers.{IsGrown, put_on_the_way, displaced_grown, added_grown}
 use Rattle.cp_covering.proofs.Problems.{keeps_itself, keeps_then, keeps_under, keeps_alike, keeps_forms, keeps_more, keeps_put, settles_keeps}
 
-more_itself : (ds : List Declaration) → DeclaresMore ds ds
+pub more_itself : (ds : List Declaration) → DeclaresMore ds ds
 more_itself ds = record { more = []; behind = sym (append_none ds) }
 
-more_then : (ds es fs : List Declaration) → DeclaresMore ds es → DeclaresMore es fs → DeclaresMore ds fs
+pub more_then : (ds es fs : List Declaration) → DeclaresMore ds es → DeclaresMore es fs → DeclaresMore ds fs
 more_then ds es fs a b = record { more = a.more ++ b.more; behind = b.behind ∙ ap (λ (xs : List Declaration). xs ++ b.more) a.behind ∙ append_assoc ds a.more b.more }
 
 same_key_variables : (key : KeyTerm) → variables_of_key (inverse_term key) ≡ variables_of_key key
@@ -216,17 +217,15 @@ module _ (protocol : Protocol) (q : Question) (sk : IsSkeleton protocol q.skelet
 
   pub sound : (children : List Child) → IsCohort protocol q children → (d : Child) → IsIn d children → IsSound d
   sound children is d i =
-      ⊎_elim (λ m. contracted_sound is.contracted is.are_contracted d m)
-      (λ m. ⊎_elim (λ n. let one = given is.are_displaced d n in displaced_strand one.giver one.given one.gives_it d one.among)
-      (λ n. ⊎_elim (λ o. added_sound o) (λ o. listeners_sound is.listeners is.are_listeners d o) (in_append is.added is.listeners n))
-      (in_append is.displaced (is.added ++ is.listeners) m))
-      (in_append is.contracted (is.displaced ++ (is.added ++ is.listeners)) (subst (IsIn d) is.whole i))
+      each_child protocol q children is IsSound (contracted_sound is.contracted is.are_contracted) displaced_sound added_sound (listeners_sound is.listeners is.are_listeners) d i
     where
-      added_sound : IsIn d is.added → IsSound d
-      added_sound o =
-          let role = given is.are_added d o in
-          let event = given role.gives_it d role.among in
-          added_event role.giver role.listed event.giver event.given event.gives_it d event.among
+      displaced_sound : (e : Child) → IsIn e is.displaced → IsSound e
+      displaced_sound e n = let one = given is.are_displaced e n in displaced_strand one.giver one.given one.gives_it e one.among
+
+      added_sound : (e : Child) → IsIn e is.added → IsSound e
+      added_sound e o =
+          let role = given is.are_added e o in
+          let event = given role.gives_it e role.among in added_event role.giver role.listed event.giver event.given event.gives_it e event.among
 
 pub sound_child : (protocol : Protocol) (q : Question) (children : List Child) → IsSkeleton protocol q.skeleton → ((role : Role) → IsIn role protocol.roles → DeclaresItsVariables role) → HasDeclaredVariables q.variables q.skeleton →
     IsTest q.skeleton q.node q.critical → Guards q.patterns q.skeleton q.node q.critical → IsCohort protocol q children → (d : Child) → IsIn d children → IsSoundChild protocol q d

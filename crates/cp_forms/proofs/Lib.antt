@@ -1,3 +1,4 @@
+pub mod FirstOf
 pub mod Firsts
 pub mod Items
 pub mod Views

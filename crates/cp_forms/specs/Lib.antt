@@ -1,3 +1,4 @@
+pub mod FirstOf
 pub mod FirstFault
 pub mod Heads
 pub mod Forms

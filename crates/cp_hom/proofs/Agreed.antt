@@ -6,13 +6,11 @@ use Rattle.cp_model.specs.Strand.{Event, payload, variables_of_trace}
 use Rattle.cp_lists.proofs.Members.{in_append, in_append_left, in_append_right}
 use Rattle.cp_model.proofs.LawTerms.{term_composed}
 use Rattle.cp_model.proofs.LawAgreement.{agree_term}
+use Rattle.cp_unify.proofs.Found.{swap}
 use Rattle.cp_hom.specs.Taking.{MakesEvents}
 
 flag_same : (f a b : Bool) → flag_of f a ≡ flag_of f b → a ≡ b
-flag_same true true true e = refl
-flag_same true true false e = absurd (let g : false ≡ true = e in cc)
-flag_same true false true e = absurd (let g : true ≡ false = e in cc)
-flag_same true false false e = refl
+flag_same true a b e = swap true true a b e
 flag_same false a b e = e
 
 -- Substitutions that give a term one term agree on its variables.

@@ -1,8 +1,9 @@
 -- Examples of faults: texts whose first fault was worked out by hand, as forms with their places. Each holds by
 -- computing the definitions.
-use Rattle.std.specs.Prelude.{◌≡◌, codes, refl, Some, None}
+use Rattle.std.specs.Prelude.{◌≡◌, List, [], ◌∷◌, map, codes, refl, Option, Some, None}
+use Rattle.cp_base.specs.declared.place.Refusal.{Refusal}
 use Rattle.cp_base.specs.declared.place.Code.TheVariants.{UnknownForm, OutOfProfile, BadShape, DuplicateProtocol, DuplicateRole, UnknownProtocol, UnknownRole, UnknownSort, MesgVar, DuplicateVar, BadHeight, UnknownVar, NotInPrefix, IllSorted, KeySort, RoleUniqNoOrigin, UniqNowhere, BadNode, CyclicOrder}
-use Rattle.cp_sexpr.specs.Syntax.{Form, symbol, string, number, list, none, more}
+use Rattle.cp_sexpr.specs.Syntax.{Form, symbol, string, number, list, Forms, none, more}
 use Rattle.cp_language.proofs.FirstFault.{p, first}
 use Rattle.cp_language.specs.Input.{faults_of}
 
@@ -134,239 +135,137 @@ var_role_nested = refl
 var_sort_unknown_key : first (faults_of (more (list (p 1 1) (more (symbol (p 1 2) (codes "defprotocol")) (more (symbol (p 1 14) (codes "p")) (more (symbol (p 1 16) (codes "basic")) (more (list (p 1 22) (more (symbol (p 1 23) (codes "defrole")) (more (symbol (p 1 31) (codes "r")) (more (list (p 1 33) (more (symbol (p 1 34) (codes "vars")) (more (list (p 1 39) (more (symbol (p 1 40) (codes "a")) (more (symbol (p 1 42) (codes "b")) (more (symbol (p 1 44) (codes "name")) none)))) (more (list (p 1 50) (more (symbol (p 1 51) (codes "n")) (more (symbol (p 1 53) (codes "text")) none))) (more (list (p 1 59) (more (symbol (p 1 60) (codes "k")) (more (symbol (p 1 62) (codes "skey")) none))) (more (list (p 1 68) (more (symbol (p 1 69) (codes "e")) (more (symbol (p 1 71) (codes "akey")) none))) (more (list (p 1 77) (more (symbol (p 1 78) (codes "d")) (more (symbol (p 1 80) (codes "data")) none))) none))))))) (more (list (p 1 87) (more (symbol (p 1 88) (codes "trace")) (more (list (p 1 94) (more (symbol (p 1 95) (codes "send")) (more (list (p 1 100) (more (symbol (p 1 101) (codes "enc")) (more (symbol (p 1 105) (codes "n")) (more (list (p 1 107) (more (symbol (p 1 108) (codes "privk")) (more (symbol (p 1 114) (codes "z")) none))) none)))) none))) none))) none))))) none))))) none)) ≡ Some (record { place = p 1 114; code = UnknownVar })
 var_sort_unknown_key = refl
 
---
-reading_0 : first (faults_of none) ≡ None
-reading_0 = refl
-
--- (defprotocol p basic (defrole r (vars (a name)) (trace (send a))))
-reading_1 : first (faults_of (more (list (p 1 1) (more (symbol (p 1 2) (codes "defprotocol")) (more (symbol (p 1 14) (codes "p")) (more (symbol (p 1 16) (codes "basic")) (more (list (p 1 22) (more (symbol (p 1 23) (codes "defrole")) (more (symbol (p 1 31) (codes "r")) (more (list (p 1 33) (more (symbol (p 1 34) (codes "vars")) (more (list (p 1 39) (more (symbol (p 1 40) (codes "a")) (more (symbol (p 1 42) (codes "name")) none))) none))) (more (list (p 1 49) (more (symbol (p 1 50) (codes "trace")) (more (list (p 1 56) (more (symbol (p 1 57) (codes "send")) (more (symbol (p 1 62) (codes "a")) none))) none))) none))))) none))))) none)) ≡ None
-reading_1 = refl
-
--- (defprotocol p basic (defrole r (vars (a n name)) (trace (send (enc n a)))))
-reading_2 : first (faults_of (more (list (p 1 1) (more (symbol (p 1 2) (codes "defprotocol")) (more (symbol (p 1 14) (codes "p")) (more (symbol (p 1 16) (codes "basic")) (more (list (p 1 22) (more (symbol (p 1 23) (codes "defrole")) (more (symbol (p 1 31) (codes "r")) (more (list (p 1 33) (more (symbol (p 1 34) (codes "vars")) (more (list (p 1 39) (more (symbol (p 1 40) (codes "a")) (more (symbol (p 1 42) (codes "n")) (more (symbol (p 1 44) (codes "name")) none)))) none))) (more (list (p 1 51) (more (symbol (p 1 52) (codes "trace")) (more (list (p 1 58) (more (symbol (p 1 59) (codes "send")) (more (list (p 1 64) (more (symbol (p 1 65) (codes "enc")) (more (symbol (p 1 69) (codes "n")) (more (symbol (p 1 71) (codes "a")) none)))) none))) none))) none))))) none))))) none)) ≡ Some (record { place = p 1 71; code = KeySort })
-reading_2 = refl
-
--- (defprotocol p basic (defrole r (vars (a name)) (trace (send a))))
--- (defskeleton p (vars) (defstrand r 2))
-reading_3 : first (faults_of (more (list (p 1 1) (more (symbol (p 1 2) (codes "defprotocol")) (more (symbol (p 1 14) (codes "p")) (more (symbol (p 1 16) (codes "basic")) (more (list (p 1 22) (more (symbol (p 1 23) (codes "defrole")) (more (symbol (p 1 31) (codes "r")) (more (list (p 1 33) (more (symbol (p 1 34) (codes "vars")) (more (list (p 1 39) (more (symbol (p 1 40) (codes "a")) (more (symbol (p 1 42) (codes "name")) none))) none))) (more (list (p 1 49) (more (symbol (p 1 50) (codes "trace")) (more (list (p 1 56) (more (symbol (p 1 57) (codes "send")) (more (symbol (p 1 62) (codes "a")) none))) none))) none))))) none))))) (more (list (p 2 1) (more (symbol (p 2 2) (codes "defskeleton")) (more (symbol (p 2 14) (codes "p")) (more (list (p 2 16) (more (symbol (p 2 17) (codes "vars")) none)) (more (list (p 2 23) (more (symbol (p 2 24) (codes "defstrand")) (more (symbol (p 2 34) (codes "r")) (more (number (p 2 36) 2) none)))) none))))) none))) ≡ Some (record { place = p 2 36; code = BadHeight })
-reading_3 = refl
-
--- (defprotocol p basic (defrole r (vars (a name)) (trace (send a))))
--- (defskeleton p (vars) (defstrand r 1 (a z)))
-reading_4 : first (faults_of (more (list (p 1 1) (more (symbol (p 1 2) (codes "defprotocol")) (more (symbol (p 1 14) (codes "p")) (more (symbol (p 1 16) (codes "basic")) (more (list (p 1 22) (more (symbol (p 1 23) (codes "defrole")) (more (symbol (p 1 31) (codes "r")) (more (list (p 1 33) (more (symbol (p 1 34) (codes "vars")) (more (list (p 1 39) (more (symbol (p 1 40) (codes "a")) (more (symbol (p 1 42) (codes "name")) none))) none))) (more (list (p 1 49) (more (symbol (p 1 50) (codes "trace")) (more (list (p 1 56) (more (symbol (p 1 57) (codes "send")) (more (symbol (p 1 62) (codes "a")) none))) none))) none))))) none))))) (more (list (p 2 1) (more (symbol (p 2 2) (codes "defskeleton")) (more (symbol (p 2 14) (codes "p")) (more (list (p 2 16) (more (symbol (p 2 17) (codes "vars")) none)) (more (list (p 2 23) (more (symbol (p 2 24) (codes "defstrand")) (more (symbol (p 2 34) (codes "r")) (more (number (p 2 36) 1) (more (list (p 2 38) (more (symbol (p 2 39) (codes "a")) (more (symbol (p 2 41) (codes "z")) none))) none))))) none))))) none))) ≡ Some (record { place = p 2 41; code = UnknownVar })
-reading_4 = refl
-
--- (defprotocol p basic (defrole r (vars (a name)) (trace (send a))))
--- (defskeleton p (vars (t text)) (defstrand r 1 (a t)))
-reading_5 : first (faults_of (more (list (p 1 1) (more (symbol (p 1 2) (codes "defprotocol")) (more (symbol (p 1 14) (codes "p")) (more (symbol (p 1 16) (codes "basic")) (more (list (p 1 22) (more (symbol (p 1 23) (codes "defrole")) (more (symbol (p 1 31) (codes "r")) (more (list (p 1 33) (more (symbol (p 1 34) (codes "vars")) (more (list (p 1 39) (more (symbol (p 1 40) (codes "a")) (more (symbol (p 1 42) (codes "name")) none))) none))) (more (list (p 1 49) (more (symbol (p 1 50) (codes "trace")) (more (list (p 1 56) (more (symbol (p 1 57) (codes "send")) (more (symbol (p 1 62) (codes "a")) none))) none))) none))))) none))))) (more (list (p 2 1) (more (symbol (p 2 2) (codes "defskeleton")) (more (symbol (p 2 14) (codes "p")) (more (list (p 2 16) (more (symbol (p 2 17) (codes "vars")) (more (list (p 2 22) (more (symbol (p 2 23) (codes "t")) (more (symbol (p 2 25) (codes "text")) none))) none))) (more (list (p 2 32) (more (symbol (p 2 33) (codes "defstrand")) (more (symbol (p 2 43) (codes "r")) (more (number (p 2 45) 1) (more (list (p 2 47) (more (symbol (p 2 48) (codes "a")) (more (symbol (p 2 50) (codes "t")) none))) none))))) none))))) none))) ≡ Some (record { place = p 2 50; code = IllSorted })
-reading_5 = refl
-
--- (defprotocol p basic (defrole r (vars (a name)) (trace (send a))))
--- (defskeleton p (vars (a b name)) (defstrand r 1 (a a)) (uniq-orig b))
-reading_6 : first (faults_of (more (list (p 1 1) (more (symbol (p 1 2) (codes "defprotocol")) (more (symbol (p 1 14) (codes "p")) (more (symbol (p 1 16) (codes "basic")) (more (list (p 1 22) (more (symbol (p 1 23) (codes "defrole")) (more (symbol (p 1 31) (codes "r")) (more (list (p 1 33) (more (symbol (p 1 34) (codes "vars")) (more (list (p 1 39) (more (symbol (p 1 40) (codes "a")) (more (symbol (p 1 42) (codes "name")) none))) none))) (more (list (p 1 49) (more (symbol (p 1 50) (codes "trace")) (more (list (p 1 56) (more (symbol (p 1 57) (codes "send")) (more (symbol (p 1 62) (codes "a")) none))) none))) none))))) none))))) (more (list (p 2 1) (more (symbol (p 2 2) (codes "defskeleton")) (more (symbol (p 2 14) (codes "p")) (more (list (p 2 16) (more (symbol (p 2 17) (codes "vars")) (more (list (p 2 22) (more (symbol (p 2 23) (codes "a")) (more (symbol (p 2 25) (codes "b")) (more (symbol (p 2 27) (codes "name")) none)))) none))) (more (list (p 2 34) (more (symbol (p 2 35) (codes "defstrand")) (more (symbol (p 2 45) (codes "r")) (more (number (p 2 47) 1) (more (list (p 2 49) (more (symbol (p 2 50) (codes "a")) (more (symbol (p 2 52) (codes "a")) none))) none))))) (more (list (p 2 56) (more (symbol (p 2 57) (codes "uniq-orig")) (more (symbol (p 2 67) (codes "b")) none))) none)))))) none))) ≡ Some (record { place = p 2 67; code = UniqNowhere })
-reading_6 = refl
-
 -- (defprotocol ns basic
 --   (defrole init (vars (a b name) (n1 n2 text)) (trace (send (enc n1 a (pubk b))) (recv (enc n1 n2 (pubk a))) (send (enc n2 (pubk b)))))
 --   (defrole resp (vars (a b name) (n1 n2 text)) (trace (recv (enc n1 a (pubk b))) (send (enc n1 n2 (pubk a))) (recv (enc n2 (pubk b))))))
 abbrev needham_schroeder : Form
 needham_schroeder = (list (p 1 1) (more (symbol (p 1 2) (codes "defprotocol")) (more (symbol (p 1 14) (codes "ns")) (more (symbol (p 1 17) (codes "basic")) (more (list (p 2 3) (more (symbol (p 2 4) (codes "defrole")) (more (symbol (p 2 12) (codes "init")) (more (list (p 2 17) (more (symbol (p 2 18) (codes "vars")) (more (list (p 2 23) (more (symbol (p 2 24) (codes "a")) (more (symbol (p 2 26) (codes "b")) (more (symbol (p 2 28) (codes "name")) none)))) (more (list (p 2 34) (more (symbol (p 2 35) (codes "n1")) (more (symbol (p 2 38) (codes "n2")) (more (symbol (p 2 41) (codes "text")) none)))) none)))) (more (list (p 2 48) (more (symbol (p 2 49) (codes "trace")) (more (list (p 2 55) (more (symbol (p 2 56) (codes "send")) (more (list (p 2 61) (more (symbol (p 2 62) (codes "enc")) (more (symbol (p 2 66) (codes "n1")) (more (symbol (p 2 69) (codes "a")) (more (list (p 2 71) (more (symbol (p 2 72) (codes "pubk")) (more (symbol (p 2 77) (codes "b")) none))) none))))) none))) (more (list (p 2 82) (more (symbol (p 2 83) (codes "recv")) (more (list (p 2 88) (more (symbol (p 2 89) (codes "enc")) (more (symbol (p 2 93) (codes "n1")) (more (symbol (p 2 96) (codes "n2")) (more (list (p 2 99) (more (symbol (p 2 100) (codes "pubk")) (more (symbol (p 2 105) (codes "a")) none))) none))))) none))) (more (list (p 2 110) (more (symbol (p 2 111) (codes "send")) (more (list (p 2 116) (more (symbol (p 2 117) (codes "enc")) (more (symbol (p 2 121) (codes "n2")) (more (list (p 2 124) (more (symbol (p 2 125) (codes "pubk")) (more (symbol (p 2 130) (codes "b")) none))) none)))) none))) none))))) none))))) (more (list (p 3 3) (more (symbol (p 3 4) (codes "defrole")) (more (symbol (p 3 12) (codes "resp")) (more (list (p 3 17) (more (symbol (p 3 18) (codes "vars")) (more (list (p 3 23) (more (symbol (p 3 24) (codes "a")) (more (symbol (p 3 26) (codes "b")) (more (symbol (p 3 28) (codes "name")) none)))) (more (list (p 3 34) (more (symbol (p 3 35) (codes "n1")) (more (symbol (p 3 38) (codes "n2")) (more (symbol (p 3 41) (codes "text")) none)))) none)))) (more (list (p 3 48) (more (symbol (p 3 49) (codes "trace")) (more (list (p 3 55) (more (symbol (p 3 56) (codes "recv")) (more (list (p 3 61) (more (symbol (p 3 62) (codes "enc")) (more (symbol (p 3 66) (codes "n1")) (more (symbol (p 3 69) (codes "a")) (more (list (p 3 71) (more (symbol (p 3 72) (codes "pubk")) (more (symbol (p 3 77) (codes "b")) none))) none))))) none))) (more (list (p 3 82) (more (symbol (p 3 83) (codes "send")) (more (list (p 3 88) (more (symbol (p 3 89) (codes "enc")) (more (symbol (p 3 93) (codes "n1")) (more (symbol (p 3 96) (codes "n2")) (more (list (p 3 99) (more (symbol (p 3 100) (codes "pubk")) (more (symbol (p 3 105) (codes "a")) none))) none))))) none))) (more (list (p 3 110) (more (symbol (p 3 111) (codes "recv")) (more (list (p 3 116) (more (symbol (p 3 117) (codes "enc")) (more (symbol (p 3 121) (codes "n2")) (more (list (p 3 124) (more (symbol (p 3 125) (codes "pubk")) (more (symbol (p 3 130) (codes "b")) none))) none)))) none))) none))))) none))))) none))))))
 
--- (defskeleton ns (vars) (defstrand init 3) (defstrand resp 3) (precedes ((0 2) (1 0)) ((1 1) (0 1))))
-reading_7 : first (faults_of (more needham_schroeder (more (list (p 4 1) (more (symbol (p 4 2) (codes "defskeleton")) (more (symbol (p 4 14) (codes "ns")) (more (list (p 4 17) (more (symbol (p 4 18) (codes "vars")) none)) (more (list (p 4 24) (more (symbol (p 4 25) (codes "defstrand")) (more (symbol (p 4 35) (codes "init")) (more (number (p 4 40) 3) none)))) (more (list (p 4 43) (more (symbol (p 4 44) (codes "defstrand")) (more (symbol (p 4 54) (codes "resp")) (more (number (p 4 59) 3) none)))) (more (list (p 4 62) (more (symbol (p 4 63) (codes "precedes")) (more (list (p 4 72) (more (list (p 4 73) (more (number (p 4 74) 0) (more (number (p 4 76) 2) none))) (more (list (p 4 79) (more (number (p 4 80) 1) (more (number (p 4 82) 0) none))) none))) (more (list (p 4 86) (more (list (p 4 87) (more (number (p 4 88) 1) (more (number (p 4 90) 1) none))) (more (list (p 4 93) (more (number (p 4 94) 0) (more (number (p 4 96) 1) none))) none))) none)))) none))))))) none))) ≡ Some (record { place = p 4 86; code = CyclicOrder })
-reading_7 = refl
+-- Texts, and the first of their faults.
+abbrev texts : List (Forms × Option Refusal)
+texts =
+    --
+    (none, None)
+    -- (defprotocol p basic (defrole r (vars (a name)) (trace (send a))))
+    ∷ ((more (list (p 1 1) (more (symbol (p 1 2) (codes "defprotocol")) (more (symbol (p 1 14) (codes "p")) (more (symbol (p 1 16) (codes "basic")) (more (list (p 1 22) (more (symbol (p 1 23) (codes "defrole")) (more (symbol (p 1 31) (codes "r")) (more (list (p 1 33) (more (symbol (p 1 34) (codes "vars")) (more (list (p 1 39) (more (symbol (p 1 40) (codes "a")) (more (symbol (p 1 42) (codes "name")) none))) none))) (more (list (p 1 49) (more (symbol (p 1 50) (codes "trace")) (more (list (p 1 56) (more (symbol (p 1 57) (codes "send")) (more (symbol (p 1 62) (codes "a")) none))) none))) none))))) none))))) none), None)
+    -- (defprotocol p basic (defrole r (vars (a n name)) (trace (send (enc n a)))))
+    ∷ ((more (list (p 1 1) (more (symbol (p 1 2) (codes "defprotocol")) (more (symbol (p 1 14) (codes "p")) (more (symbol (p 1 16) (codes "basic")) (more (list (p 1 22) (more (symbol (p 1 23) (codes "defrole")) (more (symbol (p 1 31) (codes "r")) (more (list (p 1 33) (more (symbol (p 1 34) (codes "vars")) (more (list (p 1 39) (more (symbol (p 1 40) (codes "a")) (more (symbol (p 1 42) (codes "n")) (more (symbol (p 1 44) (codes "name")) none)))) none))) (more (list (p 1 51) (more (symbol (p 1 52) (codes "trace")) (more (list (p 1 58) (more (symbol (p 1 59) (codes "send")) (more (list (p 1 64) (more (symbol (p 1 65) (codes "enc")) (more (symbol (p 1 69) (codes "n")) (more (symbol (p 1 71) (codes "a")) none)))) none))) none))) none))))) none))))) none), Some (record { place = p 1 71; code = KeySort }))
+    -- (defprotocol p basic (defrole r (vars (a name)) (trace (send a))))
+    -- (defskeleton p (vars) (defstrand r 2))
+    ∷ ((more (list (p 1 1) (more (symbol (p 1 2) (codes "defprotocol")) (more (symbol (p 1 14) (codes "p")) (more (symbol (p 1 16) (codes "basic")) (more (list (p 1 22) (more (symbol (p 1 23) (codes "defrole")) (more (symbol (p 1 31) (codes "r")) (more (list (p 1 33) (more (symbol (p 1 34) (codes "vars")) (more (list (p 1 39) (more (symbol (p 1 40) (codes "a")) (more (symbol (p 1 42) (codes "name")) none))) none))) (more (list (p 1 49) (more (symbol (p 1 50) (codes "trace")) (more (list (p 1 56) (more (symbol (p 1 57) (codes "send")) (more (symbol (p 1 62) (codes "a")) none))) none))) none))))) none))))) (more (list (p 2 1) (more (symbol (p 2 2) (codes "defskeleton")) (more (symbol (p 2 14) (codes "p")) (more (list (p 2 16) (more (symbol (p 2 17) (codes "vars")) none)) (more (list (p 2 23) (more (symbol (p 2 24) (codes "defstrand")) (more (symbol (p 2 34) (codes "r")) (more (number (p 2 36) 2) none)))) none))))) none)), Some (record { place = p 2 36; code = BadHeight }))
+    -- (defprotocol p basic (defrole r (vars (a name)) (trace (send a))))
+    -- (defskeleton p (vars) (defstrand r 1 (a z)))
+    ∷ ((more (list (p 1 1) (more (symbol (p 1 2) (codes "defprotocol")) (more (symbol (p 1 14) (codes "p")) (more (symbol (p 1 16) (codes "basic")) (more (list (p 1 22) (more (symbol (p 1 23) (codes "defrole")) (more (symbol (p 1 31) (codes "r")) (more (list (p 1 33) (more (symbol (p 1 34) (codes "vars")) (more (list (p 1 39) (more (symbol (p 1 40) (codes "a")) (more (symbol (p 1 42) (codes "name")) none))) none))) (more (list (p 1 49) (more (symbol (p 1 50) (codes "trace")) (more (list (p 1 56) (more (symbol (p 1 57) (codes "send")) (more (symbol (p 1 62) (codes "a")) none))) none))) none))))) none))))) (more (list (p 2 1) (more (symbol (p 2 2) (codes "defskeleton")) (more (symbol (p 2 14) (codes "p")) (more (list (p 2 16) (more (symbol (p 2 17) (codes "vars")) none)) (more (list (p 2 23) (more (symbol (p 2 24) (codes "defstrand")) (more (symbol (p 2 34) (codes "r")) (more (number (p 2 36) 1) (more (list (p 2 38) (more (symbol (p 2 39) (codes "a")) (more (symbol (p 2 41) (codes "z")) none))) none))))) none))))) none)), Some (record { place = p 2 41; code = UnknownVar }))
+    -- (defprotocol p basic (defrole r (vars (a name)) (trace (send a))))
+    -- (defskeleton p (vars (t text)) (defstrand r 1 (a t)))
+    ∷ ((more (list (p 1 1) (more (symbol (p 1 2) (codes "defprotocol")) (more (symbol (p 1 14) (codes "p")) (more (symbol (p 1 16) (codes "basic")) (more (list (p 1 22) (more (symbol (p 1 23) (codes "defrole")) (more (symbol (p 1 31) (codes "r")) (more (list (p 1 33) (more (symbol (p 1 34) (codes "vars")) (more (list (p 1 39) (more (symbol (p 1 40) (codes "a")) (more (symbol (p 1 42) (codes "name")) none))) none))) (more (list (p 1 49) (more (symbol (p 1 50) (codes "trace")) (more (list (p 1 56) (more (symbol (p 1 57) (codes "send")) (more (symbol (p 1 62) (codes "a")) none))) none))) none))))) none))))) (more (list (p 2 1) (more (symbol (p 2 2) (codes "defskeleton")) (more (symbol (p 2 14) (codes "p")) (more (list (p 2 16) (more (symbol (p 2 17) (codes "vars")) (more (list (p 2 22) (more (symbol (p 2 23) (codes "t")) (more (symbol (p 2 25) (codes "text")) none))) none))) (more (list (p 2 32) (more (symbol (p 2 33) (codes "defstrand")) (more (symbol (p 2 43) (codes "r")) (more (number (p 2 45) 1) (more (list (p 2 47) (more (symbol (p 2 48) (codes "a")) (more (symbol (p 2 50) (codes "t")) none))) none))))) none))))) none)), Some (record { place = p 2 50; code = IllSorted }))
+    -- (defprotocol p basic (defrole r (vars (a name)) (trace (send a))))
+    -- (defskeleton p (vars (a b name)) (defstrand r 1 (a a)) (uniq-orig b))
+    ∷ ((more (list (p 1 1) (more (symbol (p 1 2) (codes "defprotocol")) (more (symbol (p 1 14) (codes "p")) (more (symbol (p 1 16) (codes "basic")) (more (list (p 1 22) (more (symbol (p 1 23) (codes "defrole")) (more (symbol (p 1 31) (codes "r")) (more (list (p 1 33) (more (symbol (p 1 34) (codes "vars")) (more (list (p 1 39) (more (symbol (p 1 40) (codes "a")) (more (symbol (p 1 42) (codes "name")) none))) none))) (more (list (p 1 49) (more (symbol (p 1 50) (codes "trace")) (more (list (p 1 56) (more (symbol (p 1 57) (codes "send")) (more (symbol (p 1 62) (codes "a")) none))) none))) none))))) none))))) (more (list (p 2 1) (more (symbol (p 2 2) (codes "defskeleton")) (more (symbol (p 2 14) (codes "p")) (more (list (p 2 16) (more (symbol (p 2 17) (codes "vars")) (more (list (p 2 22) (more (symbol (p 2 23) (codes "a")) (more (symbol (p 2 25) (codes "b")) (more (symbol (p 2 27) (codes "name")) none)))) none))) (more (list (p 2 34) (more (symbol (p 2 35) (codes "defstrand")) (more (symbol (p 2 45) (codes "r")) (more (number (p 2 47) 1) (more (list (p 2 49) (more (symbol (p 2 50) (codes "a")) (more (symbol (p 2 52) (codes "a")) none))) none))))) (more (list (p 2 56) (more (symbol (p 2 57) (codes "uniq-orig")) (more (symbol (p 2 67) (codes "b")) none))) none)))))) none)), Some (record { place = p 2 67; code = UniqNowhere }))
+    -- (defskeleton ns (vars) (defstrand init 3) (defstrand resp 3) (precedes ((0 2) (1 0)) ((1 1) (0 1))))
+    ∷ ((more needham_schroeder (more (list (p 4 1) (more (symbol (p 4 2) (codes "defskeleton")) (more (symbol (p 4 14) (codes "ns")) (more (list (p 4 17) (more (symbol (p 4 18) (codes "vars")) none)) (more (list (p 4 24) (more (symbol (p 4 25) (codes "defstrand")) (more (symbol (p 4 35) (codes "init")) (more (number (p 4 40) 3) none)))) (more (list (p 4 43) (more (symbol (p 4 44) (codes "defstrand")) (more (symbol (p 4 54) (codes "resp")) (more (number (p 4 59) 3) none)))) (more (list (p 4 62) (more (symbol (p 4 63) (codes "precedes")) (more (list (p 4 72) (more (list (p 4 73) (more (number (p 4 74) 0) (more (number (p 4 76) 2) none))) (more (list (p 4 79) (more (number (p 4 80) 1) (more (number (p 4 82) 0) none))) none))) (more (list (p 4 86) (more (list (p 4 87) (more (number (p 4 88) 1) (more (number (p 4 90) 1) none))) (more (list (p 4 93) (more (number (p 4 94) 0) (more (number (p 4 96) 1) none))) none))) none)))) none))))))) none)), Some (record { place = p 4 86; code = CyclicOrder }))
+    -- (defskeleton ns (vars) (defstrand init 3) (defstrand resp 3) (precedes ((0 0) (1 0)) ((1 1) (0 1))))
+    ∷ ((more needham_schroeder (more (list (p 4 1) (more (symbol (p 4 2) (codes "defskeleton")) (more (symbol (p 4 14) (codes "ns")) (more (list (p 4 17) (more (symbol (p 4 18) (codes "vars")) none)) (more (list (p 4 24) (more (symbol (p 4 25) (codes "defstrand")) (more (symbol (p 4 35) (codes "init")) (more (number (p 4 40) 3) none)))) (more (list (p 4 43) (more (symbol (p 4 44) (codes "defstrand")) (more (symbol (p 4 54) (codes "resp")) (more (number (p 4 59) 3) none)))) (more (list (p 4 62) (more (symbol (p 4 63) (codes "precedes")) (more (list (p 4 72) (more (list (p 4 73) (more (number (p 4 74) 0) (more (number (p 4 76) 0) none))) (more (list (p 4 79) (more (number (p 4 80) 1) (more (number (p 4 82) 0) none))) none))) (more (list (p 4 86) (more (list (p 4 87) (more (number (p 4 88) 1) (more (number (p 4 90) 1) none))) (more (list (p 4 93) (more (number (p 4 94) 0) (more (number (p 4 96) 1) none))) none))) none)))) none))))))) none)), None)
+    -- (defskeleton ns (vars) (defstrand init 3) (defstrand resp 3) (precedes ((0 1) (1 9))))
+    ∷ ((more needham_schroeder (more (list (p 4 1) (more (symbol (p 4 2) (codes "defskeleton")) (more (symbol (p 4 14) (codes "ns")) (more (list (p 4 17) (more (symbol (p 4 18) (codes "vars")) none)) (more (list (p 4 24) (more (symbol (p 4 25) (codes "defstrand")) (more (symbol (p 4 35) (codes "init")) (more (number (p 4 40) 3) none)))) (more (list (p 4 43) (more (symbol (p 4 44) (codes "defstrand")) (more (symbol (p 4 54) (codes "resp")) (more (number (p 4 59) 3) none)))) (more (list (p 4 62) (more (symbol (p 4 63) (codes "precedes")) (more (list (p 4 72) (more (list (p 4 73) (more (number (p 4 74) 0) (more (number (p 4 76) 1) none))) (more (list (p 4 79) (more (number (p 4 80) 1) (more (number (p 4 82) 9) none))) none))) none))) none))))))) none)), Some (record { place = p 4 79; code = BadNode }))
+    -- (defskeleton ns (vars) (defstrand init 3) (defstrand resp 3) (precedes ((0 1) (0 0) (0 0))))
+    ∷ ((more needham_schroeder (more (list (p 4 1) (more (symbol (p 4 2) (codes "defskeleton")) (more (symbol (p 4 14) (codes "ns")) (more (list (p 4 17) (more (symbol (p 4 18) (codes "vars")) none)) (more (list (p 4 24) (more (symbol (p 4 25) (codes "defstrand")) (more (symbol (p 4 35) (codes "init")) (more (number (p 4 40) 3) none)))) (more (list (p 4 43) (more (symbol (p 4 44) (codes "defstrand")) (more (symbol (p 4 54) (codes "resp")) (more (number (p 4 59) 3) none)))) (more (list (p 4 62) (more (symbol (p 4 63) (codes "precedes")) (more (list (p 4 72) (more (list (p 4 73) (more (number (p 4 74) 0) (more (number (p 4 76) 1) none))) (more (list (p 4 79) (more (number (p 4 80) 0) (more (number (p 4 82) 0) none))) (more (list (p 4 85) (more (number (p 4 86) 0) (more (number (p 4 88) 0) none))) none)))) none))) none))))))) none)), Some (record { place = p 4 72; code = CyclicOrder }))
+    -- (defskeleton ns (vars) (defstrand init 3) (defstrand resp 3) (precedes ((0 0) (0 2))))
+    ∷ ((more needham_schroeder (more (list (p 4 1) (more (symbol (p 4 2) (codes "defskeleton")) (more (symbol (p 4 14) (codes "ns")) (more (list (p 4 17) (more (symbol (p 4 18) (codes "vars")) none)) (more (list (p 4 24) (more (symbol (p 4 25) (codes "defstrand")) (more (symbol (p 4 35) (codes "init")) (more (number (p 4 40) 3) none)))) (more (list (p 4 43) (more (symbol (p 4 44) (codes "defstrand")) (more (symbol (p 4 54) (codes "resp")) (more (number (p 4 59) 3) none)))) (more (list (p 4 62) (more (symbol (p 4 63) (codes "precedes")) (more (list (p 4 72) (more (list (p 4 73) (more (number (p 4 74) 0) (more (number (p 4 76) 0) none))) (more (list (p 4 79) (more (number (p 4 80) 0) (more (number (p 4 82) 2) none))) none))) none))) none))))))) none)), None)
+    -- (defskeleton ns (vars) (defstrand init 3) (defstrand resp 3) (precedes ((9 0 0) (0 2))))
+    ∷ ((more needham_schroeder (more (list (p 4 1) (more (symbol (p 4 2) (codes "defskeleton")) (more (symbol (p 4 14) (codes "ns")) (more (list (p 4 17) (more (symbol (p 4 18) (codes "vars")) none)) (more (list (p 4 24) (more (symbol (p 4 25) (codes "defstrand")) (more (symbol (p 4 35) (codes "init")) (more (number (p 4 40) 3) none)))) (more (list (p 4 43) (more (symbol (p 4 44) (codes "defstrand")) (more (symbol (p 4 54) (codes "resp")) (more (number (p 4 59) 3) none)))) (more (list (p 4 62) (more (symbol (p 4 63) (codes "precedes")) (more (list (p 4 72) (more (list (p 4 73) (more (number (p 4 74) 9) (more (number (p 4 76) 0) (more (number (p 4 78) 0) none)))) (more (list (p 4 81) (more (number (p 4 82) 0) (more (number (p 4 84) 2) none))) none))) none))) none))))))) none)), Some (record { place = p 4 73; code = BadNode }))
+    -- (defskeleton ns (vars) (defstrand init 3) (defstrand resp 3) (precedes ((0 0 0) (0 2))))
+    ∷ ((more needham_schroeder (more (list (p 4 1) (more (symbol (p 4 2) (codes "defskeleton")) (more (symbol (p 4 14) (codes "ns")) (more (list (p 4 17) (more (symbol (p 4 18) (codes "vars")) none)) (more (list (p 4 24) (more (symbol (p 4 25) (codes "defstrand")) (more (symbol (p 4 35) (codes "init")) (more (number (p 4 40) 3) none)))) (more (list (p 4 43) (more (symbol (p 4 44) (codes "defstrand")) (more (symbol (p 4 54) (codes "resp")) (more (number (p 4 59) 3) none)))) (more (list (p 4 62) (more (symbol (p 4 63) (codes "precedes")) (more (list (p 4 72) (more (list (p 4 73) (more (number (p 4 74) 0) (more (number (p 4 76) 0) (more (number (p 4 78) 0) none)))) (more (list (p 4 81) (more (number (p 4 82) 0) (more (number (p 4 84) 2) none))) none))) none))) none))))))) none)), Some (record { place = p 4 78; code = BadShape }))
+    -- (defskeleton ns (vars) (defstrand init 3) (defstrand resp 3) (precedes ((0 1) (1 0))))
+    ∷ ((more needham_schroeder (more (list (p 4 1) (more (symbol (p 4 2) (codes "defskeleton")) (more (symbol (p 4 14) (codes "ns")) (more (list (p 4 17) (more (symbol (p 4 18) (codes "vars")) none)) (more (list (p 4 24) (more (symbol (p 4 25) (codes "defstrand")) (more (symbol (p 4 35) (codes "init")) (more (number (p 4 40) 3) none)))) (more (list (p 4 43) (more (symbol (p 4 44) (codes "defstrand")) (more (symbol (p 4 54) (codes "resp")) (more (number (p 4 59) 3) none)))) (more (list (p 4 62) (more (symbol (p 4 63) (codes "precedes")) (more (list (p 4 72) (more (list (p 4 73) (more (number (p 4 74) 0) (more (number (p 4 76) 1) none))) (more (list (p 4 79) (more (number (p 4 80) 1) (more (number (p 4 82) 0) none))) none))) none))) none))))))) none)), Some (record { place = p 4 73; code = BadNode }))
+    -- (defskeleton ns (vars) (defstrand init 3) (defstrand resp 3) (precedes ((0 0) (1 1))))
+    ∷ ((more needham_schroeder (more (list (p 4 1) (more (symbol (p 4 2) (codes "defskeleton")) (more (symbol (p 4 14) (codes "ns")) (more (list (p 4 17) (more (symbol (p 4 18) (codes "vars")) none)) (more (list (p 4 24) (more (symbol (p 4 25) (codes "defstrand")) (more (symbol (p 4 35) (codes "init")) (more (number (p 4 40) 3) none)))) (more (list (p 4 43) (more (symbol (p 4 44) (codes "defstrand")) (more (symbol (p 4 54) (codes "resp")) (more (number (p 4 59) 3) none)))) (more (list (p 4 62) (more (symbol (p 4 63) (codes "precedes")) (more (list (p 4 72) (more (list (p 4 73) (more (number (p 4 74) 0) (more (number (p 4 76) 0) none))) (more (list (p 4 79) (more (number (p 4 80) 1) (more (number (p 4 82) 1) none))) none))) none))) none))))))) none)), Some (record { place = p 4 79; code = BadNode }))
+    -- (defskeleton p (vars))
+    ∷ ((more (list (p 1 1) (more (symbol (p 1 2) (codes "defskeleton")) (more (symbol (p 1 14) (codes "p")) (more (list (p 1 16) (more (symbol (p 1 17) (codes "vars")) none)) none)))) none), Some (record { place = p 1 1; code = BadShape }))
+    -- (defprotocol p basic (defrole r (vars (a name)) (trace (send a))))
+    -- (defskeleton p (defstrand r 1))
+    ∷ ((more (list (p 1 1) (more (symbol (p 1 2) (codes "defprotocol")) (more (symbol (p 1 14) (codes "p")) (more (symbol (p 1 16) (codes "basic")) (more (list (p 1 22) (more (symbol (p 1 23) (codes "defrole")) (more (symbol (p 1 31) (codes "r")) (more (list (p 1 33) (more (symbol (p 1 34) (codes "vars")) (more (list (p 1 39) (more (symbol (p 1 40) (codes "a")) (more (symbol (p 1 42) (codes "name")) none))) none))) (more (list (p 1 49) (more (symbol (p 1 50) (codes "trace")) (more (list (p 1 56) (more (symbol (p 1 57) (codes "send")) (more (symbol (p 1 62) (codes "a")) none))) none))) none))))) none))))) (more (list (p 2 1) (more (symbol (p 2 2) (codes "defskeleton")) (more (symbol (p 2 14) (codes "p")) (more (list (p 2 16) (more (symbol (p 2 17) (codes "defstrand")) (more (symbol (p 2 27) (codes "r")) (more (number (p 2 29) 1) none)))) none)))) none)), Some (record { place = p 2 16; code = BadShape }))
+    -- (defprotocol p diffie-hellman)
+    ∷ ((more (list (p 1 1) (more (symbol (p 1 2) (codes "defprotocol")) (more (symbol (p 1 14) (codes "p")) (more (symbol (p 1 16) (codes "diffie-hellman")) none)))) none), Some (record { place = p 1 16; code = OutOfProfile }))
+    -- (defprotocol p basic (defrole r (vars (x mesg)) (trace (send x))))
+    ∷ ((more (list (p 1 1) (more (symbol (p 1 2) (codes "defprotocol")) (more (symbol (p 1 14) (codes "p")) (more (symbol (p 1 16) (codes "basic")) (more (list (p 1 22) (more (symbol (p 1 23) (codes "defrole")) (more (symbol (p 1 31) (codes "r")) (more (list (p 1 33) (more (symbol (p 1 34) (codes "vars")) (more (list (p 1 39) (more (symbol (p 1 40) (codes "x")) (more (symbol (p 1 42) (codes "mesg")) none))) none))) (more (list (p 1 49) (more (symbol (p 1 50) (codes "trace")) (more (list (p 1 56) (more (symbol (p 1 57) (codes "send")) (more (symbol (p 1 62) (codes "x")) none))) none))) none))))) none))))) none), Some (record { place = p 1 40; code = MesgVar }))
+    -- (defprotocol p basic (defrole r (vars (a name)) (trace)))
+    ∷ ((more (list (p 1 1) (more (symbol (p 1 2) (codes "defprotocol")) (more (symbol (p 1 14) (codes "p")) (more (symbol (p 1 16) (codes "basic")) (more (list (p 1 22) (more (symbol (p 1 23) (codes "defrole")) (more (symbol (p 1 31) (codes "r")) (more (list (p 1 33) (more (symbol (p 1 34) (codes "vars")) (more (list (p 1 39) (more (symbol (p 1 40) (codes "a")) (more (symbol (p 1 42) (codes "name")) none))) none))) (more (list (p 1 49) (more (symbol (p 1 50) (codes "trace")) none)) none))))) none))))) none), Some (record { place = p 1 49; code = BadShape }))
+    -- (defprotocol p basic (defrole r (vars (a name)) (trace (send (cat)))))
+    ∷ ((more (list (p 1 1) (more (symbol (p 1 2) (codes "defprotocol")) (more (symbol (p 1 14) (codes "p")) (more (symbol (p 1 16) (codes "basic")) (more (list (p 1 22) (more (symbol (p 1 23) (codes "defrole")) (more (symbol (p 1 31) (codes "r")) (more (list (p 1 33) (more (symbol (p 1 34) (codes "vars")) (more (list (p 1 39) (more (symbol (p 1 40) (codes "a")) (more (symbol (p 1 42) (codes "name")) none))) none))) (more (list (p 1 49) (more (symbol (p 1 50) (codes "trace")) (more (list (p 1 56) (more (symbol (p 1 57) (codes "send")) (more (list (p 1 62) (more (symbol (p 1 63) (codes "cat")) none)) none))) none))) none))))) none))))) none), Some (record { place = p 1 62; code = BadShape }))
+    -- (defprotocol p basic (defrole r (vars (a name)) (trace (send a a))))
+    ∷ ((more (list (p 1 1) (more (symbol (p 1 2) (codes "defprotocol")) (more (symbol (p 1 14) (codes "p")) (more (symbol (p 1 16) (codes "basic")) (more (list (p 1 22) (more (symbol (p 1 23) (codes "defrole")) (more (symbol (p 1 31) (codes "r")) (more (list (p 1 33) (more (symbol (p 1 34) (codes "vars")) (more (list (p 1 39) (more (symbol (p 1 40) (codes "a")) (more (symbol (p 1 42) (codes "name")) none))) none))) (more (list (p 1 49) (more (symbol (p 1 50) (codes "trace")) (more (list (p 1 56) (more (symbol (p 1 57) (codes "send")) (more (symbol (p 1 62) (codes "a")) (more (symbol (p 1 64) (codes "a")) none)))) none))) none))))) none))))) none), Some (record { place = p 1 56; code = OutOfProfile }))
+    -- (defprotocol p basic (defrole r (vars (a name)) (trace (send a a a))))
+    ∷ ((more (list (p 1 1) (more (symbol (p 1 2) (codes "defprotocol")) (more (symbol (p 1 14) (codes "p")) (more (symbol (p 1 16) (codes "basic")) (more (list (p 1 22) (more (symbol (p 1 23) (codes "defrole")) (more (symbol (p 1 31) (codes "r")) (more (list (p 1 33) (more (symbol (p 1 34) (codes "vars")) (more (list (p 1 39) (more (symbol (p 1 40) (codes "a")) (more (symbol (p 1 42) (codes "name")) none))) none))) (more (list (p 1 49) (more (symbol (p 1 50) (codes "trace")) (more (list (p 1 56) (more (symbol (p 1 57) (codes "send")) (more (symbol (p 1 62) (codes "a")) (more (symbol (p 1 64) (codes "a")) (more (symbol (p 1 66) (codes "a")) none))))) none))) none))))) none))))) none), Some (record { place = p 1 66; code = BadShape }))
+    -- (defprotocol p basic (defrole r (vars (a name)) (trace (send (ltk a a a)))))
+    ∷ ((more (list (p 1 1) (more (symbol (p 1 2) (codes "defprotocol")) (more (symbol (p 1 14) (codes "p")) (more (symbol (p 1 16) (codes "basic")) (more (list (p 1 22) (more (symbol (p 1 23) (codes "defrole")) (more (symbol (p 1 31) (codes "r")) (more (list (p 1 33) (more (symbol (p 1 34) (codes "vars")) (more (list (p 1 39) (more (symbol (p 1 40) (codes "a")) (more (symbol (p 1 42) (codes "name")) none))) none))) (more (list (p 1 49) (more (symbol (p 1 50) (codes "trace")) (more (list (p 1 56) (more (symbol (p 1 57) (codes "send")) (more (list (p 1 62) (more (symbol (p 1 63) (codes "ltk")) (more (symbol (p 1 67) (codes "a")) (more (symbol (p 1 69) (codes "a")) (more (symbol (p 1 71) (codes "a")) none))))) none))) none))) none))))) none))))) none), Some (record { place = p 1 71; code = BadShape }))
+    -- (defprotocol p basic (defrole r (vars (a b foo) (a name)) (trace (send a))))
+    ∷ ((more (list (p 1 1) (more (symbol (p 1 2) (codes "defprotocol")) (more (symbol (p 1 14) (codes "p")) (more (symbol (p 1 16) (codes "basic")) (more (list (p 1 22) (more (symbol (p 1 23) (codes "defrole")) (more (symbol (p 1 31) (codes "r")) (more (list (p 1 33) (more (symbol (p 1 34) (codes "vars")) (more (list (p 1 39) (more (symbol (p 1 40) (codes "a")) (more (symbol (p 1 42) (codes "b")) (more (symbol (p 1 44) (codes "foo")) none)))) (more (list (p 1 49) (more (symbol (p 1 50) (codes "a")) (more (symbol (p 1 52) (codes "name")) none))) none)))) (more (list (p 1 59) (more (symbol (p 1 60) (codes "trace")) (more (list (p 1 66) (more (symbol (p 1 67) (codes "send")) (more (symbol (p 1 72) (codes "a")) none))) none))) none))))) none))))) none), Some (record { place = p 1 44; code = UnknownSort }))
+    -- (defprotocol p basic (defrole r (vars (a a foo)) (trace (send a))))
+    ∷ ((more (list (p 1 1) (more (symbol (p 1 2) (codes "defprotocol")) (more (symbol (p 1 14) (codes "p")) (more (symbol (p 1 16) (codes "basic")) (more (list (p 1 22) (more (symbol (p 1 23) (codes "defrole")) (more (symbol (p 1 31) (codes "r")) (more (list (p 1 33) (more (symbol (p 1 34) (codes "vars")) (more (list (p 1 39) (more (symbol (p 1 40) (codes "a")) (more (symbol (p 1 42) (codes "a")) (more (symbol (p 1 44) (codes "foo")) none)))) none))) (more (list (p 1 50) (more (symbol (p 1 51) (codes "trace")) (more (list (p 1 57) (more (symbol (p 1 58) (codes "send")) (more (symbol (p 1 63) (codes "a")) none))) none))) none))))) none))))) none), Some (record { place = p 1 42; code = DuplicateVar }))
+    -- (defprotocol p basic (defrole r (vars (a name)) (trace (send (pubk "p")))))
+    ∷ ((more (list (p 1 1) (more (symbol (p 1 2) (codes "defprotocol")) (more (symbol (p 1 14) (codes "p")) (more (symbol (p 1 16) (codes "basic")) (more (list (p 1 22) (more (symbol (p 1 23) (codes "defrole")) (more (symbol (p 1 31) (codes "r")) (more (list (p 1 33) (more (symbol (p 1 34) (codes "vars")) (more (list (p 1 39) (more (symbol (p 1 40) (codes "a")) (more (symbol (p 1 42) (codes "name")) none))) none))) (more (list (p 1 49) (more (symbol (p 1 50) (codes "trace")) (more (list (p 1 56) (more (symbol (p 1 57) (codes "send")) (more (list (p 1 62) (more (symbol (p 1 63) (codes "pubk")) (more (string (p 1 68) (codes "p")) none))) none))) none))) none))))) none))))) none), Some (record { place = p 1 62; code = BadShape }))
+    -- (defprotocol p basic (defrole r (vars (x a name)) (trace (send (pubk x a)))))
+    ∷ ((more (list (p 1 1) (more (symbol (p 1 2) (codes "defprotocol")) (more (symbol (p 1 14) (codes "p")) (more (symbol (p 1 16) (codes "basic")) (more (list (p 1 22) (more (symbol (p 1 23) (codes "defrole")) (more (symbol (p 1 31) (codes "r")) (more (list (p 1 33) (more (symbol (p 1 34) (codes "vars")) (more (list (p 1 39) (more (symbol (p 1 40) (codes "x")) (more (symbol (p 1 42) (codes "a")) (more (symbol (p 1 44) (codes "name")) none)))) none))) (more (list (p 1 51) (more (symbol (p 1 52) (codes "trace")) (more (list (p 1 58) (more (symbol (p 1 59) (codes "send")) (more (list (p 1 64) (more (symbol (p 1 65) (codes "pubk")) (more (symbol (p 1 70) (codes "x")) (more (symbol (p 1 72) (codes "a")) none)))) none))) none))) none))))) none))))) none), Some (record { place = p 1 72; code = BadShape }))
+    -- (5 a)
+    ∷ ((more (list (p 1 1) (more (number (p 1 2) 5) (more (symbol (p 1 4) (codes "a")) none))) none), Some (record { place = p 1 1; code = BadShape }))
+    -- ("x")
+    ∷ ((more (list (p 1 1) (more (string (p 1 2) (codes "x")) none)) none), Some (record { place = p 1 1; code = BadShape }))
+    -- ()
+    ∷ ((more (list (p 1 1) none) none), Some (record { place = p 1 1; code = BadShape }))
+    -- a
+    ∷ ((more (symbol (p 1 1) (codes "a")) none), Some (record { place = p 1 1; code = BadShape }))
+    -- (defprotocol p basic (defrole r (vars (a name)) (trace (send a)) (uniq-orig a) (non-orig (2 (privk a)))))
+    ∷ ((more (list (p 1 1) (more (symbol (p 1 2) (codes "defprotocol")) (more (symbol (p 1 14) (codes "p")) (more (symbol (p 1 16) (codes "basic")) (more (list (p 1 22) (more (symbol (p 1 23) (codes "defrole")) (more (symbol (p 1 31) (codes "r")) (more (list (p 1 33) (more (symbol (p 1 34) (codes "vars")) (more (list (p 1 39) (more (symbol (p 1 40) (codes "a")) (more (symbol (p 1 42) (codes "name")) none))) none))) (more (list (p 1 49) (more (symbol (p 1 50) (codes "trace")) (more (list (p 1 56) (more (symbol (p 1 57) (codes "send")) (more (symbol (p 1 62) (codes "a")) none))) none))) (more (list (p 1 66) (more (symbol (p 1 67) (codes "uniq-orig")) (more (symbol (p 1 77) (codes "a")) none))) (more (list (p 1 80) (more (symbol (p 1 81) (codes "non-orig")) (more (list (p 1 90) (more (number (p 1 91) 2) (more (list (p 1 93) (more (symbol (p 1 94) (codes "privk")) (more (symbol (p 1 100) (codes "a")) none))) none))) none))) none))))))) none))))) none), Some (record { place = p 1 90; code = BadShape }))
+    -- (defprotocol p basic (defrole r (vars (a b name)) (trace (send a)) (uniq-orig b)))
+    ∷ ((more (list (p 1 1) (more (symbol (p 1 2) (codes "defprotocol")) (more (symbol (p 1 14) (codes "p")) (more (symbol (p 1 16) (codes "basic")) (more (list (p 1 22) (more (symbol (p 1 23) (codes "defrole")) (more (symbol (p 1 31) (codes "r")) (more (list (p 1 33) (more (symbol (p 1 34) (codes "vars")) (more (list (p 1 39) (more (symbol (p 1 40) (codes "a")) (more (symbol (p 1 42) (codes "b")) (more (symbol (p 1 44) (codes "name")) none)))) none))) (more (list (p 1 51) (more (symbol (p 1 52) (codes "trace")) (more (list (p 1 58) (more (symbol (p 1 59) (codes "send")) (more (symbol (p 1 64) (codes "a")) none))) none))) (more (list (p 1 68) (more (symbol (p 1 69) (codes "uniq-orig")) (more (symbol (p 1 79) (codes "b")) none))) none)))))) none))))) none), Some (record { place = p 1 79; code = RoleUniqNoOrigin }))
+    -- (defprotocol p basic (defrole r (vars (a b name)) (trace (send a)) (non-orig (privk b))))
+    ∷ ((more (list (p 1 1) (more (symbol (p 1 2) (codes "defprotocol")) (more (symbol (p 1 14) (codes "p")) (more (symbol (p 1 16) (codes "basic")) (more (list (p 1 22) (more (symbol (p 1 23) (codes "defrole")) (more (symbol (p 1 31) (codes "r")) (more (list (p 1 33) (more (symbol (p 1 34) (codes "vars")) (more (list (p 1 39) (more (symbol (p 1 40) (codes "a")) (more (symbol (p 1 42) (codes "b")) (more (symbol (p 1 44) (codes "name")) none)))) none))) (more (list (p 1 51) (more (symbol (p 1 52) (codes "trace")) (more (list (p 1 58) (more (symbol (p 1 59) (codes "send")) (more (symbol (p 1 64) (codes "a")) none))) none))) (more (list (p 1 68) (more (symbol (p 1 69) (codes "non-orig")) (more (list (p 1 78) (more (symbol (p 1 79) (codes "privk")) (more (symbol (p 1 85) (codes "b")) none))) none))) none)))))) none))))) none), None)
+    -- (defprotocol p basic (defrole r (vars (a name)) (trace (send a))))
+    -- (defprotocol p basic)
+    ∷ ((more (list (p 1 1) (more (symbol (p 1 2) (codes "defprotocol")) (more (symbol (p 1 14) (codes "p")) (more (symbol (p 1 16) (codes "basic")) (more (list (p 1 22) (more (symbol (p 1 23) (codes "defrole")) (more (symbol (p 1 31) (codes "r")) (more (list (p 1 33) (more (symbol (p 1 34) (codes "vars")) (more (list (p 1 39) (more (symbol (p 1 40) (codes "a")) (more (symbol (p 1 42) (codes "name")) none))) none))) (more (list (p 1 49) (more (symbol (p 1 50) (codes "trace")) (more (list (p 1 56) (more (symbol (p 1 57) (codes "send")) (more (symbol (p 1 62) (codes "a")) none))) none))) none))))) none))))) (more (list (p 2 1) (more (symbol (p 2 2) (codes "defprotocol")) (more (symbol (p 2 14) (codes "p")) (more (symbol (p 2 16) (codes "basic")) none)))) none)), Some (record { place = p 2 14; code = DuplicateProtocol }))
+    -- (defprotocol p basic (defrole r (vars (a name)) (trace (send a))) (defrole r (vars (a name)) (trace (send a))))
+    ∷ ((more (list (p 1 1) (more (symbol (p 1 2) (codes "defprotocol")) (more (symbol (p 1 14) (codes "p")) (more (symbol (p 1 16) (codes "basic")) (more (list (p 1 22) (more (symbol (p 1 23) (codes "defrole")) (more (symbol (p 1 31) (codes "r")) (more (list (p 1 33) (more (symbol (p 1 34) (codes "vars")) (more (list (p 1 39) (more (symbol (p 1 40) (codes "a")) (more (symbol (p 1 42) (codes "name")) none))) none))) (more (list (p 1 49) (more (symbol (p 1 50) (codes "trace")) (more (list (p 1 56) (more (symbol (p 1 57) (codes "send")) (more (symbol (p 1 62) (codes "a")) none))) none))) none))))) (more (list (p 1 67) (more (symbol (p 1 68) (codes "defrole")) (more (symbol (p 1 76) (codes "r")) (more (list (p 1 78) (more (symbol (p 1 79) (codes "vars")) (more (list (p 1 84) (more (symbol (p 1 85) (codes "a")) (more (symbol (p 1 87) (codes "name")) none))) none))) (more (list (p 1 94) (more (symbol (p 1 95) (codes "trace")) (more (list (p 1 101) (more (symbol (p 1 102) (codes "send")) (more (symbol (p 1 107) (codes "a")) none))) none))) none))))) none)))))) none), Some (record { place = p 1 76; code = DuplicateRole }))
+    -- (defskeleton q (vars) (defstrand r 1))
+    ∷ ((more (list (p 1 1) (more (symbol (p 1 2) (codes "defskeleton")) (more (symbol (p 1 14) (codes "q")) (more (list (p 1 16) (more (symbol (p 1 17) (codes "vars")) none)) (more (list (p 1 23) (more (symbol (p 1 24) (codes "defstrand")) (more (symbol (p 1 34) (codes "r")) (more (number (p 1 36) 1) none)))) none))))) none), Some (record { place = p 1 14; code = UnknownProtocol }))
+    -- (defprotocol p basic (defrole r (vars (a name)) (trace (send a))))
+    -- (defskeleton p (vars) (defstrand q 1))
+    ∷ ((more (list (p 1 1) (more (symbol (p 1 2) (codes "defprotocol")) (more (symbol (p 1 14) (codes "p")) (more (symbol (p 1 16) (codes "basic")) (more (list (p 1 22) (more (symbol (p 1 23) (codes "defrole")) (more (symbol (p 1 31) (codes "r")) (more (list (p 1 33) (more (symbol (p 1 34) (codes "vars")) (more (list (p 1 39) (more (symbol (p 1 40) (codes "a")) (more (symbol (p 1 42) (codes "name")) none))) none))) (more (list (p 1 49) (more (symbol (p 1 50) (codes "trace")) (more (list (p 1 56) (more (symbol (p 1 57) (codes "send")) (more (symbol (p 1 62) (codes "a")) none))) none))) none))))) none))))) (more (list (p 2 1) (more (symbol (p 2 2) (codes "defskeleton")) (more (symbol (p 2 14) (codes "p")) (more (list (p 2 16) (more (symbol (p 2 17) (codes "vars")) none)) (more (list (p 2 23) (more (symbol (p 2 24) (codes "defstrand")) (more (symbol (p 2 34) (codes "q")) (more (number (p 2 36) 1) none)))) none))))) none)), Some (record { place = p 2 34; code = UnknownRole }))
+    -- (defprotocol p basic (defrole r (vars (a name)) (trace (send a))))
+    -- (defskeleton p (vars) (defstrand r 0))
+    ∷ ((more (list (p 1 1) (more (symbol (p 1 2) (codes "defprotocol")) (more (symbol (p 1 14) (codes "p")) (more (symbol (p 1 16) (codes "basic")) (more (list (p 1 22) (more (symbol (p 1 23) (codes "defrole")) (more (symbol (p 1 31) (codes "r")) (more (list (p 1 33) (more (symbol (p 1 34) (codes "vars")) (more (list (p 1 39) (more (symbol (p 1 40) (codes "a")) (more (symbol (p 1 42) (codes "name")) none))) none))) (more (list (p 1 49) (more (symbol (p 1 50) (codes "trace")) (more (list (p 1 56) (more (symbol (p 1 57) (codes "send")) (more (symbol (p 1 62) (codes "a")) none))) none))) none))))) none))))) (more (list (p 2 1) (more (symbol (p 2 2) (codes "defskeleton")) (more (symbol (p 2 14) (codes "p")) (more (list (p 2 16) (more (symbol (p 2 17) (codes "vars")) none)) (more (list (p 2 23) (more (symbol (p 2 24) (codes "defstrand")) (more (symbol (p 2 34) (codes "r")) (more (number (p 2 36) 0) none)))) none))))) none)), Some (record { place = p 2 36; code = BadHeight }))
+    -- (defskeleton ns (vars (t text)) (defstrand init 1 (n2 t)))
+    ∷ ((more needham_schroeder (more (list (p 4 1) (more (symbol (p 4 2) (codes "defskeleton")) (more (symbol (p 4 14) (codes "ns")) (more (list (p 4 17) (more (symbol (p 4 18) (codes "vars")) (more (list (p 4 23) (more (symbol (p 4 24) (codes "t")) (more (symbol (p 4 26) (codes "text")) none))) none))) (more (list (p 4 33) (more (symbol (p 4 34) (codes "defstrand")) (more (symbol (p 4 44) (codes "init")) (more (number (p 4 49) 1) (more (list (p 4 51) (more (symbol (p 4 52) (codes "n2")) (more (symbol (p 4 55) (codes "t")) none))) none))))) none))))) none)), Some (record { place = p 4 52; code = NotInPrefix }))
+    -- (defskeleton ns (vars (t text)) (defstrand init 1 (n1 t) (n1 t)))
+    ∷ ((more needham_schroeder (more (list (p 4 1) (more (symbol (p 4 2) (codes "defskeleton")) (more (symbol (p 4 14) (codes "ns")) (more (list (p 4 17) (more (symbol (p 4 18) (codes "vars")) (more (list (p 4 23) (more (symbol (p 4 24) (codes "t")) (more (symbol (p 4 26) (codes "text")) none))) none))) (more (list (p 4 33) (more (symbol (p 4 34) (codes "defstrand")) (more (symbol (p 4 44) (codes "init")) (more (number (p 4 49) 1) (more (list (p 4 51) (more (symbol (p 4 52) (codes "n1")) (more (symbol (p 4 55) (codes "t")) none))) (more (list (p 4 58) (more (symbol (p 4 59) (codes "n1")) (more (symbol (p 4 62) (codes "t")) none))) none)))))) none))))) none)), Some (record { place = p 4 59; code = DuplicateVar }))
+    -- (defskeleton ns (vars (t text)) (defstrand init 1 (n1 (ltk a z))))
+    ∷ ((more needham_schroeder (more (list (p 4 1) (more (symbol (p 4 2) (codes "defskeleton")) (more (symbol (p 4 14) (codes "ns")) (more (list (p 4 17) (more (symbol (p 4 18) (codes "vars")) (more (list (p 4 23) (more (symbol (p 4 24) (codes "t")) (more (symbol (p 4 26) (codes "text")) none))) none))) (more (list (p 4 33) (more (symbol (p 4 34) (codes "defstrand")) (more (symbol (p 4 44) (codes "init")) (more (number (p 4 49) 1) (more (list (p 4 51) (more (symbol (p 4 52) (codes "n1")) (more (list (p 4 55) (more (symbol (p 4 56) (codes "ltk")) (more (symbol (p 4 60) (codes "a")) (more (symbol (p 4 62) (codes "z")) none)))) none))) none))))) none))))) none)), Some (record { place = p 4 55; code = IllSorted }))
+    -- (defprotocol p basic (defrole r (vars (a name)) (trace (send a))))
+    -- (defskeleton p (vars) (non-orig) (defstrand r 1))
+    ∷ ((more (list (p 1 1) (more (symbol (p 1 2) (codes "defprotocol")) (more (symbol (p 1 14) (codes "p")) (more (symbol (p 1 16) (codes "basic")) (more (list (p 1 22) (more (symbol (p 1 23) (codes "defrole")) (more (symbol (p 1 31) (codes "r")) (more (list (p 1 33) (more (symbol (p 1 34) (codes "vars")) (more (list (p 1 39) (more (symbol (p 1 40) (codes "a")) (more (symbol (p 1 42) (codes "name")) none))) none))) (more (list (p 1 49) (more (symbol (p 1 50) (codes "trace")) (more (list (p 1 56) (more (symbol (p 1 57) (codes "send")) (more (symbol (p 1 62) (codes "a")) none))) none))) none))))) none))))) (more (list (p 2 1) (more (symbol (p 2 2) (codes "defskeleton")) (more (symbol (p 2 14) (codes "p")) (more (list (p 2 16) (more (symbol (p 2 17) (codes "vars")) none)) (more (list (p 2 23) (more (symbol (p 2 24) (codes "non-orig")) none)) (more (list (p 2 34) (more (symbol (p 2 35) (codes "defstrand")) (more (symbol (p 2 45) (codes "r")) (more (number (p 2 47) 1) none)))) none)))))) none)), Some (record { place = p 2 23; code = UnknownForm }))
+    -- (defprotocol p basic (defrole r (vars (a name)) (trace (send a))))
+    -- (defskeleton p (vars) (defstrand r 1) (non-orig) (defstrand r 1))
+    ∷ ((more (list (p 1 1) (more (symbol (p 1 2) (codes "defprotocol")) (more (symbol (p 1 14) (codes "p")) (more (symbol (p 1 16) (codes "basic")) (more (list (p 1 22) (more (symbol (p 1 23) (codes "defrole")) (more (symbol (p 1 31) (codes "r")) (more (list (p 1 33) (more (symbol (p 1 34) (codes "vars")) (more (list (p 1 39) (more (symbol (p 1 40) (codes "a")) (more (symbol (p 1 42) (codes "name")) none))) none))) (more (list (p 1 49) (more (symbol (p 1 50) (codes "trace")) (more (list (p 1 56) (more (symbol (p 1 57) (codes "send")) (more (symbol (p 1 62) (codes "a")) none))) none))) none))))) none))))) (more (list (p 2 1) (more (symbol (p 2 2) (codes "defskeleton")) (more (symbol (p 2 14) (codes "p")) (more (list (p 2 16) (more (symbol (p 2 17) (codes "vars")) none)) (more (list (p 2 23) (more (symbol (p 2 24) (codes "defstrand")) (more (symbol (p 2 34) (codes "r")) (more (number (p 2 36) 1) none)))) (more (list (p 2 39) (more (symbol (p 2 40) (codes "non-orig")) none)) (more (list (p 2 50) (more (symbol (p 2 51) (codes "defstrand")) (more (symbol (p 2 61) (codes "r")) (more (number (p 2 63) 1) none)))) none))))))) none)), Some (record { place = p 2 50; code = UnknownForm }))
+    -- (defprotocol p basic (defrole r (vars (a name)) (trace (send a))))
+    -- (defskeleton p (vars) (comment 1 "x") (defstrand r 1) (comment) (non-orig))
+    ∷ ((more (list (p 1 1) (more (symbol (p 1 2) (codes "defprotocol")) (more (symbol (p 1 14) (codes "p")) (more (symbol (p 1 16) (codes "basic")) (more (list (p 1 22) (more (symbol (p 1 23) (codes "defrole")) (more (symbol (p 1 31) (codes "r")) (more (list (p 1 33) (more (symbol (p 1 34) (codes "vars")) (more (list (p 1 39) (more (symbol (p 1 40) (codes "a")) (more (symbol (p 1 42) (codes "name")) none))) none))) (more (list (p 1 49) (more (symbol (p 1 50) (codes "trace")) (more (list (p 1 56) (more (symbol (p 1 57) (codes "send")) (more (symbol (p 1 62) (codes "a")) none))) none))) none))))) none))))) (more (list (p 2 1) (more (symbol (p 2 2) (codes "defskeleton")) (more (symbol (p 2 14) (codes "p")) (more (list (p 2 16) (more (symbol (p 2 17) (codes "vars")) none)) (more (list (p 2 23) (more (symbol (p 2 24) (codes "comment")) (more (number (p 2 32) 1) (more (string (p 2 34) (codes "x")) none)))) (more (list (p 2 39) (more (symbol (p 2 40) (codes "defstrand")) (more (symbol (p 2 50) (codes "r")) (more (number (p 2 52) 1) none)))) (more (list (p 2 55) (more (symbol (p 2 56) (codes "comment")) none)) (more (list (p 2 65) (more (symbol (p 2 66) (codes "non-orig")) none)) none)))))))) none)), None)
+    -- (defrun x)
+    ∷ ((more (list (p 1 1) (more (symbol (p 1 2) (codes "defrun")) (more (symbol (p 1 9) (codes "x")) none))) none), Some (record { place = p 1 1; code = UnknownForm }))
+    -- (defgoal x)
+    ∷ ((more (list (p 1 1) (more (symbol (p 1 2) (codes "defgoal")) (more (symbol (p 1 10) (codes "x")) none))) none), Some (record { place = p 1 1; code = OutOfProfile }))
+    -- (herald "x" (bound 4))
+    ∷ ((more (list (p 1 1) (more (symbol (p 1 2) (codes "herald")) (more (string (p 1 9) (codes "x")) (more (list (p 1 13) (more (symbol (p 1 14) (codes "bound")) (more (number (p 1 20) 4) none))) none)))) none), None)
+    -- (defprotocol p basic (defrole r (vars (a name)) (trace (gen a))))
+    ∷ ((more (list (p 1 1) (more (symbol (p 1 2) (codes "defprotocol")) (more (symbol (p 1 14) (codes "p")) (more (symbol (p 1 16) (codes "basic")) (more (list (p 1 22) (more (symbol (p 1 23) (codes "defrole")) (more (symbol (p 1 31) (codes "r")) (more (list (p 1 33) (more (symbol (p 1 34) (codes "vars")) (more (list (p 1 39) (more (symbol (p 1 40) (codes "a")) (more (symbol (p 1 42) (codes "name")) none))) none))) (more (list (p 1 49) (more (symbol (p 1 50) (codes "trace")) (more (list (p 1 56) (more (symbol (p 1 57) (codes "gen")) (more (symbol (p 1 61) (codes "a")) none))) none))) none))))) none))))) none), Some (record { place = p 1 56; code = UnknownForm }))
+    -- (defprotocol p basic (defrole r (vars (a name)) (trace (send (gen a)))))
+    ∷ ((more (list (p 1 1) (more (symbol (p 1 2) (codes "defprotocol")) (more (symbol (p 1 14) (codes "p")) (more (symbol (p 1 16) (codes "basic")) (more (list (p 1 22) (more (symbol (p 1 23) (codes "defrole")) (more (symbol (p 1 31) (codes "r")) (more (list (p 1 33) (more (symbol (p 1 34) (codes "vars")) (more (list (p 1 39) (more (symbol (p 1 40) (codes "a")) (more (symbol (p 1 42) (codes "name")) none))) none))) (more (list (p 1 49) (more (symbol (p 1 50) (codes "trace")) (more (list (p 1 56) (more (symbol (p 1 57) (codes "send")) (more (list (p 1 62) (more (symbol (p 1 63) (codes "gen")) (more (symbol (p 1 67) (codes "a")) none))) none))) none))) none))))) none))))) none), Some (record { place = p 1 62; code = OutOfProfile }))
+    -- (defprotocol p basic (defrole r (vars (k skey) (a name)) (trace (send (enc a (cat k))))))
+    ∷ ((more (list (p 1 1) (more (symbol (p 1 2) (codes "defprotocol")) (more (symbol (p 1 14) (codes "p")) (more (symbol (p 1 16) (codes "basic")) (more (list (p 1 22) (more (symbol (p 1 23) (codes "defrole")) (more (symbol (p 1 31) (codes "r")) (more (list (p 1 33) (more (symbol (p 1 34) (codes "vars")) (more (list (p 1 39) (more (symbol (p 1 40) (codes "k")) (more (symbol (p 1 42) (codes "skey")) none))) (more (list (p 1 48) (more (symbol (p 1 49) (codes "a")) (more (symbol (p 1 51) (codes "name")) none))) none)))) (more (list (p 1 58) (more (symbol (p 1 59) (codes "trace")) (more (list (p 1 65) (more (symbol (p 1 66) (codes "send")) (more (list (p 1 71) (more (symbol (p 1 72) (codes "enc")) (more (symbol (p 1 76) (codes "a")) (more (list (p 1 78) (more (symbol (p 1 79) (codes "cat")) (more (symbol (p 1 83) (codes "k")) none))) none)))) none))) none))) none))))) none))))) none), None)
+    -- (defprotocol p basic (defrole r (vars (k skey) (a name)) (trace (send (enc a (cat z))))))
+    ∷ ((more (list (p 1 1) (more (symbol (p 1 2) (codes "defprotocol")) (more (symbol (p 1 14) (codes "p")) (more (symbol (p 1 16) (codes "basic")) (more (list (p 1 22) (more (symbol (p 1 23) (codes "defrole")) (more (symbol (p 1 31) (codes "r")) (more (list (p 1 33) (more (symbol (p 1 34) (codes "vars")) (more (list (p 1 39) (more (symbol (p 1 40) (codes "k")) (more (symbol (p 1 42) (codes "skey")) none))) (more (list (p 1 48) (more (symbol (p 1 49) (codes "a")) (more (symbol (p 1 51) (codes "name")) none))) none)))) (more (list (p 1 58) (more (symbol (p 1 59) (codes "trace")) (more (list (p 1 65) (more (symbol (p 1 66) (codes "send")) (more (list (p 1 71) (more (symbol (p 1 72) (codes "enc")) (more (symbol (p 1 76) (codes "a")) (more (list (p 1 78) (more (symbol (p 1 79) (codes "cat")) (more (symbol (p 1 83) (codes "z")) none))) none)))) none))) none))) none))))) none))))) none), Some (record { place = p 1 83; code = UnknownVar }))
+    -- (defprotocol p basic (defrole r (vars (k akey) (a name)) (trace (send (invk (invk k))) (recv (invk a)))))
+    ∷ ((more (list (p 1 1) (more (symbol (p 1 2) (codes "defprotocol")) (more (symbol (p 1 14) (codes "p")) (more (symbol (p 1 16) (codes "basic")) (more (list (p 1 22) (more (symbol (p 1 23) (codes "defrole")) (more (symbol (p 1 31) (codes "r")) (more (list (p 1 33) (more (symbol (p 1 34) (codes "vars")) (more (list (p 1 39) (more (symbol (p 1 40) (codes "k")) (more (symbol (p 1 42) (codes "akey")) none))) (more (list (p 1 48) (more (symbol (p 1 49) (codes "a")) (more (symbol (p 1 51) (codes "name")) none))) none)))) (more (list (p 1 58) (more (symbol (p 1 59) (codes "trace")) (more (list (p 1 65) (more (symbol (p 1 66) (codes "send")) (more (list (p 1 71) (more (symbol (p 1 72) (codes "invk")) (more (list (p 1 77) (more (symbol (p 1 78) (codes "invk")) (more (symbol (p 1 83) (codes "k")) none))) none))) none))) (more (list (p 1 88) (more (symbol (p 1 89) (codes "recv")) (more (list (p 1 94) (more (symbol (p 1 95) (codes "invk")) (more (symbol (p 1 100) (codes "a")) none))) none))) none)))) none))))) none))))) none), Some (record { place = p 1 100; code = IllSorted }))
+    ∷ []
 
--- (defskeleton ns (vars) (defstrand init 3) (defstrand resp 3) (precedes ((0 0) (1 0)) ((1 1) (0 1))))
-reading_8 : first (faults_of (more needham_schroeder (more (list (p 4 1) (more (symbol (p 4 2) (codes "defskeleton")) (more (symbol (p 4 14) (codes "ns")) (more (list (p 4 17) (more (symbol (p 4 18) (codes "vars")) none)) (more (list (p 4 24) (more (symbol (p 4 25) (codes "defstrand")) (more (symbol (p 4 35) (codes "init")) (more (number (p 4 40) 3) none)))) (more (list (p 4 43) (more (symbol (p 4 44) (codes "defstrand")) (more (symbol (p 4 54) (codes "resp")) (more (number (p 4 59) 3) none)))) (more (list (p 4 62) (more (symbol (p 4 63) (codes "precedes")) (more (list (p 4 72) (more (list (p 4 73) (more (number (p 4 74) 0) (more (number (p 4 76) 0) none))) (more (list (p 4 79) (more (number (p 4 80) 1) (more (number (p 4 82) 0) none))) none))) (more (list (p 4 86) (more (list (p 4 87) (more (number (p 4 88) 1) (more (number (p 4 90) 1) none))) (more (list (p 4 93) (more (number (p 4 94) 0) (more (number (p 4 96) 1) none))) none))) none)))) none))))))) none))) ≡ None
-reading_8 = refl
-
--- (defskeleton ns (vars) (defstrand init 3) (defstrand resp 3) (precedes ((0 1) (1 9))))
-reading_9 : first (faults_of (more needham_schroeder (more (list (p 4 1) (more (symbol (p 4 2) (codes "defskeleton")) (more (symbol (p 4 14) (codes "ns")) (more (list (p 4 17) (more (symbol (p 4 18) (codes "vars")) none)) (more (list (p 4 24) (more (symbol (p 4 25) (codes "defstrand")) (more (symbol (p 4 35) (codes "init")) (more (number (p 4 40) 3) none)))) (more (list (p 4 43) (more (symbol (p 4 44) (codes "defstrand")) (more (symbol (p 4 54) (codes "resp")) (more (number (p 4 59) 3) none)))) (more (list (p 4 62) (more (symbol (p 4 63) (codes "precedes")) (more (list (p 4 72) (more (list (p 4 73) (more (number (p 4 74) 0) (more (number (p 4 76) 1) none))) (more (list (p 4 79) (more (number (p 4 80) 1) (more (number (p 4 82) 9) none))) none))) none))) none))))))) none))) ≡ Some (record { place = p 4 79; code = BadNode })
-reading_9 = refl
-
--- (defskeleton ns (vars) (defstrand init 3) (defstrand resp 3) (precedes ((0 1) (0 0) (0 0))))
-reading_10 : first (faults_of (more needham_schroeder (more (list (p 4 1) (more (symbol (p 4 2) (codes "defskeleton")) (more (symbol (p 4 14) (codes "ns")) (more (list (p 4 17) (more (symbol (p 4 18) (codes "vars")) none)) (more (list (p 4 24) (more (symbol (p 4 25) (codes "defstrand")) (more (symbol (p 4 35) (codes "init")) (more (number (p 4 40) 3) none)))) (more (list (p 4 43) (more (symbol (p 4 44) (codes "defstrand")) (more (symbol (p 4 54) (codes "resp")) (more (number (p 4 59) 3) none)))) (more (list (p 4 62) (more (symbol (p 4 63) (codes "precedes")) (more (list (p 4 72) (more (list (p 4 73) (more (number (p 4 74) 0) (more (number (p 4 76) 1) none))) (more (list (p 4 79) (more (number (p 4 80) 0) (more (number (p 4 82) 0) none))) (more (list (p 4 85) (more (number (p 4 86) 0) (more (number (p 4 88) 0) none))) none)))) none))) none))))))) none))) ≡ Some (record { place = p 4 72; code = CyclicOrder })
-reading_10 = refl
-
--- (defskeleton ns (vars) (defstrand init 3) (defstrand resp 3) (precedes ((0 0) (0 2))))
-reading_11 : first (faults_of (more needham_schroeder (more (list (p 4 1) (more (symbol (p 4 2) (codes "defskeleton")) (more (symbol (p 4 14) (codes "ns")) (more (list (p 4 17) (more (symbol (p 4 18) (codes "vars")) none)) (more (list (p 4 24) (more (symbol (p 4 25) (codes "defstrand")) (more (symbol (p 4 35) (codes "init")) (more (number (p 4 40) 3) none)))) (more (list (p 4 43) (more (symbol (p 4 44) (codes "defstrand")) (more (symbol (p 4 54) (codes "resp")) (more (number (p 4 59) 3) none)))) (more (list (p 4 62) (more (symbol (p 4 63) (codes "precedes")) (more (list (p 4 72) (more (list (p 4 73) (more (number (p 4 74) 0) (more (number (p 4 76) 0) none))) (more (list (p 4 79) (more (number (p 4 80) 0) (more (number (p 4 82) 2) none))) none))) none))) none))))))) none))) ≡ None
-reading_11 = refl
-
--- (defskeleton ns (vars) (defstrand init 3) (defstrand resp 3) (precedes ((9 0 0) (0 2))))
-reading_12 : first (faults_of (more needham_schroeder (more (list (p 4 1) (more (symbol (p 4 2) (codes "defskeleton")) (more (symbol (p 4 14) (codes "ns")) (more (list (p 4 17) (more (symbol (p 4 18) (codes "vars")) none)) (more (list (p 4 24) (more (symbol (p 4 25) (codes "defstrand")) (more (symbol (p 4 35) (codes "init")) (more (number (p 4 40) 3) none)))) (more (list (p 4 43) (more (symbol (p 4 44) (codes "defstrand")) (more (symbol (p 4 54) (codes "resp")) (more (number (p 4 59) 3) none)))) (more (list (p 4 62) (more (symbol (p 4 63) (codes "precedes")) (more (list (p 4 72) (more (list (p 4 73) (more (number (p 4 74) 9) (more (number (p 4 76) 0) (more (number (p 4 78) 0) none)))) (more (list (p 4 81) (more (number (p 4 82) 0) (more (number (p 4 84) 2) none))) none))) none))) none))))))) none))) ≡ Some (record { place = p 4 73; code = BadNode })
-reading_12 = refl
-
--- (defskeleton ns (vars) (defstrand init 3) (defstrand resp 3) (precedes ((0 0 0) (0 2))))
-reading_13 : first (faults_of (more needham_schroeder (more (list (p 4 1) (more (symbol (p 4 2) (codes "defskeleton")) (more (symbol (p 4 14) (codes "ns")) (more (list (p 4 17) (more (symbol (p 4 18) (codes "vars")) none)) (more (list (p 4 24) (more (symbol (p 4 25) (codes "defstrand")) (more (symbol (p 4 35) (codes "init")) (more (number (p 4 40) 3) none)))) (more (list (p 4 43) (more (symbol (p 4 44) (codes "defstrand")) (more (symbol (p 4 54) (codes "resp")) (more (number (p 4 59) 3) none)))) (more (list (p 4 62) (more (symbol (p 4 63) (codes "precedes")) (more (list (p 4 72) (more (list (p 4 73) (more (number (p 4 74) 0) (more (number (p 4 76) 0) (more (number (p 4 78) 0) none)))) (more (list (p 4 81) (more (number (p 4 82) 0) (more (number (p 4 84) 2) none))) none))) none))) none))))))) none))) ≡ Some (record { place = p 4 78; code = BadShape })
-reading_13 = refl
-
--- (defskeleton ns (vars) (defstrand init 3) (defstrand resp 3) (precedes ((0 1) (1 0))))
-reading_14 : first (faults_of (more needham_schroeder (more (list (p 4 1) (more (symbol (p 4 2) (codes "defskeleton")) (more (symbol (p 4 14) (codes "ns")) (more (list (p 4 17) (more (symbol (p 4 18) (codes "vars")) none)) (more (list (p 4 24) (more (symbol (p 4 25) (codes "defstrand")) (more (symbol (p 4 35) (codes "init")) (more (number (p 4 40) 3) none)))) (more (list (p 4 43) (more (symbol (p 4 44) (codes "defstrand")) (more (symbol (p 4 54) (codes "resp")) (more (number (p 4 59) 3) none)))) (more (list (p 4 62) (more (symbol (p 4 63) (codes "precedes")) (more (list (p 4 72) (more (list (p 4 73) (more (number (p 4 74) 0) (more (number (p 4 76) 1) none))) (more (list (p 4 79) (more (number (p 4 80) 1) (more (number (p 4 82) 0) none))) none))) none))) none))))))) none))) ≡ Some (record { place = p 4 73; code = BadNode })
-reading_14 = refl
-
--- (defskeleton ns (vars) (defstrand init 3) (defstrand resp 3) (precedes ((0 0) (1 1))))
-reading_15 : first (faults_of (more needham_schroeder (more (list (p 4 1) (more (symbol (p 4 2) (codes "defskeleton")) (more (symbol (p 4 14) (codes "ns")) (more (list (p 4 17) (more (symbol (p 4 18) (codes "vars")) none)) (more (list (p 4 24) (more (symbol (p 4 25) (codes "defstrand")) (more (symbol (p 4 35) (codes "init")) (more (number (p 4 40) 3) none)))) (more (list (p 4 43) (more (symbol (p 4 44) (codes "defstrand")) (more (symbol (p 4 54) (codes "resp")) (more (number (p 4 59) 3) none)))) (more (list (p 4 62) (more (symbol (p 4 63) (codes "precedes")) (more (list (p 4 72) (more (list (p 4 73) (more (number (p 4 74) 0) (more (number (p 4 76) 0) none))) (more (list (p 4 79) (more (number (p 4 80) 1) (more (number (p 4 82) 1) none))) none))) none))) none))))))) none))) ≡ Some (record { place = p 4 79; code = BadNode })
-reading_15 = refl
-
--- (defskeleton p (vars))
-reading_16 : first (faults_of (more (list (p 1 1) (more (symbol (p 1 2) (codes "defskeleton")) (more (symbol (p 1 14) (codes "p")) (more (list (p 1 16) (more (symbol (p 1 17) (codes "vars")) none)) none)))) none)) ≡ Some (record { place = p 1 1; code = BadShape })
-reading_16 = refl
-
--- (defprotocol p basic (defrole r (vars (a name)) (trace (send a))))
--- (defskeleton p (defstrand r 1))
-reading_17 : first (faults_of (more (list (p 1 1) (more (symbol (p 1 2) (codes "defprotocol")) (more (symbol (p 1 14) (codes "p")) (more (symbol (p 1 16) (codes "basic")) (more (list (p 1 22) (more (symbol (p 1 23) (codes "defrole")) (more (symbol (p 1 31) (codes "r")) (more (list (p 1 33) (more (symbol (p 1 34) (codes "vars")) (more (list (p 1 39) (more (symbol (p 1 40) (codes "a")) (more (symbol (p 1 42) (codes "name")) none))) none))) (more (list (p 1 49) (more (symbol (p 1 50) (codes "trace")) (more (list (p 1 56) (more (symbol (p 1 57) (codes "send")) (more (symbol (p 1 62) (codes "a")) none))) none))) none))))) none))))) (more (list (p 2 1) (more (symbol (p 2 2) (codes "defskeleton")) (more (symbol (p 2 14) (codes "p")) (more (list (p 2 16) (more (symbol (p 2 17) (codes "defstrand")) (more (symbol (p 2 27) (codes "r")) (more (number (p 2 29) 1) none)))) none)))) none))) ≡ Some (record { place = p 2 16; code = BadShape })
-reading_17 = refl
-
--- (defprotocol p diffie-hellman)
-reading_18 : first (faults_of (more (list (p 1 1) (more (symbol (p 1 2) (codes "defprotocol")) (more (symbol (p 1 14) (codes "p")) (more (symbol (p 1 16) (codes "diffie-hellman")) none)))) none)) ≡ Some (record { place = p 1 16; code = OutOfProfile })
-reading_18 = refl
-
--- (defprotocol p basic (defrole r (vars (x mesg)) (trace (send x))))
-reading_19 : first (faults_of (more (list (p 1 1) (more (symbol (p 1 2) (codes "defprotocol")) (more (symbol (p 1 14) (codes "p")) (more (symbol (p 1 16) (codes "basic")) (more (list (p 1 22) (more (symbol (p 1 23) (codes "defrole")) (more (symbol (p 1 31) (codes "r")) (more (list (p 1 33) (more (symbol (p 1 34) (codes "vars")) (more (list (p 1 39) (more (symbol (p 1 40) (codes "x")) (more (symbol (p 1 42) (codes "mesg")) none))) none))) (more (list (p 1 49) (more (symbol (p 1 50) (codes "trace")) (more (list (p 1 56) (more (symbol (p 1 57) (codes "send")) (more (symbol (p 1 62) (codes "x")) none))) none))) none))))) none))))) none)) ≡ Some (record { place = p 1 40; code = MesgVar })
-reading_19 = refl
-
--- (defprotocol p basic (defrole r (vars (a name)) (trace)))
-reading_20 : first (faults_of (more (list (p 1 1) (more (symbol (p 1 2) (codes "defprotocol")) (more (symbol (p 1 14) (codes "p")) (more (symbol (p 1 16) (codes "basic")) (more (list (p 1 22) (more (symbol (p 1 23) (codes "defrole")) (more (symbol (p 1 31) (codes "r")) (more (list (p 1 33) (more (symbol (p 1 34) (codes "vars")) (more (list (p 1 39) (more (symbol (p 1 40) (codes "a")) (more (symbol (p 1 42) (codes "name")) none))) none))) (more (list (p 1 49) (more (symbol (p 1 50) (codes "trace")) none)) none))))) none))))) none)) ≡ Some (record { place = p 1 49; code = BadShape })
-reading_20 = refl
-
--- (defprotocol p basic (defrole r (vars (a name)) (trace (send (cat)))))
-reading_21 : first (faults_of (more (list (p 1 1) (more (symbol (p 1 2) (codes "defprotocol")) (more (symbol (p 1 14) (codes "p")) (more (symbol (p 1 16) (codes "basic")) (more (list (p 1 22) (more (symbol (p 1 23) (codes "defrole")) (more (symbol (p 1 31) (codes "r")) (more (list (p 1 33) (more (symbol (p 1 34) (codes "vars")) (more (list (p 1 39) (more (symbol (p 1 40) (codes "a")) (more (symbol (p 1 42) (codes "name")) none))) none))) (more (list (p 1 49) (more (symbol (p 1 50) (codes "trace")) (more (list (p 1 56) (more (symbol (p 1 57) (codes "send")) (more (list (p 1 62) (more (symbol (p 1 63) (codes "cat")) none)) none))) none))) none))))) none))))) none)) ≡ Some (record { place = p 1 62; code = BadShape })
-reading_21 = refl
-
--- (defprotocol p basic (defrole r (vars (a name)) (trace (send a a))))
-reading_22 : first (faults_of (more (list (p 1 1) (more (symbol (p 1 2) (codes "defprotocol")) (more (symbol (p 1 14) (codes "p")) (more (symbol (p 1 16) (codes "basic")) (more (list (p 1 22) (more (symbol (p 1 23) (codes "defrole")) (more (symbol (p 1 31) (codes "r")) (more (list (p 1 33) (more (symbol (p 1 34) (codes "vars")) (more (list (p 1 39) (more (symbol (p 1 40) (codes "a")) (more (symbol (p 1 42) (codes "name")) none))) none))) (more (list (p 1 49) (more (symbol (p 1 50) (codes "trace")) (more (list (p 1 56) (more (symbol (p 1 57) (codes "send")) (more (symbol (p 1 62) (codes "a")) (more (symbol (p 1 64) (codes "a")) none)))) none))) none))))) none))))) none)) ≡ Some (record { place = p 1 56; code = OutOfProfile })
-reading_22 = refl
-
--- (defprotocol p basic (defrole r (vars (a name)) (trace (send a a a))))
-reading_23 : first (faults_of (more (list (p 1 1) (more (symbol (p 1 2) (codes "defprotocol")) (more (symbol (p 1 14) (codes "p")) (more (symbol (p 1 16) (codes "basic")) (more (list (p 1 22) (more (symbol (p 1 23) (codes "defrole")) (more (symbol (p 1 31) (codes "r")) (more (list (p 1 33) (more (symbol (p 1 34) (codes "vars")) (more (list (p 1 39) (more (symbol (p 1 40) (codes "a")) (more (symbol (p 1 42) (codes "name")) none))) none))) (more (list (p 1 49) (more (symbol (p 1 50) (codes "trace")) (more (list (p 1 56) (more (symbol (p 1 57) (codes "send")) (more (symbol (p 1 62) (codes "a")) (more (symbol (p 1 64) (codes "a")) (more (symbol (p 1 66) (codes "a")) none))))) none))) none))))) none))))) none)) ≡ Some (record { place = p 1 66; code = BadShape })
-reading_23 = refl
-
--- (defprotocol p basic (defrole r (vars (a name)) (trace (send (ltk a a a)))))
-reading_24 : first (faults_of (more (list (p 1 1) (more (symbol (p 1 2) (codes "defprotocol")) (more (symbol (p 1 14) (codes "p")) (more (symbol (p 1 16) (codes "basic")) (more (list (p 1 22) (more (symbol (p 1 23) (codes "defrole")) (more (symbol (p 1 31) (codes "r")) (more (list (p 1 33) (more (symbol (p 1 34) (codes "vars")) (more (list (p 1 39) (more (symbol (p 1 40) (codes "a")) (more (symbol (p 1 42) (codes "name")) none))) none))) (more (list (p 1 49) (more (symbol (p 1 50) (codes "trace")) (more (list (p 1 56) (more (symbol (p 1 57) (codes "send")) (more (list (p 1 62) (more (symbol (p 1 63) (codes "ltk")) (more (symbol (p 1 67) (codes "a")) (more (symbol (p 1 69) (codes "a")) (more (symbol (p 1 71) (codes "a")) none))))) none))) none))) none))))) none))))) none)) ≡ Some (record { place = p 1 71; code = BadShape })
-reading_24 = refl
-
--- (defprotocol p basic (defrole r (vars (a b foo) (a name)) (trace (send a))))
-reading_25 : first (faults_of (more (list (p 1 1) (more (symbol (p 1 2) (codes "defprotocol")) (more (symbol (p 1 14) (codes "p")) (more (symbol (p 1 16) (codes "basic")) (more (list (p 1 22) (more (symbol (p 1 23) (codes "defrole")) (more (symbol (p 1 31) (codes "r")) (more (list (p 1 33) (more (symbol (p 1 34) (codes "vars")) (more (list (p 1 39) (more (symbol (p 1 40) (codes "a")) (more (symbol (p 1 42) (codes "b")) (more (symbol (p 1 44) (codes "foo")) none)))) (more (list (p 1 49) (more (symbol (p 1 50) (codes "a")) (more (symbol (p 1 52) (codes "name")) none))) none)))) (more (list (p 1 59) (more (symbol (p 1 60) (codes "trace")) (more (list (p 1 66) (more (symbol (p 1 67) (codes "send")) (more (symbol (p 1 72) (codes "a")) none))) none))) none))))) none))))) none)) ≡ Some (record { place = p 1 44; code = UnknownSort })
-reading_25 = refl
-
--- (defprotocol p basic (defrole r (vars (a a foo)) (trace (send a))))
-reading_26 : first (faults_of (more (list (p 1 1) (more (symbol (p 1 2) (codes "defprotocol")) (more (symbol (p 1 14) (codes "p")) (more (symbol (p 1 16) (codes "basic")) (more (list (p 1 22) (more (symbol (p 1 23) (codes "defrole")) (more (symbol (p 1 31) (codes "r")) (more (list (p 1 33) (more (symbol (p 1 34) (codes "vars")) (more (list (p 1 39) (more (symbol (p 1 40) (codes "a")) (more (symbol (p 1 42) (codes "a")) (more (symbol (p 1 44) (codes "foo")) none)))) none))) (more (list (p 1 50) (more (symbol (p 1 51) (codes "trace")) (more (list (p 1 57) (more (symbol (p 1 58) (codes "send")) (more (symbol (p 1 63) (codes "a")) none))) none))) none))))) none))))) none)) ≡ Some (record { place = p 1 42; code = DuplicateVar })
-reading_26 = refl
-
--- (defprotocol p basic (defrole r (vars (a name)) (trace (send (pubk "p")))))
-reading_27 : first (faults_of (more (list (p 1 1) (more (symbol (p 1 2) (codes "defprotocol")) (more (symbol (p 1 14) (codes "p")) (more (symbol (p 1 16) (codes "basic")) (more (list (p 1 22) (more (symbol (p 1 23) (codes "defrole")) (more (symbol (p 1 31) (codes "r")) (more (list (p 1 33) (more (symbol (p 1 34) (codes "vars")) (more (list (p 1 39) (more (symbol (p 1 40) (codes "a")) (more (symbol (p 1 42) (codes "name")) none))) none))) (more (list (p 1 49) (more (symbol (p 1 50) (codes "trace")) (more (list (p 1 56) (more (symbol (p 1 57) (codes "send")) (more (list (p 1 62) (more (symbol (p 1 63) (codes "pubk")) (more (string (p 1 68) (codes "p")) none))) none))) none))) none))))) none))))) none)) ≡ Some (record { place = p 1 62; code = BadShape })
-reading_27 = refl
-
--- (defprotocol p basic (defrole r (vars (x a name)) (trace (send (pubk x a)))))
-reading_28 : first (faults_of (more (list (p 1 1) (more (symbol (p 1 2) (codes "defprotocol")) (more (symbol (p 1 14) (codes "p")) (more (symbol (p 1 16) (codes "basic")) (more (list (p 1 22) (more (symbol (p 1 23) (codes "defrole")) (more (symbol (p 1 31) (codes "r")) (more (list (p 1 33) (more (symbol (p 1 34) (codes "vars")) (more (list (p 1 39) (more (symbol (p 1 40) (codes "x")) (more (symbol (p 1 42) (codes "a")) (more (symbol (p 1 44) (codes "name")) none)))) none))) (more (list (p 1 51) (more (symbol (p 1 52) (codes "trace")) (more (list (p 1 58) (more (symbol (p 1 59) (codes "send")) (more (list (p 1 64) (more (symbol (p 1 65) (codes "pubk")) (more (symbol (p 1 70) (codes "x")) (more (symbol (p 1 72) (codes "a")) none)))) none))) none))) none))))) none))))) none)) ≡ Some (record { place = p 1 72; code = BadShape })
-reading_28 = refl
-
--- (5 a)
-reading_29 : first (faults_of (more (list (p 1 1) (more (number (p 1 2) 5) (more (symbol (p 1 4) (codes "a")) none))) none)) ≡ Some (record { place = p 1 1; code = BadShape })
-reading_29 = refl
-
--- ("x")
-reading_30 : first (faults_of (more (list (p 1 1) (more (string (p 1 2) (codes "x")) none)) none)) ≡ Some (record { place = p 1 1; code = BadShape })
-reading_30 = refl
-
--- ()
-reading_31 : first (faults_of (more (list (p 1 1) none) none)) ≡ Some (record { place = p 1 1; code = BadShape })
-reading_31 = refl
-
--- a
-reading_32 : first (faults_of (more (symbol (p 1 1) (codes "a")) none)) ≡ Some (record { place = p 1 1; code = BadShape })
-reading_32 = refl
-
--- (defprotocol p basic (defrole r (vars (a name)) (trace (send a)) (uniq-orig a) (non-orig (2 (privk a)))))
-reading_33 : first (faults_of (more (list (p 1 1) (more (symbol (p 1 2) (codes "defprotocol")) (more (symbol (p 1 14) (codes "p")) (more (symbol (p 1 16) (codes "basic")) (more (list (p 1 22) (more (symbol (p 1 23) (codes "defrole")) (more (symbol (p 1 31) (codes "r")) (more (list (p 1 33) (more (symbol (p 1 34) (codes "vars")) (more (list (p 1 39) (more (symbol (p 1 40) (codes "a")) (more (symbol (p 1 42) (codes "name")) none))) none))) (more (list (p 1 49) (more (symbol (p 1 50) (codes "trace")) (more (list (p 1 56) (more (symbol (p 1 57) (codes "send")) (more (symbol (p 1 62) (codes "a")) none))) none))) (more (list (p 1 66) (more (symbol (p 1 67) (codes "uniq-orig")) (more (symbol (p 1 77) (codes "a")) none))) (more (list (p 1 80) (more (symbol (p 1 81) (codes "non-orig")) (more (list (p 1 90) (more (number (p 1 91) 2) (more (list (p 1 93) (more (symbol (p 1 94) (codes "privk")) (more (symbol (p 1 100) (codes "a")) none))) none))) none))) none))))))) none))))) none)) ≡ Some (record { place = p 1 90; code = BadShape })
-reading_33 = refl
-
--- (defprotocol p basic (defrole r (vars (a b name)) (trace (send a)) (uniq-orig b)))
-reading_34 : first (faults_of (more (list (p 1 1) (more (symbol (p 1 2) (codes "defprotocol")) (more (symbol (p 1 14) (codes "p")) (more (symbol (p 1 16) (codes "basic")) (more (list (p 1 22) (more (symbol (p 1 23) (codes "defrole")) (more (symbol (p 1 31) (codes "r")) (more (list (p 1 33) (more (symbol (p 1 34) (codes "vars")) (more (list (p 1 39) (more (symbol (p 1 40) (codes "a")) (more (symbol (p 1 42) (codes "b")) (more (symbol (p 1 44) (codes "name")) none)))) none))) (more (list (p 1 51) (more (symbol (p 1 52) (codes "trace")) (more (list (p 1 58) (more (symbol (p 1 59) (codes "send")) (more (symbol (p 1 64) (codes "a")) none))) none))) (more (list (p 1 68) (more (symbol (p 1 69) (codes "uniq-orig")) (more (symbol (p 1 79) (codes "b")) none))) none)))))) none))))) none)) ≡ Some (record { place = p 1 79; code = RoleUniqNoOrigin })
-reading_34 = refl
-
--- (defprotocol p basic (defrole r (vars (a b name)) (trace (send a)) (non-orig (privk b))))
-reading_35 : first (faults_of (more (list (p 1 1) (more (symbol (p 1 2) (codes "defprotocol")) (more (symbol (p 1 14) (codes "p")) (more (symbol (p 1 16) (codes "basic")) (more (list (p 1 22) (more (symbol (p 1 23) (codes "defrole")) (more (symbol (p 1 31) (codes "r")) (more (list (p 1 33) (more (symbol (p 1 34) (codes "vars")) (more (list (p 1 39) (more (symbol (p 1 40) (codes "a")) (more (symbol (p 1 42) (codes "b")) (more (symbol (p 1 44) (codes "name")) none)))) none))) (more (list (p 1 51) (more (symbol (p 1 52) (codes "trace")) (more (list (p 1 58) (more (symbol (p 1 59) (codes "send")) (more (symbol (p 1 64) (codes "a")) none))) none))) (more (list (p 1 68) (more (symbol (p 1 69) (codes "non-orig")) (more (list (p 1 78) (more (symbol (p 1 79) (codes "privk")) (more (symbol (p 1 85) (codes "b")) none))) none))) none)))))) none))))) none)) ≡ None
-reading_35 = refl
-
--- (defprotocol p basic (defrole r (vars (a name)) (trace (send a))))
--- (defprotocol p basic)
-reading_36 : first (faults_of (more (list (p 1 1) (more (symbol (p 1 2) (codes "defprotocol")) (more (symbol (p 1 14) (codes "p")) (more (symbol (p 1 16) (codes "basic")) (more (list (p 1 22) (more (symbol (p 1 23) (codes "defrole")) (more (symbol (p 1 31) (codes "r")) (more (list (p 1 33) (more (symbol (p 1 34) (codes "vars")) (more (list (p 1 39) (more (symbol (p 1 40) (codes "a")) (more (symbol (p 1 42) (codes "name")) none))) none))) (more (list (p 1 49) (more (symbol (p 1 50) (codes "trace")) (more (list (p 1 56) (more (symbol (p 1 57) (codes "send")) (more (symbol (p 1 62) (codes "a")) none))) none))) none))))) none))))) (more (list (p 2 1) (more (symbol (p 2 2) (codes "defprotocol")) (more (symbol (p 2 14) (codes "p")) (more (symbol (p 2 16) (codes "basic")) none)))) none))) ≡ Some (record { place = p 2 14; code = DuplicateProtocol })
-reading_36 = refl
-
--- (defprotocol p basic (defrole r (vars (a name)) (trace (send a))) (defrole r (vars (a name)) (trace (send a))))
-reading_37 : first (faults_of (more (list (p 1 1) (more (symbol (p 1 2) (codes "defprotocol")) (more (symbol (p 1 14) (codes "p")) (more (symbol (p 1 16) (codes "basic")) (more (list (p 1 22) (more (symbol (p 1 23) (codes "defrole")) (more (symbol (p 1 31) (codes "r")) (more (list (p 1 33) (more (symbol (p 1 34) (codes "vars")) (more (list (p 1 39) (more (symbol (p 1 40) (codes "a")) (more (symbol (p 1 42) (codes "name")) none))) none))) (more (list (p 1 49) (more (symbol (p 1 50) (codes "trace")) (more (list (p 1 56) (more (symbol (p 1 57) (codes "send")) (more (symbol (p 1 62) (codes "a")) none))) none))) none))))) (more (list (p 1 67) (more (symbol (p 1 68) (codes "defrole")) (more (symbol (p 1 76) (codes "r")) (more (list (p 1 78) (more (symbol (p 1 79) (codes "vars")) (more (list (p 1 84) (more (symbol (p 1 85) (codes "a")) (more (symbol (p 1 87) (codes "name")) none))) none))) (more (list (p 1 94) (more (symbol (p 1 95) (codes "trace")) (more (list (p 1 101) (more (symbol (p 1 102) (codes "send")) (more (symbol (p 1 107) (codes "a")) none))) none))) none))))) none)))))) none)) ≡ Some (record { place = p 1 76; code = DuplicateRole })
-reading_37 = refl
-
--- (defskeleton q (vars) (defstrand r 1))
-reading_38 : first (faults_of (more (list (p 1 1) (more (symbol (p 1 2) (codes "defskeleton")) (more (symbol (p 1 14) (codes "q")) (more (list (p 1 16) (more (symbol (p 1 17) (codes "vars")) none)) (more (list (p 1 23) (more (symbol (p 1 24) (codes "defstrand")) (more (symbol (p 1 34) (codes "r")) (more (number (p 1 36) 1) none)))) none))))) none)) ≡ Some (record { place = p 1 14; code = UnknownProtocol })
-reading_38 = refl
-
--- (defprotocol p basic (defrole r (vars (a name)) (trace (send a))))
--- (defskeleton p (vars) (defstrand q 1))
-reading_39 : first (faults_of (more (list (p 1 1) (more (symbol (p 1 2) (codes "defprotocol")) (more (symbol (p 1 14) (codes "p")) (more (symbol (p 1 16) (codes "basic")) (more (list (p 1 22) (more (symbol (p 1 23) (codes "defrole")) (more (symbol (p 1 31) (codes "r")) (more (list (p 1 33) (more (symbol (p 1 34) (codes "vars")) (more (list (p 1 39) (more (symbol (p 1 40) (codes "a")) (more (symbol (p 1 42) (codes "name")) none))) none))) (more (list (p 1 49) (more (symbol (p 1 50) (codes "trace")) (more (list (p 1 56) (more (symbol (p 1 57) (codes "send")) (more (symbol (p 1 62) (codes "a")) none))) none))) none))))) none))))) (more (list (p 2 1) (more (symbol (p 2 2) (codes "defskeleton")) (more (symbol (p 2 14) (codes "p")) (more (list (p 2 16) (more (symbol (p 2 17) (codes "vars")) none)) (more (list (p 2 23) (more (symbol (p 2 24) (codes "defstrand")) (more (symbol (p 2 34) (codes "q")) (more (number (p 2 36) 1) none)))) none))))) none))) ≡ Some (record { place = p 2 34; code = UnknownRole })
-reading_39 = refl
-
--- (defprotocol p basic (defrole r (vars (a name)) (trace (send a))))
--- (defskeleton p (vars) (defstrand r 0))
-reading_40 : first (faults_of (more (list (p 1 1) (more (symbol (p 1 2) (codes "defprotocol")) (more (symbol (p 1 14) (codes "p")) (more (symbol (p 1 16) (codes "basic")) (more (list (p 1 22) (more (symbol (p 1 23) (codes "defrole")) (more (symbol (p 1 31) (codes "r")) (more (list (p 1 33) (more (symbol (p 1 34) (codes "vars")) (more (list (p 1 39) (more (symbol (p 1 40) (codes "a")) (more (symbol (p 1 42) (codes "name")) none))) none))) (more (list (p 1 49) (more (symbol (p 1 50) (codes "trace")) (more (list (p 1 56) (more (symbol (p 1 57) (codes "send")) (more (symbol (p 1 62) (codes "a")) none))) none))) none))))) none))))) (more (list (p 2 1) (more (symbol (p 2 2) (codes "defskeleton")) (more (symbol (p 2 14) (codes "p")) (more (list (p 2 16) (more (symbol (p 2 17) (codes "vars")) none)) (more (list (p 2 23) (more (symbol (p 2 24) (codes "defstrand")) (more (symbol (p 2 34) (codes "r")) (more (number (p 2 36) 0) none)))) none))))) none))) ≡ Some (record { place = p 2 36; code = BadHeight })
-reading_40 = refl
-
--- (defskeleton ns (vars (t text)) (defstrand init 1 (n2 t)))
-reading_41 : first (faults_of (more needham_schroeder (more (list (p 4 1) (more (symbol (p 4 2) (codes "defskeleton")) (more (symbol (p 4 14) (codes "ns")) (more (list (p 4 17) (more (symbol (p 4 18) (codes "vars")) (more (list (p 4 23) (more (symbol (p 4 24) (codes "t")) (more (symbol (p 4 26) (codes "text")) none))) none))) (more (list (p 4 33) (more (symbol (p 4 34) (codes "defstrand")) (more (symbol (p 4 44) (codes "init")) (more (number (p 4 49) 1) (more (list (p 4 51) (more (symbol (p 4 52) (codes "n2")) (more (symbol (p 4 55) (codes "t")) none))) none))))) none))))) none))) ≡ Some (record { place = p 4 52; code = NotInPrefix })
-reading_41 = refl
-
--- (defskeleton ns (vars (t text)) (defstrand init 1 (n1 t) (n1 t)))
-reading_42 : first (faults_of (more needham_schroeder (more (list (p 4 1) (more (symbol (p 4 2) (codes "defskeleton")) (more (symbol (p 4 14) (codes "ns")) (more (list (p 4 17) (more (symbol (p 4 18) (codes "vars")) (more (list (p 4 23) (more (symbol (p 4 24) (codes "t")) (more (symbol (p 4 26) (codes "text")) none))) none))) (more (list (p 4 33) (more (symbol (p 4 34) (codes "defstrand")) (more (symbol (p 4 44) (codes "init")) (more (number (p 4 49) 1) (more (list (p 4 51) (more (symbol (p 4 52) (codes "n1")) (more (symbol (p 4 55) (codes "t")) none))) (more (list (p 4 58) (more (symbol (p 4 59) (codes "n1")) (more (symbol (p 4 62) (codes "t")) none))) none)))))) none))))) none))) ≡ Some (record { place = p 4 59; code = DuplicateVar })
-reading_42 = refl
-
--- (defskeleton ns (vars (t text)) (defstrand init 1 (n1 (ltk a z))))
-reading_43 : first (faults_of (more needham_schroeder (more (list (p 4 1) (more (symbol (p 4 2) (codes "defskeleton")) (more (symbol (p 4 14) (codes "ns")) (more (list (p 4 17) (more (symbol (p 4 18) (codes "vars")) (more (list (p 4 23) (more (symbol (p 4 24) (codes "t")) (more (symbol (p 4 26) (codes "text")) none))) none))) (more (list (p 4 33) (more (symbol (p 4 34) (codes "defstrand")) (more (symbol (p 4 44) (codes "init")) (more (number (p 4 49) 1) (more (list (p 4 51) (more (symbol (p 4 52) (codes "n1")) (more (list (p 4 55) (more (symbol (p 4 56) (codes "ltk")) (more (symbol (p 4 60) (codes "a")) (more (symbol (p 4 62) (codes "z")) none)))) none))) none))))) none))))) none))) ≡ Some (record { place = p 4 55; code = IllSorted })
-reading_43 = refl
-
--- (defprotocol p basic (defrole r (vars (a name)) (trace (send a))))
--- (defskeleton p (vars) (non-orig) (defstrand r 1))
-reading_44 : first (faults_of (more (list (p 1 1) (more (symbol (p 1 2) (codes "defprotocol")) (more (symbol (p 1 14) (codes "p")) (more (symbol (p 1 16) (codes "basic")) (more (list (p 1 22) (more (symbol (p 1 23) (codes "defrole")) (more (symbol (p 1 31) (codes "r")) (more (list (p 1 33) (more (symbol (p 1 34) (codes "vars")) (more (list (p 1 39) (more (symbol (p 1 40) (codes "a")) (more (symbol (p 1 42) (codes "name")) none))) none))) (more (list (p 1 49) (more (symbol (p 1 50) (codes "trace")) (more (list (p 1 56) (more (symbol (p 1 57) (codes "send")) (more (symbol (p 1 62) (codes "a")) none))) none))) none))))) none))))) (more (list (p 2 1) (more (symbol (p 2 2) (codes "defskeleton")) (more (symbol (p 2 14) (codes "p")) (more (list (p 2 16) (more (symbol (p 2 17) (codes "vars")) none)) (more (list (p 2 23) (more (symbol (p 2 24) (codes "non-orig")) none)) (more (list (p 2 34) (more (symbol (p 2 35) (codes "defstrand")) (more (symbol (p 2 45) (codes "r")) (more (number (p 2 47) 1) none)))) none)))))) none))) ≡ Some (record { place = p 2 23; code = UnknownForm })
-reading_44 = refl
-
--- (defprotocol p basic (defrole r (vars (a name)) (trace (send a))))
--- (defskeleton p (vars) (defstrand r 1) (non-orig) (defstrand r 1))
-reading_45 : first (faults_of (more (list (p 1 1) (more (symbol (p 1 2) (codes "defprotocol")) (more (symbol (p 1 14) (codes "p")) (more (symbol (p 1 16) (codes "basic")) (more (list (p 1 22) (more (symbol (p 1 23) (codes "defrole")) (more (symbol (p 1 31) (codes "r")) (more (list (p 1 33) (more (symbol (p 1 34) (codes "vars")) (more (list (p 1 39) (more (symbol (p 1 40) (codes "a")) (more (symbol (p 1 42) (codes "name")) none))) none))) (more (list (p 1 49) (more (symbol (p 1 50) (codes "trace")) (more (list (p 1 56) (more (symbol (p 1 57) (codes "send")) (more (symbol (p 1 62) (codes "a")) none))) none))) none))))) none))))) (more (list (p 2 1) (more (symbol (p 2 2) (codes "defskeleton")) (more (symbol (p 2 14) (codes "p")) (more (list (p 2 16) (more (symbol (p 2 17) (codes "vars")) none)) (more (list (p 2 23) (more (symbol (p 2 24) (codes "defstrand")) (more (symbol (p 2 34) (codes "r")) (more (number (p 2 36) 1) none)))) (more (list (p 2 39) (more (symbol (p 2 40) (codes "non-orig")) none)) (more (list (p 2 50) (more (symbol (p 2 51) (codes "defstrand")) (more (symbol (p 2 61) (codes "r")) (more (number (p 2 63) 1) none)))) none))))))) none))) ≡ Some (record { place = p 2 50; code = UnknownForm })
-reading_45 = refl
-
--- (defprotocol p basic (defrole r (vars (a name)) (trace (send a))))
--- (defskeleton p (vars) (comment 1 "x") (defstrand r 1) (comment) (non-orig))
-reading_46 : first (faults_of (more (list (p 1 1) (more (symbol (p 1 2) (codes "defprotocol")) (more (symbol (p 1 14) (codes "p")) (more (symbol (p 1 16) (codes "basic")) (more (list (p 1 22) (more (symbol (p 1 23) (codes "defrole")) (more (symbol (p 1 31) (codes "r")) (more (list (p 1 33) (more (symbol (p 1 34) (codes "vars")) (more (list (p 1 39) (more (symbol (p 1 40) (codes "a")) (more (symbol (p 1 42) (codes "name")) none))) none))) (more (list (p 1 49) (more (symbol (p 1 50) (codes "trace")) (more (list (p 1 56) (more (symbol (p 1 57) (codes "send")) (more (symbol (p 1 62) (codes "a")) none))) none))) none))))) none))))) (more (list (p 2 1) (more (symbol (p 2 2) (codes "defskeleton")) (more (symbol (p 2 14) (codes "p")) (more (list (p 2 16) (more (symbol (p 2 17) (codes "vars")) none)) (more (list (p 2 23) (more (symbol (p 2 24) (codes "comment")) (more (number (p 2 32) 1) (more (string (p 2 34) (codes "x")) none)))) (more (list (p 2 39) (more (symbol (p 2 40) (codes "defstrand")) (more (symbol (p 2 50) (codes "r")) (more (number (p 2 52) 1) none)))) (more (list (p 2 55) (more (symbol (p 2 56) (codes "comment")) none)) (more (list (p 2 65) (more (symbol (p 2 66) (codes "non-orig")) none)) none)))))))) none))) ≡ None
-reading_46 = refl
-
--- (defrun x)
-reading_47 : first (faults_of (more (list (p 1 1) (more (symbol (p 1 2) (codes "defrun")) (more (symbol (p 1 9) (codes "x")) none))) none)) ≡ Some (record { place = p 1 1; code = UnknownForm })
-reading_47 = refl
-
--- (defgoal x)
-reading_48 : first (faults_of (more (list (p 1 1) (more (symbol (p 1 2) (codes "defgoal")) (more (symbol (p 1 10) (codes "x")) none))) none)) ≡ Some (record { place = p 1 1; code = OutOfProfile })
-reading_48 = refl
-
--- (herald "x" (bound 4))
-reading_49 : first (faults_of (more (list (p 1 1) (more (symbol (p 1 2) (codes "herald")) (more (string (p 1 9) (codes "x")) (more (list (p 1 13) (more (symbol (p 1 14) (codes "bound")) (more (number (p 1 20) 4) none))) none)))) none)) ≡ None
-reading_49 = refl
-
--- (defprotocol p basic (defrole r (vars (a name)) (trace (gen a))))
-reading_50 : first (faults_of (more (list (p 1 1) (more (symbol (p 1 2) (codes "defprotocol")) (more (symbol (p 1 14) (codes "p")) (more (symbol (p 1 16) (codes "basic")) (more (list (p 1 22) (more (symbol (p 1 23) (codes "defrole")) (more (symbol (p 1 31) (codes "r")) (more (list (p 1 33) (more (symbol (p 1 34) (codes "vars")) (more (list (p 1 39) (more (symbol (p 1 40) (codes "a")) (more (symbol (p 1 42) (codes "name")) none))) none))) (more (list (p 1 49) (more (symbol (p 1 50) (codes "trace")) (more (list (p 1 56) (more (symbol (p 1 57) (codes "gen")) (more (symbol (p 1 61) (codes "a")) none))) none))) none))))) none))))) none)) ≡ Some (record { place = p 1 56; code = UnknownForm })
-reading_50 = refl
-
--- (defprotocol p basic (defrole r (vars (a name)) (trace (send (gen a)))))
-reading_51 : first (faults_of (more (list (p 1 1) (more (symbol (p 1 2) (codes "defprotocol")) (more (symbol (p 1 14) (codes "p")) (more (symbol (p 1 16) (codes "basic")) (more (list (p 1 22) (more (symbol (p 1 23) (codes "defrole")) (more (symbol (p 1 31) (codes "r")) (more (list (p 1 33) (more (symbol (p 1 34) (codes "vars")) (more (list (p 1 39) (more (symbol (p 1 40) (codes "a")) (more (symbol (p 1 42) (codes "name")) none))) none))) (more (list (p 1 49) (more (symbol (p 1 50) (codes "trace")) (more (list (p 1 56) (more (symbol (p 1 57) (codes "send")) (more (list (p 1 62) (more (symbol (p 1 63) (codes "gen")) (more (symbol (p 1 67) (codes "a")) none))) none))) none))) none))))) none))))) none)) ≡ Some (record { place = p 1 62; code = OutOfProfile })
-reading_51 = refl
-
--- (defprotocol p basic (defrole r (vars (k skey) (a name)) (trace (send (enc a (cat k))))))
-reading_52 : first (faults_of (more (list (p 1 1) (more (symbol (p 1 2) (codes "defprotocol")) (more (symbol (p 1 14) (codes "p")) (more (symbol (p 1 16) (codes "basic")) (more (list (p 1 22) (more (symbol (p 1 23) (codes "defrole")) (more (symbol (p 1 31) (codes "r")) (more (list (p 1 33) (more (symbol (p 1 34) (codes "vars")) (more (list (p 1 39) (more (symbol (p 1 40) (codes "k")) (more (symbol (p 1 42) (codes "skey")) none))) (more (list (p 1 48) (more (symbol (p 1 49) (codes "a")) (more (symbol (p 1 51) (codes "name")) none))) none)))) (more (list (p 1 58) (more (symbol (p 1 59) (codes "trace")) (more (list (p 1 65) (more (symbol (p 1 66) (codes "send")) (more (list (p 1 71) (more (symbol (p 1 72) (codes "enc")) (more (symbol (p 1 76) (codes "a")) (more (list (p 1 78) (more (symbol (p 1 79) (codes "cat")) (more (symbol (p 1 83) (codes "k")) none))) none)))) none))) none))) none))))) none))))) none)) ≡ None
-reading_52 = refl
-
--- (defprotocol p basic (defrole r (vars (k skey) (a name)) (trace (send (enc a (cat z))))))
-reading_53 : first (faults_of (more (list (p 1 1) (more (symbol (p 1 2) (codes "defprotocol")) (more (symbol (p 1 14) (codes "p")) (more (symbol (p 1 16) (codes "basic")) (more (list (p 1 22) (more (symbol (p 1 23) (codes "defrole")) (more (symbol (p 1 31) (codes "r")) (more (list (p 1 33) (more (symbol (p 1 34) (codes "vars")) (more (list (p 1 39) (more (symbol (p 1 40) (codes "k")) (more (symbol (p 1 42) (codes "skey")) none))) (more (list (p 1 48) (more (symbol (p 1 49) (codes "a")) (more (symbol (p 1 51) (codes "name")) none))) none)))) (more (list (p 1 58) (more (symbol (p 1 59) (codes "trace")) (more (list (p 1 65) (more (symbol (p 1 66) (codes "send")) (more (list (p 1 71) (more (symbol (p 1 72) (codes "enc")) (more (symbol (p 1 76) (codes "a")) (more (list (p 1 78) (more (symbol (p 1 79) (codes "cat")) (more (symbol (p 1 83) (codes "z")) none))) none)))) none))) none))) none))))) none))))) none)) ≡ Some (record { place = p 1 83; code = UnknownVar })
-reading_53 = refl
-
--- (defprotocol p basic (defrole r (vars (k akey) (a name)) (trace (send (invk (invk k))) (recv (invk a)))))
-reading_54 : first (faults_of (more (list (p 1 1) (more (symbol (p 1 2) (codes "defprotocol")) (more (symbol (p 1 14) (codes "p")) (more (symbol (p 1 16) (codes "basic")) (more (list (p 1 22) (more (symbol (p 1 23) (codes "defrole")) (more (symbol (p 1 31) (codes "r")) (more (list (p 1 33) (more (symbol (p 1 34) (codes "vars")) (more (list (p 1 39) (more (symbol (p 1 40) (codes "k")) (more (symbol (p 1 42) (codes "akey")) none))) (more (list (p 1 48) (more (symbol (p 1 49) (codes "a")) (more (symbol (p 1 51) (codes "name")) none))) none)))) (more (list (p 1 58) (more (symbol (p 1 59) (codes "trace")) (more (list (p 1 65) (more (symbol (p 1 66) (codes "send")) (more (list (p 1 71) (more (symbol (p 1 72) (codes "invk")) (more (list (p 1 77) (more (symbol (p 1 78) (codes "invk")) (more (symbol (p 1 83) (codes "k")) none))) none))) none))) (more (list (p 1 88) (more (symbol (p 1 89) (codes "recv")) (more (list (p 1 94) (more (symbol (p 1 95) (codes "invk")) (more (symbol (p 1 100) (codes "a")) none))) none))) none)))) none))))) none))))) none)) ≡ Some (record { place = p 1 100; code = IllSorted })
-reading_54 = refl
+each_first : map (λ (e : Forms × Option Refusal). first (faults_of e.0)) texts ≡ map (λ (e : Forms × Option Refusal). e.1) texts
+each_first = refl

@@ -16,12 +16,13 @@ use Rattle.cp_model.specs.Order.{IsAtOrAfter, LeadsTo, on_strand, over_pair}
 use Rattle.cp_sexpr.specs.Syntax.{Form}
 use Rattle.cp_sexpr.specs.View.{view}
 use Rattle.cp_sexpr.specs.declared.form.Form as program
-use Rattle.cp_language.specs.Faults.{fault}
+use Rattle.cp_language.specs.Faults.{fault, comes_before}
 use Rattle.cp_language.specs.Roles.{unless_faulty, list_items}
 use Rattle.cp_language.specs.Terms.{exceeds}
 use Rattle.cp_language.specs.Problems.{on_one_strand, at_or_after, any_pair, reaches, closes_cycle, node_of, node_faults, pair_of_nodes, order_faults, pair_items_faults, pair_faults, pair_of, pairs_in, pairs_faults}
 use Rattle.cp_language.proofs.Reaching.{reaches_all}
 use Rattle.cp_order.specs.Leading.{Target}
+use Rattle.cp_forms.proofs.FirstOf as first
 use Rattle.cp_forms.specs.FirstFault.{first_onto, merged, onto_none}
 use Rattle.cp_forms.proofs.Firsts.{first_onto-append, first_then_four, merged-unless}
 
@@ -36,11 +37,16 @@ same_bool true c f g = sym (f refl)
 same_bool false true f g = g refl
 same_bool false false f g = refl
 
+-- what a search of the order found is what the order is
+pub order-searched : (pairs : List OrderPair) (x y : Node) (l : Target) (b : Bool) → l ≡ record { pairs = pairs; node = y } → (b ≡ true) ↔ LeadsTo l.pairs x l.node → b ≡ reaches (length pairs) pairs x y
+order-searched pairs x y l b is h =
+    let leads : (b ≡ true) ↔ LeadsTo pairs x y = subst (λ (t : Target). (b ≡ true) ↔ LeadsTo t.pairs x t.node) is h in
+    let law = reaches_all pairs x y in
+    same_bool b (reaches (length pairs) pairs x y) (λ e. law.1 (leads.0 e)) (λ e. leads.1 (law.0 e))
+
 pub cycle-searched : (before : List OrderPair) (p : OrderPair) (l : Target) (b : Bool) → on_one_strand p ≡ false → l ≡ record { pairs = before; node = p.earlier } → (b ≡ true) ↔ LeadsTo l.pairs p.later l.node → b ≡ closes_cycle before p
 cycle-searched before p l b other is h =
-    let leads : (b ≡ true) ↔ LeadsTo before p.later p.earlier = subst (λ (t : Target). (b ≡ true) ↔ LeadsTo t.pairs p.later t.node) is h in
-    let law = reaches_all before p.later p.earlier in
-    same_bool b (reaches (length before) before p.later p.earlier) (λ e. law.1 (leads.0 e)) (λ e. leads.1 (law.0 e))
+    order-searched before p.later p.earlier l b is h
     ∙ sym (cond-false (on_one_strand p) (nat_le p.later.index p.earlier.index) (reaches (length before) before p.later p.earlier) other)
 
 pub none_in : (test : OrderPair → Bool) (ps : List OrderPair) (p : OrderPair) → any_pair test ps ≡ false → IsIn p ps → test p ≡ false
@@ -80,23 +86,15 @@ no-way-to before p other none = no_way before p other (stays_before before p.lat
 
 -- ---- nodes, or else their order
 
-onto_none-there : (i j : Option Refusal) (others : List Refusal) → is_none i ≡ true → j ≡ first_onto i others → j ≡ onto_none i others
-onto_none-there None j others h e = e
-onto_none-there (Some r) j others h e = absurd (cc)
-
-onto_none-not : (i j : Option Refusal) (others : List Refusal) → is_none i ≡ false → j ≡ i → j ≡ onto_none i others
-onto_none-not None j others h e = absurd (cc)
-onto_none-not (Some r) j others h e = e
-
-module _ (o m i j k : Option Refusal) (b : Bool) (ns rs others : List Refusal) (first : m ≡ first_onto None ns) (second : i ≡ first_onto m rs) (test : b ≡ is_none i) (whole : k ≡ merged o j) where
+module _ (o m i j k : Option Refusal) (b : Bool) (ns rs others : List Refusal) (found : m ≡ first_onto None ns) (second : i ≡ first_onto m rs) (test : b ≡ is_none i) (whole : k ≡ merged o j) where
   both : i ≡ first_onto None (ns ++ rs)
-  both = second ∙ ap (λ x. first_onto x rs) first ∙ sym (first_onto-append None ns rs)
+  both = second ∙ ap (λ x. first_onto x rs) found ∙ sym (first_onto-append None ns rs)
 
   pub nodes-there : b ≡ true → j ≡ first_onto i others → k ≡ first_onto o (unless_faulty (ns ++ rs) others)
-  nodes-there h e = merged-unless o i j k (ns ++ rs) others both (onto_none-there i j others (sym test ∙ h) e) whole
+  nodes-there h e = merged-unless o i j k (ns ++ rs) others both (first.onto_none-there comes_before i j others (sym test ∙ h) e) whole
 
   pub nodes-faulty : b ≡ false → j ≡ i → k ≡ first_onto o (unless_faulty (ns ++ rs) others)
-  nodes-faulty h e = merged-unless o i j k (ns ++ rs) others both (onto_none-not i j others (sym test ∙ h) e) whole
+  nodes-faulty h e = merged-unless o i j k (ns ++ rs) others both (first.onto_none-not comes_before i j others (sym test ∙ h) e) whole
 
 -- ---- one pair
 

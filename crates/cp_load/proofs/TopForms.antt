@@ -55,7 +55,7 @@ onto-turned ps top_out_of_profile fs = ap (λ xs. turned xs []) (append-nil ps)
 onto-turned ps no_top fs = ap (λ xs. turned xs []) (append-nil ps)
 
 -- what stands above, the last first, with the protocol of a form
-behind-turned : (ps : List Protocol) (o : Option Headed) → turned (ps ++ protocols_behind o []) [] ≡ protocols_behind o (turned ps [])
+pub behind-turned : (ps : List Protocol) (o : Option Headed) → turned (ps ++ protocols_behind o []) [] ≡ protocols_behind o (turned ps [])
 behind-turned ps None = ap (λ xs. turned xs []) (append-nil ps)
 behind-turned ps (Some h) = onto-turned ps (top_head h.head) h.items
 

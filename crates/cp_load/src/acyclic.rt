@@ -74,7 +74,7 @@ fn none_leads_back(alloc: Global, ranked: &[Ranked]) -> Result<bool, AllocError>
 }
 
 /// Whether it was seen that the pairs have no cycle. No contract says that it is seen wherever they have none.
-fn have_no_cycle(alloc: Global, pairs: &[OrderPair]) -> Result<bool, AllocError>
+pub fn have_no_cycle(alloc: Global, pairs: &[OrderPair]) -> Result<bool, AllocError>
     ensures { IfOk result (λ b. IsAcyclicIf b pairs.now) }
 {
     let Some(ranks) = ranks_of(alloc, pairs)? else {

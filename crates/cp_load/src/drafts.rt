@@ -12,20 +12,20 @@ use std::rc::Rc;
 
 /// The parts of a problem's skeleton. Where the form has faults, they may be those of no skeleton.
 #[derive(Drop)]
-pub(crate) struct SkeletonDraft {
-    pub(crate) variables: VarTable,
-    pub(crate) strands: Vec<Strand>,
-    pub(crate) order: Order,
-    pub(crate) assumptions: Assumptions,
-    pub(crate) from_problem: FromProblem,
+pub struct SkeletonDraft {
+    pub variables: VarTable,
+    pub strands: Vec<Strand>,
+    pub order: Order,
+    pub assumptions: Assumptions,
+    pub from_problem: FromProblem,
 }
 
 /// A problem while forms are read: its protocol, how many of its variables it declares, and the parts of its skeleton.
 #[derive(Drop)]
-pub(crate) struct Draft {
-    pub(crate) protocol: Rc<Protocol>,
-    pub(crate) declared: usize,
-    pub(crate) skeleton: SkeletonDraft,
+pub struct Draft {
+    pub protocol: Rc<Protocol>,
+    pub declared: usize,
+    pub skeleton: SkeletonDraft,
 }
 
 /// The problem of a draft whose skeleton is sound.
@@ -63,8 +63,8 @@ fn finished_if_there(draft: Option<Draft>) -> Option<Problem>
     }
 }
 
-/// The problems of drafts whose skeletons are sound, each at its place.
-pub(crate) fn all_finished(
+/// The problems of drafts whose skeletons are sound, each at its place. The error is that memory ran out.
+pub fn all_finished(
     alloc: Global,
     drafts: Vec<Option<Draft>>,
 ) -> Result<Vec<Option<Problem>>, AllocError>

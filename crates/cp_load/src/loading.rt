@@ -47,8 +47,8 @@ fn add_protocol(
 }
 
 /// The problem that a form states, if it states one; a protocol that it states goes behind those above, which have these
-/// names.
-fn top_form(
+/// names. The error is that memory ran out.
+pub fn top_form(
     alloc: Global,
     above: &mut Vec<Rc<Protocol>>,
     names: &mut Taken,

@@ -16,7 +16,7 @@ use cp_skel::{Event, Node, Strand, StrandShape, prefix_of};
 
 /// The direction of an event.
 #[derive(Clone, Copy, Debug, PartialEq, Eq)]
-pub(crate) enum Direction {
+pub enum Direction {
     Transmission,
     Reception,
 }
@@ -50,7 +50,7 @@ fn strand_direction(strand: &Strand, index: usize) -> Option<Direction>
 }
 
 /// The direction of the event at a node, if there is one.
-pub(crate) fn node_direction(strands: &[Strand], node: Node) -> Option<Direction>
+pub fn node_direction(strands: &[Strand], node: Node) -> Option<Direction>
     ensures { result ≡ direction_of (term_event_at (map strand_view strands.now) node) }
 {
     match strands.get(node.strand) {
@@ -70,7 +70,7 @@ fn number(form: Option<&Form>) -> Option<usize>
 }
 
 /// The node that a form states, if it does.
-pub(crate) fn node_of(form: &Form) -> Option<Node>
+pub fn node_of(form: &Form) -> Option<Node>
     ensures { result ≡ node_of (view form.now) }
 {
     let items = list_items(form);

@@ -50,7 +50,7 @@ fn some_ends_before(pairs: &[OrderPair], node: Node) -> bool
 /// Whether a pair goes back or stays on one strand, or closes a cycle with strand order and the pairs before it. No way
 /// is sought where it is known that these have no cycle with it, where no pair leaves the strand at which the way would
 /// begin, or where none comes to the one at which it would end.
-fn closes_cycle(
+pub fn closes_cycle(
     alloc: Global,
     before: &[OrderPair],
     acyclic: bool,
@@ -76,7 +76,7 @@ fn closes_cycle(
 }
 
 /// The pair of two nodes, if both are there.
-fn pair_of_nodes(earlier: Option<Node>, later: Option<Node>) -> Option<OrderPair>
+pub fn pair_of_nodes(earlier: Option<Node>, later: Option<Node>) -> Option<OrderPair>
     ensures { result ≡ pair_of_nodes earlier later }
 {
     match (earlier, later) {

@@ -14,7 +14,7 @@ use cp_term::Term;
 use std::alloc::AllocError;
 
 /// Whether what a role's term becomes under the terms of an instance carries the part.
-fn carries_under(values: &[Term], whole: &Term, part: &Term) -> bool
+pub fn carries_under(values: &[Term], whole: &Term, part: &Term) -> bool
     ensures { result ≡ carries (apply_to (substitution_by values.now) whole.now) part.now }
 {
     cp_strand::carries_under(values, whole, part)

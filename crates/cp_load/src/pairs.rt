@@ -15,7 +15,7 @@ use cp_skel::{Node, OrderPair, Strand};
 use std::alloc::AllocError;
 
 /// The node that a form states, if it is there and does.
-fn node_if_there(form: Option<&Form>) -> Option<Node>
+pub fn node_if_there(form: Option<&Form>) -> Option<Node>
     ensures { result ≡ option_node (option_map (λ f. view f.now) form.entry) }
 {
     match form {
@@ -25,14 +25,14 @@ fn node_if_there(form: Option<&Form>) -> Option<Node>
 }
 
 /// Whether a pair is between two nodes of one strand.
-pub(crate) fn is_on_one_strand(pair: OrderPair) -> bool
+pub fn is_on_one_strand(pair: OrderPair) -> bool
     ensures { result ≡ on_one_strand pair }
 {
     pair.earlier.strand == pair.later.strand
 }
 
 /// The pair that a form states, if it is between two strands.
-pub(crate) fn pair_of(form: &Form) -> Option<OrderPair>
+pub fn pair_of(form: &Form) -> Option<OrderPair>
     ensures { option_to_list result ≡ pair_of (view form.now) }
 {
     let items = list_items(form);
@@ -51,10 +51,7 @@ pub(crate) fn pair_of(form: &Form) -> Option<OrderPair>
 }
 
 /// Puts a pair behind others, if it is there.
-pub(crate) fn add_pair(
-    pair: Option<OrderPair>,
-    pairs: &mut Vec<OrderPair>,
-) -> Result<(), AllocError>
+pub fn add_pair(pair: Option<OrderPair>, pairs: &mut Vec<OrderPair>) -> Result<(), AllocError>
     ensures { OnOk result (pairs.new.items ≡ pairs.old.items ++ option_to_list pair) }
 {
     if let Some(pair) = pair {
@@ -64,7 +61,7 @@ pub(crate) fn add_pair(
 }
 
 /// Puts the pairs that these forms state behind others.
-pub(crate) fn add_pairs(forms: &[Form], pairs: &mut Vec<OrderPair>) -> Result<(), AllocError>
+pub fn add_pairs(forms: &[Form], pairs: &mut Vec<OrderPair>) -> Result<(), AllocError>
     ensures { OnOk result (pairs.new.items ≡ pairs.old.items ++ pairs_in (map view forms.now)) }
 {
     for form in forms {
@@ -74,14 +71,14 @@ pub(crate) fn add_pairs(forms: &[Form], pairs: &mut Vec<OrderPair>) -> Result<()
 }
 
 /// Whether there is a transmission at a node.
-fn is_transmission(strands: &[Strand], node: Node) -> bool
+pub fn is_transmission(strands: &[Strand], node: Node) -> bool
     ensures { result ≡ is_transmission (term_event_at (map strand_view strands.now) node) }
 {
     node_direction(strands, node) == Some(Direction::Transmission)
 }
 
 /// Whether there is a reception at a node.
-fn is_reception(strands: &[Strand], node: Node) -> bool
+pub fn is_reception(strands: &[Strand], node: Node) -> bool
     ensures { result ≡ is_reception (term_event_at (map strand_view strands.now) node) }
 {
     node_direction(strands, node) == Some(Direction::Reception)

@@ -140,7 +140,7 @@ fn variable_terms(alloc: Global, variables: &[Declaration]) -> Result<Vec<Term>,
 }
 
 /// The table of these variables.
-fn table_of(alloc: Global, variables: &[Declaration]) -> Result<VarTable, AllocError>
+pub fn table_of(alloc: Global, variables: &[Declaration]) -> Result<VarTable, AllocError>
     ensures { IfOk result (λ t. variables_view t ≡ map declaration_view variables.now) }
 {
     let mut table = VarTable::new(alloc);

@@ -1,5 +1,5 @@
 -- What the reports of the examples denote. Each holds by computing the definitions.
-use Rattle.std.specs.Prelude.{◌≡◌, ℕ, List, [], ◌∷◌, false, refl, option_map, Option, Some, None}
+use Rattle.std.specs.Prelude.{◌≡◌, ℕ, List, [], ◌∷◌, map, false, refl, option_map, Option, Some, None}
 use Rattle.std.specs.Fmt.{digits}
 use Rattle.cp_lists.specs.Lists.{item_at}
 use Rattle.cp_model.specs.Term.{text_sort, text_variable, name_variable, key_term, asymmetric_term, symmetric_term, ltk_term, pubk_term, Term, atom_term, pair_term, enc_term}
@@ -19,21 +19,12 @@ use Rattle.cp_report.proofs.Texts.{text_single, text_exchange, text_twice, text_
 abbrev printed : Report → Forms
 printed r = forms_of (report_forms r.entries r.trees)
 
-single_again : all_unplaced (printed (report_of text_single)) ≡ all_unplaced text_single
-unfolding digits
-single_again = refl
+abbrev texts : List Forms
+texts = text_single ∷ text_exchange ∷ text_twice ∷ text_keys ∷ []
 
-exchange_again : all_unplaced (printed (report_of text_exchange)) ≡ all_unplaced text_exchange
+each_again : map (λ (fs : Forms). all_unplaced (printed (report_of fs))) texts ≡ map all_unplaced texts
 unfolding digits
-exchange_again = refl
-
-twice_again : all_unplaced (printed (report_of text_twice)) ≡ all_unplaced text_twice
-unfolding digits
-twice_again = refl
-
-keys_again : all_unplaced (printed (report_of text_keys)) ≡ all_unplaced text_keys
-unfolding digits
-keys_again = refl
+each_again = refl
 
 -- ---- some labels
 

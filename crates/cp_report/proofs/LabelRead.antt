@@ -16,22 +16,22 @@ use Rattle.cp_model.proofs.SameTests.{variable_in}
 use Rattle.cp_sexpr.specs.Syntax.{Form}
 use Rattle.cp_language.specs.Roles.{headed}
 use Rattle.cp_language.specs.Names.{problem_names, label_names}
-use Rattle.cp_language.specs.Printed.{numeral, pattern_form, locals_in_order}
-use Rattle.cp_language.specs.Report.{variables_of_terms, variables_of_test, variables_but, variables_of_patterns, occurring, named_by, node_form, parent_items, operation_words, test_items, mark_items, label_items, label_form}
+use Rattle.cp_language.specs.Printed.{pattern_form, locals_in_order}
+use Rattle.cp_language.specs.Report.{variables_of_terms, variables_of_test, variables_but, variables_of_patterns, occurring, named_by, node_form, operation_words, test_items, mark_items, label_items, label_form}
 use Rattle.cp_language.specs.Problems.{number_of, name_in_front, option_node, Problem}
-use Rattle.cp_report.specs.Heads.{entries_under, entries_or_none, item_with, mark_heads}
-use Rattle.cp_report.specs.Spelled.{Scope, pattern_of}
+use Rattle.cp_report.specs.Misfits.{each_misfits}
+use Rattle.cp_report.specs.Heads.{entries_under, item_with}
+use Rattle.cp_report.specs.Spelled.{Scope, pattern_misfits, pattern_of}
 use Rattle.cp_report.specs.Skeletons.{node_or_first, scope_of, declarations_of_label}
-use Rattle.cp_report.specs.Labels.{number_in_front, operation_word, operation_by, test_of, mark_of, mark_in, label_by, label_of}
+use Rattle.cp_report.specs.Labels.{operation_word, operation_by, test_of, mark_of, mark_in, label_by, label_of}
 use Rattle.cp_report.specs.UpToNames.{renamed, renaming, IsSamePattern, IsSameTest, IsSameLabel}
-use Rattle.cp_report.proofs.SpelledTerms.{StandsFor, printed_term_fits}
+use Rattle.cp_report.proofs.SpelledTerms.{StandsFor, none_and, printed_term_fits}
 use Rattle.cp_report.proofs.DistinctNames.{as_many_names}
 use Rattle.cp_report.proofs.PrintedVariables.{rank, renumbered, occurring_from, rank_behind, rank_less, number_occurs, one_to_one}
-use Rattle.cp_report.proofs.PrintedStrands.{items_back}
 use Rattle.cp_report.proofs.PrintedMaps.{numbers_same}
 use Rattle.cp_report.proofs.PatternLocals.{numbered_locals}
-use Rattle.cp_report.proofs.PrintedPatterns.{pattern_back}
-use Rattle.cp_report.proofs.LabelItems.{label_groups, label_in_groups, label_groups_are, item_found, listed_under}
+use Rattle.cp_report.proofs.PrintedPatterns.{pattern_fits, pattern_back}
+use Rattle.cp_report.proofs.LabelEntries.{parent_is, operation_are, unrealised_are, test_found, escape_are, children_are, mark_found, items_printed}
 use Rattle.cp_report.proofs.SkeletonRead.{IsUnder, each_stands}
 use Rattle.cp_report.proofs.LabelSkeleton.{PrintedLabel, variables_are, stands, skeleton_back}
 
@@ -40,10 +40,6 @@ nodes_same [] = refl
 nodes_same (n ∷ ns) = ap (λ ms. n ∷ ms) (nodes_same ns)
 
 -- ---- operations, parents and marks
-
-parent_same : (o : Option ℕ) → number_in_front (entries_under (codes "parent") (parent_items o)) ≡ o
-parent_same None = refl
-parent_same (Some n) = refl
 
 operation_same : (o : Operation) (words : List Form) → words ≡ operation_words o → operation_by (operation_word (name_in_front words)) (drop 1 words) ≡ o
 operation_same by_problem words e = ap (λ ws. operation_by (operation_word (name_in_front ws)) (drop 1 ws)) e
@@ -70,7 +66,7 @@ test_same s named number (Some t) h = (refl, sym (printed_term_fits s named numb
 
 -- ---- patterns
 
-not_among : (locals xs : List Variable) (x : Variable) → IsIn x xs → (IsIn x locals → ⊥) → IsIn x (variables_but locals xs)
+pub not_among : (locals xs : List Variable) (x : Variable) → IsIn x xs → (IsIn x locals → ⊥) → IsIn x (variables_but locals xs)
 not_among locals [] x m other = elim m [ ]
 not_among locals (y ∷ xs) x m other = by (has_variable locals y) refl m (λ i. not_among locals xs x i other)
   where
@@ -82,12 +78,12 @@ not_among locals (y ∷ xs) x m other = by (has_variable locals y) refl m (λ i.
     by true e i rest = first i (λ same. absurd (other (subst (λ (z : Variable). IsIn z locals) (sym same) (variable_in locals y e)))) rest
     by false e i rest = first i (λ same. subst (λ (z : Variable). IsIn x (z ∷ variables_but locals xs)) same here) (λ j. there (rest j))
 
-of_pattern : (qs : List Pattern) (q : Pattern) (x : Variable) → IsIn q qs → IsIn x (variables_but q.locals (variables_of q.term)) → IsIn x (variables_of_patterns qs)
+pub of_pattern : (qs : List Pattern) (q : Pattern) (x : Variable) → IsIn q qs → IsIn x (variables_but q.locals (variables_of q.term)) → IsIn x (variables_of_patterns qs)
 of_pattern [] q x m i = elim m [ ]
 of_pattern (r ∷ qs) q x here i = in_append_left (variables_of_patterns qs) i
 of_pattern (r ∷ qs) q x (there m) i = in_append_right (variables_but r.locals (variables_of r.term)) (of_pattern qs q x m i)
 
-paired_map : {A B : Type 0} (R : A → B → Type 0) (g : A → B) (xs : List A) → ((x : A) → IsIn x xs → R x (g x)) → ArePaired R xs (map g xs)
+pub paired_map : {A B : Type 0} (R : A → B → Type 0) (g : A → B) (xs : List A) → ((x : A) → IsIn x xs → R x (g x)) → ArePaired R xs (map g xs)
 paired_map R g [] h = tt
 paired_map R g (x ∷ xs) h = (h x here, paired_map R g xs (λ y m. h y (there m)))
 
@@ -118,45 +114,9 @@ module _ (under : IsUnder) (p : Problem) (l : Label) (h : PrintedLabel p l) (pat
   abbrev items : List Form
   items = label_items of_problem names l
 
-  escape_are : entries_under (codes "escape") items ≡ map (pattern_form named) l.escape
-  escape_are =
-      ap (entries_under (codes "escape")) (label_in_groups of_problem names l)
-      ∙ ap entries_or_none (item_found (codes "escape" ∷ []) (label_groups of_problem names l) (label_groups_are of_problem names l) refl)
-      ∙ listed_under (codes "escape") (map (pattern_form named) l.escape)
-
-  unrealised_are : entries_under (codes "unrealised") items ≡ map node_form l.unrealised
-  unrealised_are =
-      ap (entries_under (codes "unrealised")) (label_in_groups of_problem names l)
-      ∙ ap entries_or_none (item_found (codes "unrealised" ∷ []) (label_groups of_problem names l) (label_groups_are of_problem names l) refl)
-      ∙ listed_under (codes "unrealised") (map node_form l.unrealised)
-
-  children_are : entries_under (codes "children") items ≡ map numeral l.children
-  children_are =
-      ap (entries_under (codes "children")) (label_in_groups of_problem names l)
-      ∙ ap entries_or_none (item_found (codes "children" ∷ []) (label_groups of_problem names l) (label_groups_are of_problem names l) refl)
-      ∙ listed_under (codes "children") (map numeral l.children)
-
-  operation_are : entries_under (codes "by") items ≡ operation_words l.operation
-  operation_are =
-      ap (entries_under (codes "by")) (label_in_groups of_problem names l)
-      ∙ ap entries_or_none (item_found (codes "by" ∷ []) (label_groups of_problem names l) (label_groups_are of_problem names l) refl)
-      ∙ items_back (operation_words l.operation)
-
-  parent_is : number_in_front (entries_under (codes "parent") items) ≡ l.parent
-  parent_is =
-      ap (λ fs. number_in_front (entries_under (codes "parent") fs)) (label_in_groups of_problem names l)
-      ∙ ap (λ o. number_in_front (entries_or_none o)) (item_found (codes "parent" ∷ []) (label_groups of_problem names l) (label_groups_are of_problem names l) refl)
-      ∙ parent_same l.parent
-
-  test_is : item_with (codes "test" ∷ []) items ≡ item_with (codes "test" ∷ []) (test_items named l.test)
-  test_is = ap (item_with (codes "test" ∷ [])) (label_in_groups of_problem names l) ∙ item_found (codes "test" ∷ []) (label_groups of_problem names l) (label_groups_are of_problem names l) refl
-
-  mark_found : item_with mark_heads items ≡ item_with mark_heads (mark_items l.mark)
-  mark_found = ap (item_with mark_heads) (label_in_groups of_problem names l) ∙ item_found mark_heads (label_groups of_problem names l) (label_groups_are of_problem names l) refl
-
   -- ---- test and patterns
 
-  in_test : (x : Variable) → IsIn x (variables_of_test l.test) → IsIn x (occurring l)
+  pub in_test : (x : Variable) → IsIn x (variables_of_test l.test) → IsIn x (occurring l)
   in_test x m = in_append_left (variables_of_patterns l.escape) (in_append_right (variables_of_skeleton l.skeleton ++ variables_of_terms l.skeleton.from_problem.values) m)
 
   in_pattern : (q : Pattern) → IsIn q l.escape → (x : Variable) → IsIn x (variables_of q.term) → (IsIn x q.locals → ⊥) → IsIn x (occurring l)
@@ -171,17 +131,31 @@ module _ (under : IsUnder) (p : Problem) (l : Label) (h : PrintedLabel p l) (pat
       let same : length (declarations_of_label items) ≡ length (occurring_from (occurring l) names 0 l.variables) = ap length (variables_are under p l h) in
       omega (arith, less, all, same)
 
+  -- where a pattern stands, each variable of the label stands for itself
+  local_scope_stands : (q : Pattern) → IsIn q l.escape → (x : Variable) → IsIn x (variables_of q.term) → (IsIn x q.locals → ⊥) →
+      StandsFor (record { variables = declarations_of_label items; in_pattern = true; locals = numbered_locals 0 (locals_in_order q.locals [] (variables_of q.term)) }) (named x) (renamed number x)
+  local_scope_stands q m x i other =
+      each_stands p l h.variables of_problem (as_many_names p.declared p.variables) h.small h.names_differ
+      (record { variables = declarations_of_label items; in_pattern = true; locals = numbered_locals 0 (locals_in_order q.locals [] (variables_of q.term)) }) (variables_are under p l h) x (in_pattern q m x i other)
+
   one_pattern : (q : Pattern) → IsIn q l.escape → IsSamePattern number q (pattern_of (declarations_of_label items) (pattern_form named q))
   one_pattern q m =
       pattern_back named (λ x. refl) number (declarations_of_label items) q (patterns q m)
-      (λ x i other. each_stands p l h.variables of_problem (as_many_names p.declared p.variables) h.small h.names_differ
-      (record { variables = declarations_of_label items; in_pattern = true; locals = numbered_locals 0 (locals_in_order q.locals [] (variables_of q.term)) }) (variables_are under p l h) x (in_pattern q m x i other))
+      (local_scope_stands q m)
       (λ x i other. below x (in_pattern q m x i other))
       (λ x y i j a b e. one_to_one (occurring l) x y (in_pattern q m x i a) (in_pattern q m y j b) e)
 
+  each_pattern_fits : (qs : List Pattern) → ((q : Pattern) → IsIn q qs → pattern_misfits (declarations_of_label items) (pattern_form named q) ≡ []) → each_misfits (pattern_misfits (declarations_of_label items)) (map (pattern_form named) qs) ≡ []
+  each_pattern_fits [] fit = refl
+  each_pattern_fits (q ∷ qs) fit = none_and _ _ (fit q here) (each_pattern_fits qs (λ r m. fit r (there m)))
+
+  -- Patterns as they are printed fit.
+  pub patterns_fit : each_misfits (pattern_misfits (declarations_of_label items)) (map (pattern_form named) l.escape) ≡ []
+  patterns_fit = each_pattern_fits l.escape (λ q m. pattern_fits named (λ x. refl) number (declarations_of_label items) q (patterns q m) (local_scope_stands q m))
+
   patterns_same : ArePaired (IsSamePattern number) l.escape (map (pattern_of (declarations_of_label items)) (entries_under (codes "escape") items))
   patterns_same =
-      subst (λ (qs : List Pattern). ArePaired (IsSamePattern number) l.escape qs) (sym (ap (map (pattern_of (declarations_of_label items))) escape_are ∙ map_twice (pattern_form named) (pattern_of (declarations_of_label items)) l.escape))
+      subst (λ (qs : List Pattern). ArePaired (IsSamePattern number) l.escape qs) (sym (ap (map (pattern_of (declarations_of_label items))) (escape_are of_problem names l) ∙ map_twice (pattern_form named) (pattern_of (declarations_of_label items)) l.escape))
       (paired_map (IsSamePattern number) (λ q. pattern_of (declarations_of_label items) (pattern_form named q)) l.escape one_pattern)
 
   -- ---- the label
@@ -190,19 +164,19 @@ module _ (under : IsUnder) (p : Problem) (l : Label) (h : PrintedLabel p l) (pat
   label_back = record {
     number = number;
     one_to_one = one_to_one (occurring l);
-    parent = sym parent_is;
-    operation = sym (operation_same l.operation (entries_under (codes "by") items) operation_are);
+    parent = sym (parent_is of_problem names l);
+    operation = sym (operation_same l.operation (entries_under (codes "by") items) (operation_are of_problem names l));
     skeleton = skeleton_back under p l h;
-    unrealised = sym (ap (map (λ g. node_or_first (option_node (Some g)))) unrealised_are ∙ nodes_same l.unrealised);
-    test = subst (λ (o : Option Form). IsSameTest (renaming number) l.test (test_of (scope_of items) o)) (sym test_is)
+    unrealised = sym (ap (map (λ g. node_or_first (option_node (Some g)))) (unrealised_are of_problem names l) ∙ nodes_same l.unrealised);
+    test = subst (λ (o : Option Form). IsSameTest (renaming number) l.test (test_of (scope_of items) o)) (sym (test_found of_problem names l))
         (test_same (scope_of items) named number l.test (λ x m. stands under p l h x (in_test x m)));
     escape = patterns_same;
-    children = sym (ap (map number_of) children_are ∙ numbers_same l.children);
+    children = sym (ap (map number_of) (children_are of_problem names l) ∙ numbers_same l.children);
     mark = sym (mark_read ∙ mark_same l.mark);
   }
     where
       mark_read : mark_in items ≡ mark_in (mark_items l.mark)
-      mark_read = ap mark_from_found mark_found
+      mark_read = ap mark_from_found (mark_found of_problem names l)
         where
           mark_from_found : Option Form → Option Mark
           mark_from_found None = None
@@ -210,4 +184,4 @@ module _ (under : IsUnder) (p : Problem) (l : Label) (h : PrintedLabel p l) (pat
 
   -- A label form as it is printed denotes the same label.
   pub label_form_back : (n : ℕ) → IsSameLabel l (label_of p (label_form of_problem n l))
-  label_form_back n = subst (λ (fs : List Form). IsSameLabel l (label_by p fs)) (sym (ap (drop 1) (items_back (numeral n ∷ items)))) label_back
+  label_form_back n = subst (λ (fs : List Form). IsSameLabel l (label_by p fs)) (sym (items_printed of_problem n l)) label_back

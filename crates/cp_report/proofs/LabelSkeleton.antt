@@ -1,10 +1,10 @@
 -- The skeleton that a label form states as it is printed is the label's.
 use Rattle.std.proofs.Common.{◌≡◌, ℕ, ◌<◌, ◌^◌, List, [], ◌∷◌, ◌++◌, length, refl, sym, ap, ◌∙◌, subst}
 use Rattle.std.specs.Prelude.{map, codes}
-use Rattle.cp_lists.specs.Lists.{IsIn, here, there}
+use Rattle.cp_lists.specs.Lists.{IsIn}
 use Rattle.cp_lists.proofs.Members.{in_append_left, in_append_right}
 use Rattle.cp_model.specs.Linking.{ArePaired}
-use Rattle.cp_model.specs.Term.{Variable, AtomTerm, variables_of_atom, Substitution, apply_to, apply_to_atom}
+use Rattle.cp_model.specs.Term.{Variable, variables_of_atom, Substitution, apply_to, apply_to_atom}
 use Rattle.cp_model.specs.Strand.{Role}
 use Rattle.cp_model.specs.Problem.{variables_of_strands, variables_of_atoms, variables_of_uniques, variables_of_assumptions, variables_of_skeleton}
 use Rattle.cp_model.specs.Skeleton.{term_event_at, UniqueAt, Assumptions, FromProblem, Skeleton, IsSkeleton}
@@ -15,6 +15,7 @@ use Rattle.cp_model.specs.declared.node.Node.{Node}
 use Rattle.cp_model.specs.declared.node.OrderPair.{OrderPair}
 use Rattle.cp_model.proofs.Images.{mapped_images}
 use Rattle.cp_model.proofs.LawOrder.{before_leads}
+use Rattle.cp_skel.proofs.UnderVariables.{in_atoms, in_uniques}
 use Rattle.cp_sexpr.specs.Syntax.{Form}
 use Rattle.cp_language.specs.Names.{problem_names, label_names}
 use Rattle.cp_language.specs.Printed.{numeral, plain_list, atom_form}
@@ -56,16 +57,6 @@ same_images f old ls all only y = (
   λ i. let r = (mapped_images f ls y).0 i in record { item = r.item; listed = only r.item r.listed; image = r.image },
   λ r. (mapped_images f ls y).1 (record { item = r.item; listed = all r.item r.listed; image = r.image }),
 )
-
-pub atom_variables : (vs : List AtomTerm) (v : AtomTerm) (x : Variable) → IsIn v vs → IsIn x (variables_of_atom v) → IsIn x (variables_of_atoms vs)
-atom_variables [] v x m i = elim m [ ]
-atom_variables (w ∷ vs) v x here i = in_append_left (variables_of_atoms vs) i
-atom_variables (w ∷ vs) v x (there m) i = in_append_right (variables_of_atom w) (atom_variables vs v x m i)
-
-unique_variables : (us : List UniqueAt) (u : UniqueAt) (x : Variable) → IsIn u us → IsIn x (variables_of_atom u.value) → IsIn x (variables_of_uniques us)
-unique_variables [] u x m i = elim m [ ]
-unique_variables (w ∷ us) u x here i = in_append_left (variables_of_uniques us) i
-unique_variables (w ∷ us) u x (there m) i = in_append_right (variables_of_atom w.value) (unique_variables us u x m i)
 
 module _ (under : IsUnder) (p : Problem) (l : Label) (h : PrintedLabel p l) where
   abbrev of_problem : List (List ℕ)
@@ -172,14 +163,14 @@ module _ (under : IsUnder) (p : Problem) (l : Label) (h : PrintedLabel p l) wher
       ap (map (atom_in (scope_of items))) non_are
       ∙ atoms_back (scope_of items) named number (occurring l) (one_to_one (occurring l)) stands (listed k).non_originating
       (λ v m x i. in_assumptions x (in_append_left (variables_of_uniques k.assumptions.uniquely_originating) (in_append_left (variables_of_atoms k.assumptions.penetrator_non_originating)
-      (atom_variables k.assumptions.non_originating v x (listed_only k.from_problem.assumptions.non_originating (given_non k.strands) k.assumptions.non_originating v m) i))))
+      (in_atoms k.assumptions.non_originating v x (listed_only k.from_problem.assumptions.non_originating (given_non k.strands) k.assumptions.non_originating v m) i))))
 
   pub penetrator_non_back : atoms_under (codes "pen-non-orig") items ≡ map (apply_to_atom f) (listed k).penetrator_non_originating
   penetrator_non_back =
       ap (map (atom_in (scope_of items))) penetrator_non_are
       ∙ atoms_back (scope_of items) named number (occurring l) (one_to_one (occurring l)) stands (listed k).penetrator_non_originating
       (λ v m x i. in_assumptions x (in_append_left (variables_of_uniques k.assumptions.uniquely_originating) (in_append_right (variables_of_atoms k.assumptions.non_originating)
-      (atom_variables k.assumptions.penetrator_non_originating v x (listed_only k.from_problem.assumptions.penetrator_non_originating (given_penetrator_non k.strands) k.assumptions.penetrator_non_originating v m) i))))
+      (in_atoms k.assumptions.penetrator_non_originating v x (listed_only k.from_problem.assumptions.penetrator_non_originating (given_penetrator_non k.strands) k.assumptions.penetrator_non_originating v m) i))))
 
   pub unique_in : (u : UniqueAt) → IsIn u (listed k).uniquely_originating → IsIn u k.assumptions.uniquely_originating
   unique_in u m = uniques_only k.from_problem.assumptions.uniquely_originating (given_uniques 0 k.strands) k.assumptions.uniquely_originating u m
@@ -187,7 +178,7 @@ module _ (under : IsUnder) (p : Problem) (l : Label) (h : PrintedLabel p l) wher
   pub uniques_in_place : (u : UniqueAt) → IsIn u (listed k).uniquely_originating →
       ((x : Variable) → IsIn x (variables_of_atom u.value) → IsIn x (occurring l)) × IsOriginIn (strands_of_label p items) (apply_to_atom f u.value) u.origin
   uniques_in_place u m = (
-    (λ x i. in_assumptions x (in_append_right (variables_of_atoms k.assumptions.non_originating ++ variables_of_atoms k.assumptions.penetrator_non_originating) (unique_variables k.assumptions.uniquely_originating u x (unique_in u m) i))),
+    (λ x i. in_assumptions x (in_append_right (variables_of_atoms k.assumptions.non_originating ++ variables_of_atoms k.assumptions.penetrator_non_originating) (in_uniques k.assumptions.uniquely_originating u x (unique_in u m) i))),
     origin_renamed number k (strands_of_label p items) strands_same u (h.skeleton.origins u (unique_in u m)),
   )
 

@@ -4,17 +4,30 @@ pub mod CoveringPairs
 pub mod CoveringSkeletons
 mod DenotedExamples
 pub mod DistinctNames
+pub mod Inverses
+pub mod LabelEntries
+pub mod LabelFits
 pub mod LabelItems
 pub mod LabelRead
 pub mod LabelSkeleton
 pub mod Moved
+pub mod MovedFaults
 pub mod MovedItems
+pub mod MovedLabels
+pub mod MovedNumbers
+pub mod MovedPatterns
+pub mod MovedProblems
+pub mod MovedReports
+pub mod MovedRoles
 pub mod MovedSkeletons
 pub mod MovedStated
 pub mod MovedTerms
+pub mod NumbersFit
 pub mod OneAnswer
 pub mod OwnStated
+pub mod OwnTrees
 pub mod PatternLocals
+pub mod Premises
 pub mod PrintedAssumptions
 pub mod PrintedMaplets
 pub mod PrintedMaps
@@ -23,9 +36,14 @@ pub mod PrintedStrands
 pub mod PrintedUniques
 pub mod PrintedVariables
 pub mod RenamedStrands
+pub mod ReportFits
+pub mod SameReports
+pub mod SameSkeletons
 mod SkeletonExamples
+pub mod LabelWords
 pub mod SkeletonFits
 pub mod SkeletonRead
 pub mod SpelledTerms
 mod Texts
 mod TreeExamples
+pub mod TreeFits

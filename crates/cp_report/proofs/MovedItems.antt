@@ -88,7 +88,7 @@ identifier_moved f = ap name_in_front (list_items_moved f) ∙ name_in_front_mov
 
 -- ---- variables
 
-sort_named_moved : (o : Option Form) → sort_named (option_map unplaced o) ≡ sort_named o
+pub sort_named_moved : (o : Option Form) → sort_named (option_map unplaced o) ≡ sort_named o
 sort_named_moved None = refl
 sort_named_moved (Some (symbol at t)) = refl
 sort_named_moved (Some (string at t)) = refl

@@ -168,7 +168,7 @@ key_of_name_moved private (number p n ∷ fs) (a ∷ ts) = refl
 key_of_name_moved private (list p gs ∷ fs) [] = refl
 key_of_name_moved private (list p gs ∷ fs) (a ∷ ts) = refl
 
-applied_value_moved : (h : TermHead) (fs : List Form) (ts : List Term) → applied h (all_moved fs) ts ≡ applied h fs ts
+pub applied_value_moved : (h : TermHead) (fs : List Form) (ts : List Term) → applied h (all_moved fs) ts ≡ applied h fs ts
 applied_value_moved cat fs ts = refl
 applied_value_moved encrypt fs ts = refl
 applied_value_moved long_term_key fs ts = refl

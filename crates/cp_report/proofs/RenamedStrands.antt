@@ -35,7 +35,7 @@ module _ (f : Substitution) where
       (sym (agree_event (composed terms f) terms' e (λ x m. agree x (in_append_left (variables_of_trace es) m))) ∙ sym (event_then terms e))
       ∙ ap (λ (xs : List (Event Term)). event_map (apply_to f) (event_map (apply_to terms) e) ∷ xs) (trace_under terms terms' es (λ x m. agree x (in_append_right (variables_of (payload e)) m)))
 
-  trace_renamed : (a b : SkeletonStrand) → IsSameStrand f a b → skeleton_trace b ≡ map (event_map (apply_to f)) (skeleton_trace a)
+  pub trace_renamed : (a b : SkeletonStrand) → IsSameStrand f a b → skeleton_trace b ≡ map (event_map (apply_to f)) (skeleton_trace a)
   trace_renamed (instance role height terms) (instance role' height' terms') (r, h, agree) =
       sym (λ i. map (event_map (apply_to terms')) (prefix_of (r i) (h i))) ∙ trace_under terms terms' (prefix_of role height) agree
   trace_renamed (listener t) (listener u) e = sym (ap (λ (x : Term). recv x ∷ send x ∷ []) e)

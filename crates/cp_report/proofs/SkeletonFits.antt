@@ -2,19 +2,19 @@
 use Rattle.std.proofs.Common.{◌≡◌, ℕ, suc, ◌<◌, ◌≤◌, List, [], ◌∷◌, ◌++◌, length, Bool, true, refl, ap, ◌∙◌, subst, arith, if◌then◌else◌}
 use Rattle.std.specs.Prelude.{Option, Some, None, map, codes}
 use Rattle.cp_base.specs.declared.place.Place.{Place}
-use Rattle.cp_lists.specs.Lists.{here}
+use Rattle.cp_lists.specs.Lists.{IsIn, here}
 use Rattle.cp_lists.proofs.Members.{in_append_left, in_append_right}
 use Rattle.cp_model.specs.Linking.{ArePaired}
-use Rattle.cp_model.specs.Term.{Variable, AtomTerm, apply_to_atom}
+use Rattle.cp_model.specs.Term.{Variable, AtomTerm, Substitution, apply_to_atom}
 use Rattle.cp_model.specs.Strand.{Role, Applies, AppliesAt}
 use Rattle.cp_model.specs.Problem.{variables_of_atoms, variables_of_uniques, variables_of_assumptions}
 use Rattle.cp_model.specs.Skeleton.{SkeletonStrand, UniqueAt, Skeleton}
-use Rattle.cp_model.specs.Given.{listed, given_non, given_penetrator_non, given_uniques}
+use Rattle.cp_model.specs.Given.{listed_atoms, listed, given_non, given_penetrator_non, given_uniques}
 use Rattle.cp_model.specs.Tree.{Label}
+use Rattle.cp_skel.proofs.UnderVariables.{in_atoms}
 use Rattle.cp_sexpr.specs.Syntax.{Form}
-use Rattle.cp_language.specs.Names.{problem_names, label_names}
 use Rattle.cp_language.specs.Printed.{numeral, headed_list, plain_list, no_place, atom_form}
-use Rattle.cp_language.specs.Report.{occurring, named_by, vars_from, covering_pairs, unique_form, item_unless_empty, value_forms, label_items}
+use Rattle.cp_language.specs.Report.{occurring, vars_from, covering_pairs, unique_form, item_unless_empty, value_forms}
 use Rattle.cp_language.specs.Problems.{Problem}
 use Rattle.cp_language.proofs.ValidTests.{is_one}
 use Rattle.cp_report.specs.Misfits.{misfit_unless, unless_misfit, lacking, each_misfits}
@@ -24,16 +24,17 @@ use Rattle.cp_report.specs.UpToNames.{renaming, unique_renamed, IsSameStrand}
 use Rattle.cp_report.proofs.SpelledTerms.{none_and}
 use Rattle.cp_report.proofs.CoveringSkeletons.{covers_fit}
 use Rattle.cp_report.proofs.DistinctNames.{as_many_names}
-use Rattle.cp_report.proofs.PrintedVariables.{renumbered, variables_fit, one_to_one}
+use Rattle.cp_report.proofs.PrintedVariables.{variables_fit, one_to_one}
 use Rattle.cp_report.proofs.ApartIdentifiers.{apart_named}
 use Rattle.cp_report.proofs.PrintedStrands.{items_back}
 use Rattle.cp_report.proofs.PrintedMaps.{strands_fit, named_identifiers, values_fit}
 use Rattle.cp_report.proofs.PrintedAssumptions.{listed_apart, listed_only, atoms_fit, all_atoms}
 use Rattle.cp_report.proofs.PrintedUniques.{uniques_apart, uniques_fit, all_uniques}
 use Rattle.cp_report.proofs.RenamedStrands.{non_among, penetrator_non_among, unique_among}
-use Rattle.cp_report.proofs.LabelItems.{Group, label_groups, label_in_groups, label_groups_are, item_found}
+use Rattle.cp_report.proofs.LabelItems.{Group, forms_for, is_alone, label_groups, label_in_groups, label_groups_are, item_found}
 use Rattle.cp_report.proofs.SkeletonRead.{IsUnder, names_as_many, names_differ, all_strands_fit}
-use Rattle.cp_report.proofs.LabelSkeleton.{PrintedLabel, atom_variables, stands, in_skeleton, in_values, in_assumptions, strand_items, strands_same, kinds, non_back, penetrator_non_back, uniques_in_place, unique_back, lists_all}
+use Rattle.cp_report.proofs.LabelWords.{of_problem, names, named, number, items}
+use Rattle.cp_report.proofs.LabelSkeleton.{PrintedLabel, stands, in_skeleton, in_values, in_assumptions, strand_items, strands_same, kinds, non_back, penetrator_non_back, uniques_in_place, unique_back, lists_all}
 
 -- ---- items that may be left out
 
@@ -48,127 +49,112 @@ assumption_fits : (at : Place) (item : Option Form) (inside : List Form → List
 assumption_fits at item inside given e g =
     ap (λ (ps : List Place). unless_misfit ps (misfit_unless given (place_or at item))) e ∙ ap (λ (b : Bool). misfit_unless b (place_or at item)) g
 
+-- As many strands.
+pub paired_length : (f : Substitution) (ks ls : List SkeletonStrand) → ArePaired (IsSameStrand f) ks ls → length ks ≡ length ls
+paired_length f [] [] q = refl
+paired_length f (a ∷ ks) (b ∷ ls) q = ap suc (paired_length f ks ls q.1)
+paired_length f [] (b ∷ ls) q = absurd q
+paired_length f (a ∷ ks) [] q = absurd q
+
 -- An assumption of unique origination that applies has its variables in the prefix.
 abbrev pub AppliesWhole : Type 0
 AppliesWhole = (role : Role) (height : ℕ) (v : AtomTerm) (i : ℕ) → AppliesAt role height v i → Applies role height v
 
 module _ (under : IsUnder) (whole : AppliesWhole) (p : Problem) (l : Label) (h : PrintedLabel p l) where
-  abbrev of_problem : List (List ℕ)
-  of_problem = problem_names p.declared p.variables
-
-  abbrev names : List (List ℕ)
-  names = label_names of_problem (occurring l) l.variables
-
-  abbrev named : Variable → Form
-  named = named_by names
-
-  abbrev number : Variable → ℕ
-  number = renumbered (occurring l)
-
   abbrev k : Skeleton
   k = l.skeleton
 
-  abbrev items : List Form
-  items = label_items of_problem names l
-
   abbrev groups : List Group
-  groups = label_groups of_problem names l
+  groups = label_groups (of_problem p) (names p l) l
 
   abbrev strands : List SkeletonStrand
-  strands = strands_of_label p items
+  strands = strands_of_label p (items p l)
+
+  -- An item of the label is that of its group.
+  in_group : (head : List ℕ) → is_alone (head ∷ []) groups ≡ true → item_with (head ∷ []) (items p l) ≡ item_with (head ∷ []) (forms_for (head ∷ []) groups)
+  in_group head alone = ap (item_with (head ∷ [])) (label_in_groups (of_problem p) (names p l) l) ∙ item_found (head ∷ []) groups (label_groups_are (of_problem p) (names p l) l) alone
 
   -- ---- variables and strands
 
-  pub vars_fit : vars_item_misfits items ≡ []
+  pub vars_fit : vars_item_misfits (items p l) ≡ []
   vars_fit =
-      let enough : length l.variables ≤ length names = omega (arith, names_as_many p l h.variables of_problem (as_many_names p.declared p.variables)) in
-      ap (λ (fs : List Form). vars_item_misfits fs) (label_in_groups of_problem names l)
-      ∙ ap (optional_misfits (λ at fs. lacking 1 at fs ++ vars_misfits [] fs)) (item_found (codes "vars" ∷ []) groups (label_groups_are of_problem names l) refl)
-      ∙ optional_fits (codes "vars") (vars_misfits []) (vars_from names (occurring l) 0 l.variables)
-      (variables_fit (occurring l) names (names_differ p l h.variables of_problem (as_many_names p.declared p.variables) h.small h.names_differ) l.variables enough)
+      let enough : length l.variables ≤ length (names p l) = omega (arith, names_as_many p l h.variables (of_problem p) (as_many_names p.declared p.variables)) in
+      ap (optional_misfits (λ at fs. lacking 1 at fs ++ vars_misfits [] fs)) (in_group (codes "vars") refl)
+      ∙ optional_fits (codes "vars") (vars_misfits []) (vars_from (names p l) (occurring l) 0 l.variables)
+      (variables_fit (occurring l) (names p l) (names_differ p l h.variables (of_problem p) (as_many_names p.declared p.variables) h.small h.names_differ) l.variables enough)
 
-  pub all_strands : strands_misfits p items ≡ []
+  pub all_strands : strands_misfits p (items p l) ≡ []
   all_strands =
-      ap (each_misfits (strand_misfits p.protocol.roles (scope_of items))) (strand_items under p l h)
-      ∙ all_strands_fit under p.protocol.roles (scope_of items) named number k.strands
+      ap (each_misfits (strand_misfits p.protocol.roles (scope_of (items p l)))) (strand_items under p l h)
+      ∙ all_strands_fit under p.protocol.roles (scope_of (items p l)) (named p l) (number l) k.strands
       (λ n role height terms e. (h.roles role height (h.skeleton.of_role n role height terms e), h.skeleton.heights n role height terms e))
       (λ x m. stands under p l h x (in_skeleton under p l h x (in_append_left (variables_of_assumptions k.assumptions) m)))
 
   -- ---- order
 
-  precedes_fit : optional_misfits (precedes_misfits strands) (item_with (codes "precedes" ∷ []) items) ≡ []
+  precedes_fit : optional_misfits (precedes_misfits strands) (item_with (codes "precedes" ∷ []) (items p l)) ≡ []
   precedes_fit =
-      ap (λ (fs : List Form). optional_misfits (precedes_misfits strands) (item_with (codes "precedes" ∷ []) fs)) (label_in_groups of_problem names l)
-      ∙ ap (optional_misfits (precedes_misfits strands)) (item_found (codes "precedes" ∷ []) groups (label_groups_are of_problem names l) refl)
+      ap (optional_misfits (precedes_misfits strands)) (in_group (codes "precedes") refl)
       ∙ optional_fits (codes "precedes") (pairs_misfits strands []) (covering_pairs k) (covers_fit k h.skeleton.order_pairs h.skeleton.no_cycle strands (kinds under p l h))
 
   -- ---- assumptions
 
-  non_fit : (at : Place) → values_misfits at (codes "non-orig") (given_non strands) items ≡ []
+  -- An item of atoms fits that lists those of the skeleton, where all that the strands give are among them.
+  atoms_item_fits : (at : Place) (head : List ℕ) (given : List SkeletonStrand → List AtomTerm) (own old : List AtomTerm) →
+      item_with (head ∷ []) (items p l) ≡ item_with (head ∷ []) (item_unless_empty head (map (atom_form (named p l)) (listed_atoms own (given k.strands) old))) →
+      ((x : Variable) → IsIn x (variables_of_atoms old) → IsIn x (variables_of_assumptions k.assumptions)) →
+      atoms_under head (items p l) ≡ map (apply_to_atom (renaming (number l))) (listed_atoms own (given k.strands) old) →
+      ((w : AtomTerm) → IsIn w (given strands) → IsIn w (map (apply_to_atom (renaming (number l))) (listed_atoms own (given k.strands) old))) → values_misfits at head (given strands) (items p l) ≡ []
+  atoms_item_fits at head given own old found occur back among =
+      let vs = listed_atoms own (given k.strands) old in
+      assumption_fits at (item_with (head ∷ []) (items p l)) (atoms_misfits (scope_of (items p l)) []) (has_atoms (atoms_under head (items p l)) (given strands))
+      (ap (optional_misfits (λ q gs. lacking 1 q gs ++ atoms_misfits (scope_of (items p l)) [] gs)) found
+      ∙ optional_fits head (atoms_misfits (scope_of (items p l)) []) (map (atom_form (named p l)) vs)
+      (atoms_fit (scope_of (items p l)) (named p l) (number l) (occurring l) (one_to_one (occurring l)) (stands under p l h) vs
+      (λ v m x i. in_assumptions under p l h x (occur x (in_atoms old v x (listed_only own (given k.strands) old v m) i))) (listed_apart own (given k.strands) old)))
+      (ap (λ (ws : List AtomTerm). has_atoms ws (given strands)) back ∙ all_atoms (map (apply_to_atom (renaming (number l))) vs) (given strands) among)
+
+  non_fit : (at : Place) → values_misfits at (codes "non-orig") (given_non strands) (items p l) ≡ []
   non_fit at =
-      assumption_fits at (item_with (codes "non-orig" ∷ []) items) (atoms_misfits (scope_of items) []) (has_atoms (atoms_under (codes "non-orig") items) (given_non strands))
-      (ap (λ (fs : List Form). optional_misfits (λ q gs. lacking 1 q gs ++ atoms_misfits (scope_of items) [] gs) (item_with (codes "non-orig" ∷ []) fs)) (label_in_groups of_problem names l)
-      ∙ ap (optional_misfits (λ q gs. lacking 1 q gs ++ atoms_misfits (scope_of items) [] gs)) (item_found (codes "non-orig" ∷ []) groups (label_groups_are of_problem names l) refl)
-      ∙ optional_fits (codes "non-orig") (atoms_misfits (scope_of items) []) (map (atom_form named) (listed k).non_originating)
-      (atoms_fit (scope_of items) named number (occurring l) (one_to_one (occurring l)) (stands under p l h) (listed k).non_originating
-      (λ v m x i. in_assumptions under p l h x (in_append_left (variables_of_uniques k.assumptions.uniquely_originating) (in_append_left (variables_of_atoms k.assumptions.penetrator_non_originating)
-      (atom_variables k.assumptions.non_originating v x (listed_only k.from_problem.assumptions.non_originating (given_non k.strands) k.assumptions.non_originating v m) i))))
-      (listed_apart k.from_problem.assumptions.non_originating (given_non k.strands) k.assumptions.non_originating)))
-      (ap (λ (vs : List AtomTerm). has_atoms vs (given_non strands)) (non_back under p l h)
-      ∙ all_atoms (map (apply_to_atom (renaming number)) (listed k).non_originating) (given_non strands)
-      (non_among (renaming number) k.strands strands (strands_same under p l h) (listed k).non_originating
-      (λ n role height terms e v m a. (lists_all under p l h).non (apply_to_atom terms v) ((h.skeleton.given n role height terms e).non v m a))))
+      atoms_item_fits at (codes "non-orig") given_non k.from_problem.assumptions.non_originating k.assumptions.non_originating (in_group (codes "non-orig") refl)
+      (λ x i. in_append_left (variables_of_uniques k.assumptions.uniquely_originating) (in_append_left (variables_of_atoms k.assumptions.penetrator_non_originating) i)) (non_back under p l h)
+      (non_among (renaming (number l)) k.strands strands (strands_same under p l h) (listed k).non_originating
+      (λ n role height terms e v m a. (lists_all under p l h).non (apply_to_atom terms v) ((h.skeleton.given n role height terms e).non v m a)))
 
-  penetrator_non_fit : (at : Place) → values_misfits at (codes "pen-non-orig") (given_penetrator_non strands) items ≡ []
+  penetrator_non_fit : (at : Place) → values_misfits at (codes "pen-non-orig") (given_penetrator_non strands) (items p l) ≡ []
   penetrator_non_fit at =
-      assumption_fits at (item_with (codes "pen-non-orig" ∷ []) items) (atoms_misfits (scope_of items) []) (has_atoms (atoms_under (codes "pen-non-orig") items) (given_penetrator_non strands))
-      (ap (λ (fs : List Form). optional_misfits (λ q gs. lacking 1 q gs ++ atoms_misfits (scope_of items) [] gs) (item_with (codes "pen-non-orig" ∷ []) fs)) (label_in_groups of_problem names l)
-      ∙ ap (optional_misfits (λ q gs. lacking 1 q gs ++ atoms_misfits (scope_of items) [] gs)) (item_found (codes "pen-non-orig" ∷ []) groups (label_groups_are of_problem names l) refl)
-      ∙ optional_fits (codes "pen-non-orig") (atoms_misfits (scope_of items) []) (map (atom_form named) (listed k).penetrator_non_originating)
-      (atoms_fit (scope_of items) named number (occurring l) (one_to_one (occurring l)) (stands under p l h) (listed k).penetrator_non_originating
-      (λ v m x i. in_assumptions under p l h x (in_append_left (variables_of_uniques k.assumptions.uniquely_originating) (in_append_right (variables_of_atoms k.assumptions.non_originating)
-      (atom_variables k.assumptions.penetrator_non_originating v x (listed_only k.from_problem.assumptions.penetrator_non_originating (given_penetrator_non k.strands) k.assumptions.penetrator_non_originating v m) i))))
-      (listed_apart k.from_problem.assumptions.penetrator_non_originating (given_penetrator_non k.strands) k.assumptions.penetrator_non_originating)))
-      (ap (λ (vs : List AtomTerm). has_atoms vs (given_penetrator_non strands)) (penetrator_non_back under p l h)
-      ∙ all_atoms (map (apply_to_atom (renaming number)) (listed k).penetrator_non_originating) (given_penetrator_non strands)
-      (penetrator_non_among (renaming number) k.strands strands (strands_same under p l h) (listed k).penetrator_non_originating
-      (λ n role height terms e v m a. (lists_all under p l h).penetrator_non (apply_to_atom terms v) ((h.skeleton.given n role height terms e).penetrator_non v m a))))
+      atoms_item_fits at (codes "pen-non-orig") given_penetrator_non k.from_problem.assumptions.penetrator_non_originating k.assumptions.penetrator_non_originating (in_group (codes "pen-non-orig") refl)
+      (λ x i. in_append_left (variables_of_uniques k.assumptions.uniquely_originating) (in_append_right (variables_of_atoms k.assumptions.non_originating) i)) (penetrator_non_back under p l h)
+      (penetrator_non_among (renaming (number l)) k.strands strands (strands_same under p l h) (listed k).penetrator_non_originating
+      (λ n role height terms e v m a. (lists_all under p l h).penetrator_non (apply_to_atom terms v) ((h.skeleton.given n role height terms e).penetrator_non v m a)))
 
-  unique_fit : (at : Place) → all_uniques_misfits at strands items ≡ []
+  unique_fit : (at : Place) → all_uniques_misfits at strands (items p l) ≡ []
   unique_fit at =
-      assumption_fits at (item_with (codes "uniq-orig" ∷ []) items) (uniques_misfits (scope_of items) strands []) (has_uniques (uniques_under items) (given_uniques 0 strands))
-      (ap (λ (fs : List Form). optional_misfits (λ q gs. lacking 1 q gs ++ uniques_misfits (scope_of items) strands [] gs) (item_with (codes "uniq-orig" ∷ []) fs)) (label_in_groups of_problem names l)
-      ∙ ap (optional_misfits (λ q gs. lacking 1 q gs ++ uniques_misfits (scope_of items) strands [] gs)) (item_found (codes "uniq-orig" ∷ []) groups (label_groups_are of_problem names l) refl)
-      ∙ optional_fits (codes "uniq-orig") (uniques_misfits (scope_of items) strands []) (map (unique_form named) (listed k).uniquely_originating)
-      (uniques_fit (scope_of items) strands named number (occurring l) (one_to_one (occurring l)) (stands under p l h) (listed k).uniquely_originating (uniques_in_place under p l h)
+      assumption_fits at (item_with (codes "uniq-orig" ∷ []) (items p l)) (uniques_misfits (scope_of (items p l)) strands []) (has_uniques (uniques_under (items p l)) (given_uniques 0 strands))
+      (ap (optional_misfits (λ q gs. lacking 1 q gs ++ uniques_misfits (scope_of (items p l)) strands [] gs)) (in_group (codes "uniq-orig") refl)
+      ∙ optional_fits (codes "uniq-orig") (uniques_misfits (scope_of (items p l)) strands []) (map (unique_form (named p l)) (listed k).uniquely_originating)
+      (uniques_fit (scope_of (items p l)) strands (named p l) (number l) (occurring l) (one_to_one (occurring l)) (stands under p l h) (listed k).uniquely_originating (uniques_in_place under p l h)
       (uniques_apart k.from_problem.assumptions.uniquely_originating (given_uniques 0 k.strands) k.assumptions.uniquely_originating)))
       (ap (λ (us : List UniqueAt). has_uniques us (given_uniques 0 strands)) (unique_back under p l h)
-      ∙ all_uniques (map (unique_renamed (renaming number)) (listed k).uniquely_originating) (given_uniques 0 strands)
-      (unique_among (renaming number) whole k.strands strands (strands_same under p l h) (listed k).uniquely_originating
+      ∙ all_uniques (map (unique_renamed (renaming (number l))) (listed k).uniquely_originating) (given_uniques 0 strands)
+      (unique_among (renaming (number l)) whole k.strands strands (strands_same under p l h) (listed k).uniquely_originating
       (λ n role height terms e v i m a. (lists_all under p l h).unique _ ((h.skeleton.given n role height terms e).unique v i m a))))
 
   -- ---- the map
 
-  map_fits : optional_misfits (map_misfits p (scope_of items) strands) (item_with (codes "map" ∷ []) items) ≡ []
+  map_fits : optional_misfits (map_misfits p (scope_of (items p l)) strands) (item_with (codes "map" ∷ []) (items p l)) ≡ []
   map_fits =
-      ap (λ (fs : List Form). optional_misfits (map_misfits p (scope_of items) strands) (item_with (codes "map" ∷ []) fs)) (label_in_groups of_problem names l)
-      ∙ ap (optional_misfits (map_misfits p (scope_of items) strands)) (item_found (codes "map" ∷ []) groups (label_groups_are of_problem names l) refl)
-      ∙ ap (λ (fs : List Form). map_misfits p (scope_of items) strands no_place (plain_list (map numeral k.from_problem.strands) ∷ fs)) (items_back (value_forms named of_problem k.from_problem.values))
+      ap (optional_misfits (map_misfits p (scope_of (items p l)) strands)) (in_group (codes "map") refl)
+      ∙ ap (λ (fs : List Form). map_misfits p (scope_of (items p l)) strands no_place (plain_list (map numeral k.from_problem.strands) ∷ fs)) (items_back (value_forms (named p l) (of_problem p) k.from_problem.values))
       ∙ none_and _ _
       (strands_fit strands p.skeleton.strands k.from_problem.strands h.maps_all.strands (λ n m. as_many n (h.stated.in_range n m)))
-      (values_fit (scope_of items) named number no_place of_problem p.variables k.from_problem.values (as_many_names p.declared p.variables)
-      (apart_named (problem_variables p) of_problem (named_identifiers of_problem p.variables (as_many_names p.declared p.variables)) h.names_differ) h.maps_all.values
+      (values_fit (scope_of (items p l)) (named p l) (number l) no_place (of_problem p) p.variables k.from_problem.values (as_many_names p.declared p.variables)
+      (apart_named (problem_variables p) (of_problem p) (named_identifiers (of_problem p) p.variables (as_many_names p.declared p.variables)) h.names_differ) h.maps_all.values
       (λ x m. stands under p l h x (in_values under p l h x m)))
     where
-      paired_length : (ks ls : List SkeletonStrand) → ArePaired (IsSameStrand (renaming number)) ks ls → length ks ≡ length ls
-      paired_length [] [] q = refl
-      paired_length (a ∷ ks) (b ∷ ls) q = ap suc (paired_length ks ls q.1)
-      paired_length [] (b ∷ ls) q = absurd q
-      paired_length (a ∷ ks) [] q = absurd q
-
       as_many : (n : ℕ) → n < length k.strands → n < length strands
-      as_many n less = subst (λ (m : ℕ). n < m) (paired_length k.strands strands (strands_same under p l h)) less
+      as_many n less = subst (λ (m : ℕ). n < m) (paired_length (renaming (number l)) k.strands strands (strands_same under p l h)) less
 
   -- What states the skeleton around the strands fits.
-  pub around_fits : (at : Place) → around_strands_misfits p at items ≡ []
+  pub around_fits : (at : Place) → around_strands_misfits p at (items p l) ≡ []
   around_fits at = none_and _ _ (none_and _ _ (none_and _ _ (none_and _ _ precedes_fit (non_fit at)) (penetrator_non_fit at)) (unique_fit at)) map_fits

@@ -1,5 +1,5 @@
 -- Labels and trees that a report can state: what has to hold of a tree that is printed for it to be read back.
-use Rattle.std.specs.Prelude.{◌≡◌, ◌≢◌, ℕ, ◌<◌, ◌≤◌, List, [], ◌∷◌, length, Option, Some, None}
+use Rattle.std.specs.Prelude.{◌≡◌, ◌≢◌, ℕ, ◌<◌, ◌≤◌, ◌^◌, List, [], ◌∷◌, length, Option, Some, None}
 use Rattle.cp_lists.specs.Lists.{item_at, IsIn}
 use Rattle.cp_model.specs.Linking.{ArePaired}
 use Rattle.cp_model.specs.Term.{Sort, text_sort, datum_sort, name_sort, skey_sort, akey_sort, AtomTerm, text_variable, datum_variable, name_variable, key_term, symmetric_term, asymmetric_term, Term, atom_term}
@@ -97,9 +97,11 @@ HasMarkOrChildren labels (Some m) children = IsMarkIn labels m × (children ≡ 
 
 -- Label number i of a tree for the problem can be stated: its variables are the problem's and later ones, it is a skeleton
 -- over the protocol with a map from the problem that keeps what that states, all nodes and labels that it names are there,
--- and parents and children agree.
+-- and parents and children agree. Its variables are fewer than 2^64, so that the numbers that set names apart, as in `x-0`
+-- and `x-1`, are written with different digits.
 pub record FitsIn (p : Problem) (labels : List Label) (i : ℕ) (l : Label) : Type 0 where
   pub variables : HasItsVariables p l
+  pub few : length l.variables < 2 ^ 64
   pub skeleton : IsSkeleton p.protocol l.skeleton
   pub maps_all : MapsAll p l.skeleton
   pub stated : KeepsStated p.skeleton l.skeleton

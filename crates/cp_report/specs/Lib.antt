@@ -7,3 +7,4 @@ pub mod ReadBack
 pub mod UpToNames
 pub mod Fitting
 pub mod Laws
+pub mod Example

@@ -1,6 +1,5 @@
 -- Atoms that are gathered from the items of lists.
-use Rattle.std.proofs.Common.{◌≡◌, ℕ, ◌+◌, ◌<◌, List, [], ◌∷◌, ◌++◌, length, get_or, drop, map, refl, sym, ap, ◌∙◌, Bool, true, false, is_some, if◌then◌else◌}
-use Rattle.std.specs.Prelude.{Option, Some, None}
+use Rattle.std.proofs.Common.{◌≡◌, ℕ, ◌+◌, ◌<◌, List, [], ◌∷◌, ◌++◌, length, get_or, drop, map, refl, sym, ap, ◌∙◌, Bool, true, false, if◌then◌else◌}
 use Rattle.std.proofs.lemmas.List.{append_assoc}
 use Rattle.cp_lists.proofs.Members.{drop_read}
 use Rattle.cp_model.specs.Term.{AtomTerm}
@@ -10,7 +9,7 @@ use Rattle.cp_sexpr.specs.View.{view}
 use Rattle.cp_sexpr.specs.declared.form.Form as program
 use Rattle.cp_language.specs.Words.{ItemHead}
 use Rattle.cp_language.specs.Terms.{as_atom, term_of}
-use Rattle.cp_language.specs.Roles.{is_somewhere, headed, atoms_in, forms_under, item_or_none, items_behind}
+use Rattle.cp_language.specs.Roles.{headed, atoms_in, forms_under, item_or_none, items_behind}
 
 atoms_in-append : (ds : List Declaration) (fs gs : List Form) → atoms_in ds (fs ++ gs) ≡ atoms_in ds fs ++ atoms_in ds gs
 atoms_in-append ds [] gs = refl

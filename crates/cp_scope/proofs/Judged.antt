@@ -13,19 +13,9 @@ use Rattle.cp_language.specs.Roles.{Headed, headed, each_faults}
 use Rattle.cp_language.specs.Terms.{lacks, exceeds, sort_faults, sorts_faults, last_key_faults, all_faults, first_faults, operation_faults, name_faults, applied_faults, term_faults, each_term_faults}
 use Rattle.cp_forms.specs.FirstFault.{first_onto}
 use Rattle.cp_scope.specs.OwnFaults.{sort_faults_if, argument_faults, two_name_faults, key_name_faults, own_faults, judged_name, judged}
-use Rattle.cp_forms.proofs.Firsts.{first_onto-append, first_onto-swap}
+use Rattle.cp_forms.proofs.Firsts.{first_onto-append, moved_behind, moved_behind_two}
 use Rattle.cp_scope.proofs.Sizes.{forms_size}
 use Rattle.cp_forms.proofs.Views.{headed_is, items_of-forms_of}
-
-swapped : (o : Option Refusal) (a b c : List Refusal) → first_onto o ((a ++ b) ++ c) ≡ first_onto (first_onto o (a ++ c)) b
-swapped o a b c =
-    first_onto-append o (a ++ b) c ∙ ap (λ p. first_onto p c) (first_onto-append o a b) ∙ sym (first_onto-append (first_onto o a) b c)
-    ∙ first_onto-swap (first_onto o a) b c ∙ first_onto-append (first_onto o a) c b ∙ ap (λ p. first_onto p b) (sym (first_onto-append o a c))
-
-swapped_last : (o : Option Refusal) (a b c d : List Refusal) → first_onto o (((a ++ b) ++ c) ++ d) ≡ first_onto (first_onto o ((a ++ c) ++ d)) b
-swapped_last o a b c d =
-    first_onto-append o ((a ++ b) ++ c) d ∙ ap (λ p. first_onto p d) (swapped o a b c) ∙ sym (first_onto-append (first_onto o (a ++ c)) b d)
-    ∙ first_onto-swap (first_onto o (a ++ c)) b d ∙ first_onto-append (first_onto o (a ++ c)) d b ∙ ap (λ p. first_onto p b) (sym (first_onto-append o (a ++ c) d))
 
 module _ (ds : List Declaration) where
   each_term : List Form → List (List Refusal)
@@ -56,14 +46,14 @@ module _ (ds : List Declaration) where
   argument-judged : (s : Sort) (at : Place) (fs : List Form) (o : Option Refusal)
       → first_onto o (operation_faults ds (s ∷ []) at fs (each_term_faults ds (forms_of fs))) ≡ first_onto (first_onto o (argument_faults ds s at fs)) (each_faults (term_faults ds) (take 1 fs))
   argument-judged s at fs o =
-      swapped_last o (lacks 1 at fs) (first_faults 1 (each_term_faults ds (forms_of fs))) (sorts_faults ds (s ∷ []) fs) (exceeds 1 fs)
+      moved_behind_two o (lacks 1 at fs) (first_faults 1 (each_term_faults ds (forms_of fs))) (sorts_faults ds (s ∷ []) fs) (exceeds 1 fs)
       ∙ ap (λ rs. first_onto (first_onto o (lacks 1 at fs ++ rs ++ exceeds 1 fs)) (first_faults 1 (each_term_faults ds (forms_of fs)))) (sorts-one s fs)
       ∙ ap (first_onto (first_onto o (argument_faults ds s at fs))) (first-one fs)
 
   two_names-judged : (at : Place) (fs : List Form) (o : Option Refusal)
       → first_onto o (operation_faults ds (name_sort ∷ name_sort ∷ []) at fs (each_term_faults ds (forms_of fs))) ≡ first_onto (first_onto o (two_name_faults ds at fs)) (each_faults (term_faults ds) (take 2 fs))
   two_names-judged at fs o =
-      swapped_last o (lacks 2 at fs) (first_faults 2 (each_term_faults ds (forms_of fs))) (sorts_faults ds (name_sort ∷ name_sort ∷ []) fs) (exceeds 2 fs)
+      moved_behind_two o (lacks 2 at fs) (first_faults 2 (each_term_faults ds (forms_of fs))) (sorts_faults ds (name_sort ∷ name_sort ∷ []) fs) (exceeds 2 fs)
       ∙ ap (λ rs. first_onto (first_onto o (rs ++ exceeds 2 fs)) (first_faults 2 (each_term_faults ds (forms_of fs))))
       (ap (λ rs. lacks 2 at fs ++ rs) (sorts-two name_sort fs) ∙ sym (append_assoc (lacks 2 at fs) (sort_faults_if ds name_sort (item_at fs 0)) (sort_faults_if ds name_sort (item_at fs 1))))
       ∙ ap (first_onto (first_onto o (two_name_faults ds at fs))) (first-two fs)
@@ -81,7 +71,7 @@ module _ (ds : List Declaration) where
   applied-judged at cat fs o =
       first_onto-append o (lacks 1 at fs) (all_faults (each_term_faults ds (forms_of fs))) ∙ ap (first_onto (first_onto o (lacks 1 at fs))) (all-each fs)
   applied-judged at encrypt fs o =
-      swapped o (lacks 2 at fs) (all_faults (each_term_faults ds (forms_of fs))) (last_key_faults ds fs) ∙ ap (first_onto (first_onto o (lacks 2 at fs ++ last_key_faults ds fs))) (all-each fs)
+      moved_behind o (lacks 2 at fs) (all_faults (each_term_faults ds (forms_of fs))) (last_key_faults ds fs) ∙ ap (first_onto (first_onto o (lacks 2 at fs ++ last_key_faults ds fs))) (all-each fs)
   applied-judged at long_term_key fs o = two_names-judged at fs o
   applied-judged at public_key fs o = name-judged at fs o
   applied-judged at private_key fs o = name-judged at fs o
@@ -111,7 +101,7 @@ smaller_name (string p t ∷ fs) = let inner = smaller_take 1 fs in omega (arith
 smaller_name (number p n ∷ fs) = smaller_take 1 (number p n ∷ fs)
 smaller_name (list p gs ∷ fs) = smaller_take 1 (list p gs ∷ fs)
 
-smaller_none : (fs : List Form) → forms_size [] ≤ forms_size fs
+pub smaller_none : (fs : List Form) → forms_size [] ≤ forms_size fs
 smaller_none [] = omega arith
 smaller_none (f ∷ fs) = let inner = smaller_none fs in omega (arith, inner)
 

@@ -3,4 +3,4 @@ pub mod OwnFaults
 pub mod Applied
 pub mod Fixed
 pub mod Kinds
-pub mod Sets
+pub mod Places

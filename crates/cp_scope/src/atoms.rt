@@ -26,7 +26,7 @@ pub enum Kind {
 }
 
 /// What stands where there is no atom.
-fn no_atom(alloc: Global) -> Result<Atom, AllocError>
+pub fn no_atom(alloc: Global) -> Result<Atom, AllocError>
     ensures { IfOk result (λ a. a ≡ text_variable 0) }
 {
     let text = var(alloc, VarId::numbered(0), Sort::Text)?;

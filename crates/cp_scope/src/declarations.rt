@@ -75,7 +75,7 @@ fn is_of_messages(word: SortWord) -> bool
 }
 
 /// The sort of atoms that a word names; of any other word it says nothing.
-fn sort_or_text(word: SortWord) -> Sort
+pub fn sort_or_text(word: SortWord) -> Sort
     ensures { sort_view result ≡ sort_or_text (sort_word_view word) }
 {
     match word {
@@ -85,7 +85,7 @@ fn sort_or_text(word: SortWord) -> Sort
 }
 
 /// What stands where a declaration names its sort.
-fn sort_named(form: Option<&Form>) -> SortWord
+pub fn sort_named(form: Option<&Form>) -> SortWord
     ensures { sort_word_view result ≡ sort_named (option_map (λ f. view f.now) form.entry) }
 {
     match form {

@@ -8,9 +8,9 @@ mod sorts;
 mod taken;
 mod terms;
 
-pub use atoms::{Kind, atom_of, atoms_faults, atoms_of};
-pub use declarations::{fixed, name_of, variables_of};
+pub use atoms::{Kind, atom_of, atoms_faults, atoms_of, no_atom};
+pub use declarations::{fixed, name_of, sort_named, sort_or_text, variables_of};
 pub use faults::{atom_faults, exceeds, lacks, sort_faults, term_faults};
-pub use sorts::{Variable, variable_named};
+pub use sorts::{TermSort, Variable, variable_named};
 pub use taken::Taken;
-pub use terms::{no_term, term_of, variable_term};
+pub use terms::{applied, no_term, term_of, variable_term};

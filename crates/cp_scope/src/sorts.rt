@@ -22,7 +22,7 @@ pub struct Variable {
 
 /// The sort of a term: that of an atom, or that of all messages.
 #[derive(Clone, Copy)]
-pub(crate) enum TermSort {
+pub enum TermSort {
     Atoms(Sort),
     All,
 }

@@ -1,17 +1,18 @@
-// Names in use, among which a name is found.
+// Names in use, each of which is found by the first place at which it stands.
 ghost use Rattle.std.specs.Prelude.{◌≡◌, ◌++◌, ◌∷◌, [], length, OnOk};
 ghost use Rattle.cp_language.specs.Words.{is_one_of};
+ghost use Rattle.cp_scope.specs.Places.{place_from};
 
 use cp_term::Text;
 use std::alloc::{AllocError, Global};
-use std::collections::HashSet;
+use std::collections::HashMap;
 use std::marker::Model;
 
-/// Names in order, with a set of them.
+/// Names in order, with a table of the first place at which each stands.
 #[derive(Drop)]
 pub struct Taken {
     names: Vec<Text>,
-    set: HashSet<Vec<u8>>,
+    places: HashMap<Vec<u8>, usize>,
 }
 
 impl Model for Taken {
@@ -19,11 +20,11 @@ impl Model for Taken {
 
     ghost Value = { List (List ℕ) };
 
-    ghost use Rattle.cp_scope.specs.Sets.{IsSetOf};
+    ghost use Rattle.cp_scope.specs.Places.{ArePlacesOf};
 
     ghost view = { λ t. t.names.items };
 
-    ghost invariant = { λ t. IsSetOf t.names.items t.set };
+    ghost invariant = { λ t. ArePlacesOf t.names.items t.places };
 }
 
 impl Taken {
@@ -33,7 +34,7 @@ impl Taken {
     {
         Taken {
             names: Vec::new(alloc),
-            set: HashSet::new(alloc),
+            places: HashMap::new(alloc),
         }
     }
 
@@ -44,11 +45,24 @@ impl Taken {
         self.names.len()
     }
 
+    /// The first place at which the name stands, counted from 0.
+    pub fn place_of(&self, name: &str) -> Option<usize>
+        ensures { result ≡ place_from 0 self.now name.now }
+    {
+        match self.places.get(name.as_bytes()) {
+            Some(place) => Some(*place),
+            None => None,
+        }
+    }
+
     /// Whether the name is among them.
     pub fn has(&self, name: &str) -> bool
         ensures { result ≡ is_one_of name.now self.now }
     {
-        self.set.contains(name.as_bytes())
+        match self.place_of(name) {
+            Some(_) => true,
+            None => false,
+        }
     }
 
     /// Puts a name behind the others. The error is that memory ran out.
@@ -56,10 +70,14 @@ impl Taken {
         ensures { OnOk result (self.new ≡ self.old ++ name ∷ []) }
     {
         let key = Vec::from_slice(alloc, name.as_str().as_bytes())?;
-        let number = self.names.len();
+        let known = self.places.contains_key(key.as_slice());
+        let place = self.names.len();
         self.names.push(name)?;
-        if self.set.insert(key).is_err() {
-            self.names.truncate(number);
+        if known {
+            return Ok(());
+        }
+        if self.places.insert(key, place).is_err() {
+            self.names.truncate(place);
             return Err(AllocError);
         }
         Ok(())

@@ -184,7 +184,7 @@ fn key_of_purpose(
 }
 
 /// What a list with this head and these items stands for, whose items stand for these terms.
-fn applied(
+pub fn applied(
     alloc: Global,
     head: TermHead,
     items: &[Form],

@@ -1,44 +1,29 @@
--- The labels among which shapes are looked for.
-use Rattle.std.specs.Prelude.{◌≡◌, ◌≢◌, ◌⊎◌, ℕ, suc, List, [], ◌∷◌, map, Some}
+-- Candidates for shapes among labels that are settled, and their marks.
+use Rattle.std.specs.Prelude.{◌≡◌, ℕ, suc, List, [], ◌∷◌, length, map, slice_index_or, Bool, true, false, Option, Some, None}
 use Rattle.cp_lists.specs.Lists.{item_at}
-use Rattle.cp_model.specs.Skeleton.{Skeleton}
-use Rattle.cp_model.specs.Realising.{AllDerivable}
-use Rattle.cp_model.specs.Tree.{dead, seen, Label}
+use Rattle.cp_model.specs.Tree.{Mark, shape, instance_of}
+use Rattle.cp_skel.specs.View.{skeleton_view}
+use Rattle.cp_tree.specs.Candidates.{Candidate}
+use Rattle.cp_search.specs.declared.made.Made.{Made}
+use Rattle.cp_search.specs.declared.settled.Settled.{Settled}
+use Rattle.cp_search.specs.declared.settled.Settled.TheVariants as settled
 
--- No label was made from it. A realised label has its generalisation as a child where that is another skeleton, so that one
--- with no child is its own generalisation.
-abbrev pub HasNoChild : Label → Type 0
-HasNoChild l = l.children ≡ []
+-- The mark is open.
+abbrev pub is_open : Settled → Bool
+is_open (settled.Leaf None) = true
+is_open _ = false
 
--- The label is a candidate for a shape: it lives, is seen in no other, all its receptions are derivable, and it is its own
--- generalisation.
-pub record IsCandidate (l : Label) : Type 0 where
-  pub lives : l.mark ≢ Some dead
-  pub not_seen : (n : ℕ) → l.mark ≢ Some (seen n)
-  pub realised : AllDerivable l.skeleton
-  pub own : HasNoChild l
+-- A label whose mark is open is a candidate.
+abbrev pub if_open : Settled → ℕ → Made → List Candidate → List Candidate
+if_open (settled.Leaf None) n m cs = record { number = n; skeleton = skeleton_view m.skeleton } ∷ cs
+if_open _ n m cs = cs
 
--- A candidate: the number of its label, and its skeleton.
-pub record Candidate : Type 0 where
-  pub number : ℕ
-  pub skeleton : Skeleton
+-- The candidates among labels that are numbered from n on.
+abbrev pub open_from : ℕ → List Made → List Settled → List Candidate
+open_from n (m ∷ ms) (s ∷ ss) = if_open s n m (open_from (suc n) ms ss)
+open_from n _ _ = []
 
--- Of items that are numbered from n on the candidates are those of which the fact is true, in their order.
-abbrev pub CandidatesFrom : {A : Type 0} → (A → Type 0) → (A → Skeleton) → ℕ → List A → List Candidate → Type 0
-CandidatesFrom fact skeleton n [] candidates = candidates ≡ []
-CandidatesFrom fact skeleton n (x ∷ xs) candidates =
-    (fact x × ((rest : List Candidate) × (candidates ≡ record { number = n; skeleton = skeleton x } ∷ rest) × CandidatesFrom fact skeleton (suc n) xs rest))
-    ⊎ ((fact x → ⊥) × CandidatesFrom fact skeleton (suc n) xs candidates)
-
--- The candidates among the labels of a tree.
-abbrev pub AreCandidates : List Label → List Candidate → Type 0
-AreCandidates = CandidatesFrom IsCandidate (λ l. l.skeleton) 0
-
-abbrev pub skeletons_of : List Candidate → List Skeleton
-skeletons_of = map (λ c. c.skeleton)
-
--- Candidate number p is label number i.
-pub record IsLabelAt (candidates : List Candidate) (p i : ℕ) : Type 0 where
-  pub candidate : Candidate
-  pub at : item_at candidates p ≡ Some candidate
-  pub number : candidate.number ≡ i
+-- The mark of a candidate: a shape, or an instance of the shape with this place among the candidates, which have these numbers.
+abbrev pub candidate_mark : List ℕ → Option ℕ → Mark
+candidate_mark numbers None = shape
+candidate_mark numbers (Some place) = instance_of (slice_index_or numbers place 0)

@@ -1,6 +1,7 @@
+pub mod Finding
+pub mod Graph
+pub mod Making
+pub mod Roots
+pub mod Settling
 pub mod Candidates
-pub mod Marks
-pub mod Unexpanded
-pub mod Judging
-pub mod Marking
 pub mod Labelling

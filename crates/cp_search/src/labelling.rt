@@ -1,57 +1,132 @@
-// The tree of roots that are not expanded.
-ghost use Rattle.std.specs.Prelude.{◌≡◌, ◌↔◌, List, length, map, Some, IsTrue, IfOk};
-ghost use Rattle.cp_lists.specs.Lists.{IsIn};
-ghost use Rattle.cp_model.specs.Strand.{Declaration};
-ghost use Rattle.cp_skel.specs.Trees.{variables_view, limits_view, mark_view, outcome_view, label_view, tree_view};
-ghost use Rattle.cp_roots.specs.RootView.{root_view};
-ghost use Rattle.cp_search.specs.Unexpanded.{label_of, AreLabelsOf, IsMarked, HasOutcome};
-ghost use Rattle.cp_search.specs.Judging.{judged_view, judged_nodes};
-ghost use Rattle.cp_search.specs.Labelling.{AreLabelled};
-ghost use Rattle.cp_roots.specs.declared.root.Root as program;
+// The tree of labels that are settled.
+ghost use Rattle.std.specs.Prelude.{◌≡◌, ◌↔◌, List, ◌∷◌, length, map, reverse, option_map, Some, IsTrue, IfOk};
+ghost use Rattle.cp_skel.specs.Trees.{mark_view, outcome_view, label_view, tree_view};
+ghost use Rattle.cp_tree.specs.Searched.{mark_by, IsMarked, HasOutcome};
+ghost use Rattle.cp_search.specs.Candidates.{open_from};
+ghost use Rattle.cp_skel.specs.View.{skeleton_view};
+ghost use Rattle.cp_model.specs.Tree.{Mark as PlainMark};
+ghost use Rattle.cp_search.specs.Labelling.{label_with, labels_with, AreCandidateMarks};
+ghost use Rattle.cp_search.specs.Settling.{leaf_label, expanded_label, AreExpandedOf};
+ghost use Rattle.cp_search.specs.declared.made.Made as program;
+ghost use Rattle.cp_search.specs.declared.settled.Settled as program_settled;
+ghost use Rattle.cp_search.specs.declared.settled.Settled.TheVariants as settled_as;
+ghost use Rattle.cp_search.specs.declared.settled.Expanded as program_expanded;
 
-use crate::judging::{Judged, judge_each};
-use crate::marking::marks;
-use cp_roots::Root;
-use cp_skel::{Limits, Mark, Outcome, Tree, TreeNode};
+use crate::candidates::candidate_marks;
+use crate::made::Made;
+use crate::searching::Search;
+use crate::settled::{Expanded, Settled};
+use cp_skel::{Mark, Outcome, Tree, TreeNode};
 use std::alloc::{AllocError, Global};
 
-/// The label of a root that is not expanded.
-fn label(alloc: Global, judged: Judged, mark: Mark) -> TreeNode
-    ensures { label_view result ≡ label_of (variables_view judged.root.skeleton.variables) (judged_view judged) (judged_nodes judged) (mark_view mark) }
+/// The label that is a leaf with this mark.
+fn leaf(alloc: Global, made: Made, mark: Option<Mark>) -> TreeNode
+    ensures { label_view result ≡ leaf_label made (option_map mark_view mark) }
 {
-    let Judged {
-        root,
-        unrealised,
-        ..
-    } = judged;
-    let Root {
+    let Made {
+        parent,
         operation,
         skeleton,
-        dead: _,
-    } = root;
+        unrealised,
+        ..
+    } = made;
     TreeNode {
-        parent: None,
+        parent,
         operation,
         skeleton,
         unrealised,
         test: None,
         patterns: Vec::new(alloc),
         children: Vec::new(alloc),
-        mark: Some(mark),
+        mark,
     }
 }
 
-/// The labels of the roots with these marks, in their order.
-fn labels(alloc: Global, judged: Vec<Judged>, marks: &[Mark]) -> Result<Vec<TreeNode>, AllocError>
-    requires { length marks.now ≡ length judged.items }
-    ensures { IfOk result (λ labels. AreLabelled judged.items marks.now labels.items) }
+/// The mark of an expanded label with these children.
+fn mark_by(children: &[usize]) -> Option<Mark>
+    ensures { option_map mark_view result ≡ mark_by children.now }
 {
-    let mut rest = judged;
+    if children.is_empty() {
+        return Some(Mark::Dead);
+    }
+    None
+}
+
+/// The label that was expanded.
+fn expanded(made: Made, settled: Expanded) -> TreeNode
+    requires { skeleton_view settled.skeleton ≡ skeleton_view made.skeleton }
+    ensures { label_view result ≡ expanded_label made settled }
+{
+    let mark = mark_by(&settled.children);
+    let Made {
+        parent,
+        operation,
+        unrealised,
+        ..
+    } = made;
+    let Expanded {
+        skeleton,
+        test,
+        patterns,
+        children,
+    } = settled;
+    TreeNode {
+        parent,
+        operation,
+        skeleton,
+        unrealised,
+        test: Some(test),
+        patterns,
+        children,
+        mark,
+    }
+}
+
+/// The label that was made so and of which this has become, with this mark where its own is open.
+fn label(alloc: Global, made: Made, settled: Settled, mark: Option<Mark>) -> TreeNode
+    requires { (e : program_expanded.Expanded) → settled ≡ settled_as.Expanded e → skeleton_view e.skeleton ≡ skeleton_view made.skeleton }
+    ensures { label_view result ≡ label_with made settled (option_map mark_view mark) }
+{
+    match settled {
+        Settled::Expanded(expansion) => expanded(made, expansion),
+        Settled::Leaf(Some(own)) => leaf(alloc, made, Some(own)),
+        Settled::Leaf(None) => leaf(alloc, made, mark),
+    }
+}
+
+/// Takes the next mark, which is the last of these, where the mark is open.
+fn next_mark(settled: &Settled, marks: &mut Vec<Mark>) -> Option<Mark>
+    ensures { (m : program.Made) (ms : List program.Made) (ss : List program_settled.Settled) → labels_with (m ∷ ms) (settled.now ∷ ss) (map mark_view (reverse marks.old.items)) ≡ label_with m settled.now (option_map mark_view result) ∷ labels_with ms ss (map mark_view (reverse marks.new.items)) }
+{
+    match settled {
+        Settled::Leaf(None) => marks.pop(),
+        _ => None,
+    }
+}
+
+/// The labels that were made so and of which this has become; those that may be shapes have these marks, in their order.
+fn labels(
+    alloc: Global,
+    made: Vec<Made>,
+    settled: Vec<Settled>,
+    marks: Vec<Mark>,
+) -> Result<Vec<TreeNode>, AllocError>
+    requires same { AreExpandedOf made.items settled.items }
+    ensures { IfOk result (λ ls. map label_view ls.items ≡ labels_with made.items settled.items (map mark_view marks.items)) }
+{
+    let mut rest = made;
     rest.reverse();
+    let mut rest_settled = settled;
+    rest_settled.reverse();
+    let mut rest_marks = marks;
+    rest_marks.reverse();
     let mut labels = Vec::new(alloc);
-    while let Some(each) = rest.pop() {
-        let mark = marks[labels.len()];
-        labels.push(label(alloc, each, mark))?;
+    while let Some(made) = rest.pop() {
+        let Some(settled) = rest_settled.pop() else {
+            return Ok(labels);
+        };
+        let mark = next_mark(&settled, &mut rest_marks);
+        labels.push(label(alloc, made, settled, mark))?;
     }
     Ok(labels)
 }
@@ -88,15 +163,16 @@ fn outcome_of(labels: &[TreeNode]) -> Outcome
     Outcome::Complete
 }
 
-/// The tree of these roots when no label may be expanded. The error is that memory ran out.
-pub(crate) fn tree_of(alloc: Global, roots: Vec<Root>, limits: Limits) -> Result<Tree, AllocError>
-    ensures labels { IfOk result (λ t. (variables : List Declaration) → ((r : program.Root) → IsIn r roots.items → variables_view r.skeleton.variables ≡ variables)
-        → AreLabelsOf variables (limits_view limits) (map root_view roots.items) (tree_view t).labels) }
+/// The tree of a search that has settled all labels. The error is that memory ran out.
+pub(crate) fn tree_of(alloc: Global, search: Search) -> Result<Tree, AllocError>
+    requires all { length search.settled.items ≡ length search.made.items }
+    requires same { AreExpandedOf search.made.items search.settled.items }
+    ensures labels { IfOk result (λ t. (marks : List PlainMark) × AreCandidateMarks (open_from 0 search.made.items search.settled.items) marks × ((tree_view t).labels ≡ labels_with search.made.items search.settled.items marks)) }
     ensures outcome { IfOk result (λ t. HasOutcome (tree_view t).labels (tree_view t).outcome) }
 {
-    let judged = judge_each(alloc, roots)?;
-    let marks = marks(alloc, &judged, limits)?;
-    let nodes = labels(alloc, judged, &marks)?;
+    let Search { made, settled, .. } = search;
+    let marks = candidate_marks(alloc, &made, &settled)?;
+    let nodes = labels(alloc, made, settled, marks)?;
     let outcome = outcome_of(&nodes);
     Ok(Tree { nodes, outcome })
 }

@@ -1,11 +1,15 @@
 //! The search for the shapes of a problem.
 #![tactic(auto)]
 
-mod judging;
+mod candidates;
+mod children;
+mod graph;
 mod labelling;
-mod laws;
-mod marking;
+mod made;
+mod reaching;
+mod roots;
+mod searching;
+mod settled;
 mod trees;
 
-pub use laws::root_trees_are_true;
-pub use trees::unexpanded;
+pub use trees::search;

@@ -1,32 +1,42 @@
-// The tree of a problem when no label may be expanded.
-ghost use Rattle.std.specs.Prelude.{◌≡◌, IfOk};
+// The tree of a problem.
+ghost use Rattle.std.specs.Prelude.{◌≡◌, ℕ, Some, IfOk};
+ghost use Rattle.cp_lists.specs.Lists.{item_at, IsIn};
+ghost use Rattle.cp_model.specs.Strand.{Role as PlainRole};
 ghost use Rattle.cp_model.specs.Problem.{IsPointOfView};
-ghost use Rattle.cp_model.specs.Tree.{IsTrueOf};
+ghost use Rattle.cp_model.specs.Tree.{Label, IsTrueOf};
+ghost use Rattle.cp_skel.specs.Sound.{DeclaresItsVariables};
 ghost use Rattle.cp_skel.specs.View.{skeleton_view};
 ghost use Rattle.cp_skel.specs.Trees.{variables_view, limits_view, tree_view};
 ghost use Rattle.cp_roots.specs.Over.{IsOver};
-ghost use Rattle.cp_search.specs.Unexpanded.{IsUnexpanded};
+ghost use Rattle.cp_tree.specs.Searched.{IsTreeOf};
+ghost use Rattle.cp_tree.specs.Declared.{DeclaresItsOwn};
 
 use crate::labelling::tree_of;
-use cp_roots::roots;
+use crate::searching::search_from;
+use cp_roots::{roots, roots_have_declared_variables};
 use cp_skel::{Limits, Protocol, Skeleton, Tree};
+use cp_tree::{search_trees_are_true, search_trees_declare_their_variables};
 use std::alloc::{AllocError, Global};
 
-/// The tree of a problem when no label may be expanded: its labels are the problem's roots, in their order. Of each root:
+/// The derivation tree of a problem. Its first labels are the problem's roots, in their order; labels are settled in ascending
+/// order, and behind all others stand the children of the labels as they are expanded. Of each label:
 ///
 /// - the problem itself, where it has no normal form, is dead;
-/// - one that is isomorphic to an earlier one is seen, as the first of these;
-/// - one all of whose receptions can be derived is a shape, or, where another such root embeds in it, an instance of the
-///   first shape that does;
-/// - any other is at the bound on strands, if it has more, listeners counted, and else at the step limit.
+/// - one that is isomorphic to an earlier one that is not its parent, and from which its parent cannot be reached along the labels
+///   made before it, is seen, in the first of these;
+/// - one all of whose receptions can be derived is a shape, or, where another such label embeds in it, an instance of the first
+///   shape that does;
+/// - an unrealised one that has more strands than the bound, listeners counted, is at that limit;
+/// - any other is expanded, if fewer labels were than the step limit says, and else at that limit; its children are those of its
+///   test, under the patterns of the test's escape set, widened. One without children is dead.
 ///
-/// The outcome is at the step limit where some root is, else at the bound on strands where some root is, and else
-/// complete: then every execution of the problem is an execution of a shape. At a limit too every execution of the problem
-/// is one of a shape or of a label at the limit.
+/// The outcome is at the step limit where some label is, else at the bound on strands where some label is, and else complete:
+/// then every execution of the problem is an execution of a shape. At a limit too every execution of the problem is one of a
+/// shape or of a label at the limit.
 ///
-/// The problem has to be of the protocol, in that its strands' roles are, and to map to itself; and no step may be allowed.
-/// The error is that memory ran out.
-pub fn unexpanded(
+/// The problem has to be of the protocol, in that its strands' roles are, and to map to itself; and the protocol's roles have to
+/// declare the variables of their events. The error is that memory ran out.
+pub fn search(
     alloc: Global,
     protocol: &Protocol,
     problem: &Skeleton,
@@ -34,10 +44,15 @@ pub fn unexpanded(
 ) -> Result<Tree, AllocError>
     requires over { IsOver protocol.now (skeleton_view problem.now) }
     requires own { IsPointOfView (variables_view problem.now.variables) (skeleton_view problem.now) }
-    requires no_steps { limits.steps ≡ 0 }
+    requires roles { (role : PlainRole) → IsIn role protocol.now.roles → DeclaresItsVariables role }
     ensures true_tree { IfOk result (λ t. IsTrueOf protocol.now (skeleton_view problem.now) (limits_view limits) (tree_view t)) }
-    ensures exact { IfOk result (λ t. IsUnexpanded (skeleton_view problem.now) (variables_view problem.now.variables) (limits_view limits) (tree_view t)) }
+    ensures exact { IfOk result (λ t. IsTreeOf protocol.now (skeleton_view problem.now) (variables_view problem.now.variables) (limits_view limits) (tree_view t)) }
+    ensures variables { IfOk result (λ t. (i : ℕ) (l : Label) → item_at (tree_view t).labels i ≡ Some l → DeclaresItsOwn (variables_view problem.now.variables) l) }
 {
+    roots_have_declared_variables();
+    search_trees_are_true();
+    search_trees_declare_their_variables();
     let roots = roots(alloc, protocol, problem)?;
-    tree_of(alloc, roots, limits)
+    let search = search_from(alloc, protocol, limits, roots)?;
+    tree_of(alloc, search)
 }

@@ -10,7 +10,7 @@ use Rattle.cp_term.specs.declared.path.Step.{Step}
 use Rattle.cp_term.specs.declared.path.Step.TheVariants.{Left, Right, Plaintext}
 use Rattle.cp_guard.specs.Above.{encryptions_above}
 use Rattle.cp_settle.specs.Candidates.{OneMatches}
-use Rattle.cp_settle.proofs.Deciding.{one_matches, one_does, does_one}
+use Rattle.cp_settle.proofs.AsMessages.{one_matches, one_does, does_one}
 
 -- ---- in a term
 

@@ -1,6 +1,5 @@
 pub mod AllAbove
-pub mod Filled
-pub mod Deciding
+pub mod AsMessages
 pub mod Counting
 pub mod Matching
 pub mod Ranked

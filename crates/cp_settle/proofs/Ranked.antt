@@ -10,7 +10,7 @@ use Rattle.cp_settle.specs.Views.{tried_view}
 use Rattle.cp_settle.specs.declared.candidates.Candidate.{Candidate}
 use Rattle.cp_settle.specs.declared.candidates.Candidate.TheVariants.{OnTheWay, Normal, Settled}
 use Rattle.cp_settle.specs.Candidates.{IsOpen, OneMatches, trace_in, ComesFrom, MatchesMore, FallsTo, IsRound}
-use Rattle.cp_settle.proofs.Deciding.{one_matches, one_does, does_one}
+use Rattle.cp_settle.proofs.AsMessages.{one_matches, one_does, does_one}
 use Rattle.cp_settle.proofs.Counting.{unmatched_in, fewer_unmatched, no_more_in, fewer_in}
 
 -- How many encryptions in the earlier events of the release's strand match no pattern.

@@ -167,10 +167,5 @@ fn is_open(candidate: &Candidate) -> bool
 pub(crate) fn some_is_open(candidates: &[Candidate]) -> bool
     ensures { IsTrue result ↔ Has IsOpen candidates.now }
 {
-    for candidate in candidates {
-        if is_open(candidate) {
-            return true;
-        }
-    }
-    false
+    candidates.iter().any(|candidate| is_open(candidate))
 }

@@ -1,3 +1,4 @@
 pub mod ExampleRole
 pub mod Nodes
 pub mod OtherParts
+pub mod Patterned

@@ -1,2 +1,3 @@
 pub mod Example
 pub mod Rebuilt
+pub mod Patterns

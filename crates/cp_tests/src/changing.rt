@@ -9,7 +9,7 @@ ghost use Rattle.cp_strand.specs.View.{declaration_view, event_view};
 
 use crate::stated::skeleton_of;
 use cp_model::Node;
-use cp_skel::{Assumptions, Atom, Declaration, Event, Protocol, Role, Skeleton};
+use cp_skel::{Assumptions, Atom, Declaration, Event, Role, Skeleton};
 use cp_term::{Sort, Term, Text, VarId, enc, invert, pair, pubk, var};
 use std::alloc::{AllocError, Global};
 use std::rc::Rc;
@@ -181,33 +181,6 @@ fn has_m(alloc: Global, assumptions: &Assumptions) -> Result<bool, Fail> {
         [unique] => unique.value().same(&m) && unique.origin() == node(1, 0),
         _ => false,
     })
-}
-
-/// Whether the role has what it was made of.
-fn has_its_parts(role: &Role, key: &Atom, n: &Atom, m: &Atom) -> bool {
-    role.name().as_str() == "init"
-        && role.variables().len() == 4
-        && role.trace().len() == 3
-        && are_atoms(role.non_originating(), &[key])
-        && are_atoms(role.penetrator_non_originating(), &[n])
-        && are_atoms(role.uniquely_originating(), &[m])
-}
-
-#[test]
-fn parts_of_roles_and_protocols(rt: HostRuntime) -> Result<(), Fail> {
-    let alloc = rt.alloc();
-    let key = private_key(alloc, 1)?;
-    let n = atom(text(alloc, 3)?)?;
-    let m = atom(text(alloc, 2)?)?;
-    let mut roles = Vec::new(alloc);
-    roles.push(initiator(alloc)?)?;
-    let protocol = Protocol::new(Text::new(alloc, "u")?, roles);
-    assert_eq!(rt; protocol.name().as_str(), "u");
-    assert_eq!(rt; protocol.roles().len(), 1);
-    for role in protocol.roles() {
-        assert!(rt; has_its_parts(role, &key, &n, &m));
-    }
-    Ok(())
 }
 
 const LISTENER: &str = "(defskeleton u (vars (t text)) (deflistener t))";

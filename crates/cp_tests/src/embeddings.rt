@@ -1,7 +1,7 @@
 // Embeddings of small skeletons that texts state, worked out by hand.
 use crate::rebuilt::with_way_of;
 use crate::stated::skeleton_of;
-use cp_hom::{Fingerprint, Map, embed, first_of, isomorphic};
+use cp_hom::{Fingerprint, Map, embed, isomorphic};
 use cp_model::Node;
 use cp_skel::Skeleton;
 use cp_term::Shape;
@@ -59,7 +59,7 @@ fn embeds(alloc: Global, a: &Skeleton, b: &Skeleton) -> Result<bool, AllocError>
 }
 
 /// Whether the fingerprints of the two leave it open that the first embeds in the second.
-pub(crate) fn may_embed(alloc: Global, a: &Skeleton, b: &Skeleton) -> Result<bool, AllocError> {
+fn may_embed(alloc: Global, a: &Skeleton, b: &Skeleton) -> Result<bool, AllocError> {
     let first = Fingerprint::of(alloc, a)?;
     let second = Fingerprint::of(alloc, b)?;
     Ok(first.may_embed(&second))
@@ -92,13 +92,6 @@ fn embeddings(rt: HostRuntime) -> Result<(), Fail> {
         assert!(rt; is_right(rt.alloc(), row)?, "{} and {}", row.0, row.1);
     }
     Ok(())
-}
-
-#[test]
-fn first_places(rt: HostRuntime) {
-    for (place, first) in [(4, 0), (7, 1), (5, 3)] {
-        assert_eq!(rt; first_of(&[4, 7, 4], place), first);
-    }
 }
 
 /// Whether the map leaves the first strand and sends variable 0, and no other, to text 1.

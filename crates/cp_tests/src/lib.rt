@@ -1,9 +1,14 @@
-//! Tests of all other crates, and nothing else: what their public calls answer, worked out by hand. What can be shown
-//! from outside, as reports and refusals, stands in the folder `tests` at the top of the repository.
+//! Tests of other crates, and nothing else: what public calls answer that the program does not make, or whose answers no
+//! report shows, worked out by hand. What can be shown from outside, as reports and refusals, stands in the folder `tests`
+//! at the top of the repository; there the program makes the other calls.
 #![tactic(auto)]
 
 #[cfg(test)]
+mod asking;
+#[cfg(test)]
 mod changing;
+#[cfg(test)]
+mod cohorts;
 #[cfg(test)]
 mod collapses;
 #[cfg(test)]
@@ -23,10 +28,6 @@ mod orders;
 #[cfg(test)]
 mod rebuilt;
 #[cfg(test)]
-mod reports;
-#[cfg(test)]
-mod scopes;
-#[cfg(test)]
 mod skeletons;
 #[cfg(test)]
 mod sources_and_sinks;
@@ -36,5 +37,3 @@ mod stated;
 mod terms;
 #[cfg(test)]
 mod unifying;
-#[cfg(test)]
-mod words;

@@ -32,16 +32,34 @@ fn carried(rt: HostRuntime) -> Result<(), Fail> {
     Ok(())
 }
 
+/// Whether the inverse of the key's inverse is the key, and its inverse is the key itself where that is said.
+fn inverts(key: &Key, is_own: bool) -> Result<bool, AllocError> {
+    let inverse = key.inverse()?;
+    let back = inverse.inverse()?;
+    Ok(back.same(key) && inverse.same(key) == is_own)
+}
+
+#[test]
+fn inverses(rt: HostRuntime) -> Result<(), Fail> {
+    let public = Key::pubk(rt.alloc(), Some("sign"), 2)?;
+    assert!(rt; inverts(&public, false)?);
+    for (key, is_own) in [
+        (&Key::ltk(0, 1), true),
+        (&Key::skey(0), true),
+        (&Key::akey(0), false),
+    ] {
+        assert!(rt; inverts(key, is_own)?);
+    }
+    Ok(())
+}
+
 #[test]
 fn keys(rt: HostRuntime) -> Result<(), Fail> {
-    let alloc = rt.alloc();
-    let public = Key::pubk(alloc, Some("sign"), 2)?;
-    let private = public.inverse()?;
-    assert!(rt; !public.same(&private) && public.same(&private.inverse()?));
-    assert!(rt; !public.same(&Key::pubk(alloc, None, 2)?) && public.same(&public.copy()?));
-    let (first, second) = (Key::ltk(0, 1), Key::skey(0));
-    assert!(rt; first.same(&first.inverse()?) && second.same(&second.inverse()?));
-    assert!(rt; !first.same(&Key::ltk(1, 0)) && !Key::akey(0).same(&Key::akey(0).inverse()?));
+    let public = Key::pubk(rt.alloc(), Some("sign"), 2)?;
+    let plain = Key::pubk(rt.alloc(), None, 2)?;
+    let again = public.copy()?;
+    assert!(rt; public.same(&again) && !public.same(&plain));
+    assert!(rt; !Key::ltk(0, 1).same(&Key::ltk(1, 0)));
     Ok(())
 }
 

@@ -262,15 +262,3 @@ fn runs_over_failing_streams(rt: HostRuntime) -> Result<(), Fail> {
     }
     Ok(())
 }
-
-// What is left of too long an input was not taken.
-#[test]
-fn too_long_an_input(rt: HostRuntime) -> Result<(), Fail> {
-    let alloc = rt.alloc();
-    let mut source = MemSource::new(vec![in alloc; b' '; 1_100_000]?, Vec::new(alloc));
-    let ended = run_over(alloc, COMMAND, &mut source, 100, &[])?;
-    let mut rest = vec![in alloc; 0; 60_000]?;
-    assert_eq!(rt; ended.status, Status::TooLong);
-    assert_eq!(rt; source.take(&mut rest).ok(), Some(51_423));
-    Ok(())
-}

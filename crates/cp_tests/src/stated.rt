@@ -140,26 +140,44 @@ pub(crate) fn label(alloc: Global, skeleton: Skeleton) -> TreeNode {
     }
 }
 
-/// The tree of these skeletons, beside each other.
-fn tree(alloc: Global, skeletons: Vec<Skeleton>) -> Result<Tree, AllocError> {
+/// The labels of these skeletons, beside each other.
+fn beside(alloc: Global, skeletons: Vec<Skeleton>) -> Result<Vec<TreeNode>, AllocError> {
     let mut nodes = Vec::new(alloc);
     for skeleton in skeletons {
         nodes.push(label(alloc, skeleton))?;
     }
-    Ok(Tree {
-        nodes,
-        outcome: Outcome::Complete,
-    })
+    Ok(nodes)
 }
 
-/// The report on the forms, with these skeletons as labels of their only problem.
-fn report(alloc: Global, forms: &[Form], skeletons: Vec<Skeleton>) -> Result<Vec<u8>, Fail> {
+/// The report on the forms, with these labels of their only problem.
+fn report(alloc: Global, forms: &[Form], nodes: Vec<TreeNode>) -> Result<Vec<u8>, Fail> {
     let input = input_of(alloc, forms)?;
     let mut trees = Vec::new(alloc);
-    trees.push(tree(alloc, skeletons)?)?;
+    trees.push(Tree {
+        nodes,
+        outcome: Outcome::Complete,
+    })?;
     let mut text = Vec::new(alloc);
     print(alloc, &input, &trees, &mut text)?;
     Ok(text)
+}
+
+/// The labels from this number on, each on one line, where the last of the forms states the only problem.
+pub(crate) fn labels_from(
+    alloc: Global,
+    forms: &[Form],
+    nodes: Vec<TreeNode>,
+    first: usize,
+) -> Result<Vec<u8>, Fail> {
+    let text = report(alloc, forms, nodes)?;
+    let printed = forms_of(alloc, &text)?;
+    let labels = front_items(later_items(&printed, forms.len()));
+    let mut lines = Vec::new(alloc);
+    for form in later_items(labels, first) {
+        write(form, &mut lines)?;
+        lines.push(b'\n')?;
+    }
+    Ok(lines)
 }
 
 /// The labels of these skeletons, each on one line, where the last of the forms states the only problem.
@@ -168,12 +186,6 @@ pub(crate) fn labels(
     forms: &[Form],
     skeletons: Vec<Skeleton>,
 ) -> Result<Vec<u8>, Fail> {
-    let text = report(alloc, forms, skeletons)?;
-    let printed = forms_of(alloc, &text)?;
-    let mut lines = Vec::new(alloc);
-    for form in front_items(later_items(&printed, forms.len())) {
-        write(form, &mut lines)?;
-        lines.push(b'\n')?;
-    }
-    Ok(lines)
+    let nodes = beside(alloc, skeletons)?;
+    labels_from(alloc, forms, nodes, 0)
 }

@@ -122,7 +122,7 @@ fn keys(rt: HostRuntime) -> Result<(), Fail> {
 }
 
 /// The public key of a name, which is variable 0, for a purpose or for none.
-pub(crate) fn key_of_name(alloc: Global, purpose: Option<&str>) -> Result<Term, AllocError> {
+fn key_of_name(alloc: Global, purpose: Option<&str>) -> Result<Term, AllocError> {
     pubk(alloc, purpose, variable(alloc, Sort::Name)?)
 }
 

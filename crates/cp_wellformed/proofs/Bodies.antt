@@ -41,17 +41,17 @@ abbrev pub AreBuilt : List SkeletonStrand → List OrderPair → List OrderPair 
 AreBuilt strands before [] = Unit {0}
 AreBuilt strands before (p ∷ ps) = IsNextPair strands before p × AreBuilt strands (before ++ p ∷ []) ps
 
-built_behind : (strands : List SkeletonStrand) (before ps qs : List OrderPair) → AreBuilt strands before ps → AreBuilt strands (before ++ ps) qs → AreBuilt strands before (ps ++ qs)
+pub built_behind : (strands : List SkeletonStrand) (before ps qs : List OrderPair) → AreBuilt strands before ps → AreBuilt strands (before ++ ps) qs → AreBuilt strands before (ps ++ qs)
 built_behind strands before [] qs h k = subst (λ (rs : List OrderPair). AreBuilt strands rs qs) (append-nil before) k
 built_behind strands before (p ∷ ps) qs h k =
     (h.0, built_behind strands (before ++ p ∷ []) ps qs h.1 (subst (λ (rs : List OrderPair). AreBuilt strands rs qs) (sym (append_assoc before (p ∷ []) ps)) k))
 
-is_sent : (o : Option (Event Term)) → is_transmission o ≡ true → (t : Term) × (o ≡ Some (send t))
+pub is_sent : (o : Option (Event Term)) → is_transmission o ≡ true → (t : Term) × (o ≡ Some (send t))
 is_sent None e = absurd (cc)
 is_sent (Some (send t)) e = (t, refl)
 is_sent (Some (recv t)) e = absurd (cc)
 
-is_received : (o : Option (Event Term)) → is_reception o ≡ true → (t : Term) × (o ≡ Some (recv t))
+pub is_received : (o : Option (Event Term)) → is_reception o ≡ true → (t : Term) × (o ≡ Some (recv t))
 is_received None e = absurd (cc)
 is_received (Some (send t)) e = absurd (cc)
 is_received (Some (recv t)) e = (t, refl)

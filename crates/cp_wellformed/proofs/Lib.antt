@@ -11,3 +11,4 @@ pub mod Uniques
 pub mod Leading
 pub mod Problems
 pub mod Example
+pub mod OwnNames

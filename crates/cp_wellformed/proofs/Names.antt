@@ -28,7 +28,7 @@ not_before before (c ∷ ds) zero d h e = let p : c ≡ d = cc in subst (λ (x :
 not_before before (c ∷ ds) (suc j) d h e = (or_parts (same_text d.identifier c.identifier) (is_one_of d.identifier before) (not_before (c.identifier ∷ before) ds j d h.1 e)).1
 
 -- the tests of two texts in either order
-other_way : (s t : List ℕ) → same_text s t ≡ false → same_text t s ≡ false
+pub other_way : (s t : List ℕ) → same_text s t ≡ false → same_text t s ≡ false
 other_way s t e = false_from_ne_true (same_text t s) (λ p. both_ways (same_text s t) e (subst (λ u. same_text s u ≡ true) (sym (text_is t s p)) (same_text_itself s)))
 
 -- The variable with the identifier of a declaration is that declaration's.

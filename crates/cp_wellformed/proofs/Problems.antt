@@ -1,5 +1,5 @@
 -- The problems of well-formed input are skeletons over their protocols that map to themselves.
-use Rattle.std.proofs.Common.{◌≡◌, ℕ, ◌+◌, List, [], ◌∷◌, ◌++◌, length, false, Option, Some, None, refl, sym, subst, arith}
+use Rattle.std.proofs.Common.{◌≡◌, ℕ, ◌+◌, ◌<◌, List, [], ◌∷◌, ◌++◌, length, false, Option, Some, None, refl, sym, subst, arith}
 use Rattle.cp_base.specs.declared.place.Place.{Place}
 use Rattle.cp_base.specs.declared.place.Code.TheVariants.{BadShape}
 use Rattle.cp_lists.specs.Lists.{item_at, IsIn, here, there}
@@ -12,13 +12,15 @@ use Rattle.cp_model.specs.Stated.{HasOwnAssumptions}
 use Rattle.cp_sexpr.specs.Syntax.{Form, Forms}
 use Rattle.cp_language.specs.Words.{TopHead, protocol_form, problem_form, free_form, top_out_of_profile, no_top, top_head}
 use Rattle.cp_language.specs.Faults.{fault_unless, place_of, items_of}
+use Rattle.cp_language.specs.Terms.{variable_named}
 use Rattle.cp_language.specs.Roles.{Headed, headed, text_of_symbol, vars_faults, declarations_of, forms_under, is_non_item, is_penetrator_non_item, is_unique_item, atoms_in, protocol_of}
 use Rattle.cp_model.specs.Given.{given_non, given_penetrator_non, given_uniques, with_given}
-use Rattle.cp_language.specs.Problems.{protocol_named, Stage, body_faults, has_strand, before_items, roles_of, protocol_name_faults, problem_strands, problem_faults, own_uniques, own_assumptions, own_skeleton, Problem, protocol_or_none, problem_with, problem_of}
+use Rattle.cp_language.specs.Problems.{protocol_named, role_named, Stage, body_faults, has_strand, before_items, roles_of, protocol_name_faults, problem_strands, problem_faults, own_uniques, own_assumptions, own_skeleton, Problem, protocol_or_none, problem_with, problem_of}
 use Rattle.cp_language.specs.Input.{protocol_names, top_faults, headed_top_faults, protocols_onto, protocols_behind, faults_from, faults_of, Entry, problem_by, stated_problem, entries_from, input_of}
 use Rattle.cp_wellformed.proofs.Terms.{none_before, none_behind, none_of_four, AreDeclared, none_declared, both_declared}
 use Rattle.cp_wellformed.specs.Role.{IsWellFormedRole}
-use Rattle.cp_wellformed.proofs.Names.{named_itself}
+use Rattle.cp_wellformed.proofs.Names.{AreDistinct, variables_distinct, named_itself}
+use Rattle.cp_wellformed.proofs.OwnNames.{HaveOwnNames, role_found, declared_named}
 use Rattle.cp_wellformed.proofs.Roles.{IsSoundRole, AreSoundRoles, protocol_sound}
 use Rattle.cp_wellformed.proofs.Instances.{trace_taken, more_declared, Extends}
 use Rattle.cp_wellformed.proofs.Strands.{IsSoundStrand, AreSoundStrands, protocol_listed, strands_sound}
@@ -43,11 +45,18 @@ strands_declared roles full (s ∷ ss) h =
 
 -- ---- one problem
 
--- The problem is a skeleton over its protocol that maps to itself, and the protocol's roles are sound.
+-- The roles are sound, and have names of their own.
+pub record IsSoundProtocol (p : Protocol) : Type 0 where
+  pub roles : AreSoundRoles p.roles
+  pub named : HaveOwnNames [] p.roles
+
+-- The problem is a skeleton over its protocol that maps to itself; the protocol is sound; and each identifier that is
+-- declared is that of its own variable.
 pub record IsSoundProblem (p : Problem) : Type 0 where
   pub skeleton : IsSkeleton p.protocol p.skeleton
   pub own : IsPointOfView p.variables p.skeleton
-  pub roles : AreSoundRoles p.protocol.roles
+  pub sound : IsSoundProtocol p.protocol
+  pub declared : (i : ℕ) (d : Declaration) → i < p.declared → item_at p.variables i ≡ Some d → variable_named p.variables d.identifier ≡ Some (record { sort = d.sort; number = i })
 
 module _ (protocol : Protocol) (ds : List Declaration) (body : List Form) (strands : List SkeletonStrand) (full : List Declaration)
     (sound : AreSoundStrands protocol.roles full strands) (says : SaysBody protocol.roles ds strands [] body) (extends : Extends ds full) where
@@ -119,28 +128,29 @@ module _ (protocol : Protocol) (ds : List Declaration) (body : List Form) (stran
 abbrev at_start : Stage
 at_start = record { after_strand = false; after_item = false }
 
-with_protocol : (p : Protocol) → AreSoundRoles p.roles → (ds : List Declaration) (body : List Form) →
+with_protocol : (p : Protocol) → IsSoundProtocol p → (ds : List Declaration) → AreDistinct [] ds → (body : List Form) →
     body_faults p.roles ds (problem_strands p.roles ds body).strands [] at_start body ≡ [] → IsSoundProblem (problem_with p ds body (problem_strands p.roles ds body))
-with_protocol p sound ds body e =
+with_protocol p sound ds distinct body e =
     let s = problem_strands p.roles ds body in
     let extends = more_declared ds s.fresh in
     let says = says_body p.roles ds s.strands [] at_start body e in
-    let strands = strands_sound p.roles sound ds (ds ++ s.fresh) extends ds (length ds) (before_items body) refl refl says.stated in
+    let strands = strands_sound p.roles sound.roles ds (ds ++ s.fresh) extends ds (length ds) (before_items body) refl refl says.stated in
     record {
       skeleton = is_skeleton p ds body s.strands (ds ++ s.fresh) strands says extends;
       own = is_own p ds body s.strands (ds ++ s.fresh) strands says extends;
-      roles = sound;
+      sound = sound;
+      declared = λ i d less at. declared_named ds s.fresh i d distinct less at;
     }
 
--- The roles of all of these protocols are sound.
+-- All of these protocols are sound.
 abbrev AreSoundProtocols : List Protocol → Type 0
-AreSoundProtocols ps = (p : Protocol) → IsIn p ps → AreSoundRoles p.roles
+AreSoundProtocols ps = (p : Protocol) → IsIn p ps → IsSoundProtocol p
 
-by_protocol : (o : Option Protocol) → ((p : Protocol) → o ≡ Some p → AreSoundRoles p.roles) → (ds : List Declaration) (body : List Form) →
+by_protocol : (o : Option Protocol) → ((p : Protocol) → o ≡ Some p → IsSoundProtocol p) → (ds : List Declaration) → AreDistinct [] ds → (body : List Form) →
     body_faults (roles_of o) ds (problem_strands (roles_of o) ds body).strands [] at_start body ≡ [] →
     IsSoundProblem (problem_with (protocol_or_none o) ds body (problem_strands (protocol_or_none o).roles ds body))
-by_protocol None sound ds body e = with_protocol (protocol_or_none None) (λ r p. elim p [ ]) ds body e
-by_protocol (Some p) sound ds body e = with_protocol p (sound p refl) ds body e
+by_protocol None sound ds distinct body e = with_protocol (protocol_or_none None) (record { roles = λ r p. elim p [ ]; named = tt }) ds distinct body e
+by_protocol (Some p) sound ds distinct body e = with_protocol p (sound p refl) ds distinct body e
 
 problem_sound : (above : List Protocol) (at : Place) (fs : List Form) → AreSoundProtocols above → problem_faults above at fs ≡ [] → IsSoundProblem (problem_of above fs)
 problem_sound above at [] sound e = absurd (cc)
@@ -150,7 +160,7 @@ problem_sound above at (name ∷ vars ∷ body) sound e =
     let ds = declarations_of vars in
     let p = none_of_four (fault_unless (has_strand (vars ∷ body)) at BadShape) (protocol_name_faults above name) (vars_faults vars)
     (body_faults (roles_of o) ds (problem_strands (roles_of o) ds body).strands [] at_start body) e in
-    by_protocol o (λ r found. sound r (protocol_listed above (text_of_symbol name) r found)) ds body p.3
+    by_protocol o (λ r found. sound r (protocol_listed above (text_of_symbol name) r found)) ds (variables_distinct vars p.2) body p.3
 
 -- ---- the input
 
@@ -163,13 +173,16 @@ stated_sound q h p e = let r : q ≡ p = cc in subst IsSoundProblem r h
 none_sound : IsSoundOption None
 none_sound p e = absurd (cc)
 
-one_more : (p : Protocol) (above : List Protocol) → AreSoundRoles p.roles → AreSoundProtocols above → AreSoundProtocols (p ∷ above)
+one_more : (p : Protocol) (above : List Protocol) → IsSoundProtocol p → AreSoundProtocols above → AreSoundProtocols (p ∷ above)
 one_more p above h hs q here = h
 one_more p above h hs q (there i) = hs q i
 
+sound_protocol : (p : Protocol) → AreSoundRoles p.roles × HaveOwnNames [] p.roles → IsSoundProtocol p
+sound_protocol p h = record { roles = h.0; named = h.1 }
+
 -- what a form states, and the protocols that stand above the forms behind it
 by_head : (above : List Protocol) (at : Place) (k : TopHead) (fs : List Form) → AreSoundProtocols above → top_faults above at k fs ≡ [] → IsSoundOption (problem_by above k fs) × AreSoundProtocols (protocols_onto k fs above)
-by_head above at protocol_form fs sound e = (none_sound, one_more (protocol_of fs) above (protocol_sound (protocol_names above) at fs e) sound)
+by_head above at protocol_form fs sound e = (none_sound, one_more (protocol_of fs) above (sound_protocol (protocol_of fs) (protocol_sound (protocol_names above) at fs e)) sound)
 by_head above at problem_form fs sound e = (stated_sound (problem_of above fs) (problem_sound above at fs sound e), sound)
 by_head above at free_form fs sound e = (none_sound, sound)
 by_head above at top_out_of_profile fs sound e = absurd (cc)
@@ -217,4 +230,13 @@ well_formed_role r h = record {
 
 -- The roles of a problem's protocol are well formed.
 pub roles_are_well_formed : (fs : Forms) (e : Entry) (p : Problem) (r : Role) → faults_of fs ≡ [] → IsIn e (input_of fs) → e.problem ≡ Some p → IsIn r p.protocol.roles → IsWellFormedRole r
-roles_are_well_formed fs e p r faultless i at listed = well_formed_role r ((problems_sound fs faultless e i p at).roles r listed)
+roles_are_well_formed fs e p r faultless i at listed = well_formed_role r ((problems_sound fs faultless e i p at).sound.roles r listed)
+
+-- A role of a problem's protocol is found by its name.
+pub roles_found : (fs : Forms) (e : Entry) (p : Problem) (r : Role) → faults_of fs ≡ [] → IsIn e (input_of fs) → e.problem ≡ Some p → IsIn r p.protocol.roles → role_named p.protocol.roles r.name ≡ Some r
+roles_found fs e p r faultless i at listed = role_found [] p.protocol.roles r (problems_sound fs faultless e i p at).sound.named listed
+
+-- An identifier that a problem declares is that of its own variable.
+pub variables_found : (fs : Forms) (e : Entry) (p : Problem) (n : ℕ) (d : Declaration) → faults_of fs ≡ [] → IsIn e (input_of fs) → e.problem ≡ Some p → n < p.declared → item_at p.variables n ≡ Some d
+    → variable_named p.variables d.identifier ≡ Some (record { sort = d.sort; number = n })
+variables_found fs e p n d faultless i at less there_is = (problems_sound fs faultless e i p at).declared n d less there_is

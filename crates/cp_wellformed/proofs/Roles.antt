@@ -16,6 +16,7 @@ use Rattle.cp_wellformed.proofs.Terms.{none_before, none_behind, none_of_three, 
 use Rattle.cp_wellformed.proofs.Items.{under_one}
 use Rattle.cp_wellformed.proofs.Values.{AtomsDeclared, stated_declared, Originate, uniques_originate}
 use Rattle.cp_wellformed.proofs.Names.{AreDistinct, inside_fixed, variables_distinct}
+use Rattle.cp_wellformed.proofs.OwnNames.{HaveOwnNames, roles_named}
 
 -- A role of well-formed input, in the words of these proofs.
 pub record IsSoundRole (r : Role) : Type 0 where
@@ -64,7 +65,7 @@ trace_declared ds f e =
     events_declared ds (items_behind (headed f)) (none_behind (lacks 1 (place_of f) (items_behind (headed f))) (events_faults ds (items_behind (headed f))) p)
 
 -- What occurs in a prefix occurs in the trace.
-in_trace : (n : ℕ) (es : List (Event Term)) (x : Variable) → IsIn x (variables_of_trace (take n es)) → IsIn x (variables_of_trace es)
+pub in_trace : (n : ℕ) (es : List (Event Term)) (x : Variable) → IsIn x (variables_of_trace (take n es)) → IsIn x (variables_of_trace es)
 in_trace zero es x p = elim p [ ]
 in_trace (suc n) [] x p = elim p [ ]
 in_trace (suc n) (e ∷ es) x p =
@@ -163,9 +164,10 @@ roles_sound before (f ∷ fs) e =
     headed_role_sound before (place_of f) (headed f) (roles_in fs) (none_before (item_faults (protocol_item_faults before) f) (roles_faults (role_name_onto (headed f) before) fs) e)
     (roles_sound (role_name_onto (headed f) before) fs (none_behind (item_faults (protocol_item_faults before) f) (roles_faults (role_name_onto (headed f) before) fs) e))
 
--- The roles of a protocol without faults are sound.
-pub protocol_sound : (names : List (List ℕ)) (at : Place) (fs : List Form) → protocol_faults names at fs ≡ [] → AreSoundRoles (protocol_of fs).roles
+-- The roles of a protocol without faults are sound, and have names of their own.
+pub protocol_sound : (names : List (List ℕ)) (at : Place) (fs : List Form) → protocol_faults names at fs ≡ [] → AreSoundRoles (protocol_of fs).roles × HaveOwnNames [] (protocol_of fs).roles
 protocol_sound names at (name ∷ algebra ∷ items) e =
-    roles_sound [] items (none_of_three (name_faults_at names (λ p. fault p DuplicateProtocol) name) (algebra_faults algebra) (roles_faults [] items) e).2
+    let r = (none_of_three (name_faults_at names (λ p. fault p DuplicateProtocol) name) (algebra_faults algebra) (roles_faults [] items) e).2 in
+    (roles_sound [] items r, roles_named [] items r)
 protocol_sound names at (name ∷ []) e = absurd (cc)
 protocol_sound names at [] e = absurd (cc)

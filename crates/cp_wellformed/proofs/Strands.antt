@@ -50,7 +50,7 @@ role_in_front : (r role : Role) (rs : List Role) (t : List ℕ) (b : Bool) → (
 role_in_front r role rs t true e later = let p : r ≡ role = cc in subst (λ (x : Role). IsIn x (r ∷ rs)) p here
 role_in_front r role rs t false e later = there (later e)
 
-role_listed : (rs : List Role) (t : List ℕ) (role : Role) → role_named rs t ≡ Some role → IsIn role rs
+pub role_listed : (rs : List Role) (t : List ℕ) (role : Role) → role_named rs t ≡ Some role → IsIn role rs
 role_listed [] t role e = absurd (cc)
 role_listed (r ∷ rs) t role e = role_in_front r role rs t (same_text r.name t) e (role_listed rs t role)
 
@@ -69,12 +69,16 @@ role_is_known roles (string at t) e = absurd (cc)
 role_is_known roles (number at n) e = absurd (cc)
 role_is_known roles (list at fs) e = absurd (cc)
 
-height_is : (role : Role) (f : Form) → height_faults (Some role) f ≡ [] → IsHeight role (number_of f)
-height_is role (number at n) e =
-    let p = and_parts (nat_lt 0 n) (nat_le n (length role.trace)) (holds (nat_lt 0 n && nat_le n (length role.trace)) at BadHeight e) in
+-- A number that passes the test of a height is one.
+pub height_there : (role : Role) (n : ℕ) → (nat_lt 0 n && nat_le n (length role.trace)) ≡ true → IsHeight role n
+height_there role n e =
+    let p = and_parts (nat_lt 0 n) (nat_le n (length role.trace)) e in
     let a : 0 < n = ltb-true 0 n p.0 in
     let b : n ≤ length role.trace = leb-true n (length role.trace) p.1 in
     (omega arith, b)
+
+height_is : (role : Role) (f : Form) → height_faults (Some role) f ≡ [] → IsHeight role (number_of f)
+height_is role (number at n) e = height_there role n (holds (nat_lt 0 n && nat_le n (length role.trace)) at BadHeight e)
 height_is role (symbol at t) e = absurd (cc)
 height_is role (string at t) e = absurd (cc)
 height_is role (list at fs) e = absurd (cc)

@@ -2,13 +2,14 @@
 //! these protocols are well formed. They hold for all of the language.
 #![tactic(auto)]
 
-ghost use Rattle.std.specs.Prelude.{◌≡◌, [], Some};
+ghost use Rattle.std.specs.Prelude.{◌≡◌, ◌<◌, ℕ, [], Some};
 ghost use Rattle.cp_language.specs.Input.{Entry, faults_of, input_of};
-ghost use Rattle.cp_language.specs.Problems.{Problem};
-ghost use Rattle.cp_lists.specs.Lists.{IsIn};
+ghost use Rattle.cp_language.specs.Problems.{Problem, role_named};
+ghost use Rattle.cp_language.specs.Terms.{variable_named};
+ghost use Rattle.cp_lists.specs.Lists.{item_at, IsIn};
 ghost use Rattle.cp_model.specs.Problem.{IsPointOfView};
 ghost use Rattle.cp_model.specs.Skeleton.{IsSkeleton};
-ghost use Rattle.cp_model.specs.Strand.{Role};
+ghost use Rattle.cp_model.specs.Strand.{Declaration, Role};
 ghost use Rattle.cp_sexpr.specs.Syntax.{Forms};
 ghost use Rattle.cp_wellformed.specs.Example.{example_input};
 ghost use Rattle.cp_wellformed.specs.Role.{IsWellFormedRole};
@@ -26,6 +27,14 @@ pub fn problems_of_input_are_skeletons()
 #[tactic(auto, using(crate::proofs::Problems::roles_are_well_formed))]
 pub fn roles_of_input_are_well_formed()
     ensures { (fs : Forms) (e : Entry) (p : Problem) (r : Role) → faults_of fs ≡ [] → IsIn e (input_of fs) → e.problem ≡ Some p → IsIn r p.protocol.roles → IsWellFormedRole r }
+{}
+
+/// The law that a name in well-formed input is of one thing: a role's name of one role of its protocol, and an identifier
+/// that a problem declares of one of the problem's variables.
+#[tactic(auto, using(crate::proofs::Problems::roles_found, crate::proofs::Problems::variables_found))]
+pub fn names_of_input_are_their_own()
+    ensures roles { (fs : Forms) (e : Entry) (p : Problem) (r : Role) → faults_of fs ≡ [] → IsIn e (input_of fs) → e.problem ≡ Some p → IsIn r p.protocol.roles → role_named p.protocol.roles r.name ≡ Some r }
+    ensures variables { (fs : Forms) (e : Entry) (p : Problem) (n : ℕ) (d : Declaration) → faults_of fs ≡ [] → IsIn e (input_of fs) → e.problem ≡ Some p → n < p.declared → item_at p.variables n ≡ Some d → variable_named p.variables d.identifier ≡ Some (record { sort = d.sort; number = n }) }
 {}
 
 /// The law that an input meets the premises of the laws above: it is well formed and states a problem, of two instances,

@@ -1,24 +1,35 @@
 -- The words of a command are read as the limits that they ask for.
-use Rattle.std.proofs.Common.{◌≡◌, ◌∙◌, ◌&&◌, ◌==◌, ℕ, List, [], ◌∷◌, ◌++◌, Bool, true, false, Option, Some, None, refl, sym, subst, ap, ap₂, codes, nat_le, if◌then◌else◌, option_and_then}
+use Rattle.std.proofs.Common.{◌≡◌, ◌∙◌, ◌&&◌, ℕ, List, [], ◌∷◌, ◌++◌, Bool, true, false, Option, Some, None, refl, sym, subst, ap, ap₂, codes, nat_le, if◌then◌else◌, option_and_then}
 use Rattle.std.proofs.lemmas.List.{append-nil}
 use Rattle.std.specs.Str.{bytes_eq}
 use Rattle.clap.specs.Words.{Text}
-use Rattle.clap.specs.Takes.{use_passes}
+use Rattle.clap.specs.Takes.{use_passes, walk_passes}
 use Rattle.clap.specs.Walk.{nothing_held}
 use Rattle.cp_model.specs.Tree.{Limits}
-use Rattle.cp_words.specs.Command.{number_of, Setting, first_setting, limits_of, limits_set, limits_behind_both, limits_behind, command_of}
+use Rattle.cp_words.specs.Command.{number_of, Setting, first_setting, limits_of, limits_set, limits_behind_both, limits_behind, limits_by, command_of}
 use Rattle.cp_words.specs.Parsed.{IsParsedAs}
 use Rattle.cp_words.proofs.Options.{Named, limit_named, bound_named, rule_named}
 use Rattle.cp_words.proofs.Steps.{Reads, Adds, reads_both, rows_with}
 use Rattle.cp_words.proofs.Spelled.{IsSpelled, setting_by, name_is, spelled_first}
-use Rattle.cp_words.proofs.Reading.{adds_front, parsed_by, limit_alone, limit_first, bound_first, first_fits, bound_fits, limit_fits}
+use Rattle.cp_words.proofs.Reading.{adds_front, parsed_by, none_alone, limit_alone, bound_alone, limit_first, bound_first, first_fits, bound_fits, limit_fits}
 
 limits_are : (a b : ℕ) (l : Limits) → limits_of a b ≡ Some l → (a ≡ l.steps) × (b ≡ l.strands)
-limits_are a b l e = go ((a == 0) && (nat_le 1 b && nat_le b 32)) e
+limits_are a b l e = go (nat_le a 100000 && (nat_le 1 b && nat_le b 32)) e
   where
     go : (ok : Bool) → (if ok then Some (record { steps = a; strands = b }) else None) ≡ Some l → (a ≡ l.steps) × (b ≡ l.strands)
     go false f = absurd (cc)
     go true f = let same : ◌≡◌ {A = Limits} (record { steps = a; strands = b }) l = cc in (ap (λ (x : Limits). x.steps) same, ap (λ (x : Limits). x.strands) same)
+
+-- ---- no option
+
+reads_none : Reads nothing_held [] []
+unfolding walk_passes
+reads_none = record { new = nothing_held; walked_to = refl; passes = refl; held = refl; settles = refl }
+
+parsed_none : (program : Text) (l : Limits) → limits_of 2000 8 ≡ Some l → IsParsedAs (program ∷ codes "analyse" ∷ []) l
+parsed_none program l set =
+    let are = limits_are 2000 8 l set in
+    parsed_by program [] [] l (codes "2000") (codes "8") reads_none none_alone (ap Some are.0) (ap Some are.1)
 
 -- ---- one option
 
@@ -32,7 +43,9 @@ one_by : (program : Text) (words : List Text) (o : Named) (text : Text) (k : ℕ
 one_by program words limit_named text k l r number set =
     let are = limits_are k 8 l set in
     parsed_by program words _ l text (codes "8") r (limit_alone text) (number ∙ ap Some are.0) (ap Some are.1)
-one_by program words bound_named text k l r number set = absurd (cc)
+one_by program words bound_named text k l r number set =
+    let are = limits_are 2000 k l set in
+    parsed_by program words _ l (codes "2000") text r (bound_alone text) (ap Some are.0) (number ∙ ap Some are.1)
 
 parsed_one : (program : Text) (words : List Text) (s : Setting) (l : Limits) → IsSpelled words s [] → limits_set s None ≡ Some l → IsParsedAs (program ∷ codes "analyse" ∷ words) l
 parsed_one program words s l is set = one_by program words is.which is.text is.number l (reads_one words s is) is.reads (ap (λ x. limits_set x None) (sym is.same) ∙ set)
@@ -81,12 +94,16 @@ behind_first program l options (Some (first, w ∷ ws)) is e =
     let both = behind_both first l (w ∷ ws) (first_setting (w ∷ ws)) refl e in
     parsed_two program options (w ∷ ws) first both.0 l (spelled_first options first (w ∷ ws) is) (spelled_first (w ∷ ws) both.0 [] both.1) both.2
 
+behind_name : (program : Text) (l : Limits) (options : List Text) → limits_by options ≡ Some l → IsParsedAs (program ∷ codes "analyse" ∷ options) l
+behind_name program l [] e = parsed_none program l e
+behind_name program l (option ∷ options) e = behind_first program l (option ∷ options) (first_setting (option ∷ options)) refl e
+
 -- the parser reads the words of a command as its limits
 pub command_parsed : (words : List Text) (l : Limits) → command_of words ≡ Some l → IsParsedAs words l
 command_parsed [] l e = absurd (cc)
 command_parsed (program ∷ []) l e = absurd (cc)
 command_parsed (program ∷ command ∷ options) l e = go (bytes_eq command (codes "analyse")) refl e
   where
-    go : (b : Bool) → bytes_eq command (codes "analyse") ≡ b → (if b then option_and_then limits_behind (first_setting options) else None) ≡ Some l → IsParsedAs (program ∷ command ∷ options) l
+    go : (b : Bool) → bytes_eq command (codes "analyse") ≡ b → (if b then limits_by options else None) ≡ Some l → IsParsedAs (program ∷ command ∷ options) l
     go false p f = absurd (cc)
-    go true p f = subst (λ c. IsParsedAs (program ∷ c ∷ options) l) (sym (name_is command (codes "analyse") p)) (behind_first program l options (first_setting options) refl f)
+    go true p f = subst (λ c. IsParsedAs (program ∷ c ∷ options) l) (sym (name_is command (codes "analyse") p)) (behind_name program l options f)

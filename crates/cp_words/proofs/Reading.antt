@@ -59,6 +59,14 @@ parsed_by program words rows l limit bound r have steps strands = record {
   found = ap limits_found (options_read program words) ∙ ap limits_in (rows_of_words words rows r) ∙ ap limits_of_texts have.1 ∙ ap₂ limits_from steps strands;
 }
 
+pub none_alone : HaveTexts [] (codes "2000") (codes "8")
+unfolding clap_on_literals
+none_alone = (refl, refl)
+
+pub bound_alone : (n : Text) → HaveTexts (rows_with bound_named n []) (codes "2000") n
+unfolding clap_on_literals
+bound_alone n = (refl, refl)
+
 pub limit_alone : (n : Text) → HaveTexts (rows_with limit_named n []) n (codes "8")
 unfolding clap_on_literals
 limit_alone n = (refl, refl)

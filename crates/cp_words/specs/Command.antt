@@ -58,15 +58,16 @@ first_setting (word ∷ words) = setting_from (name_and_value word) word words
 
 -- ---- the command
 
--- No step is taken, and the bound on the number of strands is 1 to 32.
+-- The step limit is 0 to 100,000, and the bound on the number of strands 1 to 32.
 abbrev pub limits_of : ℕ → ℕ → Option Limits
 limits_of steps strands =
-    if (steps == 0) && (nat_le 1 strands && nat_le strands 32)
+    if nat_le steps 100000 && (nat_le 1 strands && nat_le strands 32)
     then Some (record { steps = steps; strands = strands }) else None
 
--- The limit has to stand; where no bound does it is 8.
+-- Where no limit stands it is 2,000, and where no bound does it is 8.
 abbrev pub limits_set : Setting → Option Setting → Option Limits
 limits_set (limit n) None = limits_of n 8
+limits_set (bound m) None = limits_of 2000 m
 limits_set (limit n) (Some (bound m)) = limits_of n m
 limits_set (bound m) (Some (limit n)) = limits_of n m
 limits_set _ _ = None
@@ -80,8 +81,12 @@ abbrev pub limits_behind : Setting × List (List ℕ) → Option Limits
 limits_behind (first, []) = limits_set first None
 limits_behind (first, word ∷ words) = option_and_then (limits_behind_both first) (first_setting (word ∷ words))
 
--- The words are a name for the program, `analyse`, and its options, once each and in any order; any others ask for nothing.
+abbrev pub limits_by : List (List ℕ) → Option Limits
+limits_by [] = limits_of 2000 8
+limits_by (word ∷ words) = option_and_then limits_behind (first_setting (word ∷ words))
+
+-- The words are a name for the program, `analyse`, and its options, each at most once and in any order; any others ask for nothing.
 abbrev pub command_of : List (List ℕ) → Option Limits
 command_of (program ∷ command ∷ options) =
-    if bytes_eq command (codes "analyse") then option_and_then limits_behind (first_setting options) else None
+    if bytes_eq command (codes "analyse") then limits_by options else None
 command_of _ = None

@@ -1,10 +1,10 @@
 -- What the parser of command lines is told of a command.
-use Rattle.std.specs.Prelude.{true, [], ◌∷◌, Some, codes}
+use Rattle.std.specs.Prelude.{[], ◌∷◌, Some, codes}
 use Rattle.clap.specs.Words.{App, Rule, new_app, new_rule, with_rule, with_subcommand}
 
--- The limit has to stand.
+-- The limit is 2,000 where it does not stand.
 abbrev pub limit_rule : Rule
-limit_rule = record (new_rule (codes "limit")) { long = Some (codes "limit"); required = true }
+limit_rule = record (new_rule (codes "limit")) { long = Some (codes "limit"); defaults = codes "2000" ∷ [] }
 
 -- The bound is 8 where it does not stand.
 abbrev pub bound_rule : Rule

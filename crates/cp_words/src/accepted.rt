@@ -1,10 +1,15 @@
 // The words that are a command.
 ghost use Rattle.std.specs.Prelude.{◌≡◌, is_some, map, option_map, string_bytes};
-ghost use Rattle.cp_words.specs.Command.{number_of, setting_of, name_and_value, first_setting, limits_of, limits_set, limits_behind, command_of};
+ghost use Rattle.cp_words.specs.Command.{number_of, setting_of, name_and_value, first_setting, limits_of, limits_set, limits_behind, limits_by, command_of};
 ghost use Rattle.cp_words.specs.Settings.{setting_view};
 ghost use Rattle.cp_skel.specs.Trees.{limits_view};
 
 use cp_skel::Limits;
+
+/// The step limit where the words give none, and the greatest that they may give.
+const DEFAULT_LIMIT: u32 = 2_000;
+
+const GREATEST_LIMIT: u32 = 100_000;
 
 /// The bound on the number of strands where the words give none.
 const DEFAULT_BOUND: u32 = 8;
@@ -58,7 +63,7 @@ fn first_setting(words: &[String]) -> Option<(Setting, &[String])>
 fn limits_of(steps: u32, strands: u32) -> Option<Limits>
     ensures { option_map limits_view result ≡ limits_of steps strands }
 {
-    (steps == 0 && (1..=32).contains(&strands)).then_some(Limits { steps, strands })
+    (steps <= GREATEST_LIMIT && (1..=32).contains(&strands)).then_some(Limits { steps, strands })
 }
 
 /// The limits that one option or two set.
@@ -67,6 +72,7 @@ fn limits_set(first: Setting, second: Option<Setting>) -> Option<Limits>
 {
     match (first, second) {
         (Setting::Limit(steps), None) => limits_of(steps, DEFAULT_BOUND),
+        (Setting::Bound(strands), None) => limits_of(DEFAULT_LIMIT, strands),
         (Setting::Limit(steps), Some(Setting::Bound(strands)))
         | (Setting::Bound(strands), Some(Setting::Limit(steps))) => limits_of(steps, strands),
         _ => None,
@@ -88,8 +94,19 @@ fn limits_behind(first: Setting, rest: &[String]) -> Option<Limits>
     }
 }
 
-/// The limits of the command that the words are: a name for the program, `analyse`, and its options, `--limit` with
-/// the number 0 and perhaps `--bound` with a number of 1 to 32; `None` of any other words.
+/// The limits that the options set.
+fn limits_by(options: &[String]) -> Option<Limits>
+    ensures { option_map limits_view result ≡ limits_by (map string_bytes options.now) }
+{
+    if options.is_empty() {
+        return limits_of(DEFAULT_LIMIT, DEFAULT_BOUND);
+    }
+    let (first, rest) = first_setting(options)?;
+    limits_behind(first, rest)
+}
+
+/// The limits of the command that the words are: a name for the program, `analyse`, and its options, each at most once:
+/// `--limit` with a number of at most 100,000, and `--bound` with a number of 1 to 32; `None` of any other words.
 fn command(words: &[String]) -> Option<Limits>
     ensures { option_map limits_view result ≡ command_of (map string_bytes words.now) }
 {
@@ -99,8 +116,7 @@ fn command(words: &[String]) -> Option<Limits>
     if command.as_str() != "analyse" {
         return None;
     }
-    let (first, rest) = first_setting(options)?;
-    limits_behind(first, rest)
+    limits_by(options)
 }
 
 /// Whether the words are a command.

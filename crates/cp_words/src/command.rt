@@ -12,8 +12,8 @@ use std::alloc::Global;
 
 /// The limits that a command's words ask for.
 ///
-/// The words are a name for the program, `analyse` and its options: `--limit` with the number 0, and perhaps `--bound`
-/// with a number of 1 to 32, which is 8 where it does not stand. `Usage` says that the words are no such command, and
+/// The words are a name for the program, `analyse` and its options, each at most once and in any order: `--limit` with a
+/// number of at most 100,000, which is 2,000 where it does not stand, and `--bound` with a number of 1 to 32, which is 8. `Usage` says that the words are no such command, and
 /// `Memory` that they are one, and a growth in memory was refused.
 pub fn read_command(alloc: Global, words: &[String]) -> Result<Limits, WordsError>
     ensures limits { IfOk result (λ limits. command_of (map string_bytes words.now) ≡ Some (limits_view limits)) }

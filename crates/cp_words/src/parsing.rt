@@ -18,7 +18,7 @@ use std::alloc::{AllocError, Global};
 fn description<'a>(alloc: Global) -> Result<Command<'a>, AllocError>
     ensures { IfOk result (λ c. app_of c ≡ described) }
 {
-    let limit = Arg::new(alloc, "limit").long("limit").required(true);
+    let limit = Arg::new(alloc, "limit").long("limit").default_value("2000");
     let bound = Arg::new(alloc, "bound").long("bound").default_value("8");
     let analyse = Command::new(alloc, "analyse").arg(limit)?.arg(bound)?;
     Command::new(alloc, "cpsa").subcommand(analyse)

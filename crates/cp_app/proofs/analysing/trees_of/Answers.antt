@@ -4,9 +4,9 @@ use Rattle.cp_app.proofs.Trees.{AreTreesUpTo, IsBehind, is_stated, none_next, tr
 use Rattle.cp_app.proofs.analysing.trees_of.Goals as goal
 use Rattle.cp_app.proofs.analysing.trees_of.Goals.{in-Some+in_ok-add_tree, in_default}
 
-pub add_tree-requires-clause-analysable : goal.add_tree-requires-clause-analysable
-add_tree-requires-clause-analysable c =
-    c.requires.analysable _ (is_stated c.args.problems.now c.loop-problem.problem-index c.problem-item.result c.in-Some.problem c.loop-problem-test.true c.problem-item.is c.in-Some.is)
+pub add_tree-requires : goal.add_tree-requires
+add_tree-requires c =
+    record { analysable = c.requires.analysable _ (is_stated c.args.problems.now c.loop-problem.problem-index c.problem-item.result c.in-Some.problem c.loop-problem-test.true c.problem-item.is c.in-Some.is) }
 
 pub loop-problem-preserved : goal.loop-problem-preserved
 loop-problem-preserved c =

@@ -12,10 +12,10 @@ returns-in_err-loaded-clause-cause c =
     load_cause c.args.input.now (views c.in_ok-forms.forms.items) c.in_err-loaded.field-0.0 c.from_residual-in_err-loaded.result c.from_residual-in_err-loaded.ensures.1 c.in_ok-forms.ensures.forms
     (rw c.deref.ensures.value at c.in_err-loaded.ensures.refused)
 
-pub trees_of-requires-clause-analysable : goal.trees_of-requires-clause-analysable
-trees_of-requires-clause-analysable c =
+pub trees_of-requires : goal.trees_of-requires
+trees_of-requires c =
     let loaded = c.in_ok-loaded.ensures in
-    rw (sym c.deref-2.ensures.value) at (analysable_problems c.in_ok-loaded.loaded c.deref.result.now loaded.input loaded.forms loaded.problems)
+    record { analysable = rw (sym c.deref-2.ensures.value) at (analysable_problems c.in_ok-loaded.loaded c.deref.result.now loaded.input loaded.forms loaded.problems) }
 
 pub returns-clause-report : goal.returns-clause-report
 returns-clause-report c =

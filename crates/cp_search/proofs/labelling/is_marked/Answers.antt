@@ -1,6 +1,6 @@
 use Rattle.std.proofs.Common.{refl}
 use Rattle.cp_term.proofs.CarriedTerms.{not_both}
-use Rattle.cp_search.proofs.Labels.{marked_here, not_here, none_marked}
+use Rattle.cp_search.proofs.LabelsSoFar.{marked_here, not_here, none_marked}
 use Rattle.cp_search.proofs.labelling.is_marked.Goals as goal
 
 pub returns-then-has_mark : goal.returns-then-has_mark

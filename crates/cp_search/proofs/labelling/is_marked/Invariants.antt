@@ -1,4 +1,4 @@
-use Rattle.cp_search.proofs.Labels.{IsAmongRest}
+use Rattle.cp_search.proofs.LabelsSoFar.{IsAmongRest}
 use Rattle.cp_search.proofs.labelling.is_marked.Given as goal
 
 abbrev pub invariant-loop-label : goal.invariant-loop-label

@@ -1,11 +1,15 @@
-use Rattle.std.proofs.Common.{refl, ◌∙◌}
-use Rattle.cp_search.proofs.Labels.{next_within, next_label, next_labelled}
+use Rattle.std.proofs.Common.{map}
+use Rattle.cp_skel.specs.Trees.{mark_view}
+use Rattle.cp_search.specs.Labelling.{labels_with}
+use Rattle.cp_search.proofs.LabelsSoFar.{same_here, next_labelled}
 use Rattle.cp_search.proofs.labelling.labels.Goals as goal
 
-pub loop-each-preserved : goal.loop-each-preserved
-loop-each-preserved c =
-    let n = c.len.ensures ∙ c.loop-each.labels.ok.0 in
-    let within = next_within c.args.judged.items c.loop-each.rest.items _ c.args.marks.now c.loop-each.labels.items c.in-Some.each c.loop-each.invariant c.in-Some.ensures.items c.len.result n c.requires in
-    next_labelled c.args.judged.items c.loop-each.rest.items _ c.args.marks.now c.loop-each.labels.items c.in-Some.each c.loop-each.invariant c.in-Some.ensures.items c.label.result
-    (next_label c.args.judged.items c.loop-each.rest.items _ c.args.marks.now c.loop-each.labels.items c.in-Some.each c.loop-each.invariant c.in-Some.ensures.items c.len.result _ _ c.label.result n within refl c.label.ensures)
-    _ c.in_ok-push.ensures.items
+pub label-requires : goal.label-requires
+label-requires c =
+    same_here (labels_with c.args.made.items c.args.settled.items (map mark_view c.args.marks.items)) c.loop-made.labels.items c.loop-made.rest.items c.pop.new.self.items c.loop-made.rest_settled.items c.pop-in-Some.new.self.items c.loop-made.rest_marks.items
+    c.in-Some.made c.in-Some-pop.settled c.loop-made.invariant c.in-Some.ensures.items c.in-Some-pop.ensures.items
+
+pub loop-made-preserved : goal.loop-made-preserved
+loop-made-preserved c =
+    next_labelled (labels_with c.args.made.items c.args.settled.items (map mark_view c.args.marks.items)) c.loop-made.labels.items c.loop-made.rest.items c.pop.new.self.items c.loop-made.rest_settled.items c.pop-in-Some.new.self.items c.loop-made.rest_marks.items
+    c.in-Some.made c.in-Some-pop.settled c.loop-made.invariant c.in-Some.ensures.items c.in-Some-pop.ensures.items c.next_mark-mark.result c.next_mark-mark.new.marks.items c.next_mark-mark.ensures c.label.result c.label.ensures c.push.new.self.items c.in_ok-push.ensures.items

@@ -1,5 +1,5 @@
 use Rattle.cp_term.proofs.CarriedTerms.{not_both}
-use Rattle.cp_search.specs.Unexpanded.{some_at_step_limit, some_at_strand_limit, none_at_limit}
+use Rattle.cp_tree.specs.Searched.{some_at_step_limit, some_at_strand_limit, none_at_limit}
 use Rattle.cp_search.proofs.labelling.outcome_of.Goals as goal
 
 pub returns-then-is_marked : goal.returns-then-is_marked

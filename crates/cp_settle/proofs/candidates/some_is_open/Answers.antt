@@ -1,12 +1,10 @@
+use Rattle.std.proofs.Common.{rules, tests}
+use Rattle.std.proofs.lemmas.Iterator.{cases_from_any, YieldsList-from_slice}
 use Rattle.cp_settle.specs.Candidates.{IsOpen}
-use Rattle.cp_collapse.proofs.Having.{item_found, item_passed, no_item}
+use Rattle.cp_settle.specs.declared.candidates.Candidate.{Candidate}
+use Rattle.cp_normal.proofs.Having.{some_has}
 use Rattle.cp_settle.proofs.candidates.some_is_open.Goals as goal
 
-pub returns-then-is_open : goal.returns-then-is_open
-returns-then-is_open c = item_found IsOpen _ _ _ c.loop-candidate-test.true c.candidate-item.is c.is_open.ensures c.if-is_open.true
-
-pub loop-candidate-preserved : goal.loop-candidate-preserved
-loop-candidate-preserved c = item_passed IsOpen _ _ _ c.loop-candidate-test.true c.candidate-item.is c.is_open.ensures c.if-is_open.false c.loop-candidate.invariant
-
 pub returns : goal.returns
-returns c = no_item IsOpen _ _ c.loop-candidate-test.false c.loop-candidate.invariant
+returns c =
+    some_has IsOpen _ _ (cases_from_any _ _ _ IsOpen (λ (d : Candidate). IsOpen d → ⊥) c.any.ensures.ran (YieldsList-from_slice c.args.candidates.now cc) (λ x q k. search (rules, tests)) (λ x q k. search (rules, tests)))

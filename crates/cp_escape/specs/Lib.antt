@@ -1,0 +1,5 @@
+pub mod Sent
+pub mod Escape
+pub mod Closing
+pub mod Widening
+pub mod Using

@@ -1,0 +1,17 @@
+//! Laws of the definitions: each stands as the contract of a function that does nothing.
+ghost use Rattle.std.specs.Prelude.{List, ◌∷◌, [], ◌++◌};
+ghost use Rattle.cp_model.specs.Strand.{Declaration};
+ghost use Rattle.cp_model.specs.Term.{Term};
+ghost use Rattle.cp_model.specs.Tree.{Pattern};
+ghost use Rattle.cp_model.specs.declared.node.Node.{Node};
+ghost use Rattle.cp_model.specs.Problem.{HasDeclaredVariables};
+ghost use Rattle.cp_model.specs.Skeleton.{Skeleton};
+ghost use Rattle.cp_term.specs.declared.path.Step.{Step};
+ghost use Rattle.cp_guard.specs.Guarding.{Guards};
+ghost use Rattle.cp_escape.specs.Widening.{WidensBy};
+
+/// The law that patterns that guard a test guard it still with the pattern that a child, whose variables are declared, gives.
+pub fn widening_keeps_guards()
+    ensures { (ps : List Pattern) (k l : Skeleton) (n : Node) (c : Term) (path : List Step) (p : Pattern) (variables : List Declaration) → HasDeclaredVariables variables l
+        → Guards ps k n c → WidensBy k l path p → Guards (ps ++ p ∷ []) k n c }
+{}

@@ -1,0 +1,132 @@
+-- What is asked for as patterns are added, one after the other.
+use Rattle.std.proofs.Common.{◌≡◌, ℕ, ◌<◌, List, [], ◌∷◌, ◌++◌, length, map, Option, Some, None, Result, Ok, Err, IfOk, refl, sym, ap, subst, ◌∙◌}
+use Rattle.std.proofs.lemmas.List.{length-map}
+use Rattle.cp_lists.specs.Lists.{item_at, IsIn}
+use Rattle.cp_lists.proofs.Items.{item_below, item_still, at_place}
+use Rattle.cp_model.specs.Term.{Variable, Term, variables_of}
+use Rattle.cp_model.specs.Strand.{Declaration, Protocol}
+use Rattle.cp_model.specs.declared.node.Node.{Node}
+use Rattle.cp_model.specs.Skeleton.{Skeleton}
+use Rattle.cp_model.specs.Problem.{declared_sort, IsDeclared, HasDeclaredVariables}
+use Rattle.cp_model.specs.Tree.{Pattern}
+use Rattle.cp_term.specs.Table.{Declared}
+use Rattle.cp_term.specs.declared.variable.Sort.{Sort}
+use Rattle.cp_strand.specs.View.{sort_view}
+use Rattle.cp_term.specs.declared.variable.Sort.TheVariants as sorts
+use Rattle.cp_model.specs.Term as model
+use Rattle.cp_skel.specs.Data.{SkeletonData}
+use Rattle.cp_skel.specs.View.{skeleton_view}
+use Rattle.cp_skel.specs.Trees.{declared_view, variables_view}
+use Rattle.cp_covering.specs.Children.{Child}
+use Rattle.cp_covering.specs.Cohort.{Question}
+use Rattle.cp_covering.specs.Way.{DeclaresMore}
+use Rattle.cp_cohort.specs.Views.{question_of, child_view}
+use Rattle.cp_cohort.specs.declared.child.Child as program
+use Rattle.cp_expansion.specs.Expansion.{asked_under, AreWidened}
+use Rattle.cp_expansion.specs.Widened.{IsGiven}
+
+-- ---- the child that widens
+
+pub place_below : (k : Skeleton) (cs : List program.Child) (place : ℕ) (p : Pattern) → IsGiven k (map child_view cs) place p → place < length cs
+place_below k cs place p g = rw (length-map cs child_view) at (item_below (map child_view cs) place g.child g.at)
+
+pub given_child : (k : Skeleton) (cs : List program.Child) (place : ℕ) (p : Pattern) (c : program.Child) → (g : IsGiven k (map child_view cs) place p) → item_at (map child_view cs) place ≡ Some (child_view c) → g.child ≡ child_view c
+given_child k cs place p c g at = let e : Some g.child ≡ Some (child_view c) = sym g.at ∙ at in cc
+
+pub listed_child : (k : Skeleton) (cs : List program.Child) (place : ℕ) (p : Pattern) → (g : IsGiven k (map child_view cs) place p) → IsIn g.child (map child_view cs)
+listed_child k cs place p g = at_place (map child_view cs) place g.child g.at
+
+-- ---- tables
+
+sort_back : model.Sort → Sort
+sort_back model.text_sort = sorts.Text
+sort_back model.datum_sort = sorts.Datum
+sort_back model.name_sort = sorts.Name
+sort_back model.skey_sort = sorts.Skey
+sort_back model.akey_sort = sorts.Akey
+
+back_again : (s : Sort) → sort_back (sort_view s) ≡ s
+unfolding sort_back
+back_again sorts.Text = refl
+back_again sorts.Datum = refl
+back_again sorts.Name = refl
+back_again sorts.Skey = refl
+back_again sorts.Akey = refl
+
+same_sort : (a b : Sort) → sort_view a ≡ sort_view b → a ≡ b
+same_sort a b e = sym (back_again a) ∙ ap sort_back e ∙ back_again b
+
+same_declared : (d e : Declared) → declared_view d ≡ declared_view e → d ≡ e
+same_declared d e h =
+    let root : d.root ≡ e.root = ap (λ (x : Declaration). x.identifier) h in
+    let sort : d.sort ≡ e.sort = same_sort d.sort e.sort (ap (λ (x : Declaration). x.sort) h) in
+    λ i. record { root = root i; sort = sort i }
+
+pub more_behind : (ds es : List Declared) (more : List Declaration) → variables_view ds ≡ variables_view es ++ more → (rest : List Declared) × (ds ≡ es ++ rest)
+more_behind ds [] more e = (ds, refl)
+more_behind [] (f ∷ es) more e = absurd (cc)
+more_behind (d ∷ ds) (f ∷ es) more e =
+    let first : declared_view d ≡ declared_view f = cc in
+    let others : variables_view ds ≡ variables_view es ++ more = cc in
+    let behind = more_behind ds es more others in
+    (behind.0, λ i. same_declared d f first i ∷ behind.1 i)
+
+still_declared : (ds more : List Declaration) (x : Variable) → IsDeclared ds x → IsDeclared (ds ++ more) x
+still_declared ds more x d = still (item_at ds x.number) refl d
+  where
+    still : (o : Option Declaration) → item_at ds x.number ≡ o → declared_sort o ≡ Some x.sort → IsDeclared (ds ++ more) x
+    still None e f = absurd (cc)
+    still (Some y) e f = ap declared_sort (item_still ds more x.number y e) ∙ f
+
+pub declared_more : (ds es : List Declaration) (k : Skeleton) → DeclaresMore ds es → HasDeclaredVariables ds k → HasDeclaredVariables es k
+declared_more ds es k m h = record {
+  occurring = λ x at. subst (λ fs. IsDeclared fs x) (sym m.behind) (still_declared ds m.more x (h.occurring x at));
+  mapped = λ t x listed at. subst (λ fs. IsDeclared fs x) (sym m.behind) (still_declared ds m.more x (h.mapped t x listed at));
+}
+
+-- ---- the next question
+
+-- One pattern more, and the table of the child that gives it.
+pub record IsNext (k grown : SkeletonData) (old new : List Pattern) (cs : List program.Child) (place : ℕ) (p : Pattern) (child : program.Child) : Type 0 where
+  pub given : IsGiven (skeleton_view k) (map child_view cs) place p
+  pub read : item_at (map child_view cs) place ≡ Some (child_view child)
+  pub sound : (c : Child) → IsIn c (map child_view cs) → DeclaresMore (variables_view k.variables) c.variables × HasDeclaredVariables c.variables c.skeleton
+  pub grew : grown ≡ record k { variables = child.skeleton.variables }
+  pub pushed : new ≡ old ++ p ∷ []
+
+pub grown_skeleton : (k grown : SkeletonData) (vs : List Declared) → grown ≡ record k { variables = vs } → skeleton_view k ≡ skeleton_view grown
+grown_skeleton k grown vs grew = sym (ap skeleton_view grew)
+
+pub grown_declared : (k grown : SkeletonData) (old new : List Pattern) (cs : List program.Child) (place : ℕ) (p : Pattern) (child : program.Child) → IsNext k grown old new cs place p child → HasDeclaredVariables (variables_view k.variables) (skeleton_view k)
+    → HasDeclaredVariables (variables_view grown.variables) (skeleton_view grown)
+grown_declared k grown old new cs place p child n h =
+    let is : n.given.child ≡ child_view child = given_child (skeleton_view k) cs place p child n.given n.read in
+    let more : DeclaresMore (variables_view k.variables) (variables_view child.skeleton.variables) = subst (λ (c : Child). DeclaresMore (variables_view k.variables) c.variables) is (n.sound n.given.child (listed_child (skeleton_view k) cs place p n.given)).0 in
+    subst (λ (s : SkeletonData). HasDeclaredVariables (variables_view s.variables) (skeleton_view s)) (sym n.grew) (declared_more (variables_view k.variables) (variables_view child.skeleton.variables) (skeleton_view k) more h)
+
+pub child_declared : (k grown : SkeletonData) (old new : List Pattern) (cs : List program.Child) (place : ℕ) (p : Pattern) (child : program.Child) → (n : IsNext k grown old new cs place p child) → HasDeclaredVariables n.given.child.variables n.given.child.skeleton
+child_declared k grown old new cs place p child n = (n.sound n.given.child (listed_child (skeleton_view k) cs place p n.given)).1
+
+pub table_behind : (k : SkeletonData) (cs : List program.Child) (place : ℕ) (p : Pattern) (child : program.Child) (vs : List Declared) → (g : IsGiven (skeleton_view k) (map child_view cs) place p) → item_at (map child_view cs) place ≡ Some (child_view child)
+    → ((c : Child) → IsIn c (map child_view cs) → DeclaresMore (variables_view k.variables) c.variables) → vs ≡ child.skeleton.variables → (rest : List Declared) × (vs ≡ k.variables ++ rest)
+table_behind k cs place p child vs g at sound is =
+    let same : g.child ≡ child_view child = given_child (skeleton_view k) cs place p child g at in
+    let more : DeclaresMore (variables_view k.variables) (variables_view child.skeleton.variables) = subst (λ (c : Child). DeclaresMore (variables_view k.variables) c.variables) same (sound g.child (listed_child (skeleton_view k) cs place p g)) in
+    let behind = more_behind child.skeleton.variables k.variables more.more more.behind in
+    (behind.0, is ∙ behind.1)
+
+pub next_question : (k grown : SkeletonData) (n : Node) (c : Term) (old new : List Pattern) (p : Pattern) (child : program.Child) (g : Child) → g ≡ child_view child → grown ≡ record k { variables = child.skeleton.variables } → new ≡ old ++ p ∷ []
+    → question_of grown n c new ≡ asked_under (question_of k n c old) g p
+next_question k grown n c old new p child g is grew pushed =
+    ap (λ (s : SkeletonData). question_of s n c new) grew
+    ∙ ap (λ (ps : List Pattern). question_of (record k { variables = child.skeleton.variables }) n c ps) pushed
+    ∙ ap (λ (d : Child). asked_under (question_of k n c old) d p) (sym is)
+
+pub if_widened : {A E : Type 0} (protocol : Protocol) (first next : Question) (last : A → Question) (children : A → List Child) (r : Result A E) → ((q : Question) (cs : List Child) → AreWidened protocol next q cs → AreWidened protocol first q cs)
+    → IfOk r (λ a. AreWidened protocol next (last a) (children a)) → IfOk r (λ a. AreWidened protocol first (last a) (children a))
+if_widened protocol first next last children (Ok a) on h = on (last a) (children a) h
+if_widened protocol first next last children (Err e) on h = tt
+
+pub if_same : {A E : Type 0} {B : Type 0} (f : A → B) (b c : B) (r : Result A E) → b ≡ c → IfOk r (λ a. f a ≡ b) → IfOk r (λ a. f a ≡ c)
+if_same f b c (Ok a) e h = h ∙ e
+if_same f b c (Err x) e h = tt

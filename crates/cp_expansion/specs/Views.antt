@@ -1,0 +1,16 @@
+-- What expansions of the program stand for.
+use Rattle.std.specs.Prelude.{map}
+use Rattle.cp_skel.specs.Trees.{variables_view, test_view}
+use Rattle.cp_skel.specs.declared.tree.Test.{Test}
+use Rattle.cp_covering.specs.Cohort.{Question}
+use Rattle.cp_cohort.specs.Views.{question_of, child_view}
+use Rattle.cp_expansion.specs.declared.expansion.Expansion as program
+use Rattle.cp_expansion.specs.Expansion.{Expansion}
+
+-- The question that was asked last: of the skeleton with all variables, under all patterns.
+abbrev pub last_question : Test → program.Expansion → Question
+last_question t e = question_of e.skeleton t.node t.term e.patterns.items
+
+-- The expansion by this test.
+abbrev pub expansion_view : Test → program.Expansion → Expansion
+expansion_view t e = record { test = test_view t; variables = variables_view e.skeleton.variables; patterns = e.patterns.items; children = map child_view e.children.items }

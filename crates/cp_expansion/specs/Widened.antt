@@ -1,0 +1,28 @@
+-- Which child widens a set of patterns, as the program finds it.
+use Rattle.std.specs.Prelude.{◌≡◌, ◌<◌, ℕ, List, Option, Some, None, map}
+use Rattle.cp_lists.specs.Lists.{item_at, IsIn}
+use Rattle.cp_model.specs.Skeleton.{Skeleton}
+use Rattle.cp_model.specs.Tree.{by_added_strand, Pattern}
+use Rattle.cp_covering.specs.Children.{Child}
+use Rattle.cp_escape.specs.Widening.{WidensBy}
+use Rattle.cp_cohort.specs.Views.{child_view}
+use Rattle.cp_cohort.specs.declared.child.Child as children
+use Rattle.cp_expansion.specs.declared.widening.Widening.{Widening}
+
+-- The child, with which a strand was added, gives this pattern.
+pub record GivesPattern (k : Skeleton) (c : Child) (p : Pattern) : Type 0 where
+  pub strand : ℕ
+  pub added : c.operation ≡ by_added_strand strand
+  pub widens : WidensBy k c.skeleton c.path p
+
+-- The child at this place gives this pattern, and none before it gives one.
+pub record IsGiven (k : Skeleton) (cs : List Child) (place : ℕ) (p : Pattern) : Type 0 where
+  pub child : Child
+  pub at : item_at cs place ≡ Some child
+  pub gives : GivesPattern k child p
+  pub first : (i : ℕ) (c : Child) (q : Pattern) → i < place → item_at cs i ≡ Some c → GivesPattern k c q → ⊥
+
+-- The first of the children that gives a pattern, with the pattern; none where none gives one.
+abbrev pub FindsWidening : Skeleton → List children.Child → Option Widening → Type 0
+FindsWidening k cs None = (c : Child) (q : Pattern) → IsIn c (map child_view cs) → GivesPattern k c q → ⊥
+FindsWidening k cs (Some w) = IsGiven k (map child_view cs) w.child w.pattern

@@ -1,0 +1,100 @@
+// Expansions of unrealised skeletons.
+ghost use Rattle.std.specs.Prelude.{◌≡◌, List, map, IfOk};
+ghost use Rattle.cp_lists.specs.Lists.{IsIn};
+ghost use Rattle.cp_guard.specs.Critical.{IsTest};
+ghost use Rattle.cp_guard.specs.Guarding.{Guards};
+ghost use Rattle.cp_model.specs.Strand.{Role as PlainRole};
+ghost use Rattle.cp_model.specs.Skeleton.{IsSkeleton};
+ghost use Rattle.cp_model.specs.Problem.{HasDeclaredVariables};
+ghost use Rattle.cp_skel.specs.Sound.{DeclaresItsVariables};
+ghost use Rattle.cp_skel.specs.View.{skeleton_view};
+ghost use Rattle.cp_skel.specs.Trees.{variables_view};
+ghost use Rattle.cp_covering.specs.Children.{Child as PlainChild};
+ghost use Rattle.cp_cohort.specs.Views.{child_view, question_of};
+ghost use Rattle.cp_expansion.specs.Expansion.{AreWidened, IsExpansionOf};
+ghost use Rattle.cp_expansion.specs.Testing.{IsTestOf};
+ghost use Rattle.cp_expansion.specs.Views.{last_question, expansion_view};
+
+use crate::declaring::with_variables;
+use crate::widening::first_widening;
+use cp_cohort::{Child, cohort};
+use cp_escape::{escape, widening_keeps_guards};
+use cp_skel::{Protocol, Skeleton, Test};
+use cp_term::Pattern;
+use std::alloc::{AllocError, Global};
+
+/// A set of patterns is widened while it has fewer.
+const MOST_PATTERNS: usize = 32;
+
+/// The expansion of a skeleton: it with the variables that the patterns' locals take, the patterns that guard its test, and the
+/// children of the test under them.
+#[derive(Drop)]
+pub struct Expansion {
+    pub skeleton: Skeleton,
+    pub patterns: Vec<Pattern>,
+    pub children: Vec<Child>,
+}
+
+/// The children of a test under patterns that guard it, and those under which they are made anew as long as one of them widens
+/// the set.
+fn widened(
+    alloc: Global,
+    protocol: &Protocol,
+    k: &Skeleton,
+    test: &Test,
+    mut patterns: Vec<Pattern>,
+) -> Result<Expansion, AllocError>
+    requires roles { (role : PlainRole) → IsIn role protocol.now.roles → DeclaresItsVariables role }
+    requires skeleton { IsSkeleton protocol.now (skeleton_view k.now) }
+    requires declared { HasDeclaredVariables (variables_view k.now.variables) (skeleton_view k.now) }
+    requires test { IsTest (skeleton_view k.now) test.now.node test.now.term }
+    requires guards { Guards patterns.items (skeleton_view k.now) test.now.node test.now.term }
+    ensures widened { IfOk result (λ e. AreWidened protocol.now (question_of k.now test.now.node test.now.term patterns.items) (last_question test.now e) (map child_view e.children.items)) }
+    ensures same { IfOk result (λ e. skeleton_view e.skeleton ≡ skeleton_view k.now) }
+    ensures sound { IfOk result (λ e. (c : PlainChild) → IsIn c (map child_view e.children.items) → IsSkeleton protocol.now c.skeleton × HasDeclaredVariables c.variables c.skeleton) }
+{
+    widening_keeps_guards();
+    let children = cohort(alloc, protocol, k, test.node, &test.term, &patterns)?;
+    if patterns.len() >= MOST_PATTERNS {
+        let skeleton = k.copy(alloc)?;
+        return Ok(Expansion {
+            skeleton,
+            patterns,
+            children,
+        });
+    }
+    let Some(widening) = first_widening(alloc, k, &children)? else {
+        let skeleton = k.copy(alloc)?;
+        return Ok(Expansion {
+            skeleton,
+            patterns,
+            children,
+        });
+    };
+    let grown = with_variables(alloc, k, children[widening.child].skeleton.variables())?;
+    patterns.push(widening.pattern)?;
+    widened(alloc, protocol, &grown, test, patterns)
+}
+
+/// The expansion of a skeleton by its test. The patterns are those of the escape set; and while they are fewer than 32 the first
+/// of the children with an added strand that gives a pattern adds it, and the children are made anew.
+///
+/// The skeleton has to be one over the protocol, with declared variables, each role of the protocol has to declare the variables of
+/// its events, and the test has to be the skeleton's. The error is that memory ran out.
+pub fn expand(
+    alloc: Global,
+    protocol: &Protocol,
+    k: &Skeleton,
+    test: &Test,
+) -> Result<Expansion, AllocError>
+    requires roles { (role : PlainRole) → IsIn role protocol.now.roles → DeclaresItsVariables role }
+    requires skeleton { IsSkeleton protocol.now (skeleton_view k.now) }
+    requires declared { HasDeclaredVariables (variables_view k.now.variables) (skeleton_view k.now) }
+    requires test { IsTestOf (skeleton_view k.now) test.now.node test.now.term }
+    ensures exact { IfOk result (λ e. IsExpansionOf protocol.now (variables_view k.now.variables) (skeleton_view k.now) (expansion_view test.now e)) }
+    ensures same { IfOk result (λ e. skeleton_view e.skeleton ≡ skeleton_view k.now) }
+    ensures sound { IfOk result (λ e. (c : PlainChild) → IsIn c (map child_view e.children.items) → IsSkeleton protocol.now c.skeleton × HasDeclaredVariables c.variables c.skeleton) }
+{
+    let patterns = escape(alloc, k, test.node, &test.term)?;
+    widened(alloc, protocol, k, test, patterns)
+}

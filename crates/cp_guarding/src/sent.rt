@@ -1,0 +1,73 @@
+// What role strands send before a node.
+ghost use Rattle.std.specs.Prelude.{◌↔◌, IsTrue, IfOk};
+ghost use Rattle.cp_lists.specs.Lists.{IsIn};
+ghost use Rattle.cp_model.specs.Skeleton.{IsNodeOf};
+ghost use Rattle.cp_skel.specs.Events.{occurrence_view, events_of};
+ghost use Rattle.cp_skel.specs.View.{skeleton_view};
+ghost use Rattle.cp_guarding.specs.Sent.{IsGuardedAt, SendInsideAlone};
+
+use crate::testing::event_at;
+use cp_match::first_outside;
+use cp_skel::{Event, Node, Occurrence, Skeleton};
+use cp_term::{Pattern, Term};
+use cp_unify::Subst;
+use std::alloc::{AllocError, Global};
+
+/// Whether the event, where a role strand sends it before the node, carries the critical term inside the patterns alone.
+fn is_guarded_at(
+    alloc: Global,
+    k: &Skeleton,
+    node: Node,
+    critical: &Term,
+    patterns: &[Pattern],
+    occurrence: &Occurrence,
+) -> Result<bool, AllocError>
+    requires there { IsNodeOf (skeleton_view k.now).strands node }
+    requires listed { IsIn (occurrence_view occurrence.now) (events_of (skeleton_view k.now)) }
+    ensures { IfOk result (λ answer. IsTrue answer ↔ IsGuardedAt patterns.now (skeleton_view k.now) node critical.now (occurrence_view occurrence.now)) }
+{
+    let Event::Send(message) = &occurrence.event else {
+        return Ok(true);
+    };
+    if !occurrence.by_role || !k.before(occurrence.node, node) {
+        return Ok(true);
+    }
+    let nothing = Subst::new(alloc);
+    match first_outside(alloc, patterns, &nothing, critical, message)? {
+        Some(_) => Ok(false),
+        None => Ok(true),
+    }
+}
+
+/// Whether there is an event at the node.
+fn is_there(alloc: Global, k: &Skeleton, node: Node) -> Result<bool, AllocError>
+    ensures { IfOk result (λ there. IsTrue there ↔ IsNodeOf (skeleton_view k.now).strands node) }
+{
+    match event_at(alloc, k, node)? {
+        Some(_) => Ok(true),
+        None => Ok(false),
+    }
+}
+
+/// Whether each transmission of a role strand before the node carries the critical term inside the patterns alone.
+pub(crate) fn send_inside_alone(
+    alloc: Global,
+    k: &Skeleton,
+    node: Node,
+    critical: &Term,
+    patterns: &[Pattern],
+) -> Result<bool, AllocError>
+    ensures { IfOk result (λ answer. IsTrue answer ↔ SendInsideAlone patterns.now (skeleton_view k.now) node critical.now) }
+{
+    k.is_sound();
+    if !is_there(alloc, k, node)? {
+        return Ok(true);
+    }
+    let occurrences = k.events(alloc)?;
+    for occurrence in &occurrences {
+        if !is_guarded_at(alloc, k, node, critical, patterns, occurrence)? {
+            return Ok(false);
+        }
+    }
+    Ok(true)
+}

@@ -1,0 +1,7 @@
+pub mod Lines
+pub mod Families
+pub mod Words
+pub mod Parts
+pub mod Counting
+pub mod Sections
+pub mod Items

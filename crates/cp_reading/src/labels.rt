@@ -1,0 +1,200 @@
+// Label forms: where one does not fit.
+ghost use Rattle.std.specs.Prelude.{◌≡◌, ◌==◌, ◌&&◌, ◌++◌, [], if◌then◌else◌, length, map, option_map, IfOk, OnOk};
+ghost use Rattle.cp_sexpr.specs.View.{view};
+ghost use Rattle.cp_load.specs.Drafts.{draft_view};
+ghost use Rattle.cp_report.specs.Skeletons.{scope_of, strands_misfits, around_strands_misfits};
+ghost use Rattle.cp_report.specs.Misfits.{number_misfits};
+ghost use Rattle.cp_report.specs.Labels.{about_strands_misfits, items_misfits, label_misfits};
+ghost use Rattle.cp_spelled.specs.FirstMisfit.{first_onto};
+ghost use Rattle.cp_spelled.specs.Views.{scope_view};
+ghost use Rattle.cp_reading.specs.Families.{labels_of};
+ghost use Rattle.cp_reading.specs.Parts.{is_fitting};
+ghost use Rattle.cp_reading.specs.Items.{IsSetting};
+
+use crate::about::{about_strands_misfits, escape_item_misfits};
+use crate::family::Family;
+use crate::heads::mark_item;
+use crate::items::{
+    children_item_misfits, has_children, missing_if, no_parent_misfits, operation_item_misfits,
+    order_item_misfits, parent_item_misfits, variables_item,
+};
+use crate::marks::mark_misfits;
+use cp_base::Place;
+use cp_forms::{items_behind, place_of};
+use cp_load::Draft;
+use cp_sexpr::Form;
+use cp_skel::Strand;
+use cp_spelled::{FirstMisfit, Locals, Scope, Variables};
+use cp_stated::{around_strands_misfits, strands_misfits, strands_of};
+use std::alloc::{AllocError, Global};
+
+/// What label forms are judged by: the problem, its variables under their names in a report, and the family of the tree,
+/// where it is whole; and where memory comes from.
+#[derive(Clone, Copy)]
+pub(crate) struct Setting<'a> {
+    pub(crate) alloc: Global,
+    pub(crate) problem: &'a Draft,
+    pub(crate) names: &'a Variables,
+    pub(crate) tree: Option<&'a Family<'a>>,
+}
+
+/// A label form behind its number: the number that the label has, the place of the form, and its items.
+#[derive(Clone, Copy)]
+struct Labelled<'a> {
+    number: usize,
+    place: Place,
+    items: &'a [Form],
+}
+
+/// The strands have to fit; whether they do.
+fn strands_item_misfits(
+    setting: Setting<'_>,
+    scope: Scope<'_>,
+    items: &[Form],
+    first: &mut FirstMisfit,
+) -> Result<bool, AllocError>
+    requires { scope_view scope ≡ scope_of (map view items.now) }
+    ensures fit { IfOk result (λ b. b ≡ is_fitting (strands_misfits (draft_view setting.entry.problem.now) (map view items.now))) }
+    ensures misfits { OnOk result (first.new ≡ first_onto first.old (strands_misfits (draft_view setting.entry.problem.now) (map view items.now))) }
+{
+    let mut inside = FirstMisfit::new();
+    let roles = setting.problem.protocol.roles();
+    strands_misfits(setting.alloc, roles, scope, items, &mut inside)?;
+    let fit = inside.is_none();
+    first.merge(inside);
+    Ok(fit)
+}
+
+/// Where the items behind the strands, and all that speak of these, do not fit.
+fn behind_strands_misfits(
+    setting: Setting<'_>,
+    scope: Scope<'_>,
+    label: Labelled<'_>,
+    first: &mut FirstMisfit,
+) -> Result<(), AllocError>
+    requires setting { IsSetting setting }
+    requires scope { scope_view scope ≡ scope_of (map view label.items.now) }
+    ensures { OnOk result (first.new ≡ first_onto first.old
+        (around_strands_misfits (draft_view setting.entry.problem.now) label.entry.place (map view label.entry.items.now)
+        ++ about_strands_misfits (draft_view setting.entry.problem.now) (map view label.entry.items.now))) }
+{
+    let Setting {
+        alloc,
+        problem,
+        names,
+        ..
+    } = setting;
+    let Labelled { place, items, .. } = label;
+    let strands = strands_of(alloc, problem.protocol.roles(), scope, items)?;
+    around_strands_misfits(alloc, problem, names, scope, &strands, place, items, first)?;
+    about_strands_misfits(scope, &strands, items, first);
+    Ok(())
+}
+
+/// Where the items behind the strands, and all that speak of these, do not fit, where it is asked.
+fn behind_strands_if(
+    is_asked: bool,
+    setting: Setting<'_>,
+    scope: Scope<'_>,
+    label: Labelled<'_>,
+    first: &mut FirstMisfit,
+) -> Result<(), AllocError>
+    requires setting { IsSetting setting }
+    requires scope { scope_view scope ≡ scope_of (map view label.items.now) }
+    ensures { OnOk result (first.new ≡ first_onto first.old (if is_asked
+        then around_strands_misfits (draft_view setting.entry.problem.now) label.entry.place (map view label.entry.items.now)
+        ++ about_strands_misfits (draft_view setting.entry.problem.now) (map view label.entry.items.now)
+        else [])) }
+{
+    if is_asked {
+        behind_strands_misfits(setting, scope, label, first)
+    } else {
+        Ok(())
+    }
+}
+
+/// How many strands the problem has.
+fn strand_count(problem: &Draft) -> usize
+    ensures { result ≡ length (draft_view problem.now).skeleton.strands }
+{
+    let strands: &[Strand] = &problem.skeleton.strands;
+    strands.len()
+}
+
+/// Whether the items stand in the order and the strands fit.
+fn are_fitting(is_ordered: bool, strands_fit: bool) -> bool
+    ensures { result ≡ (is_ordered && strands_fit) }
+{
+    is_ordered && strands_fit
+}
+
+/// Where the items of a label form do not fit.
+fn items_misfits(
+    setting: Setting<'_>,
+    label: Labelled<'_>,
+    first: &mut FirstMisfit,
+) -> Result<(), AllocError>
+    requires { IsSetting setting }
+    ensures { OnOk result (first.new ≡ first_onto first.old (items_misfits (draft_view setting.entry.problem.now)
+        (option_map (λ f. labels_of f.now) setting.entry.tree) label.entry.number label.entry.place (map view label.entry.items.now))) }
+{
+    let Labelled {
+        number,
+        place,
+        items,
+    } = label;
+    let is_ordered = order_item_misfits(items, first);
+    missing_if(is_ordered, place, items, first);
+    no_parent_misfits(items, first);
+    parent_item_misfits(setting.tree, number, items, first);
+    operation_item_misfits(strand_count(setting.problem), items, first);
+    let variables = variables_item(setting.alloc, items, first)?;
+    let locals = Locals::new(setting.alloc);
+    let scope = Scope {
+        variables: &variables,
+        in_pattern: false,
+        locals: &locals,
+    };
+    let fit = strands_item_misfits(setting, scope, items, first)?;
+    let is_asked = are_fitting(is_ordered, fit);
+    behind_strands_if(is_asked, setting, scope, label, first)?;
+    escape_item_misfits(setting.alloc, &variables, items, first)?;
+    children_item_misfits(setting.alloc, setting.tree, number, items, first)?;
+    mark_misfits(setting.tree, has_children(items), mark_item(items), first);
+    Ok(())
+}
+
+/// The number of the label has to stand here.
+fn number_misfits(number: usize, form: &Form, first: &mut FirstMisfit)
+    ensures { first.new ≡ first_onto first.old (number_misfits (λ n. n == number) (view form.now)) }
+{
+    match form {
+        Form::Number(place, stated) => first.note_unless(*stated == number, *place),
+        _ => first.note(place_of(form)),
+    }
+}
+
+/// Where the form of a label with this number does not fit. The error is that memory ran out.
+pub(crate) fn label_misfits(
+    setting: Setting<'_>,
+    number: usize,
+    form: &Form,
+    first: &mut FirstMisfit,
+) -> Result<(), AllocError>
+    requires { IsSetting setting }
+    ensures { OnOk result (first.new ≡ first_onto first.old (label_misfits (draft_view setting.entry.problem.now)
+        (option_map (λ f. labels_of f.now) setting.entry.tree) number (view form.now))) }
+{
+    let place = place_of(form);
+    let Some((stated, items)) = items_behind(form).split_first() else {
+        first.note(place);
+        return Ok(());
+    };
+    number_misfits(number, stated, first);
+    let label = Labelled {
+        number,
+        place,
+        items,
+    };
+    items_misfits(setting, label, first)
+}

@@ -1,0 +1,136 @@
+// The order of the items of a label form.
+ghost use Rattle.std.specs.Prelude.{◌≡◌, map};
+ghost use Rattle.cp_sexpr.specs.View.{view};
+ghost use Rattle.cp_language.specs.Words.{is_one_of};
+ghost use Rattle.cp_report.specs.Heads.{has_head, lines_of_label, lines_from, lines_behind, order_misfits};
+ghost use Rattle.cp_spelled.specs.FirstMisfit.{first_onto};
+ghost use Rattle.cp_reading.specs.Lines.{line_view};
+
+use cp_forms::{headed, is_word, place_of};
+use cp_sexpr::Form;
+use cp_spelled::FirstMisfit;
+
+/// One kind of item: its heads, and whether it may stand again and again.
+#[derive(Clone, Copy)]
+struct Line {
+    heads: &'static [&'static str],
+    repeats: bool,
+}
+
+/// The items of a label form in the order in which they stand.
+const LINES: &[Line] = &[
+    Line {
+        heads: &["parent"],
+        repeats: false,
+    },
+    Line {
+        heads: &["by"],
+        repeats: false,
+    },
+    Line {
+        heads: &["vars"],
+        repeats: false,
+    },
+    Line {
+        heads: &["defstrand", "deflistener"],
+        repeats: true,
+    },
+    Line {
+        heads: &["precedes"],
+        repeats: false,
+    },
+    Line {
+        heads: &["non-orig"],
+        repeats: false,
+    },
+    Line {
+        heads: &["pen-non-orig"],
+        repeats: false,
+    },
+    Line {
+        heads: &["uniq-orig"],
+        repeats: false,
+    },
+    Line {
+        heads: &["map"],
+        repeats: false,
+    },
+    Line {
+        heads: &["unrealised"],
+        repeats: false,
+    },
+    Line {
+        heads: &["test"],
+        repeats: false,
+    },
+    Line {
+        heads: &["escape"],
+        repeats: false,
+    },
+    Line {
+        heads: &["children"],
+        repeats: false,
+    },
+    Line {
+        heads: &["shape", "dead", "seen", "instance-of", "limit"],
+        repeats: false,
+    },
+];
+
+/// Whether a word is one of these.
+fn is_one_of(word: &[u8], words: &[&str]) -> bool
+    ensures { result ≡ is_one_of word.now (map (λ w. w.now) words.now) }
+{
+    for other in words {
+        if is_word(word, other.as_bytes()) {
+            return true;
+        }
+    }
+    false
+}
+
+/// Whether a form is a list with one of these heads.
+fn has_head(form: &Form, heads: &[&str]) -> bool
+    ensures { result ≡ has_head (map (λ w. w.now) heads.now) (view form.now) }
+{
+    match headed(form) {
+        Some(list) => is_one_of(list.head, heads),
+        None => false,
+    }
+}
+
+/// The lines from that of this form on; none where it is an item of none of them.
+fn lines_from<'a>(form: &Form, lines: &'a [Line]) -> &'a [Line]
+    ensures { map line_view result.now ≡ lines_from (view form.now) (map line_view lines.now) }
+{
+    for (place, line) in lines.iter().enumerate() {
+        if has_head(form, line.heads) {
+            let (_, own) = lines.split_at(place);
+            return own;
+        }
+    }
+    &[]
+}
+
+/// The lines that may follow, where those from the item's own on are the second: all of them behind a misplaced one.
+fn lines_behind<'a>(lines: &'a [Line], own: &'a [Line]) -> &'a [Line]
+    ensures { map line_view result.now ≡ lines_behind (map line_view lines.now) (map line_view own.now) }
+{
+    match own.split_first() {
+        None => lines,
+        Some((line, _)) if line.repeats => own,
+        Some((_, behind)) => behind,
+    }
+}
+
+/// The items of a label form have to be such, and to stand in the order.
+pub(crate) fn order_misfits(items: &[Form], first: &mut FirstMisfit)
+    ensures { first.new ≡ first_onto first.old (order_misfits lines_of_label (map view items.now)) }
+{
+    let mut lines = LINES;
+    for item in items {
+        let own = lines_from(item, lines);
+        first.note_unless(!own.is_empty(), place_of(item));
+        lines = lines_behind(lines, own);
+    }
+}

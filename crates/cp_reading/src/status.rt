@@ -1,0 +1,268 @@
+// Status forms: where one does not fit, and the outcome that it states.
+ghost use Rattle.std.specs.Prelude.{◌≡◌, [], ◌∷◌, codes, map};
+ghost use Rattle.cp_sexpr.specs.View.{view};
+ghost use Rattle.cp_language.specs.Words.{is_one_of};
+ghost use Rattle.cp_report.specs.Misfits.{symbol_misfits, entries_misfits};
+ghost use Rattle.cp_report.specs.ReadBack.{word_misfits, count_misfits, behind_outcome, outcome_of};
+ghost use Rattle.cp_skel.specs.Trees.{outcome_view};
+ghost use Rattle.cp_spelled.specs.FirstMisfit.{first_onto};
+ghost use Rattle.cp_reading.specs.Parts.{is_fitting};
+ghost use Rattle.cp_reading.specs.Counting.{AreCountsIn, is_tested, is_shape, count_of, shape_kinds, expanded_kinds, count_kinds, status_entries_misfits, status_form_misfits, limit_outcome, outcome_in};
+
+use crate::heads::{items_of_label, mark_item, name_in_front};
+use crate::marks::{limit_misfits, mark_of};
+use cp_base::Place;
+use cp_forms::{is_word, items_behind, place_of, symbol_or_empty};
+use cp_sexpr::Form;
+use cp_skel::{Mark, Outcome};
+use cp_spelled::{FirstMisfit, no_more};
+use cp_stated::item_with;
+
+/// How many labels a tree has, how many of them have a test, and how many are shapes.
+#[derive(Clone, Copy)]
+pub(crate) struct Counts {
+    pub(crate) labels: usize,
+    pub(crate) expanded: usize,
+    pub(crate) shapes: usize,
+}
+
+/// Whether a label form has a test.
+fn is_tested(form: &Form) -> bool
+    ensures { result ≡ is_tested (view form.now) }
+{
+    item_with(items_of_label(form), b"test").is_some()
+}
+
+/// Whether a label form has the mark of a shape.
+fn is_shape(form: &Form) -> bool
+    ensures { result ≡ is_shape (view form.now) }
+{
+    matches!(mark_of(mark_item(items_of_label(form))), Some(Mark::Shape))
+}
+
+/// How many of the label forms have a test.
+fn tested_count(labels: &[Form]) -> usize
+    ensures { result ≡ count_of is_tested (map view labels.now) }
+{
+    let mut count = 0;
+    for label in labels {
+        if is_tested(label) {
+            count += 1;
+        }
+    }
+    count
+}
+
+/// How many of the label forms have the mark of a shape.
+fn shape_count(labels: &[Form]) -> usize
+    ensures { result ≡ count_of is_shape (map view labels.now) }
+{
+    let mut count = 0;
+    for label in labels {
+        if is_shape(label) {
+            count += 1;
+        }
+    }
+    count
+}
+
+/// The counts of a tree with these label forms.
+pub(crate) fn counts_of(labels: &[Form]) -> Counts
+    ensures { AreCountsIn (map view labels.now) result }
+{
+    Counts {
+        labels: labels.len(),
+        expanded: tested_count(labels),
+        shapes: shape_count(labels),
+    }
+}
+
+/// This word has to stand here.
+fn word_misfits(word: &[u8], form: &Form, first: &mut FirstMisfit)
+    ensures { first.new ≡ first_onto first.old (word_misfits word.now (view form.now)) }
+{
+    match form {
+        Form::Symbol(place, text) => first.note_unless(is_word(text.as_bytes(), word), *place),
+        _ => first.note(place_of(form)),
+    }
+}
+
+/// This number has to stand here.
+fn count_misfits(count: usize, form: &Form, first: &mut FirstMisfit)
+    ensures { first.new ≡ first_onto first.old (count_misfits count (view form.now)) }
+{
+    match form {
+        Form::Number(place, number) => first.note_unless(*number == count, *place),
+        _ => first.note(place_of(form)),
+    }
+}
+
+/// The number of shapes has to stand in a list at this place.
+fn shapes_misfits(counts: Counts, place: Place, items: &[Form], first: &mut FirstMisfit)
+    ensures { first.new ≡ first_onto first.old (entries_misfits (count_misfits counts.shapes ∷ []) place (map view items.now)) }
+{
+    let Some((number, rest)) = items.split_first() else {
+        first.note(place);
+        return;
+    };
+    count_misfits(counts.shapes, number, first);
+    no_more(rest, first);
+}
+
+/// The shapes with their number have to stand in a list at this place.
+fn shapes_word_misfits(counts: Counts, place: Place, items: &[Form], first: &mut FirstMisfit)
+    ensures { first.new ≡ first_onto first.old (entries_misfits (shape_kinds counts) place (map view items.now)) }
+{
+    let Some((word, rest)) = items.split_first() else {
+        first.note(place);
+        return;
+    };
+    word_misfits(b"shapes", word, first);
+    shapes_misfits(counts, place, rest, first);
+}
+
+/// The number of labels with a test has to stand in a list at this place, and then the shapes.
+fn expanded_misfits(counts: Counts, place: Place, items: &[Form], first: &mut FirstMisfit)
+    ensures { first.new ≡ first_onto first.old (entries_misfits (count_misfits counts.expanded ∷ shape_kinds counts) place (map view items.now)) }
+{
+    let Some((number, rest)) = items.split_first() else {
+        first.note(place);
+        return;
+    };
+    count_misfits(counts.expanded, number, first);
+    shapes_word_misfits(counts, place, rest, first);
+}
+
+/// The labels with a test with their number have to stand in a list at this place, and then the shapes.
+fn expanded_word_misfits(counts: Counts, place: Place, items: &[Form], first: &mut FirstMisfit)
+    ensures { first.new ≡ first_onto first.old (entries_misfits (expanded_kinds counts) place (map view items.now)) }
+{
+    let Some((word, rest)) = items.split_first() else {
+        first.note(place);
+        return;
+    };
+    word_misfits(b"expanded", word, first);
+    expanded_misfits(counts, place, rest, first);
+}
+
+/// The number of labels has to stand in a list at this place, and then the other counts.
+fn labels_misfits(counts: Counts, place: Place, items: &[Form], first: &mut FirstMisfit)
+    ensures { first.new ≡ first_onto first.old (entries_misfits (count_misfits counts.labels ∷ expanded_kinds counts) place (map view items.now)) }
+{
+    let Some((number, rest)) = items.split_first() else {
+        first.note(place);
+        return;
+    };
+    count_misfits(counts.labels, number, first);
+    expanded_word_misfits(counts, place, rest, first);
+}
+
+/// The counts have to stand in a list at this place, each behind its word.
+fn counts_misfits(counts: Counts, place: Place, items: &[Form], first: &mut FirstMisfit)
+    ensures { first.new ≡ first_onto first.old (entries_misfits (count_kinds counts) place (map view items.now)) }
+{
+    let Some((word, rest)) = items.split_first() else {
+        first.note(place);
+        return;
+    };
+    word_misfits(b"labels", word, first);
+    labels_misfits(counts, place, rest, first);
+}
+
+/// The kind of limit and the counts have to stand in a list at this place.
+fn limit_counts_misfits(counts: Counts, place: Place, items: &[Form], first: &mut FirstMisfit)
+    ensures { first.new ≡ first_onto first.old (entries_misfits
+        (symbol_misfits (λ t. is_one_of t (codes "steps" ∷ codes "strands" ∷ [])) ∷ count_kinds counts) place (map view items.now)) }
+{
+    let Some((word, rest)) = items.split_first() else {
+        first.note(place);
+        return;
+    };
+    limit_misfits(word, first);
+    counts_misfits(counts, place, rest, first);
+}
+
+/// What belongs to the first word of an outcome has to stand behind it in a list at this place.
+fn behind_outcome_misfits(
+    word: &[u8],
+    counts: Counts,
+    place: Place,
+    items: &[Form],
+    first: &mut FirstMisfit,
+)
+    ensures { first.new ≡ first_onto first.old (entries_misfits (behind_outcome word.now (count_kinds counts)) place (map view items.now)) }
+{
+    if is_word(word, b"limit") {
+        limit_counts_misfits(counts, place, items, first);
+    } else {
+        counts_misfits(counts, place, items, first);
+    }
+}
+
+/// Whether a form is the first word of an outcome.
+fn names_outcome(form: &Form) -> bool
+    ensures { result ≡ is_fitting (symbol_misfits (λ t. is_one_of t (codes "complete" ∷ codes "limit" ∷ [])) (view form.now)) }
+{
+    let Form::Symbol(_, word) = form else {
+        return false;
+    };
+    let word = word.as_bytes();
+    is_word(word, b"complete") || is_word(word, b"limit")
+}
+
+/// An outcome and the counts have to stand in a list at this place.
+fn status_entries_misfits(counts: Counts, place: Place, items: &[Form], first: &mut FirstMisfit)
+    ensures { first.new ≡ first_onto first.old (status_entries_misfits counts place (map view items.now)) }
+{
+    let Some((word, rest)) = items.split_first() else {
+        first.note(place);
+        return;
+    };
+    if names_outcome(word) {
+        behind_outcome_misfits(symbol_or_empty(word), counts, place, rest, first);
+    } else {
+        first.note(place_of(word));
+    }
+}
+
+/// Where a status form does not fit behind labels with these counts.
+pub(crate) fn status_misfits(counts: Counts, form: &Form, first: &mut FirstMisfit)
+    ensures { first.new ≡ first_onto first.old (status_form_misfits counts (view form.now)) }
+{
+    status_entries_misfits(counts, place_of(form), items_behind(form), first);
+}
+
+/// The kind of limit that a word in front stands for.
+fn limit_outcome(items: &[Form]) -> Outcome
+    ensures { outcome_view result ≡ limit_outcome (map view items.now) }
+{
+    if is_word(name_in_front(items), b"steps") {
+        Outcome::LimitSteps
+    } else {
+        Outcome::LimitStrands
+    }
+}
+
+/// The outcome that the entries of a status form state.
+fn outcome_of(items: &[Form]) -> Outcome
+    ensures { outcome_view result ≡ outcome_of (map view items.now) }
+{
+    let Some((word, rest)) = items.split_first() else {
+        return Outcome::Complete;
+    };
+    if is_word(symbol_or_empty(word), b"complete") {
+        Outcome::Complete
+    } else {
+        limit_outcome(rest)
+    }
+}
+
+/// The outcome that the first of these forms states; where there is none it is complete.
+pub(crate) fn outcome_in(behind: &[Form]) -> Outcome
+    ensures { outcome_view result ≡ outcome_in (map view behind.now) }
+{
+    match behind {
+        [] => Outcome::Complete,
+        [status, ..] => outcome_of(items_behind(status)),
+    }
+}

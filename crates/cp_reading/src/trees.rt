@@ -1,0 +1,116 @@
+// Trees: where what stands behind a problem fits none.
+ghost use Rattle.std.specs.Prelude.{◌≡◌, [], map, option_map, Some, IfOk, OnOk, IfSome};
+ghost use Rattle.cp_sexpr.specs.View.{view};
+ghost use Rattle.cp_load.specs.Drafts.{draft_view};
+ghost use Rattle.cp_report.specs.ReadBack.{places_of, labels_misfits, if_whole, tree_misfits};
+ghost use Rattle.cp_spelled.specs.FirstMisfit.{first_onto};
+ghost use Rattle.cp_reading.specs.Families.{labels_of, IsFamily};
+ghost use Rattle.cp_reading.specs.Items.{IsSetting};
+ghost use Rattle.cp_reading.specs.Counting.{ending_form_misfits};
+
+use crate::family::{Family, family_of};
+use crate::labels::{Setting, label_misfits};
+use crate::sections::split_at_labels;
+use crate::status::{Counts, counts_of, status_misfits};
+use cp_base::Place;
+use cp_forms::place_of;
+use cp_load::Draft;
+use cp_sexpr::Form;
+use cp_spelled::FirstMisfit;
+use cp_stated::problem_variables;
+use std::alloc::{AllocError, Global};
+
+/// None of these forms may stand where it does.
+pub(crate) fn none_may_stand(forms: &[Form], first: &mut FirstMisfit)
+    ensures { first.new ≡ first_onto first.old (places_of (map view forms.now)) }
+{
+    for form in forms {
+        first.note(place_of(form));
+    }
+}
+
+/// Where the label forms of a tree do not fit.
+fn labels_misfits(
+    setting: Setting<'_>,
+    labels: &[Form],
+    first: &mut FirstMisfit,
+) -> Result<(), AllocError>
+    requires { IsSetting setting }
+    ensures { OnOk result (first.new ≡ first_onto first.old (labels_misfits (draft_view setting.entry.problem.now)
+        (option_map (λ f. labels_of f.now) setting.entry.tree) 0 (map view labels.now))) }
+{
+    for (number, label) in labels.iter().enumerate() {
+        label_misfits(setting, number, label, first)?;
+    }
+    Ok(())
+}
+
+/// One status form has to stand behind labels with these counts, before the next form of the input, which stands here.
+fn ending_misfits(counts: Counts, next: Place, behind: &[Form], first: &mut FirstMisfit)
+    ensures { first.new ≡ first_onto first.old (ending_form_misfits counts next (map view behind.now)) }
+{
+    let Some((status, others)) = behind.split_first() else {
+        first.note(next);
+        return;
+    };
+    status_misfits(counts, status, first);
+    none_may_stand(others, first);
+}
+
+/// The family of these label forms, where what stands behind them makes the tree whole.
+fn family_if_whole<'a>(
+    alloc: Global,
+    labels: &'a [Form],
+    behind: &[Form],
+) -> Result<Option<Family<'a>>, AllocError>
+    ensures labels { IfOk result (λ o. option_map labels_of o ≡ if_whole (map view labels.now) (map view behind.now)) }
+    ensures stated { IfOk result (λ o. IfSome o IsFamily) }
+{
+    match behind {
+        [] => Ok(None),
+        [_, ..] => Ok(Some(family_of(alloc, labels)?)),
+    }
+}
+
+/// Where what stands behind a problem, before the next form of the input, which stands here, is no tree for it.
+fn tree_misfits(
+    alloc: Global,
+    problem: &Draft,
+    next: Place,
+    behind: &[Form],
+    first: &mut FirstMisfit,
+) -> Result<(), AllocError>
+    ensures { OnOk result (first.new ≡ first_onto first.old (tree_misfits (Some (draft_view problem.now)) next (map view behind.now))) }
+{
+    let (labels, ending) = split_at_labels(behind);
+    let family = family_if_whole(alloc, labels, ending)?;
+    let names = problem_variables(alloc, problem)?;
+    let setting = Setting {
+        alloc,
+        problem,
+        names: &names,
+        tree: family.as_ref(),
+    };
+    labels_misfits(setting, labels, first)?;
+    ending_misfits(counts_of(labels), next, ending, first);
+    Ok(())
+}
+
+/// Where what stands behind a form of the input, before the next one, which stands here, is not what has to stand there.
+pub(crate) fn behind_misfits(
+    alloc: Global,
+    problem: Option<&Draft>,
+    next: Place,
+    behind: &[Form],
+    first: &mut FirstMisfit,
+) -> Result<(), AllocError>
+    ensures { OnOk result (first.new ≡ first_onto first.old (tree_misfits (option_map (λ d. draft_view d.now) problem.entry) next (map view behind.now))) }
+{
+    match problem {
+        Some(problem) => tree_misfits(alloc, problem, next, behind, first),
+        None => {
+            none_may_stand(behind, first);
+            Ok(())
+        }
+    }
+}

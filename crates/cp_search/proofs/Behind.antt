@@ -1,0 +1,166 @@
+-- Labels that are made behind others.
+use Rattle.std.proofs.Common.{◌≡◌, ◌⊎◌, inl, inr, ◌∙◌, ℕ, ◌<◌, List, [], ◌∷◌, ◌++◌, length, map, take, Bool, true, false, Option, Some, None, IfSome, refl, sym, ap, subst, arith}
+use Rattle.std.proofs.lemmas.List.{map-append, length-map}
+use Rattle.std.proofs.Math.Seq.{take-append_seam}
+use Rattle.cp_lists.specs.Lists.{item_at, IsIn}
+use Rattle.cp_lists.proofs.Items.{item_below, item_there, item_last, item_still, item_of_push, map_of_item, place_of}
+use Rattle.cp_model.specs.Skeleton.{Skeleton}
+use Rattle.cp_model.specs.Homomorphism.{Embeds}
+use Rattle.cp_skel.specs.View.{skeleton_view}
+use Rattle.cp_derive.specs.Unrealised.{ListsUnrealised}
+use Rattle.cp_hom.specs.Partition.{partition_of}
+use Rattle.cp_shapes.specs.Shapes.{EmbedsAt}
+use Rattle.cp_tree.specs.Made.{Way, Reaches, MayPointTo}
+use Rattle.cp_tree.specs.Made as plain
+use Rattle.cp_search.specs.declared.made.Made.{Made}
+use Rattle.cp_search.specs.Finding.{FindsLeast, IsFlagged}
+use Rattle.cp_search.specs.Making.{made_way, made_view, IsFound, AreFound, AreForbidden, MayBeSeenIn, AddsMade}
+use Rattle.cp_search.proofs.Ways.{finds_alike, skeleton_of, still_found}
+
+pub fingerprints_of : (given ms : List Made) → given ≡ ms → AreFound ms → (m : Made) → IsIn m given → m.fingerprint ≡ partition_of (skeleton_view m.skeleton)
+fingerprints_of given ms e found m listed = let at = place_of (subst (IsIn m) e listed) in (found.each at.0 m at.1).fingerprint
+
+module _ (ms : List Made) (x : Made) where
+  abbrev ways : List Way
+  ways = map made_way ms
+
+  abbrev after : List Way
+  after = map made_way (ms ++ x ∷ [])
+
+  pub ways_after : map made_way (ms ++ x ∷ []) ≡ map made_way ms ++ made_way x ∷ []
+  ways_after = map-append made_way ms (x ∷ [])
+
+  pub ways_before : take (length ms) (map made_way (ms ++ x ∷ [])) ≡ map made_way ms
+  ways_before =
+      ap (λ (n : ℕ). take n after) (sym (length-map ms made_way))
+      ∙ (ap (take (length ways)) ways_after ∙ take-append_seam ways (made_way x ∷ []))
+
+  way_at : (n : ℕ) (m : Made) → item_at ms n ≡ Some m → item_at (map skeleton_of after) n ≡ Some (skeleton_view m.skeleton)
+  way_at n m at = map_of_item skeleton_of after n (made_way m) (map_of_item made_way (ms ++ x ∷ []) n m (item_still ms (x ∷ []) n m at))
+
+  pub own_way : item_at (map made_way (ms ++ x ∷ [])) (length ms) ≡ Some (made_way x)
+  own_way = map_of_item made_way (ms ++ x ∷ []) (length ms) x (item_last ms x)
+
+  own_skeleton : item_at (map skeleton_of after) (length ms) ≡ Some (skeleton_view x.skeleton)
+  own_skeleton = map_of_item skeleton_of after (length ms) (made_way x) own_way
+
+  not_allowed : (flags : List Bool) (parent : Option ℕ) (n p : ℕ) → AreForbidden ms parent flags → n < length ms → parent ≡ Some p → Reaches ways n p → IsFlagged flags n
+  not_allowed flags None n p forbidden l e reaches = absurd (cc)
+  not_allowed flags (Some q) n p forbidden l e reaches = let same : p ≡ q = cc in (forbidden n).1 (l, subst (Reaches ways n) same reaches)
+
+  no_return_of : (parent : Option ℕ) (flags : List Bool) (n : ℕ) → AreForbidden ms parent flags → IsFlagged flags n → (p : ℕ) × (parent ≡ Some p) × Reaches ways n p
+  no_return_of None flags n forbidden flagged = absurd (forbidden n flagged)
+  no_return_of (Some p) flags n forbidden flagged = (p, refl, ((forbidden n).0 flagged).1)
+
+  module _ (flags : List Bool) (forbidden : AreForbidden ms x.parent flags) where
+    as_pointing : (n : ℕ) → MayBeSeenIn ms flags (skeleton_view x.skeleton) n → MayPointTo after (length ms) n
+    as_pointing n h = record {
+      earlier = item_below ms n h.other h.at;
+      embeds = record { first = skeleton_view h.other.skeleton; second = skeleton_view x.skeleton; at_first = way_at n h.other h.at; at_second = own_skeleton; embeds = h.isomorphic.0 };
+      embeds_back = record { first = skeleton_view x.skeleton; second = skeleton_view h.other.skeleton; at_first = own_skeleton; at_second = way_at n h.other h.at; embeds = h.isomorphic.1 };
+      no_return = λ w p at parent reaches.
+          let own = own_way in
+          let same : made_way x ≡ w = cc in
+          let from : x.parent ≡ Some p = ap (λ (v : Way). v.parent) same ∙ parent in
+          h.allowed (not_allowed flags x.parent n p forbidden (item_below ms n h.other h.at) from (subst (λ (vs : List Way). Reaches vs n p) ways_before reaches));
+    }
+
+    isomorphic_of : (n : ℕ) (other : Made) → item_at ms n ≡ Some other → (h : EmbedsAt (map skeleton_of after) n (length ms)) → Embeds (skeleton_view other.skeleton) (skeleton_view x.skeleton)
+    isomorphic_of n other at h =
+        let first_is = way_at n other at in
+        let second_is = own_skeleton in
+        let given_first : item_at (map skeleton_of after) n ≡ Some h.first = h.at_first in
+        let given_second : item_at (map skeleton_of after) (length ms) ≡ Some h.second = h.at_second in
+        let first : h.first ≡ skeleton_view other.skeleton = cc in
+        let second : h.second ≡ skeleton_view x.skeleton = cc in
+        subst (λ (k : Skeleton). Embeds k (skeleton_view x.skeleton)) first (subst (Embeds h.first) second h.embeds)
+
+    back_of : (n : ℕ) (other : Made) → item_at ms n ≡ Some other → (h : EmbedsAt (map skeleton_of after) (length ms) n) → Embeds (skeleton_view x.skeleton) (skeleton_view other.skeleton)
+    back_of n other at h =
+        let second_is = way_at n other at in
+        let first_is = own_skeleton in
+        let given_first : item_at (map skeleton_of after) (length ms) ≡ Some h.first = h.at_first in
+        let given_second : item_at (map skeleton_of after) n ≡ Some h.second = h.at_second in
+        let first : h.first ≡ skeleton_view x.skeleton = cc in
+        let second : h.second ≡ skeleton_view other.skeleton = cc in
+        subst (λ (k : Skeleton). Embeds k (skeleton_view other.skeleton)) first (subst (Embeds h.first) second h.embeds)
+
+    as_seen : (n : ℕ) → MayPointTo after (length ms) n → MayBeSeenIn ms flags (skeleton_view x.skeleton) n
+    as_seen n h =
+        let other = item_there ms n h.earlier in
+        record {
+          other = other.0;
+          at = other.1;
+          allowed = λ flagged.
+              let to = no_return_of x.parent flags n forbidden flagged in
+              h.no_return (made_way x) to.0 own_way to.1 (subst (λ (vs : List Way). Reaches vs n to.0) (sym ways_before) to.2);
+          isomorphic = (isomorphic_of n other.0 other.1 h.embeds, back_of n other.0 other.1 h.embeds_back);
+        }
+
+    -- The first allowed copy is the first label to which one may point.
+    pub points_to_first : (found : Option ℕ) → FindsLeast (MayBeSeenIn ms flags (skeleton_view x.skeleton)) found → FindsLeast (MayPointTo (map made_way (ms ++ x ∷ [])) (length ms)) found
+    points_to_first = finds_alike (MayBeSeenIn ms flags (skeleton_view x.skeleton)) (MayPointTo after (length ms)) as_pointing as_seen
+
+  module _ (found : AreFound ms) where
+    earlier_found : (i : ℕ) (m : Made) → item_at ms i ≡ Some m → IsFound after i m
+    earlier_found i m at =
+        let one = found.each i m at in
+        let l : i < length ms = item_below ms i m at in
+        let n : length ways ≡ length ms = length-map ms made_way in
+        let within : i < length ways = omega arith in
+        record {
+          fingerprint = one.fingerprint;
+          dead_none = one.dead_none;
+          dead_unseen = one.dead_unseen;
+          listed = one.listed;
+          seen = λ lives. subst (λ (vs : List Way). FindsLeast (MayPointTo vs i) m.seen_in) (sym ways_after) (still_found ways (made_way x) i within m.seen_in (one.seen lives));
+        }
+
+    module _ (own : IsFound after (length ms) x) (later : IfSome x.parent (λ p. p < length ms)) where
+      each_found : (i : ℕ) (m : Made) → (item_at ms i ≡ Some m) ⊎ ((i ≡ length ms) × (x ≡ m)) → IsFound after i m
+      each_found i m (inl at) = earlier_found i m at
+      each_found i m (inr last) = subst (λ (n : ℕ). IsFound after n m) (sym last.0) (subst (IsFound after (length ms)) last.1 own)
+
+      before_own : (o : Option ℕ) (p : ℕ) → IfSome o (λ p. p < length ms) → o ≡ Some p → p < length ms
+      before_own None p l e = absurd (cc)
+      before_own (Some q) p l e = let same : q ≡ p = cc in subst (λ (n : ℕ). n < length ms) same l
+
+      each_later : (i p : ℕ) (m : Made) → (item_at ms i ≡ Some m) ⊎ ((i ≡ length ms) × (x ≡ m)) → m.parent ≡ Some p → p < i
+      each_later i p m (inl at) e = found.later i p m at e
+      each_later i p m (inr last) e =
+          let own_parent : x.parent ≡ Some p = ap (λ (v : Made). v.parent) last.1 ∙ e in
+          let l : p < length ms = before_own x.parent p later own_parent in
+          let n : i ≡ length ms = last.0 in
+          omega arith
+
+      -- What is found of all is true where it is true of those before and of the last.
+      pub all_found : AreFound (ms ++ x ∷ [])
+      all_found = record {
+        each = λ i m at. each_found i m (item_of_push ms x i m at);
+        later = λ i p m at e. each_later i p m (item_of_push ms x i m at) e;
+      }
+
+module _ (old : List Made) (x : Made) (new : List Made) (behind : new ≡ old ++ x ∷ []) (found : AreFound old) (m : plain.Made) (same : made_view x ≡ m) (fingerprint : x.fingerprint ≡ partition_of (skeleton_view x.skeleton)) where
+  adds_one : IsFound (map made_way (old ++ x ∷ [])) (length old) x → IfSome x.parent (λ p. p < length old) → AddsMade m old new
+  adds_one own later = record { added = x; behind = behind; same = same; found = subst AreFound (sym behind) (all_found old x found own later) }
+
+  -- A label that may live is made.
+  pub makes_one : (given : List Made) (flags : List Bool) → given ≡ old → AreForbidden old x.parent flags → IfSome x.parent (λ p. p < length old) → x.dead ≡ false →
+      FindsLeast (MayBeSeenIn given flags (skeleton_view x.skeleton)) x.seen_in → ListsUnrealised (skeleton_view x.skeleton) x.unrealised.items → AddsMade m old new
+  makes_one given flags e forbidden later lives least listed = adds_one (record {
+    fingerprint = fingerprint;
+    dead_none = λ dead. absurd (cc);
+    dead_unseen = λ dead. absurd (cc);
+    listed = λ _. listed;
+    seen = λ _. points_to_first old x flags forbidden x.seen_in (subst (λ (ms : List Made). FindsLeast (MayBeSeenIn ms flags (skeleton_view x.skeleton)) x.seen_in) e least);
+  }) later
+
+  -- One that is dead from the start is made.
+  pub makes_dead : x.parent ≡ None → x.dead ≡ true → x.seen_in ≡ None → x.unrealised.items ≡ [] → AddsMade m old new
+  makes_dead root dead unseen none = adds_one (record {
+    fingerprint = fingerprint;
+    dead_none = λ _. none;
+    dead_unseen = λ _. unseen;
+    listed = λ lives. absurd (cc);
+    seen = λ lives. absurd (cc);
+  }) (subst (λ (o : Option ℕ). IfSome o (λ p. p < length old)) (sym root) tt)

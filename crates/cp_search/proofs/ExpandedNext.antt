@@ -1,0 +1,113 @@
+-- The next label is settled by its expansion.
+use Rattle.std.proofs.Common.{◌≡◌, ◌≢◌, ◌⊎◌, ⊎_elim, ℕ, ◌+◌, ◌<◌, ◌≤◌, List, [], ◌∷◌, ◌++◌, length, map, false, Option, Some, None, sym, ap, subst, ◌∙◌, refl, arith}
+use Rattle.std.proofs.lemmas.List.{length-map}
+use Rattle.cp_lists.specs.Lists.{item_at, IsIn}
+use Rattle.cp_lists.proofs.Members.{into_map, from_map}
+use Rattle.cp_model.specs.Strand.{Declaration, Protocol}
+use Rattle.cp_model.specs.Skeleton.{Skeleton}
+use Rattle.cp_model.specs.Derivable.{IsUnrealised}
+use Rattle.cp_model.specs.Problem.{numbers_from, IsPointOfView}
+use Rattle.cp_model.specs.Tree.{Limits}
+use Rattle.cp_strand.specs.View.{strand_view}
+use Rattle.cp_skel.specs.View.{skeleton_view}
+use Rattle.cp_skel.specs.Trees.{variables_view, test_view}
+use Rattle.cp_covering.specs.Children.{Child}
+use Rattle.cp_expansion.specs.Expansion.{Expansion, IsExpansionOf}
+use Rattle.cp_tree.specs.Made as plain
+use Rattle.cp_tree.specs.Made.{Way, way_of, seen_in_of, MayPointTo, IsNew}
+use Rattle.cp_tree.specs.Sound.{IsSoundMade, ExpandsSoundly}
+use Rattle.cp_tree.specs.Searched.{mark_by, Becomes, is_tested}
+use Rattle.cp_tree.proofs.Numbered.{length_of_numbers, front_or_behind}
+use Rattle.cp_search.specs.declared.made.Made.{Made}
+use Rattle.cp_search.specs.declared.settled.Settled.{Settled}
+use Rattle.cp_search.specs.declared.settled.Settled.TheVariants as settled
+use Rattle.cp_search.specs.declared.settled.Expanded.{Expanded}
+use Rattle.cp_search.specs.Finding.{FindsLeast}
+use Rattle.cp_search.specs.Making.{made_view, made_way, IsFound, AreFound, AddMade}
+use Rattle.cp_search.specs.Settling.{expanded_label, settled_label, IsToExpand, IsOpenMark, IsNextToExpand, AreSoundMade, ExpandsLabel, IsSearched}
+use Rattle.cp_search.proofs.OneMoreSettled.{numbers_of_map}
+use Rattle.cp_search.proofs.SettledNext.{settled_next}
+use Rattle.cp_search.proofs.SettledLeaves.{some_unrealised}
+
+marked_unseen : (children : List ℕ) → seen_in_of (mark_by children) ≡ None
+marked_unseen [] = refl
+marked_unseen (n ∷ ns) = refl
+
+same_expanded : (e f : Expanded) → settled.Expanded e ≡ settled.Expanded f → e ≡ f
+same_expanded e f q = cc
+
+module _ (protocol : Protocol) (limits : Limits) (i n : ℕ) (old new : List Made) (e : Expanded) (x : ExpandsLabel protocol i old new e) (found : AreFound old) (expands : IsToExpand limits x.label n) where
+  abbrev m : Made
+  m = x.label
+
+  abbrev ways : List Way
+  ways = map made_way old
+
+  found_here : IsFound ways i m
+  found_here = found.each i m x.at
+
+  is_new : IsNew ways i
+  is_new = subst (FindsLeast (MayPointTo ways i)) expands.new (found_here.seen expands.lives)
+
+  few_strands : length (skeleton_view m.skeleton).strands ≤ limits.strands
+  few_strands = let l : length m.skeleton.strands ≤ limits.strands = expands.strands in let k = length-map m.skeleton.strands strand_view in omega (arith, l, k)
+
+  as_many : length e.children.items ≡ length x.children
+  as_many = ap length x.numbers ∙ length_of_numbers (length old) x.children
+
+  becomes : Becomes protocol limits ways IsOpenMark i n (made_view m) (expanded_label m e) (map made_view x.made.added)
+  becomes = subst (Becomes protocol limits ways IsOpenMark i n (made_view m) (expanded_label m e)) (sym x.made.same)
+      (is_tested {e = record { test = test_view e.test; variables = variables_view e.skeleton.variables; patterns = e.patterns.items; children = x.children }} expands.lives is_new (found_here.listed expands.lives)
+      (some_unrealised (skeleton_view m.skeleton) m.unrealised.items expands.unrealised (found_here.listed expands.lives)) few_strands expands.steps x.expansion as_many)
+
+  way : way_of (expanded_label m e) ≡ made_way m
+  way = ap (λ (o : Option ℕ). record { parent = m.parent; seen_in = o; skeleton = skeleton_view m.skeleton }) (marked_unseen e.children.items ∙ sym expands.new)
+
+  own_numbers : e.children.items ≡ numbers_from (length old) x.made.added
+  own_numbers =
+      let f : Child → plain.Made = plain.made_of_child i in
+      x.numbers ∙ (sym (numbers_of_map f (length old) x.children) ∙ (ap (numbers_from (length old)) (sym x.made.same) ∙ numbers_of_map made_view (length old) x.made.added))
+
+-- A search in which one label more is expanded.
+pub expanded_next : (protocol : Protocol) (limits : Limits) (roots : List plain.Made) (old new : List Made) (ss : List Settled) (n : ℕ) (e : Expanded) (label : Made) → IsSearched protocol limits roots old ss n → item_at old (length ss) ≡ Some label → IsToExpand limits label n
+    → (x : ExpandsLabel protocol (length ss) old new e) → IsSearched protocol limits roots new (ss ++ settled.Expanded e ∷ []) (n + 1)
+expanded_next protocol limits roots old new ss n e label r at to x =
+    let one : Some label ≡ Some x.label = sym at ∙ x.at in
+    let same : label ≡ x.label = cc in
+    let expands = subst (λ (m : Made). IsToExpand limits m n) same to in
+    let fewer : n < limits.steps = to.steps in
+    let behind = x.made.behind in
+    let next = settled_next protocol limits roots old ss n r x.label x.at x.made.added (settled.Expanded e) (subst AreFound behind x.made.found) (subst (AreSoundMade protocol) behind x.sound)
+    (λ f q. let is : e ≡ f = same_expanded e f q in ap (λ (y : Expanded). skeleton_view y.skeleton) (sym is) ∙ x.same)
+    (way protocol limits (length ss) n old new e x r.found expands) (becomes protocol limits (length ss) n old new e x r.found expands) (own_numbers protocol limits (length ss) n old new e x r.found expands) (omega (arith, fewer)) in
+    subst (λ (ms : List Made). IsSearched protocol limits roots ms (ss ++ settled.Expanded e ∷ []) (n + 1)) (sym behind) next
+
+pub expanded_pushed : (protocol : Protocol) (limits : Limits) (roots : List plain.Made) (old new : List Made) (ss : List Settled) (i n : ℕ) (e : Expanded) (label : Made) → IsSearched protocol limits roots old ss n → item_at old (length ss) ≡ Some label → IsToExpand limits label n
+    → i ≡ length ss → ExpandsLabel protocol i old new e → (then : List Settled) → then ≡ ss ++ settled.Expanded e ∷ [] → (count : ℕ) → count ≡ n + 1 → IsSearched protocol limits roots new then count
+expanded_pushed protocol limits roots old new ss i n e label r at to same x then pushed count counted =
+    let next = expanded_next protocol limits roots old new ss n e label r at to (subst (λ (k : ℕ). ExpandsLabel protocol k old new e) same x) in
+    subst (λ (k : ℕ). IsSearched protocol limits roots new then k) (sym counted) (subst (λ (xs : List Settled). IsSearched protocol limits roots new xs (n + 1)) (sym pushed) next)
+
+-- What is there when a label is expanded.
+pub found_to_expand : (limits : Limits) (i n : ℕ) (ms : List Made) → AreFound ms → (label m : Made) → item_at ms i ≡ Some label → IsToExpand limits label n → item_at ms i ≡ Some m → (m.dead ≡ false) × (m.unrealised.items ≢ [])
+found_to_expand limits i n ms found label m at to au =
+    let one : Some label ≡ Some m = sym at ∙ au in
+    let same : label ≡ m = cc in
+    subst (λ (x : Made). (x.dead ≡ false) × (x.unrealised.items ≢ [])) same (to.lives, to.unrealised)
+
+-- What is made of the children of an expansion is sound where all labels before are.
+pub sound_behind : (protocol : Protocol) (i : ℕ) (old new : List Made) (label : Made) (e : Expansion) → AddMade (map (plain.made_of_child i) e.children) old new → AreSoundMade protocol old → item_at old i ≡ Some label → label.dead ≡ false → IsUnrealised (skeleton_view label.skeleton)
+    → IsExpansionOf protocol (variables_view label.skeleton.variables) (skeleton_view label.skeleton) e → ((variables : List Declaration) (k : Skeleton) → IsPointOfView variables k → ExpandsSoundly protocol k) → AreSoundMade protocol new
+sound_behind protocol i old new label e a s at lives unrealised is law = record {
+  problem = s.problem;
+  variables = s.variables;
+  own = s.own;
+  each = λ j m there.
+      ⊎_elim
+      (λ (front : item_at old j ≡ Some m). s.each j m front)
+      (λ (behind : IsIn m a.added).
+      let c = from_map (plain.made_of_child i) e.children (subst (IsIn (made_view m)) a.same (into_map made_view behind)) in
+      let same : plain.made_of_child i c.0 ≡ made_view m = c.2 in
+      subst (IsSoundMade protocol s.problem) same ((law s.variables s.problem s.own (made_view label) e (s.each i label at) lives unrealised is).children i c.0 c.1))
+      (front_or_behind old a.added j m (ap (λ (xs : List Made). item_at xs j) (sym a.behind) ∙ there));
+}

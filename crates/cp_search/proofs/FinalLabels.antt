@@ -1,0 +1,174 @@
+-- Labels whose open marks are put in.
+use Rattle.std.proofs.Common.{◌≡◌, ◌≢◌, ◌⊎◌, inl, inr, ℕ, zero, suc, ◌+◌, List, [], ◌∷◌, ◌++◌, length, map, option_map, Option, Some, None, sym, ap, subst, ◌∙◌, refl, arith}
+use Rattle.cp_lists.specs.Lists.{item_at}
+use Rattle.cp_model.specs.Strand.{Protocol}
+use Rattle.cp_model.specs.Skeleton.{Skeleton}
+use Rattle.cp_model.specs.Derivable.{IsUnrealised}
+use Rattle.cp_model.specs.Realising.{AllDerivable}
+use Rattle.cp_model.specs.Tree.{Mark, dead, seen, Test, Label, Limits, is_expanded}
+use Rattle.cp_skel.specs.View.{skeleton_view}
+use Rattle.cp_tree.specs.Candidates.{Candidate, IsCandidate, CandidatesFrom}
+use Rattle.cp_tree.specs.Made.{Made, Way, way_of, seen_in_of}
+use Rattle.cp_tree.specs.Searched.{Becomes, is_dead, is_seen, is_realised, above_bound, at_limit, is_tested, AreSettled, all_settled, then_settled, children_of}
+use Rattle.cp_search.specs.declared.made.Made as program
+use Rattle.cp_search.specs.declared.settled.Settled.{Settled}
+use Rattle.cp_search.specs.declared.settled.Settled.TheVariants as settled
+use Rattle.cp_search.specs.Candidates.{open_from}
+use Rattle.cp_search.specs.Labelling.{labels_with}
+use Rattle.cp_search.specs.Settling.{settled_labels, IsOpenMark}
+
+-- The mark of the label is open.
+pub record IsOpenLabel (l : Label) : Type 0 where
+  pub unmarked : l.mark ≡ None
+  pub untested : l.test ≡ None
+
+-- A label stays as it is; or its mark is open, and one is put in.
+abbrev pub TakesMark : (ℕ → Option Mark → Type 0) → ℕ → Label → Label → Type 0
+TakesMark marks i l n = ((IsOpenLabel l → ⊥) × (l ≡ n)) ⊎ (IsOpenLabel l × ((mark : Mark) × marks i (Some mark) × (record l { mark = Some mark } ≡ n)))
+
+abbrev pub TakeMarks : (ℕ → Option Mark → Type 0) → ℕ → List Label → List Label → Type 0
+TakeMarks marks i [] [] = Unit {0}
+TakeMarks marks i [] (n ∷ ns) = ⊥
+TakeMarks marks i (l ∷ ls) [] = ⊥
+TakeMarks marks i (l ∷ ls) (n ∷ ns) = TakesMark marks i l n × TakeMarks marks (suc i) ls ns
+
+-- The candidates: labels whose marks are open.
+abbrev if_open_label : Option Test → Option Mark → Candidate → List Candidate → List Candidate
+if_open_label (Some t) mark c cs = cs
+if_open_label None (Some m) c cs = cs
+if_open_label None None c cs = c ∷ cs
+
+abbrev pub open_labels : ℕ → List Label → List Candidate
+open_labels i [] = []
+open_labels i (l ∷ ls) = if_open_label l.test l.mark (record { number = i; skeleton = l.skeleton }) (open_labels (suc i) ls)
+
+pub open_ones : (n : ℕ) (ms : List program.Made) (ss : List Settled) → open_labels n (settled_labels ms ss) ≡ open_from n ms ss
+open_ones n [] ss = refl
+open_ones n (m ∷ ms) [] = refl
+open_ones n (m ∷ ms) (settled.Leaf None ∷ ss) = ap (λ (cs : List Candidate). record { number = n; skeleton = skeleton_view m.skeleton } ∷ cs) (open_ones (suc n) ms ss)
+open_ones n (m ∷ ms) (settled.Leaf (Some mark) ∷ ss) = open_ones (suc n) ms ss
+open_ones n (m ∷ ms) (settled.Expanded e ∷ ss) = open_ones (suc n) ms ss
+
+module _ (marks : ℕ → Option Mark → Type 0) where
+  pub marks_taken : (n : ℕ) (ms : List program.Made) (ss : List Settled) (given : List Mark) → length given ≡ length (open_from n ms ss)
+      → ((p : ℕ) (c : Candidate) (mark : Mark) → item_at (open_from n ms ss) p ≡ Some c → item_at given p ≡ Some mark → marks c.number (Some mark)) → TakeMarks marks n (settled_labels ms ss) (labels_with ms ss given)
+  marks_taken n [] ss given count each = tt
+  marks_taken n (m ∷ ms) [] given count each = tt
+  marks_taken n (m ∷ ms) (settled.Leaf None ∷ ss) [] count each = absurd (omega (arith, count))
+  marks_taken n (m ∷ ms) (settled.Leaf None ∷ ss) (mark ∷ given) count each = (
+    inr (record { unmarked = refl; untested = refl }, (mark, each 0 (record { number = n; skeleton = skeleton_view m.skeleton }) mark refl refl, refl)),
+    marks_taken (suc n) ms ss given (omega (arith, count)) (λ p c k at is. each (suc p) c k at is),
+  )
+  marks_taken n (m ∷ ms) (settled.Leaf (Some mark) ∷ ss) given count each = (inl (λ o. (let e = o.unmarked in cc), refl), marks_taken (suc n) ms ss given count each)
+  marks_taken n (m ∷ ms) (settled.Expanded x ∷ ss) given count each = (inl (λ o. (let e = o.untested in cc), refl), marks_taken (suc n) ms ss given count each)
+
+  -- ---- what does not change
+
+  same_children : (i : ℕ) (l n : Label) → TakesMark marks i l n → n.children ≡ l.children
+  same_children i l n (inl t) = ap (λ (x : Label). x.children) (sym t.1)
+  same_children i l n (inr t) = ap (λ (x : Label). x.children) (sym t.1.2)
+
+  pub children_still : (i : ℕ) (ls ns : List Label) → TakeMarks marks i ls ns → children_of ns ≡ children_of ls
+  children_still i [] [] t = refl
+  children_still i [] (n ∷ ns) t = absurd t
+  children_still i (l ∷ ls) [] t = absurd t
+  children_still i (l ∷ ls) (n ∷ ns) t = ap (λ (xs : List ℕ). xs ++ children_of ns) (same_children i l n t.0) ∙ ap (λ (xs : List ℕ). l.children ++ xs) (children_still (suc i) ls ns t.1)
+
+  module _ (unseen : (i : ℕ) (mark : Mark) → marks i (Some mark) → seen_in_of (Some mark) ≡ None) where
+    same_way : (i : ℕ) (l n : Label) → TakesMark marks i l n → way_of n ≡ way_of l
+    same_way i l n (inl t) = ap way_of (sym t.1)
+    same_way i l n (inr t) =
+        ap way_of (sym t.1.2)
+        ∙ ap (λ (o : Option ℕ). record { parent = l.parent; seen_in = o; skeleton = l.skeleton }) (unseen i t.1.0 t.1.1 ∙ sym (ap seen_in_of t.0.unmarked))
+
+    pub ways_still : (i : ℕ) (ls ns : List Label) → TakeMarks marks i ls ns → map way_of ns ≡ map way_of ls
+    ways_still i [] [] t = refl
+    ways_still i [] (n ∷ ns) t = absurd t
+    ways_still i (l ∷ ls) [] t = absurd t
+    ways_still i (l ∷ ls) (n ∷ ns) t = ap (λ (w : Way). w ∷ map way_of ns) (same_way i l n t.0) ∙ ap (λ (ws : List Way). way_of l ∷ ws) (ways_still (suc i) ls ns t.1)
+
+  module _ (protocol : Protocol) (limits : Limits) (ways : List Way) where
+    abbrev Before : ℕ → ℕ → Made → Label → List Made → Type 0
+    Before = Becomes protocol limits ways IsOpenMark
+
+    abbrev After : ℕ → ℕ → Made → Label → List Made → Type 0
+    After = Becomes protocol limits ways marks
+
+    -- ---- what becomes of labels
+
+    becomes_marked : (i before : ℕ) (m : Made) (l n : Label) (gives : List Made) → Before i before m l gives → TakesMark marks i l n → After i before m n gives
+    becomes_marked i before m l n gives (is_dead d) (inl t) = subst (λ (x : Label). After i before m x []) t.1 (is_dead d)
+    becomes_marked i before m l n gives (is_dead d) (inr t) = absurd (let e = t.0.unmarked in cc)
+    becomes_marked i before m l n gives (is_seen d u s) (inl t) = subst (λ (x : Label). After i before m x []) t.1 (is_seen d u s)
+    becomes_marked i before m l n gives (is_seen d u s) (inr t) = absurd (let e = t.0.unmarked in cc)
+    becomes_marked i before m l n gives (is_realised d w a s) (inl t) = absurd (t.0 (record { unmarked = s; untested = refl }))
+    becomes_marked i before m l n gives (is_realised d w a s) (inr t) = subst (λ (x : Label). After i before m x []) t.1.2 (is_realised d w a t.1.1)
+    becomes_marked i before m l n gives (above_bound d w u r b) (inl t) = subst (λ (x : Label). After i before m x []) t.1 (above_bound d w u r b)
+    becomes_marked i before m l n gives (above_bound d w u r b) (inr t) = absurd (let e = t.0.unmarked in cc)
+    becomes_marked i before m l n gives (at_limit d w u r b q) (inl t) = subst (λ (x : Label). After i before m x []) t.1 (at_limit d w u r b q)
+    becomes_marked i before m l n gives (at_limit d w u r b q) (inr t) = absurd (let e = t.0.unmarked in cc)
+    becomes_marked i before m l n gives (is_tested d w u r b c x s) (inl t) = subst (λ (y : Label). After i before m y gives) t.1 (is_tested d w u r b c x s)
+    becomes_marked i before m l n gives (is_tested d w u r b c x s) (inr t) = absurd (let e = t.0.untested in cc)
+
+    same_count : (i : ℕ) (l n : Label) → TakesMark marks i l n → is_expanded l.test ≡ is_expanded n.test
+    same_count i l n (inl t) = ap (λ (x : Label). is_expanded x.test) t.1
+    same_count i l n (inr t) = ap (λ (x : Label). is_expanded x.test) t.1.2
+
+    pub settled_marked : (i before : ℕ) (made : List Made) (labels news : List Label) (given : List Made) → AreSettled protocol limits ways IsOpenMark i before made labels given → TakeMarks marks i labels news → AreSettled protocol limits ways marks i before made news given
+    settled_marked i before made labels [] given all_settled t = all_settled
+    settled_marked i before made labels (n ∷ ns) given all_settled t = absurd t
+    settled_marked i before made labels [] given (then_settled b s) t = absurd t
+    settled_marked i before made labels (n ∷ ns) given (then_settled {m = m} {l = l} {made = ms} {labels = ls} {from_this = fs} {from_others = gs} b s) t =
+        let counted : before + is_expanded l.test ≡ before + is_expanded n.test = ap (λ (k : ℕ). before + k) (same_count i l n t.0) in
+        then_settled (becomes_marked i before m l n fs b t.0) (subst (λ (k : ℕ). AreSettled protocol limits ways marks (suc i) k ms ns gs) counted (settled_marked (suc i) (before + is_expanded l.test) ms ls ns gs s t.1))
+
+    -- ---- candidates
+
+    not_both : (k : Skeleton) → IsUnrealised k → AllDerivable k → ⊥
+    not_both k u all = u.underivable (all u.node u.message u.reception)
+
+    module _ (lives : (i : ℕ) (mark : Mark) → marks i (Some mark) → mark ≢ dead) (unseen : (i k : ℕ) (mark : Mark) → marks i (Some mark) → mark ≢ seen k) where
+      abbrev IsPick : ℕ → Label → Label → List Candidate → Type 0
+      IsPick i l n cs = (IsCandidate n × (if_open_label l.test l.mark (record { number = i; skeleton = l.skeleton }) cs ≡ record { number = i; skeleton = n.skeleton } ∷ cs))
+          ⊎ ((IsCandidate n → ⊥) × (if_open_label l.test l.mark (record { number = i; skeleton = l.skeleton }) cs ≡ cs))
+
+      taken : (i : ℕ) (l n : Label) (mark : Mark) (cs : List Candidate) → l.mark ≡ None → l.test ≡ None → l.children ≡ [] → AllDerivable l.skeleton → marks i (Some mark) → record l { mark = Some mark } ≡ n → IsPick i l n cs
+      taken i l n mark cs unmarked untested none all is e =
+          let same : l.skeleton ≡ n.skeleton = ap (λ (x : Label). x.skeleton) e in
+          let c : IsCandidate (record l { mark = Some mark }) = record { lives = λ q. lives i mark is (cc); not_seen = λ k q. unseen i k mark is (cc); realised = all; own = none } in
+          inl (
+            subst IsCandidate e c,
+            ap (λ (t : Option Test). if_open_label t l.mark (record { number = i; skeleton = l.skeleton }) cs) untested ∙ (ap (λ (m : Option Mark). if_open_label None m (record { number = i; skeleton = l.skeleton }) cs) unmarked
+                ∙ ap (λ (k : Skeleton). record { number = i; skeleton = k } ∷ cs) same),
+          )
+
+      left : (i : ℕ) (l n : Label) (cs : List Candidate) → (IsCandidate l → ⊥) → l ≡ n → if_open_label l.test l.mark (record { number = i; skeleton = l.skeleton }) cs ≡ cs → IsPick i l n cs
+      left i l n cs other e same = inr (λ c. other (subst IsCandidate (sym e) c), same)
+
+      pick : (i before : ℕ) (m : Made) (l n : Label) (gives : List Made) (cs : List Candidate) → Before i before m l gives → TakesMark marks i l n → IsPick i l n cs
+      pick i before m l n gives cs (is_dead d) (inl t) = left i l n cs (λ c. c.lives refl) t.1 refl
+      pick i before m l n gives cs (is_dead d) (inr t) = absurd (let e = t.0.unmarked in cc)
+      pick i before m l n gives cs (is_seen {n = k} d u s) (inl t) = left i l n cs (λ c. c.not_seen k refl) t.1 refl
+      pick i before m l n gives cs (is_seen d u s) (inr t) = absurd (let e = t.0.unmarked in cc)
+      pick i before m l n gives cs (is_realised d w a s) (inl t) = absurd (t.0 (record { unmarked = s; untested = refl }))
+      pick i before m l n gives cs (is_realised d w a s) (inr t) = taken i l n t.1.0 cs s refl refl a t.1.1 t.1.2
+      pick i before m l n gives cs (above_bound d w u r b) (inl t) = left i l n cs (λ c. not_both m.skeleton r c.realised) t.1 refl
+      pick i before m l n gives cs (above_bound d w u r b) (inr t) = absurd (let e = t.0.unmarked in cc)
+      pick i before m l n gives cs (at_limit d w u r b q) (inl t) = left i l n cs (λ c. not_both m.skeleton r c.realised) t.1 refl
+      pick i before m l n gives cs (at_limit d w u r b q) (inr t) = absurd (let e = t.0.unmarked in cc)
+      pick i before m l n gives cs (is_tested d w u r b x y s) (inl t) = left i l n cs (λ c. not_both m.skeleton r c.realised) t.1 refl
+      pick i before m l n gives cs (is_tested d w u r b x y s) (inr t) = absurd (let e = t.0.untested in cc)
+
+      abbrev Are : ℕ → List Label → List Candidate → Type 0
+      Are = CandidatesFrom IsCandidate (λ l. l.skeleton)
+
+      put_pick : (i : ℕ) (l n : Label) (ls ns : List Label) → IsPick i l n (open_labels (suc i) ls) → Are (suc i) ns (open_labels (suc i) ls) → Are i (n ∷ ns) (open_labels i (l ∷ ls))
+      put_pick i l n ls ns (inl p) rest = inl (p.0, (open_labels (suc i) ls, p.1, rest))
+      put_pick i l n ls ns (inr p) rest = inr (p.0, subst (Are (suc i) ns) (sym p.1) rest)
+
+      pub candidates_are : (i before : ℕ) (made : List Made) (labels news : List Label) (given : List Made) → AreSettled protocol limits ways IsOpenMark i before made labels given → TakeMarks marks i labels news → Are i news (open_labels i labels)
+      candidates_are i before made labels [] given all_settled t = refl
+      candidates_are i before made labels (n ∷ ns) given all_settled t = absurd t
+      candidates_are i before made labels [] given (then_settled b s) t = absurd t
+      candidates_are i before made labels (n ∷ ns) given (then_settled {m = m} {l = l} {made = ms} {labels = ls} {from_this = fs} {from_others = gs} b s) t =
+          put_pick i l n ls ns (pick i before m l n fs (open_labels (suc i) ls) b t.0) (candidates_are (suc i) (before + is_expanded l.test) ms ls ns gs s t.1)

@@ -1,0 +1,138 @@
+-- The tree of a search that has settled all labels.
+use Rattle.std.proofs.Common.{◌≡◌, ◌≢◌, ℕ, ◌<◌, ◌≤◌, List, [], ◌∷◌, ◌++◌, length, map, take, Option, Some, None, sym, ap, subst, ◌∙◌, refl, arith}
+use Rattle.std.proofs.lemmas.List.{length-map, take_all}
+use Rattle.cp_lists.specs.Lists.{item_at, IsIn}
+use Rattle.cp_lists.proofs.Items.{place_of, item_of_map, map_of_item}
+use Rattle.cp_lists.proofs.Mapped.{map_then, map_alike}
+use Rattle.cp_model.specs.Strand.{Declaration, Protocol}
+use Rattle.cp_model.specs.Skeleton.{Skeleton}
+use Rattle.cp_model.specs.Problem.{numbers_from, IsPointOfView, HasDeclaredVariables}
+use Rattle.cp_model.specs.Tree.{Mark, dead, seen, Label, Tree, Outcome, Limits}
+use Rattle.cp_skel.specs.Trees.{variables_view}
+use Rattle.cp_roots.specs.Roots.{Root as PlainRoot}
+use Rattle.cp_roots.specs.Sound.{AreSound}
+use Rattle.cp_term.specs.Table.{Declared}
+use Rattle.cp_roots.specs.RootView.{root_view}
+use Rattle.cp_roots.specs.declared.root.Root.{Root}
+use Rattle.cp_tree.specs.Candidates.{Candidate, IsCandidate, CandidatesFrom, AreCandidates}
+use Rattle.cp_tree.specs.Made as plain
+use Rattle.cp_tree.specs.Made.{made_of_root, Way, way_of, seen_in_of}
+use Rattle.cp_tree.specs.Searched.{AreSettled, children_of, IsMarkedAmong, as_shape, as_instance, HasOutcome, IsTreeFrom}
+use Rattle.cp_search.specs.declared.made.Made.{Made}
+use Rattle.cp_search.specs.declared.settled.Settled.{Settled}
+use Rattle.cp_search.specs.Candidates.{open_from}
+use Rattle.cp_search.specs.Labelling.{labels_with, AreCandidateMarks}
+use Rattle.cp_search.specs.Making.{made_view, made_way}
+use Rattle.cp_search.specs.Roots.{root_made}
+use Rattle.cp_search.specs.Settling.{settled_labels, IsOpenMark, AreSoundRoots, IsSearched}
+use Rattle.cp_search.proofs.FinalLabels.{TakeMarks, marks_taken, children_still, ways_still, settled_marked, candidates_are, open_ones}
+
+-- ---- marks of candidates
+
+module _ (cs : List Candidate) where
+  never_seen_in : (i : ℕ) (mark : Option Mark) → IsMarkedAmong cs i mark → seen_in_of mark ≡ None
+  never_seen_in i mark (as_shape a s) = refl
+  never_seen_in i mark (as_instance a l b) = refl
+
+  never_dead : (i : ℕ) (mark : Option Mark) → IsMarkedAmong cs i mark → mark ≢ Some dead
+  never_dead i mark (as_shape a s) = λ e. cc
+  never_dead i mark (as_instance a l b) = λ e. cc
+
+  never_seen : (i k : ℕ) (mark : Option Mark) → IsMarkedAmong cs i mark → mark ≢ Some (seen k)
+  never_seen i k mark (as_shape a s) = λ e. cc
+  never_seen i k mark (as_instance a l b) = λ e. cc
+
+-- ---- roots
+
+as_made : (variables : List Declaration) (roots : List Root) → ((r : Root) → IsIn r roots → variables_view r.skeleton.variables ≡ variables) → map root_made roots ≡ map (made_of_root variables) (map root_view roots)
+as_made variables roots named =
+    let by : Root → plain.Made = λ r. made_of_root variables (root_view r) in
+    map_alike root_made by roots (λ r i. ap (λ (ds : List Declaration). made_of_root ds (root_view r)) (named r i))
+    ∙ map_then root_view (made_of_root variables) by (λ r. refl) roots
+
+-- ---- the tree
+
+module _ (protocol : Protocol) (limits : Limits) (roots : List Root) (ms : List Made) (ss : List Settled) (n : ℕ) (r : IsSearched protocol limits (map root_made roots) ms ss n) (all : length ss ≡ length ms)
+    (marks : List Mark) (are : AreCandidateMarks (open_from 0 ms ss) marks) where
+  abbrev cs : List Candidate
+  cs = open_from 0 ms ss
+
+  abbrev labels : List Label
+  labels = labels_with ms ss marks
+
+  abbrev olds : List Label
+  olds = settled_labels ms ss
+
+  given : TakeMarks (IsMarkedAmong cs) 0 olds labels
+  given = marks_taken (IsMarkedAmong cs) 0 ms ss marks are.count are.each
+
+  whole : {B : Type 0} (f : Made → B) → take (length ss) (map f ms) ≡ map f ms
+  whole f = take_all (length ss) (map f ms) (let e = length-map ms f in omega (arith, e, all))
+
+  same_ways : map way_of labels ≡ map made_way ms
+  same_ways = ways_still (IsMarkedAmong cs) (λ i mark is. never_seen_in cs i (Some mark) is) 0 olds labels given ∙ (r.ways ∙ whole made_way)
+
+  candidates_so : AreCandidates labels cs
+  candidates_so = subst (CandidatesFrom IsCandidate (λ (l : Label). l.skeleton) 0 labels) (open_ones 0 ms ss)
+      (candidates_are (IsMarkedAmong cs) protocol limits (map made_way ms) (λ i mark is e. never_dead cs i (Some mark) is (ap Some e)) (λ i k mark is e. never_seen cs i k (Some mark) is (ap Some e))
+      0 0 (take (length ss) (map made_view ms)) olds labels r.children r.become given)
+
+  module _ (variables : List Declaration) (named : (root : Root) → IsIn root roots → variables_view root.skeleton.variables ≡ variables) where
+    all_made : take (length ss) (map made_view ms) ≡ map (made_of_root variables) (map root_view roots) ++ r.children
+    all_made = whole made_view ∙ (r.all_made ∙ ap (λ (xs : List plain.Made). xs ++ r.children) (as_made variables roots named))
+
+    settled : AreSettled protocol limits (map way_of labels) (IsMarkedAmong cs) 0 0 (map (made_of_root variables) (map root_view roots) ++ r.children) labels r.children
+    settled =
+        let marked = settled_marked (IsMarkedAmong cs) protocol limits (map made_way ms) 0 0 (take (length ss) (map made_view ms)) olds labels r.children r.become given in
+        subst (λ (ws : List Way). AreSettled protocol limits ws (IsMarkedAmong cs) 0 0 (map (made_of_root variables) (map root_view roots) ++ r.children) labels r.children) (sym same_ways)
+        (subst (λ (xs : List plain.Made). AreSettled protocol limits (map made_way ms) (IsMarkedAmong cs) 0 0 xs labels r.children) all_made marked)
+
+    as_many : length (map root_made roots) ≡ length (map root_view roots)
+    as_many = length-map roots root_made ∙ sym (length-map roots root_view)
+
+    parents_before : (i j : ℕ) (l : Label) → item_at labels j ≡ Some l → l.parent ≡ Some i → i < j
+    parents_before i j l at parent =
+        let m = item_of_map made_way ms j (way_of l) (ap (λ (ws : List Way). item_at ws j) (sym same_ways) ∙ map_of_item way_of labels j l at) in
+        let same : made_way m.0 ≡ way_of l = m.2 in
+        r.found.later j i m.0 m.1 (ap (λ (w : Way). w.parent) same ∙ parent)
+
+    found_tree : (outcome : Outcome) → HasOutcome labels outcome → IsTreeFrom protocol variables limits (map root_view roots) (record { labels = labels; outcome = outcome })
+    found_tree outcome ends = record {
+      children = r.children;
+      candidates = cs;
+      are_candidates = candidates_so;
+      settled = settled;
+      numbers = children_still (IsMarkedAmong cs) 0 olds labels given ∙ (r.numbers ∙ ap (λ (k : ℕ). numbers_from k r.children) as_many);
+      parents_first = parents_before;
+      outcome = ends;
+    }
+
+    -- The tree of the search.
+    pub is_tree : (tree : Tree) → tree.labels ≡ labels → HasOutcome tree.labels tree.outcome → IsTreeFrom protocol variables limits (map root_view roots) tree
+    is_tree tree e ends =
+        let made = found_tree tree.outcome (subst (λ (ls : List Label). HasOutcome ls tree.outcome) e ends) in
+        subst (λ (ls : List Label). IsTreeFrom protocol variables limits (map root_view roots) (record { labels = ls; outcome = tree.outcome })) (sym e) made
+
+-- ---- sound roots
+
+pub same_variables : (roots : List Root) (variables : List Declared) → ((r : Root) → IsIn r roots → r.skeleton.variables ≡ variables) → (r : Root) → IsIn r roots → variables_view r.skeleton.variables ≡ variables_view variables
+same_variables roots variables same r i = ap variables_view (same r i)
+
+pub sound_roots : (protocol : Protocol) (variables : List Declaration) (k : Skeleton) (roots : List Root) → IsPointOfView variables k → AreSound protocol k (map root_view roots) → ((r : Root) → IsIn r roots → variables_view r.skeleton.variables ≡ variables)
+    → ((i : ℕ) (root : PlainRoot) → item_at (map root_view roots) i ≡ Some root → HasDeclaredVariables variables root.skeleton) → AreSoundRoots protocol roots
+sound_roots protocol variables k roots own sound named declared = record {
+  problem = k;
+  variables = variables;
+  own = own;
+  each = λ r is.
+      let p = place_of is in
+      let at = map_of_item root_view roots p.0 r p.1 in
+      record {
+        skeleton = sound.skeletons p.0 (root_view r) at;
+        from_problem = sound.from_problem p.0 (root_view r) at;
+        stated = sound.stated p.0 (root_view r) at;
+        declared = subst (λ (ds : List Declaration). HasDeclaredVariables ds (root_view r).skeleton) (sym (named r is)) (declared p.0 (root_view r) at);
+        assumptions = sound.assumptions p.0 (root_view r) at;
+        nowhere = sound.nowhere p.0 (root_view r) at;
+      };
+}

@@ -1,0 +1,103 @@
+-- Labels that are made one after the other.
+use Rattle.std.proofs.Common.{◌≡◌, ◌∙◌, ℕ, suc, ◌+◌, ◌<◌, List, [], ◌∷◌, ◌++◌, length, map, reverse, Bool, refl, sym, ap, subst, arith}
+use Rattle.std.proofs.lemmas.List.{append_assoc, append-nil, length-append, length-map, map-append, reverse-append, reverse-reverse}
+use Rattle.cp_model.specs.Problem.{numbers_from}
+use Rattle.cp_cohort.specs.declared.child.Child.{Child}
+use Rattle.cp_cohort.specs.Views.{child_view}
+use Rattle.cp_roots.specs.declared.root.Root.{Root}
+use Rattle.cp_tree.specs.Made as plain
+use Rattle.cp_tree.specs.Made.{made_of_child}
+use Rattle.cp_search.specs.declared.made.Made.{Made}
+use Rattle.cp_search.specs.Making.{made_view, AreFound, AreReaching, AddsMade, AddMade}
+use Rattle.cp_search.specs.Roots.{root_made}
+use Rattle.cp_search.proofs.Forbidden.{still_reaching}
+
+-- ---- one more
+
+pub none_made : (old : List Made) → AreFound old → AddMade [] old old
+none_made old found = record { added = []; behind = sym (append-nil old); same = refl; found = found }
+
+pub one_more_made : (ms : List plain.Made) (m : plain.Made) (old mid new : List Made) → AddMade ms old mid → AddsMade m mid new → AddMade (ms ++ m ∷ []) old new
+one_more_made ms m old mid new so_far next = record {
+  added = so_far.added ++ next.added ∷ [];
+  behind = next.behind ∙ (ap (λ (xs : List Made). xs ++ next.added ∷ []) so_far.behind ∙ append_assoc old so_far.added (next.added ∷ []));
+  same = map-append made_view so_far.added (next.added ∷ []) ∙ (ap (λ (xs : List plain.Made). xs ++ made_view next.added ∷ []) so_far.same ∙ ap (λ (x : plain.Made). ms ++ x ∷ []) next.same);
+  found = next.found;
+}
+
+next_whole : {A : Type 0} (whole done left rest : List A) (x : A) → done ++ reverse left ≡ whole → left ≡ rest ++ x ∷ [] → (done ++ x ∷ []) ++ reverse rest ≡ whole
+next_whole whole done left rest x so_far popped =
+    append_assoc done (x ∷ []) (reverse rest)
+    ∙ (ap (λ ys. done ++ ys) (sym (ap reverse popped ∙ reverse-append rest (x ∷ []))) ∙ so_far)
+
+-- ---- roots
+
+-- Of the roots, which are taken from the end of their reverse, those in front of what is left are made.
+pub record AreRootsMade (roots left : List Root) (new : List Made) : Type 0 where
+  pub done : List Root
+  pub whole : done ++ reverse left ≡ roots
+  pub made : AddMade (map root_made done) [] new
+
+pub next_root : (roots left rest : List Root) (root : Root) (old new : List Made) → AreRootsMade roots left old → left ≡ rest ++ root ∷ [] → AddsMade (root_made root) old new → AreRootsMade roots rest new
+next_root roots left rest root old new so_far popped next = record {
+  done = so_far.done ++ root ∷ [];
+  whole = next_whole roots so_far.done left rest root so_far.whole popped;
+  made = subst (λ (ms : List plain.Made). AddMade ms [] new) (sym (map-append root_made so_far.done (root ∷ []))) (one_more_made (map root_made so_far.done) (root_made root) [] old new so_far.made next);
+}
+
+-- ---- children
+
+numbers_push : {A : Type 0} (n : ℕ) (xs : List A) (x : A) → numbers_from n (xs ++ x ∷ []) ≡ numbers_from n xs ++ (n + length xs) ∷ []
+numbers_push n [] x = let e : n ≡ n + 0 = omega arith in ap (λ (k : ℕ). k ∷ []) e
+numbers_push n (y ∷ xs) x = let e : suc n + length xs ≡ n + suc (length xs) = omega arith in ap (λ ys. n ∷ ys) (numbers_push (suc n) xs x ∙ ap (λ (k : ℕ). numbers_from (suc n) xs ++ k ∷ []) e)
+
+-- Of the children, which are taken from the end of their reverse, those in front of what is left are made, with these numbers; and
+-- the flags are right.
+pub record AreChildrenMade (parent : ℕ) (children left : List Child) (old new : List Made) (flags : List Bool) (numbers : List ℕ) : Type 0 where
+  pub done : List Child
+  pub whole : done ++ reverse left ≡ children
+  pub made : AddMade (map (made_of_child parent) (map child_view done)) old new
+  pub numbered : numbers ≡ numbers_from (length old) done
+  pub reaching : AreReaching new parent flags
+
+pub no_child_made : (parent : ℕ) (children left : List Child) (old : List Made) (flags : List Bool) (numbers : List ℕ) → left ≡ reverse children → AreFound old → AreReaching old parent flags → numbers ≡ [] → AreChildrenMade parent children left old old flags numbers
+no_child_made parent children left old flags numbers e found reaching none = record {
+  done = [];
+  whole = ap reverse e ∙ reverse-reverse children;
+  made = none_made old found;
+  numbered = none;
+  reaching = reaching;
+}
+
+module _ (parent : ℕ) (children left : List Child) (old mid : List Made) (flags : List Bool) (numbers : List ℕ) (so_far : AreChildrenMade parent children left old mid flags numbers) where
+  count : length mid ≡ length old + length so_far.done
+  count =
+      let a : length mid ≡ length (old ++ so_far.made.added) = ap length so_far.made.behind in
+      let b : length (old ++ so_far.made.added) ≡ length old + length so_far.made.added = length-append old so_far.made.added in
+      let c : length (map made_view so_far.made.added) ≡ length (map (made_of_child parent) (map child_view so_far.done)) = ap length so_far.made.same in
+      let d : length (map made_view so_far.made.added) ≡ length so_far.made.added = length-map so_far.made.added made_view in
+      let e : length (map (made_of_child parent) (map child_view so_far.done)) ≡ length (map child_view so_far.done) = length-map (map child_view so_far.done) (made_of_child parent) in
+      let f : length (map child_view so_far.done) ≡ length so_far.done = length-map so_far.done child_view in
+      omega arith
+
+  pub parent_within : parent < length old → parent < length mid
+  parent_within l = let e = count in omega arith
+
+  module _ (rest : List Child) (c : Child) (popped : left ≡ rest ++ c ∷ []) (new : List Made) (next : AddsMade (made_of_child parent (child_view c)) mid new) (l : parent < length old) where
+    flags_stay : AreReaching new parent flags
+    flags_stay =
+        subst (λ (ms : List Made). AreReaching ms parent flags) (sym next.behind)
+        (still_reaching mid next.added so_far.made.found (subst AreFound next.behind next.found) parent (parent_within l)
+        (ap (λ (m : plain.Made). m.parent) next.same) (ap (λ (m : plain.Made). m.dead) next.same) flags so_far.reaching)
+
+    maps_after : map (made_of_child parent) (map child_view (so_far.done ++ c ∷ [])) ≡ map (made_of_child parent) (map child_view so_far.done) ++ made_of_child parent (child_view c) ∷ []
+    maps_after = ap (map (made_of_child parent)) (map-append child_view so_far.done (c ∷ [])) ∙ map-append (made_of_child parent) (map child_view so_far.done) (child_view c ∷ [])
+
+    pub next_child : (more : List ℕ) → more ≡ numbers ++ length mid ∷ [] → AreChildrenMade parent children rest old new flags more
+    next_child more e = record {
+      done = so_far.done ++ c ∷ [];
+      whole = next_whole children so_far.done left rest c so_far.whole popped;
+      made = subst (λ (ms : List plain.Made). AddMade ms old new) (sym maps_after) (one_more_made (map (made_of_child parent) (map child_view so_far.done)) (made_of_child parent (child_view c)) old mid new so_far.made next);
+      numbered = e ∙ (ap (λ (ns : List ℕ). ns ++ length mid ∷ []) so_far.numbered ∙ (ap (λ (n : ℕ). numbers_from (length old) so_far.done ++ n ∷ []) count ∙ sym (numbers_push (length old) so_far.done c)));
+      reaching = flags_stay;
+    }

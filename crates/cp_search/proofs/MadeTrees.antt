@@ -1,0 +1,24 @@
+-- The trees that are made of searches.
+use Rattle.std.proofs.Common.{◌≡◌, ℕ, List, length, map, Result, Ok, Err, IfOk}
+use Rattle.cp_lists.specs.Lists.{IsIn}
+use Rattle.cp_model.specs.Strand.{Declaration, Protocol}
+use Rattle.cp_model.specs.Tree.{Mark, Tree, Limits}
+use Rattle.cp_skel.specs.Trees.{variables_view, tree_view}
+use Rattle.cp_skel.specs.declared.tree.Tree.{Tree as ProgramTree}
+use Rattle.cp_roots.specs.RootView.{root_view}
+use Rattle.cp_roots.specs.declared.root.Root.{Root}
+use Rattle.cp_tree.specs.Searched.{HasOutcome, IsTreeFrom}
+use Rattle.cp_search.specs.declared.searching.Search.{Search}
+use Rattle.cp_search.specs.Candidates.{open_from}
+use Rattle.cp_search.specs.Labelling.{labels_with, AreCandidateMarks}
+use Rattle.cp_search.specs.Roots.{root_made}
+use Rattle.cp_search.specs.Settling.{HasSearched}
+use Rattle.cp_search.proofs.FoundTrees.{is_tree}
+
+pub if_made : {E : Type 0} (protocol : Protocol) (variables : List Declaration) (limits : Limits) (roots : List Root) (s : Search) → HasSearched protocol limits (map root_made roots) s → length s.settled.items ≡ length s.made.items
+    → ((root : Root) → IsIn root roots → variables_view root.skeleton.variables ≡ variables) → (is : Tree → Type 0) → ((t : Tree) → IsTreeFrom protocol variables limits (map root_view roots) t → is t) → (r : Result ProgramTree E)
+    → IfOk r (λ t. (marks : List Mark) × AreCandidateMarks (open_from 0 s.made.items s.settled.items) marks × ((tree_view t).labels ≡ labels_with s.made.items s.settled.items marks)) → IfOk r (λ t. HasOutcome (tree_view t).labels (tree_view t).outcome)
+    → IfOk r (λ t. is (tree_view t))
+if_made protocol variables limits roots s searched all named is law (Ok t) labels outcome =
+    law (tree_view t) (is_tree protocol limits roots s.made.items s.settled.items s.expanded searched all labels.0 labels.1 variables named (tree_view t) labels.2 outcome)
+if_made protocol variables limits roots s searched all named is law (Err e) labels outcome = tt

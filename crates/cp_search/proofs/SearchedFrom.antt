@@ -1,0 +1,54 @@
+-- A search before its first label is settled.
+use Rattle.std.proofs.Common.{◌≡◌, ℕ, ◌≤◌, ◌<◌, ◌-◌, ◌+◌, List, [], ◌∷◌, ◌++◌, length, map, take, Some, sym, ap, subst, ◌∙◌, refl, arith}
+use Rattle.std.proofs.lemmas.List.{append-nil}
+use Rattle.cp_lists.specs.Lists.{item_at}
+use Rattle.cp_lists.proofs.Items.{at_place, item_of_map, map_of_item}
+use Rattle.cp_model.specs.Strand.{Protocol}
+use Rattle.cp_model.specs.Problem.{numbers_from}
+use Rattle.cp_model.specs.Tree.{Label, Limits, expanded_count}
+use Rattle.cp_roots.specs.declared.root.Root.{Root}
+use Rattle.cp_tree.specs.Made as plain
+use Rattle.cp_tree.specs.Made.{way_of}
+use Rattle.cp_tree.specs.Sound.{IsSoundMade}
+use Rattle.cp_tree.specs.Searched.{AreSettled, all_settled, children_of}
+use Rattle.cp_search.specs.declared.made.Made.{Made}
+use Rattle.cp_search.specs.declared.settled.Settled.{Settled}
+use Rattle.cp_search.specs.Making.{made_view, made_way, AddMade}
+use Rattle.cp_search.specs.Roots.{root_made}
+use Rattle.cp_search.specs.Settling.{settled_labels, IsOpenMark, AreSoundMade, AreSoundRoots, IsSearched}
+use Rattle.cp_search.proofs.SettledNext.{no_labels}
+
+module _ (protocol : Protocol) (limits : Limits) (roots : List Root) (ms : List Made) (a : AddMade (map root_made roots) [] ms) (sound : AreSoundRoots protocol roots) where
+  as_roots : map made_view ms ≡ map root_made roots
+  as_roots = ap (map made_view) a.behind ∙ a.same
+
+  are_sound : AreSoundMade protocol ms
+  are_sound = record {
+    problem = sound.problem;
+    variables = sound.variables;
+    own = sound.own;
+    each = λ i m at.
+        let r = item_of_map root_made roots i (made_view m) (ap (λ (xs : List plain.Made). item_at xs i) (sym as_roots) ∙ map_of_item made_view ms i m at) in
+        let same : root_made r.0 ≡ made_view m = r.2 in
+        subst (IsSoundMade protocol sound.problem) same (sound.each r.0 (at_place roots i r.0 r.1));
+  }
+
+  none_settled : IsSearched protocol limits (map root_made roots) ms [] 0
+  none_settled =
+      let none = sym (no_labels ms) in
+      record {
+        children = [];
+        all_made = as_roots ∙ sym (append-nil (map root_made roots));
+        found = a.found;
+        sound = are_sound;
+        same = λ i m e at there. absurd (cc);
+        within = omega arith;
+        ways = ap (map way_of) (no_labels ms);
+        become = subst (λ (ls : List Label). AreSettled protocol limits (map made_way ms) IsOpenMark 0 0 [] ls []) none all_settled;
+        numbers = ap children_of (no_labels ms);
+        counted = ap expanded_count (no_labels ms);
+        within_steps = omega arith;
+      }
+
+  pub searched_first : (ss : List Settled) → ss ≡ [] → IsSearched protocol limits (map root_made roots) ms ss 0
+  searched_first ss e = subst (λ (xs : List Settled). IsSearched protocol limits (map root_made roots) ms xs 0) (sym e) none_settled

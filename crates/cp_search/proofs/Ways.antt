@@ -1,0 +1,64 @@
+-- To which labels one may point, where labels come behind.
+use Rattle.std.proofs.Common.{◌≡◌, ◌∙◌, ℕ, zero, suc, ◌<◌, ◌≤◌, List, [], ◌∷◌, ◌++◌, length, map, option_map, take, Option, Some, None, refl, sym, ap, subst, arith}
+use Rattle.std.proofs.lemmas.List.{take-append-le}
+use Rattle.cp_lists.specs.Lists.{item_at}
+use Rattle.cp_lists.proofs.Items.{item_in_front}
+use Rattle.cp_model.specs.Skeleton.{Skeleton}
+use Rattle.cp_shapes.specs.Shapes.{EmbedsAt}
+use Rattle.cp_tree.specs.Made.{Way, Reaches, MayPointTo}
+use Rattle.cp_search.specs.Finding.{FindsLeast}
+
+-- ---- the least of numbers
+
+-- Of two properties of the same numbers the least number is the same.
+pub finds_alike : (P Q : ℕ → Type 0) → ((n : ℕ) → P n → Q n) → ((n : ℕ) → Q n → P n) → (found : Option ℕ) → FindsLeast P found → FindsLeast Q found
+finds_alike P Q there back None none = λ n h. none n (back n h)
+finds_alike P Q there back (Some n) first = record { holds = there n first.holds; least = λ m l h. first.least m l (back m h) }
+
+-- ---- labels with the same labels before them
+
+pub item_mapped : {A B : Type 0} (f : A → B) (xs : List A) (i : ℕ) → item_at (map f xs) i ≡ option_map f (item_at xs i)
+item_mapped f [] i = refl
+item_mapped f (x ∷ xs) zero = refl
+item_mapped f (x ∷ xs) (suc i) = item_mapped f xs i
+
+abbrev pub skeleton_of : Way → Skeleton
+skeleton_of w = w.skeleton
+
+module _ (first second : List Way) (m : ℕ) (alike : (i : ℕ) → i ≤ m → item_at first i ≡ item_at second i) where
+  skeletons_alike : (i : ℕ) → i ≤ m → item_at (map skeleton_of first) i ≡ item_at (map skeleton_of second) i
+  skeletons_alike i l = item_mapped skeleton_of first i ∙ (ap (option_map skeleton_of) (alike i l) ∙ sym (item_mapped skeleton_of second i))
+
+  embed_alike : (i j : ℕ) → i ≤ m → j ≤ m → EmbedsAt (map skeleton_of first) i j → EmbedsAt (map skeleton_of second) i j
+  embed_alike i j k l h = record {
+    first = h.first;
+    second = h.second;
+    at_first = sym (skeletons_alike i k) ∙ h.at_first;
+    at_second = sym (skeletons_alike j l) ∙ h.at_second;
+    embeds = h.embeds;
+  }
+
+  point_alike : take m first ≡ take m second → (n : ℕ) → MayPointTo first m n → MayPointTo second m n
+  point_alike e n h =
+      let l : n < m = h.earlier in
+      let k : n ≤ m = omega arith in
+      let same : m ≤ m = omega arith in
+      record {
+        earlier = h.earlier;
+        embeds = embed_alike n m k same h.embeds;
+        embeds_back = embed_alike m n same k h.embeds_back;
+        no_return = λ w p at parent reaches. h.no_return w p (alike m same ∙ at) parent (subst (λ (ways : List Way). Reaches ways n p) (sym e) reaches);
+      }
+
+module _ (ways : List Way) (x : Way) (m : ℕ) (l : m < length ways) where
+  in_front : (i : ℕ) → i ≤ m → item_at (ways ++ x ∷ []) i ≡ item_at ways i
+  in_front i h = item_in_front ways (x ∷ []) i (omega arith)
+
+  front : take m (ways ++ x ∷ []) ≡ take m ways
+  front = take-append-le m ways (x ∷ []) (omega arith)
+
+  -- To what a label may point is told by the labels before it.
+  pub still_found : (found : Option ℕ) → FindsLeast (MayPointTo ways m) found → FindsLeast (MayPointTo (ways ++ x ∷ []) m) found
+  still_found = finds_alike (MayPointTo ways m) (MayPointTo (ways ++ x ∷ []) m)
+      (point_alike ways (ways ++ x ∷ []) m (λ i h. sym (in_front i h)) (sym front))
+      (point_alike (ways ++ x ∷ []) ways m in_front front)

@@ -1,0 +1,35 @@
+use Rattle.std.proofs.Common.{ℕ, below_more}
+use Rattle.cp_skel.specs.View.{skeleton_view}
+use Rattle.cp_term.proofs.CarriedTerms.{not_both}
+use Rattle.cp_search.specs.Making.{MayBeSeenIn}
+use Rattle.cp_search.proofs.Copies.{copy_here, no_copy_here, listed_here, kept_apart, flagged_no_copy, copy_below}
+use Rattle.cp_search.proofs.made.first_copy.Goals as goal
+
+pub loop-number-preserved-then-is_flagged : goal.loop-number-preserved-then-is_flagged
+loop-number-preserved-then-is_flagged c =
+    let k = skeleton_view c.args.skeleton.now in
+    below_more (λ (n : ℕ). MayBeSeenIn c.args.made.now c.args.forbidden.now k n → ⊥) c.loop-number.number c.loop-number.invariant
+    (flagged_no_copy c.args.made.now c.args.forbidden.now k c.loop-number.number (c.is_flagged.ensures.0 c.if-is_flagged.true))
+
+pub loop-number-preserved-then-not-may_embed : goal.loop-number-preserved-then-not-may_embed
+loop-number-preserved-then-not-may_embed c =
+    let k = skeleton_view c.args.skeleton.now in
+    let other = c.index-made-number.result in
+    let listed = listed_here c.args.made.now c.loop-number.number other c.loop-number-test.true c.index-made-number.is c.args.forbidden.now k in
+    below_more (λ (n : ℕ). MayBeSeenIn c.args.made.now c.args.forbidden.now k n → ⊥) c.loop-number.number c.loop-number.invariant
+    (kept_apart c.args.made.now c.loop-number.number other c.loop-number-test.true c.index-made-number.is c.args.forbidden.now k other.fingerprint c.args.fingerprint.now c.may_embed.result (c.requires.fingerprints other listed) c.requires.fingerprint c.if-not-may_embed.true c.may_embed.ensures.kept)
+
+pub returns-then-branch : goal.returns-then-branch
+returns-then-branch c = record {
+  holds = copy_here c.args.made.now c.loop-number.number c.index-made-number.result c.loop-number-test.true c.index-made-number.is c.args.forbidden.now (skeleton_view c.args.skeleton.now) (λ flagged. not_both c.if-is_flagged.false (c.is_flagged.ensures.1 flagged)) (c.in_ok-isomorphic.ensures.exact.0 c.if-branch.true);
+  least = c.loop-number.invariant;
+}
+
+pub loop-number-preserved : goal.loop-number-preserved
+loop-number-preserved c =
+    let k = skeleton_view c.args.skeleton.now in
+    below_more (λ (n : ℕ). MayBeSeenIn c.args.made.now c.args.forbidden.now k n → ⊥) c.loop-number.number c.loop-number.invariant
+    (no_copy_here c.args.made.now c.loop-number.number c.index-made-number.result c.loop-number-test.true c.index-made-number.is c.args.forbidden.now k (λ h. not_both c.if-branch.false (c.in_ok-isomorphic.ensures.exact.1 h)))
+
+pub returns : goal.returns
+returns c = λ n h. c.loop-number.invariant n (copy_below c.args.made.now c.args.forbidden.now (skeleton_view c.args.skeleton.now) n c.loop-number.number c.loop-number-test.false h) h

@@ -1,0 +1,14 @@
+use Rattle.std.proofs.Common.{refl}
+use Rattle.cp_search.proofs.Behind.{fingerprints_of, makes_one}
+use Rattle.cp_search.proofs.made.make.Goals as goal
+
+pub first_copy-requires : goal.first_copy-requires
+first_copy-requires c = record {
+  fingerprint = c.in_ok-fingerprint.ensures.exact;
+  fingerprints = fingerprints_of c.deref.result.now c.args.made.now.items c.deref.ensures.value c.requires.found;
+}
+
+pub returns : goal.returns
+returns c =
+    makes_one c.args.made.now.items _ c.push.new.self.items c.in_ok-push.ensures.items c.requires.found _ refl c.in_ok-fingerprint.ensures.exact
+    c.deref.result.now c.args.forbidden.now c.deref.ensures.value c.requires.forbidden c.requires.parent refl c.in_ok-seen_in.ensures c.in_ok-unrealised.ensures.listed

@@ -1,0 +1,57 @@
+// From which numbers another can be reached along edges.
+ghost use Rattle.std.specs.Prelude.{◌≡◌, ◌↔◌, ◌<◌, ℕ, List, length, true, false, IfOk};
+ghost use Rattle.cp_lists.specs.Lists.{IsIn};
+ghost use Rattle.cp_search.specs.Finding.{IsFlagged};
+ghost use Rattle.cp_search.specs.Graph.{Leads, AreWithin, IsClosed, unflagged};
+ghost use Rattle.cp_search.specs.declared.graph.Edge as edges;
+
+use std::alloc::{AllocError, Global};
+
+/// An edge from one number to another.
+#[derive(Clone, Copy)]
+pub(crate) struct Edge {
+    pub from: usize,
+    pub to: usize,
+}
+
+/// Flags the first number of each edge whose second is flagged. Whether one is flagged that was not.
+fn spread(edges: &[Edge], flags: &mut [bool]) -> bool
+    requires within { AreWithin (length flags.old) edges.now }
+    ensures count { length flags.new ≡ length flags.old }
+    ensures kept { (n : ℕ) → IsFlagged flags.old n → IsFlagged flags.new n }
+    ensures reach { (target : ℕ) → ((n : ℕ) → IsFlagged flags.old n → Leads edges.now n target) → (n : ℕ) → IsFlagged flags.new n → Leads edges.now n target }
+    ensures closed { result ≡ false → IsClosed edges.now flags.new }
+    ensures falls { result ≡ true → unflagged flags.new < unflagged flags.old }
+{
+    let mut is_new = false;
+    for edge in edges {
+        if flags[edge.from] {
+            continue;
+        }
+        if !flags[edge.to] {
+            continue;
+        }
+        flags[edge.from] = true;
+        is_new = true;
+    }
+    is_new
+}
+
+/// Flags, of so many numbers, those from which the target can be reached along edges, and the target. The error is that memory
+/// ran out.
+pub(crate) fn leading_to(
+    alloc: Global,
+    count: usize,
+    edges: &[Edge],
+    target: usize,
+) -> Result<Vec<bool>, AllocError>
+    requires within { AreWithin count edges.now }
+    requires target { target < count }
+    ensures { IfOk result (λ flags. (n : ℕ) → IsFlagged flags.items n ↔ Leads edges.now n target) }
+{
+    let mut flags = Vec::new(alloc);
+    flags.resize(count, false)?;
+    flags[target] = true;
+    while spread(edges, &mut flags) {}
+    Ok(flags)
+}

@@ -1,0 +1,37 @@
+// The labels of the roots.
+ghost use Rattle.std.specs.Prelude.{[], map, IfOk, OnOk};
+ghost use Rattle.cp_search.specs.Making.{AreFound, AddsMade, AddMade};
+ghost use Rattle.cp_search.specs.Roots.{root_made};
+
+use crate::made::{Made, make, make_dead};
+use cp_roots::Root;
+use std::alloc::{AllocError, Global};
+
+/// Makes the label of a root.
+fn make_root(alloc: Global, made: &mut Vec<Made>, root: Root) -> Result<(), AllocError>
+    requires found { AreFound made.old.items }
+    ensures { OnOk result (AddsMade (root_made root) made.old.items made.new.items) }
+{
+    let Root {
+        operation,
+        skeleton,
+        dead,
+    } = root;
+    if dead {
+        return make_dead(alloc, made, operation, skeleton);
+    }
+    make(alloc, made, &[], None, operation, skeleton)
+}
+
+/// Makes the labels of the roots, in their order.
+pub(crate) fn make_roots(alloc: Global, roots: Vec<Root>) -> Result<Vec<Made>, AllocError>
+    ensures { IfOk result (λ ms. AddMade (map root_made roots.items) [] ms.items) }
+{
+    let mut rest = roots;
+    rest.reverse();
+    let mut made = Vec::new(alloc);
+    while let Some(root) = rest.pop() {
+        make_root(alloc, &mut made, root)?;
+    }
+    Ok(made)
+}

@@ -1,0 +1,147 @@
+// Labels that are settled one after the other.
+ghost use Rattle.std.specs.Prelude.{◌≡◌, ◌≢◌, ◌<◌, ◌≤◌, ◌+◌, ℕ, List, [], length, map, true, false, IfOk, OnOk, Option, Some, None};
+ghost use Rattle.cp_lists.specs.Lists.{item_at, IsIn};
+ghost use Rattle.cp_model.specs.Strand.{Role as PlainRole, Protocol as PlainProtocol};
+ghost use Rattle.cp_skel.specs.Sound.{DeclaresItsVariables};
+ghost use Rattle.cp_skel.specs.Trees.{limits_view};
+ghost use Rattle.cp_tree.specs.Made as plain;
+ghost use Rattle.cp_search.specs.declared.made.Made as program;
+ghost use Rattle.cp_search.specs.Roots.{root_made};
+ghost use Rattle.cp_search.specs.Making.{AreFound};
+ghost use Rattle.cp_search.specs.Settling.{IsLeafOf, IsToExpand, IsNextToExpand, ExpandsLabel, HasSearched, AreSoundMade, AreSoundRoots};
+
+use crate::children::make_children;
+use crate::made::Made;
+use crate::roots::make_roots;
+use crate::settled::{Expanded, Settled};
+use cp_expansion::{Expansion, expand, test_of};
+use cp_roots::Root;
+use cp_skel::{Limits, Mark, Protocol};
+use cp_tree::expansions_are_sound;
+use std::alloc::{AllocError, Global};
+
+/// The labels that were made, what has become of the first of them, and how many of those were expanded.
+#[derive(Drop)]
+pub(crate) struct Search {
+    pub made: Vec<Made>,
+    pub settled: Vec<Settled>,
+    pub expanded: usize,
+}
+
+/// What a label becomes where it is not expanded, when so many were expanded: a leaf with a mark, which is open where the label
+/// may be a shape.
+fn leaf_of(label: &Made, limits: Limits, expanded: usize) -> Option<Option<Mark>>
+    ensures { IsLeafOf (limits_view limits) label.now expanded result }
+{
+    if label.dead {
+        return Some(Some(Mark::Dead));
+    }
+    if let Some(number) = label.seen_in {
+        return Some(Some(Mark::Seen(number)));
+    }
+    if label.unrealised.is_empty() {
+        return Some(None);
+    }
+    if label.skeleton.strands().len() > limits.strands as usize {
+        return Some(Some(Mark::LimitStrands));
+    }
+    if expanded >= limits.steps as usize {
+        return Some(Some(Mark::LimitSteps));
+    }
+    None
+}
+
+/// Settles the labels up to the next one that is to be expanded. Whether there is one.
+fn settle_leaves(limits: Limits, search: &mut Search) -> Result<bool, AllocError>
+    ensures searched { OnOk result ((protocol : PlainProtocol) (made : List plain.Made) → HasSearched protocol (limits_view limits) made search.old → HasSearched protocol (limits_view limits) made search.new) }
+    ensures next { IfOk result (λ some. some ≡ true → IsNextToExpand (limits_view limits) search.new) }
+    ensures all { IfOk result (λ some. some ≡ false → length search.old.settled.items ≤ length search.old.made.items → length search.new.settled.items ≡ length search.new.made.items) }
+    ensures expanded { search.new.expanded ≡ search.old.expanded }
+{
+    while search.settled.len() < search.made.len() {
+        let label = &search.made[search.settled.len()];
+        let Some(mark) = leaf_of(label, limits, search.expanded) else {
+            return Ok(true);
+        };
+        search.settled.push(Settled::Leaf(mark))?;
+    }
+    Ok(false)
+}
+
+/// Expands a label: makes the labels of the children of its test behind the others.
+fn expand_label(
+    alloc: Global,
+    protocol: &Protocol,
+    made: &mut Vec<Made>,
+    number: usize,
+) -> Result<Expanded, AllocError>
+    requires roles { (role : PlainRole) → IsIn role protocol.now.roles → DeclaresItsVariables role }
+    requires there { number < length made.old.items }
+    requires found { AreFound made.old.items }
+    requires sound { AreSoundMade protocol.now made.old.items }
+    requires unrealised { (m : program.Made) → item_at made.old.items number ≡ Some m → (m.dead ≡ false) × (m.unrealised.items ≢ []) }
+    ensures { IfOk result (ExpandsLabel protocol.now number made.old.items made.new.items) }
+{
+    expansions_are_sound();
+    let label = &made[number];
+    let Some(test) = test_of(alloc, &label.skeleton, &label.unrealised)? else {
+        unreachable!()
+    };
+    let Expansion {
+        skeleton,
+        patterns,
+        children,
+    } = expand(alloc, protocol, &label.skeleton, &test)?;
+    let children = make_children(alloc, made, number, children)?;
+    Ok(Expanded {
+        skeleton,
+        test,
+        patterns,
+        children,
+    })
+}
+
+/// Expands the next label.
+fn expand_next(
+    alloc: Global,
+    protocol: &Protocol,
+    limits: Limits,
+    search: &mut Search,
+) -> Result<(), AllocError>
+    requires roles { (role : PlainRole) → IsIn role protocol.now.roles → DeclaresItsVariables role }
+    requires next { IsNextToExpand (limits_view limits) search.old }
+    requires found { AreFound search.old.made.items }
+    requires sound { AreSoundMade protocol.now search.old.made.items }
+    ensures searched { OnOk result ((made : List plain.Made) → HasSearched protocol.now (limits_view limits) made search.old → HasSearched protocol.now (limits_view limits) made search.new) }
+    ensures expanded { OnOk result (search.new.expanded ≡ search.old.expanded + 1) }
+{
+    let number = search.settled.len();
+    let expanded = expand_label(alloc, protocol, &mut search.made, number)?;
+    search.settled.push(Settled::Expanded(expanded))?;
+    search.expanded += 1;
+    Ok(())
+}
+
+/// Makes the labels of the roots, and settles all labels in ascending order. The error is that memory ran out.
+pub(crate) fn search_from(
+    alloc: Global,
+    protocol: &Protocol,
+    limits: Limits,
+    roots: Vec<Root>,
+) -> Result<Search, AllocError>
+    requires roles { (role : PlainRole) → IsIn role protocol.now.roles → DeclaresItsVariables role }
+    requires sound { AreSoundRoots protocol.now roots.items }
+    ensures searched { IfOk result (HasSearched protocol.now (limits_view limits) (map root_made roots.items)) }
+    ensures all { IfOk result (λ s. length s.settled.items ≡ length s.made.items) }
+{
+    let made = make_roots(alloc, roots)?;
+    let mut search = Search {
+        made,
+        settled: Vec::new(alloc),
+        expanded: 0,
+    };
+    while settle_leaves(limits, &mut search)? {
+        expand_next(alloc, protocol, limits, &mut search)?;
+    }
+    Ok(search)
+}

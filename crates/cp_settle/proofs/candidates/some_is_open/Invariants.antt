@@ -1,7 +1,0 @@
-use Rattle.std.proofs.Common.{drop}
-use Rattle.cp_settle.specs.Candidates.{IsOpen}
-use Rattle.cp_collapse.specs.Having.{Has}
-use Rattle.cp_settle.proofs.candidates.some_is_open.Given as goal
-
-abbrev pub invariant-loop-candidate : goal.invariant-loop-candidate
-invariant-loop-candidate l = Has IsOpen l.candidates → Has IsOpen (drop l.candidate-index l.candidates)

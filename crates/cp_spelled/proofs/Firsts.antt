@@ -1,0 +1,75 @@
+-- The first of the misfits met so far.
+use Rattle.std.proofs.Common.{◌≡◌, ℕ, List, [], ◌∷◌, ◌++◌, true, false, refl, ap, ◌∙◌, arith}
+use Rattle.std.specs.Prelude.{Option, Some, None, nat_lt, ◌==◌, ◌||◌, ◌&&◌}
+use Rattle.std.proofs.lemmas.Bool.Decides.{nat_tests}
+use Rattle.cp_lists.specs.Lists.{here, there}
+use Rattle.cp_base.specs.declared.place.Place.{Place}
+use Rattle.cp_forms.proofs.FirstOf as first
+use Rattle.cp_forms.proofs.FirstOf.{IsOrder, unless_any, among_two}
+use Rattle.cp_report.specs.Misfits.{stands_before, IsFirstMisfit, unless_misfit}
+use Rattle.cp_report.proofs.OneAnswer.{not_before, one_first}
+use Rattle.cp_spelled.specs.FirstMisfit.{first_onto, merged, onto_none}
+
+not_before_self : (l c : ℕ) → (nat_lt l l || ((l == l) && nat_lt c c)) ≡ false
+not_before_self l c = grind (arith, nat_tests)
+
+not_both : (l m c d : ℕ) → (nat_lt l m || ((l == m) && nat_lt c d)) ≡ true → (nat_lt m l || ((m == l) && nat_lt d c)) ≡ false
+not_both l m c d g = grind (arith, nat_tests)
+
+behind_itself : (p : Place) → stands_before p p ≡ false
+behind_itself p = not_before_self p.line p.col
+
+behind_other : (p q : Place) → stands_before p q ≡ true → stands_before q p ≡ false
+behind_other p q h = not_both p.line q.line p.col q.col h
+
+behind_both : (p q r : Place) → stands_before q p ≡ false → stands_before r q ≡ false → stands_before r p ≡ false
+behind_both p q r g h = not_before p.line q.line r.line p.col q.col r.col g h
+
+one_of_two : (p q : Place) → stands_before p q ≡ false → stands_before q p ≡ false → p ≡ q
+one_of_two p q g h =
+    one_first (p ∷ q ∷ []) p q (record { listed = here; first = among_two stands_before p q p (behind_itself p) h }) (record { listed = there here; first = among_two stands_before p q q g (behind_itself q) })
+
+in_order : IsOrder stands_before
+in_order = record { itself = behind_itself; other = behind_other; both = behind_both; same = one_of_two }
+
+pub first_onto-append : (o : Option Place) (a b : List Place) → first_onto o (a ++ b) ≡ first_onto (first_onto o a) b
+first_onto-append o a b = first.first_onto-append stands_before o a b
+
+-- ---- what it means
+
+pub first_found : (places : List Place) (p : Place) → first_onto None places ≡ Some p → IsFirstMisfit places p
+first_found places p e = let one = first.first_found stands_before in_order places p e in record { listed = one.listed; first = one.first }
+
+pub none_found : (places : List Place) → first_onto None places ≡ None → places ≡ []
+none_found places e = first.none_found stands_before places e
+
+-- ---- the order of the misfits does not matter
+
+pub first_onto-swap : (o : Option Place) (a b : List Place) → first_onto o (a ++ b) ≡ first_onto o (b ++ a)
+first_onto-swap o a b = first.first_onto-swap stands_before in_order o a b
+
+pub moved_behind : (o : Option Place) (a b c : List Place) → first_onto o ((a ++ b) ++ c) ≡ first_onto (first_onto o (a ++ c)) b
+moved_behind o a b c = first.moved_behind stands_before in_order o a b c
+
+pub moved_behind_two : (o : Option Place) (a b c d : List Place) → first_onto o (((a ++ b) ++ c) ++ d) ≡ first_onto (first_onto o ((a ++ c) ++ d)) b
+moved_behind_two o a b c d = first.moved_behind_two stands_before in_order o a b c d
+
+-- ---- one after another
+
+pub first_then : (o p q : Option Place) (a b : List Place) → p ≡ first_onto o a → q ≡ first_onto p b → q ≡ first_onto o (a ++ b)
+first_then o p q a b e f = first.first_then stands_before o p q a b e f
+
+pub first_then_three : (o p q r : Option Place) (a b c : List Place) → p ≡ first_onto o a → q ≡ first_onto p b → r ≡ first_onto q c → r ≡ first_onto o (a ++ b ++ c)
+first_then_three o p q r a b c e f g = first.first_then_three stands_before o p q r a b c e f g
+
+-- ---- misfits that are gathered apart
+
+pub first_onto-merged : (o : Option Place) (places : List Place) → first_onto o places ≡ merged o (first_onto None places)
+first_onto-merged o places = first.first_onto-merged stands_before in_order o places
+
+unless_is : (places others : List Place) → unless_any places others ≡ unless_misfit places others
+unless_is [] others = refl
+unless_is (p ∷ ps) others = refl
+
+pub merged-unless : (o i j k : Option Place) (places others : List Place) → i ≡ first_onto None places → j ≡ onto_none i others → k ≡ merged o j → k ≡ first_onto o (unless_misfit places others)
+merged-unless o i j k places others e f g = first.merged-unless stands_before in_order o i j k places others e f g ∙ ap (first_onto o) (unless_is places others)

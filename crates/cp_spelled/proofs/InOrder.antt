@@ -1,0 +1,68 @@
+-- Entries of lists one after another.
+use Rattle.std.proofs.Common.{◌≡◌, ℕ, zero, suc, ◌+◌, ◌<◌, ◌≤◌, List, [], ◌∷◌, length, get_or, map, drop, Vec, Global, refl, sym, ap, ◌∙◌, Bool, true, false, ◌||◌, arith}
+use Rattle.std.specs.Prelude.{Option}
+use Rattle.std.proofs.lemmas.List.{drop_all}
+use Rattle.cp_lists.proofs.Members.{drop_read}
+use Rattle.cp_base.specs.declared.place.Place.{Place}
+use Rattle.cp_sexpr.specs.Syntax.{Form}
+use Rattle.cp_sexpr.specs.View.{view}
+use Rattle.cp_sexpr.specs.declared.form.Form as program
+use Rattle.cp_report.specs.Misfits.{misfit, lacking, each_misfits, entries_misfits, list_misfits}
+use Rattle.cp_forms.proofs.Views.{view-List, items_of-forms_of}
+use Rattle.cp_spelled.specs.FirstMisfit.{first_onto}
+use Rattle.cp_spelled.proofs.Firsts.{first_onto-append}
+
+pub or_false : (b : Bool) → b ≡ (b || false)
+or_false true = refl
+or_false false = refl
+
+-- ---- too few
+
+pub lacking-some : (n : ℕ) (at : Place) (fs : List program.Form) → length fs < n → lacking n at (map view fs) ≡ misfit at
+lacking-some zero at fs h = absurd (omega arith)
+lacking-some (suc n) at [] h = refl
+lacking-some (suc n) at (f ∷ fs) h = lacking-some n at fs (omega arith)
+
+pub lacking-none : (n : ℕ) (at : Place) (fs : List program.Form) → n ≤ length fs → lacking n at (map view fs) ≡ []
+lacking-none zero at fs h = refl
+lacking-none (suc n) at [] h = absurd (omega arith)
+lacking-none (suc n) at (f ∷ fs) h = lacking-none n at fs (omega arith)
+
+-- ---- as many as there are kinds
+
+module _ (kind : Form → List Place) (kinds : List (Form → List Place)) (at : Place) where
+  -- none is left
+  pub entry-missing : (fs : List program.Form) (o p : Option Place) → fs ≡ [] → p ≡ first_onto o (misfit at) → p ≡ first_onto o (entries_misfits (kind ∷ kinds) at (map view fs))
+  entry-missing fs o p e h = h ∙ ap (λ gs. first_onto o (entries_misfits (kind ∷ kinds) at (map view gs))) (sym e)
+
+  -- one after another
+  pub entry-taken : (fs gs : List program.Form) (f : program.Form) (o p q : Option Place) → fs ≡ f ∷ gs → p ≡ first_onto o (kind (view f)) → q ≡ first_onto p (entries_misfits kinds at (map view gs))
+      → q ≡ first_onto o (entries_misfits (kind ∷ kinds) at (map view fs))
+  entry-taken fs gs f o p q e g h =
+      h ∙ ap (λ x. first_onto x (entries_misfits kinds at (map view gs))) g ∙ sym (first_onto-append o (kind (view f)) (entries_misfits kinds at (map view gs)))
+      ∙ ap (λ hs. first_onto o (entries_misfits (kind ∷ kinds) at (map view hs))) (sym e)
+
+-- ---- a list
+
+pub list-read : (inside : Place → List Form → List Place) (f : program.Form) (at : Place) (v : Vec program.Form Global) (fs : List program.Form) → f ≡ program.List at v → fs ≡ v.items → inside at (map view fs) ≡ list_misfits inside (view f)
+list-read inside f at v fs e g =
+    ap (λ gs. inside at (map view gs)) g ∙ ap (inside at) (sym (items_of-forms_of (map view v.items))) ∙ sym (ap (list_misfits inside) (ap view e ∙ view-List at v))
+
+-- ---- a list item by item
+
+module _ (inside : Form → List Place) (fs : List program.Form) (k : ℕ) where
+  each-step : (f : program.Form) → k < length fs → f ≡ get_or fs k f → (o : Option Place)
+      → first_onto o (each_misfits inside (map view (drop k fs))) ≡ first_onto (first_onto o (inside (view f))) (each_misfits inside (map view (drop (k + 1) fs)))
+  each-step f h e o =
+      ap (λ gs. first_onto o (each_misfits inside (map view gs))) (drop_read fs k f h e)
+      ∙ first_onto-append o (inside (view f)) (each_misfits inside (map view (drop (k + 1) fs)))
+
+  each-end : length fs ≤ k → (o : Option Place) → first_onto o (each_misfits inside (map view (drop k fs))) ≡ o
+  each-end h o = ap (λ gs. first_onto o (each_misfits inside (map view gs))) (drop_all k fs h)
+
+  pub each-taken : (f : program.Form) → k < length fs → f ≡ get_or fs k f → (o p all : Option Place) → p ≡ first_onto o (inside (view f))
+      → first_onto o (each_misfits inside (map view (drop k fs))) ≡ all → first_onto p (each_misfits inside (map view (drop (k + 1) fs))) ≡ all
+  each-taken f h e o p all g i = ap (λ q. first_onto q (each_misfits inside (map view (drop (k + 1) fs)))) g ∙ sym (each-step f h e o) ∙ i
+
+  pub each-done : length fs ≤ k → (o all : Option Place) → first_onto o (each_misfits inside (map view (drop k fs))) ≡ all → o ≡ all
+  each-done h o all i = sym (each-end h o) ∙ i

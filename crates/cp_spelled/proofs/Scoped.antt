@@ -1,0 +1,75 @@
+-- What stands where a variable may, and the sorts of terms.
+use Rattle.std.proofs.Common.{◌≡◌, ℕ, List, [], ◌∷◌, Bool, true, false, if◌then◌else◌, refl, sym, ap, ◌∙◌}
+use Rattle.std.specs.Prelude.{Option, Some, None, option_map}
+use Rattle.cp_model.specs.Term.{Sort, Variable}
+use Rattle.cp_model.specs.Same.{same_text, same_sort}
+use Rattle.cp_sexpr.specs.Syntax.{Form, symbol, string, number, list}
+use Rattle.cp_language.specs.Words.{term_head}
+use Rattle.cp_language.specs.Roles.{Headed, headed}
+use Rattle.cp_language.specs.Terms.{TermSort, of_atoms, variable_named, sort_of_variable}
+use Rattle.cp_forms.specs.Forms.{symbol_in}
+use Rattle.cp_forms.proofs.Views.{headed_is, same_value}
+use Rattle.cp_report.specs.Heads.{has_head, is_headed_by, entries_of}
+use Rattle.cp_report.specs.Spelled.{Scope, Local, is_local, local_by, variable_of_local, variable_in, sort_of_head, sort_by_shape, known_or, sort_in, is_of_sort}
+use Rattle.cp_spelled.proofs.InOrder.{or_false}
+
+-- ---- heads
+
+pub head-is : (w : List ℕ) (f : Form) (h : Headed) → Some h ≡ headed f → same_text h.head w ≡ has_head (w ∷ []) f
+head-is w f h e = or_false (same_text h.head w) ∙ ap (is_headed_by (w ∷ [])) e
+
+pub head-none : (w : List ℕ) (f : Form) → None ≡ headed f → false ≡ has_head (w ∷ []) f
+head-none w f e = ap (is_headed_by (w ∷ [])) e
+
+-- ---- variables
+
+module _ (s : Scope) where
+  pub variable-symbol : (f : Form) (t : List ℕ) → Some t ≡ symbol_in f → variable_named s.variables t ≡ variable_in s f
+  variable-symbol (symbol at u) t e = ap (variable_named s.variables) (same_value t u e)
+  variable-symbol (string at u) t e = absurd (cc)
+  variable-symbol (number at n) t e = absurd (cc)
+  variable-symbol (list at fs) t e = absurd (cc)
+
+  pub variable-other : (f : Form) → None ≡ symbol_in f → (if is_local s f then variable_of_local s (local_by (entries_of f)) else None) ≡ variable_in s f
+  variable-other (symbol at u) e = absurd (cc)
+  variable-other (string at u) e = refl
+  variable-other (number at n) e = refl
+  variable-other (list at fs) e = refl
+
+  sort_of_local : (o : Option Local) → option_map (λ l. l.sort) o ≡ option_map (λ x. x.sort) (variable_of_local s o)
+  sort_of_local None = refl
+  sort_of_local (Some l) = refl
+
+  pub local-sort : (f : Form) → is_local s f ≡ true
+      → option_map (λ l. l.sort) (local_by (entries_of f)) ≡ option_map (λ x. x.sort) (if is_local s f then variable_of_local s (local_by (entries_of f)) else None)
+  local-sort f e = sort_of_local (local_by (entries_of f)) ∙ sym (ap (λ (b : Bool). option_map (λ (x : Variable). x.sort) (if b then variable_of_local s (local_by (entries_of f)) else None)) e)
+
+  pub no-local-sort : (f : Form) → is_local s f ≡ false → None ≡ option_map (λ x. x.sort) (if is_local s f then variable_of_local s (local_by (entries_of f)) else None)
+  no-local-sort f e = sym (ap (λ (b : Bool). option_map (λ (x : Variable). x.sort) (if b then variable_of_local s (local_by (entries_of f)) else None)) e)
+
+pub of-sort : (r q : Sort) (o : Option Variable) → Some q ≡ option_map (λ x. x.sort) o → same_sort r q ≡ is_of_sort r o
+of-sort r q None e = absurd (cc)
+of-sort r q (Some x) e = ap (same_sort r) (same_value q x.sort e)
+
+pub of-no-sort : (r : Sort) (o : Option Variable) → None ≡ option_map (λ x. x.sort) o → false ≡ is_of_sort r o
+of-no-sort r None e = refl
+of-no-sort r (Some x) e = absurd (cc)
+
+-- ---- sorts
+
+pub shape-headed : (f : Form) (h : Headed) → Some h ≡ headed f → sort_of_head (term_head h.head) ≡ sort_by_shape f
+shape-headed f h e = sym (ap sort_by_shape (headed_is f h (sym e)).whole)
+
+known_variable : (o : Option Variable) (q : Sort) (other : Option TermSort) → Some q ≡ option_map (λ x. x.sort) o → Some (of_atoms q) ≡ known_or (sort_of_variable o) other
+known_variable None q other e = absurd (cc)
+known_variable (Some x) q other e = ap (λ r. Some (of_atoms r)) (same_value q x.sort e)
+
+known_other : (o : Option Variable) (other : Option TermSort) → None ≡ option_map (λ x. x.sort) o → other ≡ known_or (sort_of_variable o) other
+known_other None other e = refl
+known_other (Some x) other e = absurd (cc)
+
+pub sort-variable : (s : Scope) (f : Form) (q : Sort) → Some q ≡ option_map (λ x. x.sort) (variable_in s f) → Some (of_atoms q) ≡ sort_in s f
+sort-variable s f q e = known_variable (variable_in s f) q (sort_by_shape f) e
+
+pub sort-shape : (s : Scope) (f : Form) → None ≡ option_map (λ x. x.sort) (variable_in s f) → sort_by_shape f ≡ sort_in s f
+sort-shape s f e = known_other (variable_in s f) (sort_by_shape f) e

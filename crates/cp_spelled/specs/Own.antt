@@ -1,0 +1,70 @@
+-- Terms one level at a time: where a list does not fit but for what is inside its items, and what it stands for.
+use Rattle.std.specs.Prelude.{ℕ, List, [], ◌∷◌, ◌++◌, ◌&&◌, if◌then◌else◌, codes, Option, Some, None}
+use Rattle.cp_base.specs.declared.place.Place.{Place}
+use Rattle.cp_model.specs.Term.{Sort, Variable, name_sort, akey_sort, Term, tag_term}
+use Rattle.cp_model.specs.Same.{same_text}
+use Rattle.cp_sexpr.specs.Syntax.{Form, symbol, string, number, list}
+use Rattle.cp_language.specs.Words.{sort_word, TermHead, cat, encrypt, long_term_key, public_key, private_key, inverse_key, operation_out_of_profile, no_operation, term_head}
+use Rattle.cp_language.specs.Roles.{front_of, last_form, list_items}
+use Rattle.cp_language.specs.Problems.{second_form}
+use Rattle.cp_language.specs.Terms.{term_of_variable, applied}
+use Rattle.cp_report.specs.Misfits.{misfit, lacking}
+use Rattle.cp_report.specs.Skeletons.{term_or_tag}
+use Rattle.cp_report.specs.Spelled.{Scope, Local, sort_or_none, local_with, local_by, variable_of_local, local_misfits, sort_misfits, variables_misfits, name_misfits, spread_misfits, last_key_misfits}
+
+-- The sort that a symbol names.
+abbrev pub sort_symbol : Form → Option Sort
+sort_symbol (symbol at t) = sort_or_none (sort_word t)
+sort_symbol (string at t) = None
+sort_symbol (number at n) = None
+sort_symbol (list at fs) = None
+
+-- The local whose number stands alone behind its sort.
+abbrev pub local_alone : Option Sort → List Form → Option Local
+local_alone s [] = None
+local_alone s (f ∷ []) = local_with s f
+local_alone s (f ∷ g ∷ fs) = None
+
+-- The sort that is wanted, where there is a variable.
+abbrev pub wanted_sort_misfits : Scope → Option Variable → Form → List Place
+wanted_sort_misfits s None f = []
+wanted_sort_misfits s (Some x) f = sort_misfits s x.sort f
+
+-- Where a list with this head does not fit but for what is inside its items.
+abbrev pub own_misfits : Scope → Place → TermHead → List Form → List Place
+own_misfits s at cat fs = lacking 2 at fs ++ spread_misfits (last_form fs)
+own_misfits s at encrypt fs = lacking 2 at fs ++ spread_misfits (last_form (front_of fs)) ++ last_key_misfits s (last_form fs)
+own_misfits s at long_term_key fs = variables_misfits s (name_sort ∷ name_sort ∷ []) at fs
+own_misfits s at public_key fs = name_misfits s at fs
+own_misfits s at private_key fs = name_misfits s at fs
+own_misfits s at inverse_key fs = variables_misfits s (akey_sort ∷ []) at fs
+own_misfits s at operation_out_of_profile fs = misfit at
+own_misfits s at no_operation fs = misfit at
+
+-- The items of a list with this head that have to be terms.
+abbrev pub judged : TermHead → List Form → List Form
+judged cat fs = fs
+judged encrypt fs = fs
+judged long_term_key fs = []
+judged public_key fs = []
+judged private_key fs = []
+judged inverse_key fs = []
+judged operation_out_of_profile fs = []
+judged no_operation fs = []
+
+-- Where a list does not fit but for what is inside its items, also where it is headed as a local.
+abbrev pub headed_misfits : Scope → Place → List ℕ → List Form → List Place
+headed_misfits s at t fs = if same_text t (codes "any") && s.in_pattern then local_misfits at fs else own_misfits s at (term_head t) fs
+
+-- Its items that have to be terms, also where it is headed as a local.
+abbrev pub headed_judged : Scope → List ℕ → List Form → List Form
+headed_judged s t fs = if same_text t (codes "any") && s.in_pattern then [] else judged (term_head t) fs
+
+-- What a list stands for whose items stand for these terms, also where it is headed as a local.
+abbrev pub headed_term : Scope → List ℕ → List Form → List Term → Term
+headed_term s t fs ts = if same_text t (codes "any") && s.in_pattern then term_of_variable (variable_of_local s (local_by fs)) else applied (term_head t) fs ts
+
+-- The term of a maplet, where there is one.
+abbrev pub value_of_item : Scope → Option Form → Term
+value_of_item s None = tag_term []
+value_of_item s (Some f) = term_or_tag s (second_form (list_items f))

@@ -1,0 +1,212 @@
+// Maplets: where they do not fit, and the terms that they give.
+ghost use Rattle.std.specs.Prelude.{◌≡◌, ◌&&◌, ◌++◌, [], ◌∷◌, map, option_map, not, IfOk, OnOk};
+ghost use Rattle.cp_sexpr.specs.View.{view};
+ghost use Rattle.cp_language.specs.Words.{is_one_of};
+ghost use Rattle.cp_language.specs.Terms.{variable_named};
+ghost use Rattle.cp_language.specs.Problems.{is_known};
+ghost use Rattle.cp_report.specs.Misfits.{symbol_misfits, entries_misfits, list_misfits};
+ghost use Rattle.cp_report.specs.Spelled.{value_misfits};
+ghost use Rattle.cp_report.specs.Skeletons.{identifier_of, maplet_misfits, maplets_misfits, are_mapped, mapping_misfits, value_mapped, values_mapped};
+ghost use Rattle.cp_strand.specs.View.{declaration_view};
+ghost use Rattle.cp_scope.specs.Terms.{variable_view};
+ghost use Rattle.cp_spelled.specs.FirstMisfit.{first_onto};
+ghost use Rattle.cp_spelled.specs.Own.{value_of_item};
+ghost use Rattle.cp_spelled.specs.Views.{scope_view};
+
+use crate::entries::no_more;
+use crate::first_misfit::FirstMisfit;
+use crate::misfits::value_misfits;
+use crate::scope::Scope;
+use crate::terms::term_or_tag;
+use crate::variables::{Variables, identifier_of, second};
+use cp_base::Place;
+use cp_forms::{item_at, list_items, place_of, symbol_or_empty};
+use cp_scope::{Taken, Variable, no_term};
+use cp_sexpr::Form;
+use cp_strand::Declaration;
+use cp_term::Term;
+use std::alloc::{AllocError, Global};
+
+/// The identifier of a wanted variable that was not mapped before has to stand here.
+fn identifier_misfits(wanted: &Variables, before: &Taken, form: &Form, first: &mut FirstMisfit)
+    ensures { first.new ≡ first_onto first.old
+        (symbol_misfits (λ t. is_known (variable_named (map declaration_view wanted.now) t) && not (is_one_of t before.now)) (view form.now)) }
+{
+    let Form::Symbol(place, identifier) = form else {
+        first.note(place_of(form));
+        return;
+    };
+    first.note_unless(
+        wanted.has(identifier.as_bytes()) && !before.has(identifier.as_str()),
+        *place,
+    );
+}
+
+/// One term, of the sort of the variable if there is one, has to stand in a list at this place.
+fn one_value_misfits(
+    scope: Scope<'_>,
+    variable: Option<Variable>,
+    place: Place,
+    items: &[Form],
+    first: &mut FirstMisfit,
+)
+    ensures { first.new ≡ first_onto first.old (entries_misfits
+        (value_misfits (scope_view scope.entry) (option_map variable_view variable) ∷ []) place (map view items.now)) }
+{
+    let Some((term, rest)) = items.split_first() else {
+        first.note(place);
+        return;
+    };
+    value_misfits(scope, variable, term, first);
+    no_more(rest, first);
+}
+
+/// The identifier of a wanted variable and a term of its sort have to stand in a list at this place.
+fn maplet_entries_misfits(
+    scope: Scope<'_>,
+    wanted: &Variables,
+    before: &Taken,
+    place: Place,
+    items: &[Form],
+    first: &mut FirstMisfit,
+)
+    ensures { first.new ≡ first_onto first.old
+        (maplet_misfits (scope_view scope.entry) (map declaration_view wanted.now) before.now place (map view items.now)) }
+{
+    let Some((identifier, rest)) = items.split_first() else {
+        first.note(place);
+        return;
+    };
+    let variable = wanted.named(symbol_or_empty(identifier));
+    identifier_misfits(wanted, before, identifier, first);
+    one_value_misfits(scope, variable, place, rest, first);
+}
+
+/// A list that is a maplet of a wanted variable has to stand here.
+fn maplet_misfits(
+    scope: Scope<'_>,
+    wanted: &Variables,
+    before: &Taken,
+    form: &Form,
+    first: &mut FirstMisfit,
+)
+    ensures { first.new ≡ first_onto first.old
+        (list_misfits (maplet_misfits (scope_view scope.entry) (map declaration_view wanted.now) before.now) (view form.now)) }
+{
+    let Form::List(place, items) = form else {
+        first.note(place_of(form));
+        return;
+    };
+    maplet_entries_misfits(scope, wanted, before, *place, items.as_slice(), first);
+}
+
+/// Maplets of wanted variables, each once, have to stand here; the identifiers in front of them.
+fn maplets_misfits(
+    alloc: Global,
+    scope: Scope<'_>,
+    wanted: &Variables,
+    maplets: &[Form],
+    first: &mut FirstMisfit,
+) -> Result<Taken, AllocError>
+    ensures misfits { OnOk result (first.new ≡ first_onto first.old
+        (maplets_misfits (scope_view scope.entry) (map declaration_view wanted.now) [] (map view maplets.now))) }
+    ensures mapped { IfOk result (λ names. names ≡ map identifier_of (map view maplets.now)) }
+{
+    let mut mapped = Taken::new(alloc);
+    for maplet in maplets {
+        maplet_misfits(scope, wanted, &mapped, maplet, first);
+        let identifier = identifier_of(alloc, maplet)?;
+        mapped.push(alloc, identifier)?;
+    }
+    Ok(mapped)
+}
+
+/// Whether each of the wanted variables is among those that are mapped.
+fn are_mapped(wanted: &[Declaration], mapped: &Taken) -> bool
+    ensures { result ≡ are_mapped (map declaration_view wanted.now) mapped.now }
+{
+    for declaration in wanted {
+        if !mapped.has(declaration.identifier.as_str()) {
+            return false;
+        }
+    }
+    true
+}
+
+/// Each of the wanted variables has to be mapped once by the maplets of a list at this place, and no other. The error is
+/// that memory ran out.
+pub fn mapping_misfits(
+    alloc: Global,
+    scope: Scope<'_>,
+    wanted: &Variables,
+    place: Place,
+    maplets: &[Form],
+    first: &mut FirstMisfit,
+) -> Result<(), AllocError>
+    ensures { OnOk result (first.new ≡ first_onto first.old
+        (mapping_misfits (scope_view scope.entry) (map declaration_view wanted.now) place (map view maplets.now))) }
+{
+    let mut inner = FirstMisfit::new();
+    let mapped = maplets_misfits(alloc, scope, wanted, maplets, &mut inner)?;
+    inner.note_unless_misfit(are_mapped(wanted.as_slice(), &mapped), place);
+    first.merge(inner);
+    Ok(())
+}
+
+/// The identifiers in front of maplets.
+fn identifiers_of(alloc: Global, maplets: &[Form]) -> Result<Taken, AllocError>
+    ensures { IfOk result (λ names. names ≡ map identifier_of (map view maplets.now)) }
+{
+    let mut identifiers = Taken::new(alloc);
+    for maplet in maplets {
+        let identifier = identifier_of(alloc, maplet)?;
+        identifiers.push(alloc, identifier)?;
+    }
+    Ok(identifiers)
+}
+
+/// The term of a maplet, if there is one.
+fn item_value(alloc: Global, scope: Scope<'_>, maplet: Option<&Form>) -> Result<Term, AllocError>
+    ensures { IfOk result (λ t. t ≡ value_of_item (scope_view scope.entry) (option_map (λ f. view f.now) maplet.entry)) }
+{
+    match maplet {
+        Some(maplet) => term_or_tag(alloc, scope, second(list_items(maplet))),
+        None => no_term(alloc),
+    }
+}
+
+/// The term that maplets with these identifiers give one of them.
+fn value_mapped(
+    alloc: Global,
+    scope: Scope<'_>,
+    maplets: &[Form],
+    identifiers: &Taken,
+    identifier: &str,
+) -> Result<Term, AllocError>
+    ensures { IfOk result (λ t. identifiers.now ≡ map identifier_of (map view maplets.now)
+        → t ≡ value_mapped (scope_view scope.entry) identifier.now (map view maplets.now)) }
+{
+    let Some(place) = identifiers.place_of(identifier) else {
+        return no_term(alloc);
+    };
+    item_value(alloc, scope, item_at(maplets, place))
+}
+
+/// The terms that maplets give these variables, in their order. The error is that memory ran out.
+pub fn values_mapped(
+    alloc: Global,
+    scope: Scope<'_>,
+    maplets: &[Form],
+    wanted: &[Declaration],
+) -> Result<Vec<Term>, AllocError>
+    ensures { IfOk result (λ v. v.items ≡ values_mapped (scope_view scope.entry) (map view maplets.now) (map declaration_view wanted.now)) }
+{
+    let identifiers = identifiers_of(alloc, maplets)?;
+    let mut values = Vec::new(alloc);
+    for declaration in wanted {
+        let identifier = declaration.identifier.as_str();
+        let value = value_mapped(alloc, scope, maplets, &identifiers, identifier)?;
+        values.push(value)?;
+    }
+    Ok(values)
+}

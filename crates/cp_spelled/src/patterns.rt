@@ -1,0 +1,105 @@
+// Patterns: where they do not fit, and what they are.
+ghost use Rattle.std.specs.Prelude.{◌≡◌, ◌≢◌, [], map, IfOk, OnOk, MatchOption};
+ghost use Rattle.cp_sexpr.specs.View.{view};
+ghost use Rattle.cp_strand.specs.View.{declaration_view};
+ghost use Rattle.cp_report.specs.Spelled.{pattern_misfits, pattern_scope, pattern_of, variables_of_locals};
+ghost use Rattle.cp_spelled.specs.FirstMisfit.{first_onto};
+ghost use Rattle.cp_spelled.specs.LocalViews.{local_view};
+
+use crate::entries::has_head;
+use crate::first_misfit::FirstMisfit;
+use crate::locals::{Local, Locals, locals_in, locals_of};
+use crate::misfits::term_misfits;
+use crate::scope::Scope;
+use crate::terms::{number_behind, term_in};
+use crate::variables::Variables;
+use cp_forms::place_of;
+use cp_sexpr::Form;
+use cp_term::{Locals as Numbers, Pattern, VarId};
+use std::alloc::{AllocError, Global};
+
+/// Where a form is no pattern; its locals.
+fn misfits_and_locals(
+    alloc: Global,
+    variables: &Variables,
+    form: &Form,
+    first: &mut FirstMisfit,
+) -> Result<Locals, AllocError>
+    ensures misfits { OnOk result (first.new ≡ first_onto first.old (pattern_misfits (map declaration_view variables.now) (view form.now))) }
+    ensures locals { IfOk result (λ l. map local_view l ≡ (pattern_scope (map declaration_view variables.now) (view form.now)).locals) }
+{
+    let found = locals_in(alloc, form)?;
+    let locals = locals_of(alloc, &found, first)?;
+    first.note_unless(has_head(form, b"enc"), place_of(form));
+    let scope = Scope {
+        variables,
+        in_pattern: true,
+        locals: &locals,
+    };
+    term_misfits(scope, form, first);
+    Ok(locals)
+}
+
+/// Where a form is no pattern. The error is that memory ran out.
+pub fn pattern_misfits(
+    alloc: Global,
+    variables: &Variables,
+    form: &Form,
+    first: &mut FirstMisfit,
+) -> Result<(), AllocError>
+    ensures { OnOk result (first.new ≡ first_onto first.old (pattern_misfits (map declaration_view variables.now) (view form.now))) }
+{
+    let _locals = misfits_and_locals(alloc, variables, form, first)?;
+    Ok(())
+}
+
+/// The numbers of locals behind as many variables as there are.
+fn numbers_of(alloc: Global, count: usize, locals: &[Local]) -> Result<Numbers, AllocError>
+    ensures { IfOk result (λ numbers. numbers ≡ map (λ x. x.number) (variables_of_locals count (map local_view locals.now))) }
+{
+    let mut numbers = Numbers::new(alloc);
+    for (place, _) in locals.iter().enumerate() {
+        let number = number_behind(count, place)?;
+        numbers.push(VarId::numbered(number))?;
+    }
+    Ok(numbers)
+}
+
+/// The pattern that a form is, which fits and has these locals.
+fn pattern_with(
+    alloc: Global,
+    variables: &Variables,
+    locals: &Locals,
+    form: &Form,
+) -> Result<Pattern, AllocError>
+    requires { (pattern_misfits (map declaration_view variables.now) (view form.now) ≡ [])
+        × (map local_view locals.now ≡ (pattern_scope (map declaration_view variables.now) (view form.now)).locals) }
+    ensures { IfOk result (λ p. p ≡ pattern_of (map declaration_view variables.now) (view form.now)) }
+{
+    let scope = Scope {
+        variables,
+        in_pattern: true,
+        locals,
+    };
+    let term = term_in(alloc, scope, form)?;
+    let numbers = numbers_of(alloc, variables.len(), locals.as_slice())?;
+    Ok(Pattern::new(term, numbers))
+}
+
+/// The pattern that a form is, where it fits. The error is that memory ran out.
+pub fn pattern_of(
+    alloc: Global,
+    variables: &Variables,
+    form: &Form,
+) -> Result<Option<Pattern>, AllocError>
+    ensures { IfOk result (λ found. MatchOption found (pattern_misfits (map declaration_view variables.now) (view form.now) ≢ [])
+        (λ p. p ≡ pattern_of (map declaration_view variables.now) (view form.now))) }
+{
+    let mut first = FirstMisfit::new();
+    let locals = misfits_and_locals(alloc, variables, form, &mut first)?;
+    if !first.is_none() {
+        return Ok(None);
+    }
+    let pattern = pattern_with(alloc, variables, &locals, form)?;
+    Ok(Some(pattern))
+}

@@ -1,0 +1,15 @@
+pub mod NoMisfits
+pub mod FittingStrands
+pub mod FittingOrder
+pub mod FittingValues
+pub mod FittingMap
+pub mod SoundStated
+pub mod Gathering
+pub mod Unless
+pub mod Numbering
+pub mod GivenOnce
+pub mod Further
+pub mod Results
+pub mod InstanceEntries
+pub mod Among
+pub mod Entered

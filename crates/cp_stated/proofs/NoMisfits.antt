@@ -1,0 +1,24 @@
+-- Lists without misfits.
+use Rattle.std.proofs.Common.{◌≡◌, List, [], ◌∷◌, ◌++◌, Bool, true, false, refl}
+use Rattle.cp_base.specs.declared.place.Place.{Place}
+use Rattle.cp_lists.specs.Lists.{IsIn, here, there}
+use Rattle.cp_sexpr.specs.Syntax.{Form}
+use Rattle.cp_report.specs.Misfits.{misfit_unless, unless_misfit, each_misfits}
+
+pub none_in_both : (ps qs : List Place) → ps ++ qs ≡ [] → (ps ≡ []) × (qs ≡ [])
+none_in_both [] qs e = (refl, e)
+none_in_both (p ∷ ps) qs e = absurd (cc)
+
+pub none_of_unless : (ps qs : List Place) → unless_misfit ps qs ≡ [] → (ps ≡ []) × (qs ≡ [])
+none_of_unless [] qs e = (refl, e)
+none_of_unless (p ∷ ps) qs e = absurd (cc)
+
+pub holds : (b : Bool) (at : Place) → misfit_unless b at ≡ [] → b ≡ true
+holds true at e = refl
+holds false at e = absurd (cc)
+
+-- none of each form
+pub none_of_each : (inside : Form → List Place) (fs : List Form) → each_misfits inside fs ≡ [] → (f : Form) → IsIn f fs → inside f ≡ []
+none_of_each inside [] e f m = elim m [ ]
+none_of_each inside (g ∷ fs) e f here = (none_in_both (inside g) (each_misfits inside fs) e).0
+none_of_each inside (g ∷ fs) e f (there m) = none_of_each inside fs (none_in_both (inside g) (each_misfits inside fs) e).1 f m

@@ -1,0 +1,2 @@
+pub mod Assuming
+pub mod Mapping

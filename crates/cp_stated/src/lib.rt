@@ -1,0 +1,26 @@
+//! The items of a label form that state its skeleton, read back: where they do not fit, and the skeleton that they state.
+#![tactic(auto)]
+
+mod around;
+mod heads;
+mod images;
+mod instances;
+mod laws;
+mod making;
+mod mapping;
+mod names;
+mod nodes;
+mod order;
+mod skeletons;
+mod uniques;
+mod values;
+
+pub use around::around_strands_misfits;
+pub use heads::item_with;
+pub use instances::{one_term_misfits, strands_misfits};
+pub use laws::fitting_items_state_sound_skeletons;
+pub use making::{number_of, strands_of};
+pub use mapping::strand_number_misfits;
+pub use names::problem_variables;
+pub use nodes::{is_there, node_misfits, node_or_first, two_numbers_misfits};
+pub use skeletons::skeleton_stated;

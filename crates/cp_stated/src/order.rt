@@ -1,0 +1,207 @@
+// The order that a label form states.
+ghost use Rattle.std.specs.Prelude.{◌≡◌, ◌++◌, ◌∷◌, [], map, codes, Some, IfOk, OnOk};
+ghost use Rattle.cp_model.specs.Same.{same_node};
+ghost use Rattle.cp_sexpr.specs.View.{view};
+ghost use Rattle.cp_language.specs.Problems.{pair_of, pairs_in, between_strands};
+ghost use Rattle.cp_strand.specs.View.{strand_view};
+ghost use Rattle.cp_load.specs.Acyclic.{IsAcyclicIf};
+ghost use Rattle.cp_report.specs.Misfits.{entries_misfits, list_misfits};
+ghost use Rattle.cp_report.specs.Heads.{item_with, optional_misfits};
+ghost use Rattle.cp_report.specs.Skeletons.{node_misfits, has_pair, is_further_pair, pair_stated, pair_misfits, pairs_misfits, precedes_misfits, pairs_under};
+ghost use Rattle.cp_spelled.specs.FirstMisfit.{first_onto};
+
+use crate::heads::item_with;
+use crate::nodes::{node_misfits, one_node_misfits};
+use cp_base::Place;
+use cp_forms::{item_at, items_behind, list_items, place_of};
+use cp_load::{
+    add_pair, add_pairs, closes_cycle, have_no_cycle, is_on_one_strand, is_reception,
+    is_transmission, node_if_there, pair_of, pair_of_nodes,
+};
+use cp_sexpr::Form;
+use cp_skel::{Node, OrderPair, Strand};
+use cp_spelled::{FirstMisfit, entries_under, lacking};
+use std::alloc::{AllocError, Global};
+
+/// Whether the two nodes are one.
+fn is_same_node(node: Node, other: Node) -> bool
+    ensures { result ≡ same_node node other }
+{
+    node.strand == other.strand && node.index == other.index
+}
+
+/// Whether a pair is one of these.
+fn has_pair(pairs: &[OrderPair], pair: OrderPair) -> bool
+    ensures { result ≡ has_pair pairs.now pair }
+{
+    for other in pairs {
+        if is_same_node(other.earlier, pair.earlier) && is_same_node(other.later, pair.later) {
+            return true;
+        }
+    }
+    false
+}
+
+/// The strands of a label, and pairs that stand before another; and whether these are said to have no cycle with it.
+#[derive(Clone, Copy)]
+struct Before<'a> {
+    strands: &'a [Strand],
+    pairs: &'a [OrderPair],
+    acyclic: bool,
+}
+
+/// Whether a pair goes from a transmission to a reception of another strand, stands not before, and closes no cycle.
+fn is_further(alloc: Global, before: Before<'_>, pair: OrderPair) -> Result<bool, AllocError>
+    requires { IsAcyclicIf before.acyclic (before.pairs.now ++ between_strands (Some pair)) }
+    ensures { IfOk result (λ b. b ≡ is_further_pair (map strand_view before.entry.strands.now) before.entry.pairs.now (Some pair)) }
+{
+    if !is_transmission(before.strands, pair.earlier) {
+        return Ok(false);
+    }
+    if !is_reception(before.strands, pair.later) {
+        return Ok(false);
+    }
+    if is_on_one_strand(pair) {
+        return Ok(false);
+    }
+    if has_pair(before.pairs, pair) {
+        return Ok(false);
+    }
+    let closes = closes_cycle(alloc, before.pairs, before.acyclic, pair)?;
+    Ok(!closes)
+}
+
+/// The pair that a form states, if it does.
+fn pair_stated(form: &Form) -> Option<OrderPair>
+    ensures { result ≡ pair_stated (view form.now) }
+{
+    let items = list_items(form);
+    pair_of_nodes(
+        node_if_there(item_at(items, 0)),
+        node_if_there(item_at(items, 1)),
+    )
+}
+
+/// Whether a pair may follow those before it, if it is there.
+fn may_follow(
+    alloc: Global,
+    before: Before<'_>,
+    pair: Option<OrderPair>,
+) -> Result<bool, AllocError>
+    requires { IsAcyclicIf before.acyclic (before.pairs.now ++ between_strands pair) }
+    ensures { IfOk result (λ b. b ≡ is_further_pair (map strand_view before.entry.strands.now) before.entry.pairs.now pair) }
+{
+    match pair {
+        Some(pair) => is_further(alloc, before, pair),
+        None => Ok(true),
+    }
+}
+
+/// Two nodes have to stand in a list at this place.
+fn two_nodes_misfits(strands: &[Strand], place: Place, items: &[Form], first: &mut FirstMisfit)
+    ensures { first.new ≡ first_onto first.old (entries_misfits (node_misfits (map strand_view strands.now) ∷ node_misfits (map strand_view strands.now) ∷ []) place (map view items.now)) }
+{
+    let Some((node, rest)) = items.split_first() else {
+        first.note(place);
+        return;
+    };
+    node_misfits(strands, node, first);
+    one_node_misfits(strands, place, rest, first);
+}
+
+/// A form has to be a list of two nodes.
+fn nodes_misfits(strands: &[Strand], form: &Form, first: &mut FirstMisfit)
+    ensures { first.new ≡ first_onto first.old (list_misfits (entries_misfits (node_misfits (map strand_view strands.now) ∷ node_misfits (map strand_view strands.now) ∷ [])) (view form.now)) }
+{
+    let Form::List(place, items) = form else {
+        first.note(place_of(form));
+        return;
+    };
+    two_nodes_misfits(strands, *place, items.as_slice(), first);
+}
+
+/// A form has to be a pair that may follow those before it. Where these are said to have no cycle with it, they have none.
+fn pair_misfits(
+    alloc: Global,
+    before: Before<'_>,
+    form: &Form,
+    first: &mut FirstMisfit,
+) -> Result<(), AllocError>
+    requires { IsAcyclicIf before.acyclic (before.pairs.now ++ pair_of (view form.now)) }
+    ensures { OnOk result (first.new ≡ first_onto first.old (pair_misfits (map strand_view before.entry.strands.now) before.entry.pairs.now (view form.now))) }
+{
+    let mut inside = FirstMisfit::new();
+    nodes_misfits(before.strands, form, &mut inside);
+    let follows = may_follow(alloc, before, pair_stated(form))?;
+    inside.note_unless_misfit(follows, place_of(form));
+    first.merge(inside);
+    Ok(())
+}
+
+/// Forms have to be pairs, each of which may follow those before it; they go behind these. Where all are said to have no
+/// cycle, they have none.
+fn pairs_misfits(
+    alloc: Global,
+    strands: &[Strand],
+    before: &mut Vec<OrderPair>,
+    acyclic: bool,
+    items: &[Form],
+    first: &mut FirstMisfit,
+) -> Result<(), AllocError>
+    requires { IsAcyclicIf acyclic (before.old.items ++ pairs_in (map view items.now)) }
+    ensures { OnOk result (first.new ≡ first_onto first.old (pairs_misfits (map strand_view strands.now) before.old.items (map view items.now))) }
+{
+    for form in items {
+        let stated = Before {
+            strands,
+            pairs: before,
+            acyclic,
+        };
+        pair_misfits(alloc, stated, form, first)?;
+        add_pair(pair_of(form), before)?;
+    }
+    Ok(())
+}
+
+/// The entries of an order have to be pairs, at least one.
+fn precedes_misfits(
+    alloc: Global,
+    strands: &[Strand],
+    place: Place,
+    items: &[Form],
+    first: &mut FirstMisfit,
+) -> Result<(), AllocError>
+    ensures { OnOk result (first.new ≡ first_onto first.old (precedes_misfits (map strand_view strands.now) place (map view items.now))) }
+{
+    lacking(1, place, items, first);
+    let mut pairs = Vec::new(alloc);
+    add_pairs(items, &mut pairs)?;
+    let acyclic = have_no_cycle(alloc, &pairs)?;
+    let mut before = Vec::new(alloc);
+    pairs_misfits(alloc, strands, &mut before, acyclic, items, first)
+}
+
+/// Where the order among these items of a label form does not fit, if it is there.
+pub(crate) fn order_misfits(
+    alloc: Global,
+    strands: &[Strand],
+    items: &[Form],
+    first: &mut FirstMisfit,
+) -> Result<(), AllocError>
+    ensures { OnOk result (first.new ≡ first_onto first.old (optional_misfits (precedes_misfits (map strand_view strands.now))
+        (item_with (codes "precedes" ∷ []) (map view items.now)))) }
+{
+    match item_with(items, b"precedes") {
+        Some(item) => precedes_misfits(alloc, strands, place_of(item), items_behind(item), first),
+        None => Ok(()),
+    }
+}
+
+/// The pairs that these items of a label form state.
+pub(crate) fn pairs_under(alloc: Global, items: &[Form]) -> Result<Vec<OrderPair>, AllocError>
+    ensures { IfOk result (λ v. v.items ≡ pairs_under (map view items.now)) }
+{
+    let mut pairs = Vec::new(alloc);
+    add_pairs(entries_under(items, b"precedes"), &mut pairs)?;
+    Ok(pairs)
+}

@@ -1,0 +1,123 @@
+-- The labels of a tree declare their variables, the problem's first.
+use Rattle.std.proofs.Common.{◌≡◌, ℕ, zero, suc, ◌<◌, List, [], ◌∷◌, ◌++◌, map, Option, Some, None, refl, sym, ap, ◌∙◌, subst, ⊎_elim, arith}
+use Rattle.cp_lists.specs.Lists.{item_at, IsIn, here, there}
+use Rattle.cp_lists.proofs.Items.{item_of_map}
+use Rattle.cp_lists.proofs.Members.{in_append}
+use Rattle.cp_model.specs.Term.{Variable, Term, variables_of}
+use Rattle.cp_model.specs.Strand.{Declaration, Role, Protocol}
+use Rattle.cp_model.specs.Skeleton.{Skeleton}
+use Rattle.cp_model.specs.Problem.{variables_of_skeleton, IsDeclared, HasDeclaredVariables}
+use Rattle.cp_model.specs.Tree.{Mark, Pattern, Test, Label, Tree, Limits}
+use Rattle.cp_completeness.specs.Normal.{variables_of_terms}
+use Rattle.cp_skel.specs.Sound.{DeclaresItsVariables}
+use Rattle.cp_guard.specs.Critical.{IsTest, used_variables}
+use Rattle.cp_guard.specs.Matching.{IsFreeIn}
+use Rattle.cp_roots.specs.Roots.{Root}
+use Rattle.cp_roots.specs.Sound.{AreSound}
+use Rattle.cp_covering.specs.Children.{Child}
+use Rattle.cp_covering.specs.Cohort.{Question, IsCohort}
+use Rattle.cp_covering.specs.Way.{DeclaresMore}
+use Rattle.cp_covering.proofs.SoundChildren.{more_itself, more_then, sound_child}
+use Rattle.cp_expansion.specs.Expansion.{IsWidening, asked_under, question_about, Expansion, IsExpansionOf, AreWidened, has_most, none_widens, one_widens}
+use Rattle.cp_tree.specs.Made.{Made, made_of_root, way_of}
+use Rattle.cp_tree.specs.Searched.{IsMarkedAmong, Becomes, is_dead, is_seen, is_realised, above_bound, at_limit, is_tested, IsTreeFrom}
+use Rattle.cp_tree.specs.Sound.{IsSoundMade, ExpandsSoundly}
+use Rattle.cp_tree.specs.Declared.{DeclaresItsOwn}
+use Rattle.cp_tree.proofs.AskedOn.{IsWellAsked, asked_on, first_listed, last_asked}
+use Rattle.cp_tree.proofs.SoundExpansions.{well_asked}
+use Rattle.cp_tree.proofs.Settled.{IsMadeOfChild, made_from}
+use Rattle.cp_tree.proofs.SoundLabels.{SettledHere, settled_here, becomes_here, comes_behind, label_sound, sound_below, made}
+use Rattle.cp_tree.proofs.Numbered.{front_or_behind}
+
+-- ---- what is declared
+
+in_one_of : (ts : List Term) (x : Variable) → IsIn x (variables_of_terms ts) → (t : Term) × IsIn t ts × IsIn x (variables_of t)
+in_one_of [] x i = elim i [ ]
+in_one_of (t ∷ ts) x i = ⊎_elim (λ j. (t, here, j)) (λ j. let r = in_one_of ts x j in (r.0, there r.1, r.2)) (in_append (variables_of t) (variables_of_terms ts) i)
+
+used_declared : (ds : List Declaration) (k : Skeleton) (x : Variable) → HasDeclaredVariables ds k → IsIn x (used_variables k) → IsDeclared ds x
+used_declared ds k x h i =
+    ⊎_elim (h.occurring x) (λ j. let r = in_one_of k.from_problem.values x j in h.mapped r.0 x r.1 r.2) (in_append (variables_of_skeleton k) (variables_of_terms k.from_problem.values) i)
+
+-- ---- what is asked of a skeleton last has the variables of what is asked first
+
+module _ (protocol : Protocol) (declares : (role : Role) → IsIn role protocol.roles → DeclaresItsVariables role) where
+  child_more : (q : Question) (children : List Child) (c : Child) → IsWellAsked protocol q → IsCohort protocol q children → IsIn c children → DeclaresMore q.variables c.variables
+  child_more q children c well is i = (sound_child protocol q children well.skeleton declares well.declared well.test well.guards is c i).more
+
+  last_more : {q last : Question} {children : List Child} → AreWidened protocol q last children → IsWellAsked protocol q → DeclaresMore q.variables last.variables
+  last_more (has_most {q = q} most is) well = more_itself q.variables
+  last_more (none_widens {q = q} fewer is none) well = more_itself q.variables
+  last_more (one_widens {q = q} {last = last} {before = before} {c = c} fewer is first w rest) well =
+      more_then q.variables c.variables last.variables (child_more q before c well is (first_listed first)) (last_more rest (asked_on protocol declares q before c well is (first_listed first) w))
+
+  -- What an expansion declares.
+  record Declares (variables : List Declaration) (k : Skeleton) (e : Expansion) : Type 0 where
+    more : DeclaresMore variables e.variables
+    declared : HasDeclaredVariables e.variables k
+    critical : (x : Variable) → IsIn x (variables_of e.test.critical) → IsDeclared e.variables x
+    patterns : (p : Pattern) (x : Variable) → IsIn p e.patterns → IsFreeIn x p → IsDeclared e.variables x
+    children : (c : Child) → IsIn c e.children → DeclaresMore e.variables c.variables
+
+  expansion_declares : (problem : Skeleton) (m : Made) (e : Expansion) → IsSoundMade protocol problem m → IsExpansionOf protocol m.variables m.skeleton e → Declares m.variables m.skeleton e
+  expansion_declares problem m e sound is =
+      let well = well_asked protocol problem m e sound is in
+      let last = last_asked protocol declares is.widened well in
+      record {
+        more = last_more is.widened well;
+        declared = last.0.declared;
+        critical = λ x i. used_declared e.variables m.skeleton x last.0.declared (last.0.guards.used_by_critical x i);
+        patterns = λ p x i free. used_declared e.variables m.skeleton x last.0.declared (last.0.guards.used_by_patterns p x i free);
+        children = λ c i. child_more (question_about e.variables m.skeleton e.test e.patterns) e.children c last.0 last.1 i;
+      }
+
+  module _ (variables : List Declaration) (limits : Limits) (roots : List Root) (tree : Tree) (from : IsTreeFrom protocol variables limits roots tree) (k : Skeleton) (sound : AreSound protocol k roots)
+      (declared : (i : ℕ) (root : Root) → item_at roots i ≡ Some root → HasDeclaredVariables variables root.skeleton) (expands : ExpandsSoundly protocol k) where
+    more_below : (n i : ℕ) (m : Made) → i < n → item_at (made protocol variables limits roots tree from) i ≡ Some m → DeclaresMore variables m.variables
+    more_below zero i m l at = absurd (omega (arith, l))
+    more_below (suc n) i m l at =
+        ⊎_elim
+        (λ (front : item_at (map (made_of_root variables) roots) i ≡ Some m).
+        let r = item_of_map (made_of_root variables) roots i m front in
+        subst (λ (x : Made). DeclaresMore variables x.variables) r.2 (more_itself variables))
+        (λ (listed : IsIn m from.children).
+        let f = made_from protocol limits (map way_of tree.labels) (IsMarkedAmong from.candidates) 0 0 (made protocol variables limits roots tree from) tree.labels from.children from.settled m listed in
+        let number : f.number ≡ f.place = (let w = f.number_is in omega (arith, w)) in
+        let parent : m.parent ≡ Some f.place = ap (λ (x : Made). x.parent) (sym f.of_child.is_made) ∙ ap Some number in
+        let before : f.place < i = comes_behind protocol variables limits roots tree from f.place i m at parent in
+        let parent_sound : IsSoundMade protocol k f.so = sound_below protocol variables limits roots tree from k sound declared expands n f.place f.so (omega (arith, l, before)) f.at_made in
+        let d = expansion_declares k f.so f.of_child.expansion parent_sound f.of_child.is_expansion in
+        let parent_more : DeclaresMore variables f.so.variables = more_below n f.place f.so (omega (arith, l, before)) f.at_made in
+        let child : DeclaresMore variables f.of_child.child.variables =
+        more_then variables f.so.variables f.of_child.child.variables parent_more (more_then f.so.variables f.of_child.expansion.variables f.of_child.child.variables d.more (d.children f.of_child.child f.of_child.listed)) in
+        subst (λ (x : Made). DeclaresMore variables x.variables) f.of_child.is_made child)
+        (front_or_behind (map (made_of_root variables) roots) from.children i m at)
+
+    declares_leaf : (m : Made) (l : Label) → DeclaresMore variables m.variables → HasDeclaredVariables m.variables m.skeleton → l.variables ≡ m.variables → l.skeleton ≡ m.skeleton → l.test ≡ None → l.escape ≡ [] → DeclaresItsOwn variables l
+    declares_leaf m l more has same same_skeleton no_test no_pattern = record {
+      more = subst (λ (ds : List Declaration). DeclaresMore variables ds) (sym same) more;
+      skeleton = subst (λ (ds : List Declaration). HasDeclaredVariables ds l.skeleton) (sym same) (subst (λ (s : Skeleton). HasDeclaredVariables m.variables s) (sym same_skeleton) has);
+      test = λ t x e i. absurd (cc (e, no_test));
+      patterns = λ p x i free. let none : IsIn p [] = subst (λ (ps : List Pattern). IsIn p ps) no_pattern i in elim none [ ];
+    }
+
+    declares_by : (i before : ℕ) (m : Made) (l : Label) (gives : List Made) → Becomes protocol limits (map way_of tree.labels) (IsMarkedAmong from.candidates) i before m l gives → IsSoundMade protocol k m → DeclaresMore variables m.variables → DeclaresItsOwn variables l
+    declares_by i before m _ _ (is_dead d) s more = declares_leaf m _ more s.declared refl refl refl refl
+    declares_by i before m _ _ (is_seen lives lists least) s more = declares_leaf m _ more s.declared refl refl refl refl
+    declares_by i before m _ _ (is_realised lives new derivable mark) s more = declares_leaf m _ more s.declared refl refl refl refl
+    declares_by i before m _ _ (above_bound lives new lists unrealised above) s more = declares_leaf m _ more s.declared refl refl refl refl
+    declares_by i before m _ _ (at_limit lives new lists unrealised within steps) s more = declares_leaf m _ more s.declared refl refl refl refl
+    declares_by i before m _ _ (is_tested {e = e} lives new lists unrealised within steps is count) s more =
+        let d = expansion_declares k m e s is in
+        record {
+          more = more_then variables m.variables e.variables more d.more;
+          skeleton = d.declared;
+          test = λ t x same x_in. d.critical x (subst (λ (u : Test). IsIn x (variables_of u.critical)) (let f : Some e.test ≡ Some t = same in let g : e.test ≡ t = cc in sym g) x_in);
+          patterns = d.patterns;
+        }
+
+    pub declares_own : (i : ℕ) (l : Label) → item_at tree.labels i ≡ Some l → DeclaresItsOwn variables l
+    declares_own i l at =
+        let s = settled_here protocol variables limits roots tree from i l at in
+        declares_by i s.expanded_before s.so l s.gives (becomes_here protocol variables limits roots tree from i l s) (label_sound protocol variables limits roots tree from k sound declared expands i l at s)
+        (more_below (suc i) i s.so (omega arith) s.at_made)

@@ -1,0 +1,20 @@
+mod Acyclic
+pub mod Numbered
+mod Settled
+mod Picked
+mod SoundLabels
+mod MarksSay
+mod MadeChildren
+mod TreeEdges
+mod PassingOn
+mod Placed
+mod ReachedLimits
+mod TreeShapes
+mod TrueTrees
+mod NormalChildren
+mod AskedOn
+mod SoundExpansions
+mod ExampleRoot
+mod ExampleTree
+mod Causes
+mod DeclaredLabels

@@ -1,0 +1,11 @@
+use Rattle.cp_tree.proofs.ReachedLimits.{steps_within, expanded_first, roots_alone}
+use Rattle.cp_tree.proofs.laws.searches_keep_within_limits.Goals as goal
+
+pub returns-clause-steps : goal.returns-clause-steps
+returns-clause-steps c = steps_within
+
+pub returns-clause-expanded_first : goal.returns-clause-expanded_first
+returns-clause-expanded_first c = expanded_first
+
+pub returns-clause-roots_alone : goal.returns-clause-roots_alone
+returns-clause-roots_alone c = roots_alone

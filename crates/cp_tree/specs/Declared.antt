@@ -1,0 +1,17 @@
+-- The variables of a label.
+use Rattle.std.specs.Prelude.{◌≡◌, List, Some}
+use Rattle.cp_lists.specs.Lists.{IsIn}
+use Rattle.cp_model.specs.Term.{Variable, variables_of}
+use Rattle.cp_model.specs.Strand.{Declaration}
+use Rattle.cp_model.specs.Problem.{IsDeclared, HasDeclaredVariables}
+use Rattle.cp_model.specs.Tree.{Pattern, Test, Label}
+use Rattle.cp_guard.specs.Matching.{IsFreeIn}
+use Rattle.cp_covering.specs.Way.{DeclaresMore}
+
+-- The variables of a label begin with the problem's. Those that occur in its skeleton are among them, and so are those of its
+-- critical term, and those of its patterns that are no locals.
+pub record DeclaresItsOwn (variables : List Declaration) (l : Label) : Type 0 where
+  pub more : DeclaresMore variables l.variables
+  pub skeleton : HasDeclaredVariables l.variables l.skeleton
+  pub test : (t : Test) (x : Variable) → l.test ≡ Some t → IsIn x (variables_of t.critical) → IsDeclared l.variables x
+  pub patterns : (p : Pattern) (x : Variable) → IsIn p l.escape → IsFreeIn x p → IsDeclared l.variables x

@@ -1,0 +1,49 @@
+-- An example: the tree of a problem in which an encryption is heard, under a key that does not originate.
+use Rattle.std.specs.Prelude.{[], ◌∷◌, false, Some, None}
+use Rattle.cp_model.specs.Tree.{by_problem, by_added_strand, shape, complete, Test, Label, Tree, Limits}
+use Rattle.cp_answers.specs.Example.{locked, locker, heard, reception, sent_before}
+use Rattle.cp_roots.specs.Roots.{Root, in_report_order}
+use Rattle.cp_covering.specs.Example.{one_child}
+
+-- The problem is its one root.
+abbrev pub heard_root : Root
+heard_root = record { operation = by_problem; skeleton = heard; dead = false }
+
+-- It is tested where the encryption is heard.
+abbrev pub heard_test : Test
+heard_test = record { node = reception; critical = locked }
+
+-- The root, which was expanded under no patterns.
+abbrev pub heard_label : Label
+heard_label = record {
+  parent = None;
+  operation = by_problem;
+  variables = locker.variables;
+  skeleton = heard;
+  unrealised = reception ∷ [];
+  test = Some heard_test;
+  escape = [];
+  children = 1 ∷ [];
+  mark = None;
+}
+
+-- Its one child, a shape: a strand of the role has sent the encryption before.
+abbrev pub sent_label : Label
+sent_label = record {
+  parent = Some 0;
+  operation = by_added_strand 1;
+  variables = one_child.variables;
+  skeleton = in_report_order sent_before;
+  unrealised = [];
+  test = None;
+  escape = [];
+  children = [];
+  mark = Some shape;
+}
+
+abbrev pub heard_tree : Tree
+heard_tree = record { labels = heard_label ∷ sent_label ∷ []; outcome = complete }
+
+-- One step is enough.
+abbrev pub one_step_limits : Limits
+one_step_limits = record { steps = 1; strands = 2 }

@@ -1,0 +1,19 @@
+// An example of a tree.
+ghost use Rattle.std.specs.Prelude.{[], ◌∷◌};
+ghost use Rattle.cp_model.specs.Problem.{IsPointOfView};
+ghost use Rattle.cp_model.specs.Tree.{IsTrueOf};
+ghost use Rattle.cp_answers.specs.Example.{locker, protocol, heard};
+ghost use Rattle.cp_roots.specs.Sound.{AreSound};
+ghost use Rattle.cp_tree.specs.Searched.{IsTreeFrom};
+ghost use Rattle.cp_tree.specs.Example.{heard_root, heard_tree, one_step_limits};
+
+/// An encryption is heard, under a key that does not originate; one role sends such encryptions. The problem is its one root,
+/// and the search makes two labels: the root, whose one reception cannot be derived and whose test has one child, under no
+/// patterns; and that child, a shape, in which a strand of the role has sent the encryption before. It meets what the law of
+/// trees asks for, so that the tree is true of the problem: wherever the encryption is heard, a strand of the role has sent it.
+pub fn heard_encryption_has_a_tree()
+    ensures problem { IsPointOfView locker.variables heard }
+    ensures sound { AreSound protocol heard (heard_root ∷ []) }
+    ensures tree { IsTreeFrom protocol locker.variables one_step_limits (heard_root ∷ []) heard_tree }
+    ensures truth { IsTrueOf protocol heard one_step_limits heard_tree }
+{}

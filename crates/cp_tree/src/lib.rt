@@ -1,0 +1,15 @@
+//! Derivation trees: what a search makes, and that it is true of the problem.
+#![tactic(auto)]
+
+mod examples;
+mod expanding;
+mod laws;
+mod marks;
+
+pub use examples::heard_encryption_has_a_tree;
+pub use expanding::expansions_are_sound;
+pub use laws::{
+    search_trees_are_lawful, search_trees_are_ordered, search_trees_are_true,
+    search_trees_declare_their_variables, searches_keep_within_limits,
+};
+pub use marks::marks_have_causes;
