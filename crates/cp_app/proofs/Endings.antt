@@ -7,33 +7,34 @@ use Rattle.cp_base.specs.declared.place.Refusal.{Refusal}
 use Rattle.cp_base.specs.declared.status.Status.{Status}
 use Rattle.cp_base.specs.declared.status.Status.TheVariants.{Done, Limit, Usage, Refused, ReadFault, WriteFault, Memory, TooLong}
 use Rattle.cp_lists.specs.Lists.{IsIn}
-use Rattle.cp_model.specs.Tree.{Limits, Label, Tree, IsTrueOf}
+use Rattle.cp_model.specs.Tree.{Label, Tree, IsTrueOf}
 use Rattle.cp_sexpr.specs.Syntax.{Forms}
 use Rattle.cp_sexpr.specs.Reading.{IsReading}
 use Rattle.cp_sexpr.proofs.Unique.{one_reading_of}
 use Rattle.cp_language.proofs.OneAnswer.{one_first}
-use Rattle.cp_app.specs.Headline.{most_bytes, IsAccepted, IsRefusedFor, HaveTrees, SaysOutcomes, IsAnalysed, HasRefused, WasTooLong, TookAtMost}
-use Rattle.cp_app.specs.Searched.{HasReportedSearch, HasBrokenOffSearch}
+use Rattle.cp_words.specs.Command.{Command}
+use Rattle.cp_app.specs.Headline.{text_by, most_bytes, IsAccepted, IsRefusedFor, HaveTrees, SaysOutcomes, IsAnalysed, HasReported, HasRefused, WasTooLong, TookAtMost}
+use Rattle.cp_app.specs.Searched.{AreSearched, HasReportedSearch, HasBrokenOffSearch}
+use Rattle.cp_report.specs.Fitting.{TreeFits}
+use Rattle.cp_app.specs.ReadBack.{IsReadBackAs, HasReportedReadBack}
 use Rattle.cp_app.specs.Steps.{IsCauseFor, HasStopped, outcomes_status, cause_of_load, IsWholeReport, HasWritten, HasWrittenPart, HasEnded, HasExecuted}
 use Rattle.cp_app.specs.Analysis.{IsAnalysisOf}
 use Rattle.cp_app.proofs.Trees.{zip_onto}
 use Rattle.cp_language.specs.Input.{Entry, faults_of, input_of, IsInput}
-use Rattle.cp_language.specs.Report.{report_text, HasItsVariables}
+use Rattle.cp_language.specs.Report.{HasItsVariables}
 use Rattle.cp_load.specs.declared.error.LoadError.{LoadError}
 use Rattle.cp_load.specs.declared.error.LoadError.TheVariants as loading
 use Rattle.cp_tree.specs.Searched.{IsTreeOf}
 use Rattle.cp_app.specs.declared.stopped.Stopped.{Stopped}
 use Rattle.cp_app.specs.declared.stopped.Stopped.TheVariants as stopped
 use Rattle.cp_app.proofs.Putting.{append-empty}
+use Rattle.cp_app.proofs.ReportsBack.{same_reading, read_back_as}
 
 -- ---- an input is refused or accepted
 
 none_listed : (faults : List Refusal) (r : Refusal) → faults ≡ [] → IsIn r faults → ⊥
 none_listed [] r none listed = elim listed [ ]
 none_listed (s ∷ faults) r none listed = absurd (cc)
-
-same_forms : (fs gs : Forms) (a b : Result Forms Refusal) → a ≡ Ok fs → b ≡ Ok gs → a ≡ b → fs ≡ gs
-same_forms fs gs a b is also e = cc
 
 same_error : (r s : Refusal) (a b : Result Forms Refusal) → a ≡ Err r → b ≡ Err s → a ≡ b → r ≡ s
 same_error r s a b is also e = cc
@@ -42,7 +43,7 @@ same_error r s a b is also e = cc
 pub accepted_or_refused : (input : List ℕ) (fs : Forms) (r : Refusal) → IsAccepted input fs → IsRefusedFor input r → ⊥
 accepted_or_refused input fs r accepted (inl reading) = let e = one_reading_of input (Ok fs) (Err r) accepted.read reading in cc
 accepted_or_refused input fs r accepted (inr (gs, reading, first)) =
-    let e : fs ≡ gs = same_forms fs gs (Ok fs) (Ok gs) refl refl (one_reading_of input (Ok fs) (Ok gs) accepted.read reading) in
+    let e : fs ≡ gs = same_reading input fs gs accepted.read reading in
     none_listed (faults_of gs) r (ap faults_of (sym e) ∙ accepted.well_formed) first.listed
 
 -- an input is refused for one fault
@@ -51,7 +52,7 @@ one_refusal input r s (inl reading) (inl again) = same_error r s (Err r) (Err s)
 one_refusal input r s (inl reading) (inr (gs, again, first)) = let e = one_reading_of input (Err r) (Ok gs) reading again in absurd (cc)
 one_refusal input r s (inr (fs, reading, first)) (inl again) = let e = one_reading_of input (Ok fs) (Err s) reading again in absurd (cc)
 one_refusal input r s (inr (fs, reading, first)) (inr (gs, again, other)) =
-    let e : fs ≡ gs = same_forms fs gs (Ok fs) (Ok gs) refl refl (one_reading_of input (Ok fs) (Ok gs) reading again) in
+    let e : fs ≡ gs = same_reading input fs gs reading again in
     one_first (faults_of gs) r s (rw e at first) other
 
 -- ---- what was written
@@ -59,8 +60,8 @@ one_refusal input r s (inr (fs, reading, first)) (inr (gs, again, other)) =
 took_all : (input : List ℕ) (left_new : Option (List ℕ)) → length input ≤ most_bytes → left_new ≡ Some [] → TookAtMost input left_new
 took_all input left_new short at_end = (length input, omega arith, at_end ∙ ap (λ xs. Some xs) (sym (ap (λ xs. drop (length input) xs) (sym (append-empty input)) ∙ drop-append_seam input [])))
 
-module _ (limits : Limits) (input : List ℕ) (left_new held_old held_new : Option (List ℕ)) where
-  pub ended_took_at_most : (status : Status) → HasEnded limits input left_new held_old held_new status → TookAtMost input left_new
+module _ (command : Command) (input : List ℕ) (left_new held_old held_new : Option (List ℕ)) where
+  pub ended_took_at_most : (status : Status) → HasEnded command input left_new held_old held_new status → TookAtMost input left_new
   ended_took_at_most Done ended = took_all input left_new ended.report.report.accepted.short ended.at_end
   ended_took_at_most Limit ended = took_all input left_new ended.report.report.accepted.short ended.at_end
   ended_took_at_most Usage ended = absurd ended
@@ -72,25 +73,34 @@ module _ (limits : Limits) (input : List ℕ) (left_new held_old held_new : Opti
 
   -- What is left by a run that ended so.
   abbrev Ended : Status → Type 0
-  Ended status = HasEnded limits input left_new held_old held_new status
+  Ended status = HasEnded command input left_new held_old held_new status
 
-  pub ended_searched : (before : List ℕ) (status : Status) → held_old ≡ Some before → IsAnalysed status → HasEnded limits input left_new held_old held_new status → HasReportedSearch limits input before left_new held_new status
-  ended_searched before status is (inl e) ended =
-      let done : HasWritten limits input left_new held_old held_new true (Ok tt) = subst Ended e ended in
-      subst (HasReportedSearch limits input before left_new held_new) (sym e) (record {
-        reported = record { text = done.text; trees = done.report.trees; at_end = done.at_end; held = done.put before is; report = done.report.report; outcomes = done.report.outcomes };
-        searched = done.report.searched;
-      })
-  ended_searched before status is (inr e) ended =
-      let at_limit : HasWritten limits input left_new held_old held_new false (Ok tt) = subst Ended e ended in
-      subst (HasReportedSearch limits input before left_new held_new) (sym e) (record {
-        reported = record { text = at_limit.text; trees = at_limit.report.trees; at_end = at_limit.at_end; held = at_limit.put before is; report = at_limit.report.report; outcomes = at_limit.report.outcomes };
-        searched = at_limit.report.searched;
-      })
+  -- A report was put, its trees are those of the search, and it is read back as these.
+  abbrev Reported : List ℕ → Status → Type 0
+  Reported before status =
+      (reported : HasReported command input before left_new held_new status) × AreSearched command.limits reported.report.forms reported.trees
+      × IsReadBackAs command.name reported.text reported.report.forms reported.trees
 
-  pub ended_broken_off : (before : List ℕ) (status : Status) → held_old ≡ Some before → status ≡ WriteFault → HasEnded limits input left_new held_old held_new status → HasBrokenOffSearch limits input before left_new held_new
+  written_reported : (before : List ℕ) (b : Bool) → held_old ≡ Some before → HasWritten command input left_new held_old held_new b (Ok tt) → Reported before (outcomes_status b)
+  written_reported before b is written = (
+    record { text = written.text; trees = written.report.trees; at_end = written.at_end; held = written.put before is; report = written.report.report; outcomes = written.report.outcomes },
+    written.report.searched,
+    written.report.read_back,
+  )
+
+  ended_reported : (before : List ℕ) (status : Status) → held_old ≡ Some before → IsAnalysed status → HasEnded command input left_new held_old held_new status → Reported before status
+  ended_reported before status is (inl e) ended = subst (Reported before) (sym e) (written_reported before true is (subst Ended e ended))
+  ended_reported before status is (inr e) ended = subst (Reported before) (sym e) (written_reported before false is (subst Ended e ended))
+
+  pub ended_searched : (before : List ℕ) (status : Status) → held_old ≡ Some before → IsAnalysed status → HasEnded command input left_new held_old held_new status → HasReportedSearch command input before left_new held_new status
+  ended_searched before status is analysed ended = let r = ended_reported before status is analysed ended in record { reported = r.0; searched = r.1 }
+
+  pub ended_read_back : (before : List ℕ) (status : Status) → held_old ≡ Some before → IsAnalysed status → HasEnded command input left_new held_old held_new status → HasReportedReadBack command input before left_new held_new status
+  ended_read_back before status is analysed ended = let r = ended_reported before status is analysed ended in record { searched = record { reported = r.0; searched = r.1 }; read_back = r.2 }
+
+  pub ended_broken_off : (before : List ℕ) (status : Status) → held_old ≡ Some before → status ≡ WriteFault → HasEnded command input left_new held_old held_new status → HasBrokenOffSearch command input before left_new held_new
   ended_broken_off before status is broken ended =
-      let whole : HasWrittenPart limits input left_new held_old held_new = subst Ended broken ended in
+      let whole : HasWrittenPart command input left_new held_old held_new = subst Ended broken ended in
       let part = whole.1 in
       let put = part.put before is in
       record {
@@ -98,18 +108,18 @@ module _ (limits : Limits) (input : List ℕ) (left_new held_old held_new : Opti
         searched = part.report.searched;
       }
 
-  pub ended_accepted : (status : Status) → HasEnded limits input left_new held_old held_new status → (IsAnalysed status ⊎ (status ≡ WriteFault)) → (left_new ≡ Some []) × ((fs : Forms) × IsAccepted input fs)
-  ended_accepted status ended (inl (inl e)) = let done : HasWritten limits input left_new held_old held_new true (Ok tt) = subst Ended e ended in (done.at_end, (done.report.report.forms, done.report.report.accepted))
-  ended_accepted status ended (inl (inr e)) = let at_limit : HasWritten limits input left_new held_old held_new false (Ok tt) = subst Ended e ended in (at_limit.at_end, (at_limit.report.report.forms, at_limit.report.report.accepted))
+  pub ended_accepted : (status : Status) → HasEnded command input left_new held_old held_new status → (IsAnalysed status ⊎ (status ≡ WriteFault)) → (left_new ≡ Some []) × ((fs : Forms) × IsAccepted input fs)
+  ended_accepted status ended (inl (inl e)) = let done : HasWritten command input left_new held_old held_new true (Ok tt) = subst Ended e ended in (done.at_end, (done.report.report.forms, done.report.report.accepted))
+  ended_accepted status ended (inl (inr e)) = let at_limit : HasWritten command input left_new held_old held_new false (Ok tt) = subst Ended e ended in (at_limit.at_end, (at_limit.report.report.forms, at_limit.report.report.accepted))
   ended_accepted status ended (inr e) =
-      let whole : HasWrittenPart limits input left_new held_old held_new = subst Ended e ended in
+      let whole : HasWrittenPart command input left_new held_old held_new = subst Ended e ended in
       let part = whole.1 in
       (part.at_end, (part.report.report.forms, part.report.report.accepted))
 
-  pub ended_refused : (status : Status) (r : Refusal) → HasEnded limits input left_new held_old held_new status → status ≡ Refused r → HasRefused input left_new r
+  pub ended_refused : (status : Status) (r : Refusal) → HasEnded command input left_new held_old held_new status → status ≡ Refused r → HasRefused input left_new r
   ended_refused status r ended is = subst Ended is ended
 
-  pub ended_only_refused : (status : Status) (r : Refusal) → HasEnded limits input left_new held_old held_new status → length input ≤ most_bytes → IsRefusedFor input r
+  pub ended_only_refused : (status : Status) (r : Refusal) → HasEnded command input left_new held_old held_new status → length input ≤ most_bytes → IsRefusedFor input r
       → (status ≡ Refused r) ⊎ ((status ≡ ReadFault) ⊎ (status ≡ Memory))
   ended_only_refused Done r ended short refused = absurd (accepted_or_refused input ended.report.report.forms r ended.report.report.accepted refused)
   ended_only_refused Limit r ended short refused = absurd (accepted_or_refused input ended.report.report.forms r ended.report.report.accepted refused)
@@ -120,10 +130,10 @@ module _ (limits : Limits) (input : List ℕ) (left_new held_old held_new : Opti
   ended_only_refused Memory r ended short refused = inr (inr refl)
   ended_only_refused TooLong r ended short refused = let long = ended.long in absurd (omega arith)
 
-  pub ended_too_long : (status : Status) → HasEnded limits input left_new held_old held_new status → status ≡ TooLong → WasTooLong input left_new
+  pub ended_too_long : (status : Status) → HasEnded command input left_new held_old held_new status → status ≡ TooLong → WasTooLong input left_new
   ended_too_long status ended is = subst Ended is ended
 
-  pub ended_only_too_long : (status : Status) → HasEnded limits input left_new held_old held_new status → most_bytes < length input → (status ≡ TooLong) ⊎ ((status ≡ ReadFault) ⊎ (status ≡ Memory))
+  pub ended_only_too_long : (status : Status) → HasEnded command input left_new held_old held_new status → most_bytes < length input → (status ≡ TooLong) ⊎ ((status ≡ ReadFault) ⊎ (status ≡ Memory))
   ended_only_too_long Done ended long = let short = ended.report.report.accepted.short in absurd (omega arith)
   ended_only_too_long Limit ended long = let short = ended.report.report.accepted.short in absurd (omega arith)
   ended_only_too_long Usage ended long = absurd ended
@@ -133,7 +143,7 @@ module _ (limits : Limits) (input : List ℕ) (left_new held_old held_new : Opti
   ended_only_too_long Memory ended long = inr (inr refl)
   ended_only_too_long TooLong ended long = inl refl
 
-  pub ended_completes : (status : Status) (fs : Forms) (read written : Type 0) → HasEnded limits input left_new held_old held_new status → (status ≡ ReadFault → read) → (status ≡ WriteFault → written)
+  pub ended_completes : (status : Status) (fs : Forms) (read written : Type 0) → HasEnded command input left_new held_old held_new status → (status ≡ ReadFault → read) → (status ≡ WriteFault → written)
       → IsAccepted input fs → (read → ⊥) → (written → ⊥) → IsAnalysed status ⊎ (status ≡ Memory)
   ended_completes Done fs read written ended reading writing accepted not_read not_written = inl (inl refl)
   ended_completes Limit fs read written ended reading writing accepted not_read not_written = inl (inr refl)
@@ -156,21 +166,23 @@ stopped_behind_end (Err stopped.Memory) bytes input left_new cause short read = 
 
 -- ---- reports
 
-pub whole_report : (limits : Limits) (bytes text : List ℕ) (fs : Forms) (entries : List Entry) (trees : List Tree) (b : Bool) → length bytes ≤ most_bytes → IsReading bytes (Ok fs) → IsInput fs (Ok entries)
-    → HaveTrees (IsAnalysisOf limits) entries trees → SaysOutcomes (outcomes_status b) trees → text ≡ report_text entries trees → IsWholeReport limits bytes text b
-whole_report limits bytes text fs entries trees b short reading loaded analysed says printed =
+pub whole_report : (command : Command) (bytes text : List ℕ) (fs : Forms) (entries : List Entry) (trees : List Tree) (b : Bool) → length bytes ≤ most_bytes → IsReading bytes (Ok fs) → IsInput fs (Ok entries)
+    → HaveTrees (IsAnalysisOf command.limits) entries trees → SaysOutcomes (outcomes_status b) trees → text ≡ text_by command.name entries trees → IsWholeReport command bytes text b
+whole_report command bytes text fs entries trees b short reading loaded analysed says printed =
     let problems = filter_map (λ e. e.problem) (input_of fs) in
-    let all : HaveTrees (IsAnalysisOf limits) (input_of fs) trees = subst (λ es. HaveTrees (IsAnalysisOf limits) es trees) loaded.1 analysed in
+    let all : HaveTrees (IsAnalysisOf command.limits) (input_of fs) trees = subst (λ es. HaveTrees (IsAnalysisOf command.limits) es trees) loaded.1 analysed in
+    let prints : text ≡ text_by command.name (input_of fs) trees = printed ∙ ap (λ es. text_by command.name es trees) loaded.1 in
     record {
       trees = trees;
       report = record {
         forms = fs;
         accepted = record { short = short; read = reading; well_formed = loaded.0 };
-        true_trees = zip_onto (IsAnalysisOf limits) (λ p t. IsTrueOf p.protocol p.skeleton limits t) (λ p t h. h.truth) problems trees all;
-        variables = zip_onto (IsAnalysisOf limits) (λ p t. (l : Label) → IsIn l t.labels → HasItsVariables p l) (λ p t h. h.variables) problems trees all;
-        printed = printed ∙ ap (λ es. report_text es trees) loaded.1;
+        true_trees = zip_onto (IsAnalysisOf command.limits) (λ p t. IsTrueOf p.protocol p.skeleton command.limits t) (λ p t h. h.truth) problems trees all;
+        variables = zip_onto (IsAnalysisOf command.limits) (λ p t. (l : Label) → IsIn l t.labels → HasItsVariables p l) (λ p t h. h.variables) problems trees all;
+        printed = prints;
       };
-      searched = zip_onto (IsAnalysisOf limits) (λ p t. IsTreeOf p.protocol p.skeleton p.variables limits t) (λ p t h. h.searched) problems trees all;
+      searched = zip_onto (IsAnalysisOf command.limits) (λ p t. IsTreeOf p.protocol p.skeleton p.variables command.limits t) (λ p t h. h.searched) problems trees all;
+      read_back = read_back_as command.name text fs trees prints loaded.0 (zip_onto (IsAnalysisOf command.limits) TreeFits (λ p t h. h.fits) problems trees all);
       outcomes = says;
     }
 
@@ -181,53 +193,57 @@ load_cause input fs e (Ok x) is reading refused = tt
 load_cause input fs (loading.Refused r) (Err cause) is reading refused = subst (IsCauseFor input) (sym is) (inr (fs, reading, refused r refl))
 load_cause input fs loading.Memory (Err cause) is reading refused = subst (IsCauseFor input) (sym is) tt
 
-pub ended_ok : (limits : Limits) (input : List ℕ) (left_new held_old held_new : Option (List ℕ)) (b : Bool) (s : Status) → s ≡ outcomes_status b → HasWritten limits input left_new held_old held_new b (Ok tt)
-    → HasEnded limits input left_new held_old held_new s
-ended_ok limits input left_new held_old held_new true s is written = subst (HasEnded limits input left_new held_old held_new) (sym is) written
-ended_ok limits input left_new held_old held_new false s is written = subst (HasEnded limits input left_new held_old held_new) (sym is) written
+pub ended_ok : (command : Command) (input : List ℕ) (left_new held_old held_new : Option (List ℕ)) (b : Bool) (s : Status) → s ≡ outcomes_status b → HasWritten command input left_new held_old held_new b (Ok tt)
+    → HasEnded command input left_new held_old held_new s
+ended_ok command input left_new held_old held_new true s is written = subst (HasEnded command input left_new held_old held_new) (sym is) written
+ended_ok command input left_new held_old held_new false s is written = subst (HasEnded command input left_new held_old held_new) (sym is) written
 
 -- ---- runs
 
-module _ (o : Option Limits) (input : List ℕ) (left_new held_old held_new : Option (List ℕ)) where
-  pub executed_searched : (limits : Limits) (before : List ℕ) (s : Status) → HasExecuted o input left_new held_old held_new s → o ≡ Some limits → held_old ≡ Some before → IsAnalysed s → HasReportedSearch limits input before left_new held_new s
-  executed_searched limits before s executed is held analysed =
-      ended_searched limits input left_new held_old held_new before s held analysed (subst (λ p. HasExecuted p input left_new held_old held_new s) is executed)
+module _ (o : Option Command) (input : List ℕ) (left_new held_old held_new : Option (List ℕ)) where
+  pub executed_searched : (command : Command) (before : List ℕ) (s : Status) → HasExecuted o input left_new held_old held_new s → o ≡ Some command → held_old ≡ Some before → IsAnalysed s → HasReportedSearch command input before left_new held_new s
+  executed_searched command before s executed is held analysed =
+      ended_searched command input left_new held_old held_new before s held analysed (subst (λ p. HasExecuted p input left_new held_old held_new s) is executed)
 
-  pub executed_broken_off : (limits : Limits) (before : List ℕ) (s : Status) → HasExecuted o input left_new held_old held_new s → o ≡ Some limits → held_old ≡ Some before → s ≡ WriteFault → HasBrokenOffSearch limits input before left_new held_new
-  executed_broken_off limits before s executed is held broken =
-      ended_broken_off limits input left_new held_old held_new before s held broken (subst (λ p. HasExecuted p input left_new held_old held_new s) is executed)
+  pub executed_read_back : (command : Command) (before : List ℕ) (s : Status) → HasExecuted o input left_new held_old held_new s → o ≡ Some command → held_old ≡ Some before → IsAnalysed s → HasReportedReadBack command input before left_new held_new s
+  executed_read_back command before s executed is held analysed =
+      ended_read_back command input left_new held_old held_new before s held analysed (subst (λ p. HasExecuted p input left_new held_old held_new s) is executed)
 
-  pub executed_only_refused : (limits : Limits) (r : Refusal) (s : Status) → HasExecuted o input left_new held_old held_new s → o ≡ Some limits → length input ≤ most_bytes → IsRefusedFor input r
+  pub executed_broken_off : (command : Command) (before : List ℕ) (s : Status) → HasExecuted o input left_new held_old held_new s → o ≡ Some command → held_old ≡ Some before → s ≡ WriteFault → HasBrokenOffSearch command input before left_new held_new
+  executed_broken_off command before s executed is held broken =
+      ended_broken_off command input left_new held_old held_new before s held broken (subst (λ p. HasExecuted p input left_new held_old held_new s) is executed)
+
+  pub executed_only_refused : (command : Command) (r : Refusal) (s : Status) → HasExecuted o input left_new held_old held_new s → o ≡ Some command → length input ≤ most_bytes → IsRefusedFor input r
       → (s ≡ Refused r) ⊎ ((s ≡ ReadFault) ⊎ (s ≡ Memory))
-  executed_only_refused limits r s executed is short refused =
-      ended_only_refused limits input left_new held_old held_new s r (subst (λ p. HasExecuted p input left_new held_old held_new s) is executed) short refused
+  executed_only_refused command r s executed is short refused =
+      ended_only_refused command input left_new held_old held_new s r (subst (λ p. HasExecuted p input left_new held_old held_new s) is executed) short refused
 
-  pub executed_only_too_long : (limits : Limits) (s : Status) → HasExecuted o input left_new held_old held_new s → o ≡ Some limits → most_bytes < length input → (s ≡ TooLong) ⊎ ((s ≡ ReadFault) ⊎ (s ≡ Memory))
-  executed_only_too_long limits s executed is long =
-      ended_only_too_long limits input left_new held_old held_new s (subst (λ p. HasExecuted p input left_new held_old held_new s) is executed) long
+  pub executed_only_too_long : (command : Command) (s : Status) → HasExecuted o input left_new held_old held_new s → o ≡ Some command → most_bytes < length input → (s ≡ TooLong) ⊎ ((s ≡ ReadFault) ⊎ (s ≡ Memory))
+  executed_only_too_long command s executed is long =
+      ended_only_too_long command input left_new held_old held_new s (subst (λ p. HasExecuted p input left_new held_old held_new s) is executed) long
 
-  pub executed_completes : (limits : Limits) (s : Status) (fs : Forms) (read written : Type 0) → HasExecuted o input left_new held_old held_new s → o ≡ Some limits → (s ≡ ReadFault → read) → (s ≡ WriteFault → written)
+  pub executed_completes : (command : Command) (s : Status) (fs : Forms) (read written : Type 0) → HasExecuted o input left_new held_old held_new s → o ≡ Some command → (s ≡ ReadFault → read) → (s ≡ WriteFault → written)
       → IsAccepted input fs → (read → ⊥) → (written → ⊥) → IsAnalysed s ⊎ (s ≡ Memory)
-  executed_completes limits s fs read written executed is reading writing accepted not_read not_written =
-      ended_completes limits input left_new held_old held_new s fs read written (subst (λ p. HasExecuted p input left_new held_old held_new s) is executed) reading writing accepted not_read not_written
+  executed_completes command s fs read written executed is reading writing accepted not_read not_written =
+      ended_completes command input left_new held_old held_new s fs read written (subst (λ p. HasExecuted p input left_new held_old held_new s) is executed) reading writing accepted not_read not_written
 
 not_usage_accepted : (s : Status) → s ≡ Usage → (IsAnalysed s ⊎ (s ≡ WriteFault)) → ⊥
 not_usage_accepted s usage (inl (inl e)) = cc
 not_usage_accepted s usage (inl (inr e)) = cc
 not_usage_accepted s usage (inr e) = cc
 
-pub executed_accepted : (o : Option Limits) (input : List ℕ) (left_new held_old held_new : Option (List ℕ)) (s : Status) → HasExecuted o input left_new held_old held_new s → (IsAnalysed s ⊎ (s ≡ WriteFault)) → (left_new ≡ Some []) × ((fs : Forms) × IsAccepted input fs)
+pub executed_accepted : (o : Option Command) (input : List ℕ) (left_new held_old held_new : Option (List ℕ)) (s : Status) → HasExecuted o input left_new held_old held_new s → (IsAnalysed s ⊎ (s ≡ WriteFault)) → (left_new ≡ Some []) × ((fs : Forms) × IsAccepted input fs)
 executed_accepted None input left_new held_old held_new s executed is = absurd (not_usage_accepted s executed.0 is)
-executed_accepted (Some limits) input left_new held_old held_new s executed is = ended_accepted limits input left_new held_old held_new s executed is
+executed_accepted (Some command) input left_new held_old held_new s executed is = ended_accepted command input left_new held_old held_new s executed is
 
-pub executed_refused : (o : Option Limits) (input : List ℕ) (left_new held_old held_new : Option (List ℕ)) (s : Status) (r : Refusal) → HasExecuted o input left_new held_old held_new s → s ≡ Refused r → HasRefused input left_new r
+pub executed_refused : (o : Option Command) (input : List ℕ) (left_new held_old held_new : Option (List ℕ)) (s : Status) (r : Refusal) → HasExecuted o input left_new held_old held_new s → s ≡ Refused r → HasRefused input left_new r
 executed_refused None input left_new held_old held_new s r executed is = let e = executed.0 in absurd (cc)
-executed_refused (Some limits) input left_new held_old held_new s r executed is = ended_refused limits input left_new held_old held_new s r executed is
+executed_refused (Some command) input left_new held_old held_new s r executed is = ended_refused command input left_new held_old held_new s r executed is
 
-pub executed_too_long : (o : Option Limits) (input : List ℕ) (left_new held_old held_new : Option (List ℕ)) (s : Status) → HasExecuted o input left_new held_old held_new s → s ≡ TooLong → WasTooLong input left_new
+pub executed_too_long : (o : Option Command) (input : List ℕ) (left_new held_old held_new : Option (List ℕ)) (s : Status) → HasExecuted o input left_new held_old held_new s → s ≡ TooLong → WasTooLong input left_new
 executed_too_long None input left_new held_old held_new s executed is = let e = executed.0 in absurd (cc)
-executed_too_long (Some limits) input left_new held_old held_new s executed is = ended_too_long limits input left_new held_old held_new s executed is
+executed_too_long (Some command) input left_new held_old held_new s executed is = ended_too_long command input left_new held_old held_new s executed is
 
-pub executed_took_at_most : (o : Option Limits) (input : List ℕ) (left_new held_old held_new : Option (List ℕ)) (s : Status) → HasExecuted o input left_new held_old held_new s → TookAtMost input left_new
+pub executed_took_at_most : (o : Option Command) (input : List ℕ) (left_new held_old held_new : Option (List ℕ)) (s : Status) → HasExecuted o input left_new held_old held_new s → TookAtMost input left_new
 executed_took_at_most None input left_new held_old held_new s executed = (0, omega arith, executed.1)
-executed_took_at_most (Some limits) input left_new held_old held_new s executed = ended_took_at_most limits input left_new held_old held_new s executed
+executed_took_at_most (Some command) input left_new held_old held_new s executed = ended_took_at_most command input left_new held_old held_new s executed

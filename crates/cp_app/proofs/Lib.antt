@@ -1,3 +1,4 @@
+mod ReportsBack
 pub mod Putting
 pub mod Taking
 pub mod Trees

@@ -1,20 +1,20 @@
 -- The trees of the problems of an input.
-use Rattle.std.proofs.Common.{◌≡◌, ℕ, zero, suc, ◌+◌, ◌<◌, ◌≤◌, List, [], ◌∷◌, ◌++◌, length, get_or, take, map, Option, Some, None, ◌⊎◌, inl, inr, refl, sym, ap, ◌∙◌, subst, arith, ⊎_elim, Result, Ok, Err, add-one, Bool, true, false, if◌then◌else◌}
-use Rattle.std.specs.Prelude.{option_map}
+use Rattle.std.proofs.Common.{◌≡◌, ℕ, zero, suc, ◌+◌, ◌<◌, ◌≤◌, List, [], ◌∷◌, ◌++◌, length, get_or, take, map, Option, Some, None, ◌⊎◌, inl, inr, refl, sym, ap, ◌∙◌, subst, arith, ⊎_elim, Ok, add-one, Bool, true, false, if◌then◌else◌}
+use Rattle.std.specs.Prelude.{◌^◌, option_map}
 use Rattle.std.specs.List.{AllZip, cons_option, filter_map}
-use Rattle.std.proofs.lemmas.List.{append-nil, take_all}
+use Rattle.std.proofs.lemmas.List.{append-nil, length-map, map-append, take_all}
 use Rattle.std.proofs.lemmas.List.Elements.{filter_map-append}
 use Rattle.std.proofs.Math.Seq.{take-suc}
-use Rattle.std.specs.Result.{IfOk}
-use Rattle.cp_skel.specs.Trees.{outcome_view, tree_view}
+use Rattle.cp_skel.specs.Trees.{declared_view, variables_view, outcome_view, label_view, tree_view}
+use Rattle.cp_skel.specs.declared.tree.TreeNode.{TreeNode}
+use Rattle.cp_term.specs.Table.{Declared}
 use Rattle.cp_skel.specs.declared.tree.Tree.{Tree as ProgramTree}
 use Rattle.cp_app.specs.Steps.{is_complete}
 use Rattle.cp_lists.specs.Lists.{item_at, IsIn, here, there}
-use Rattle.cp_lists.proofs.Members.{in_append, in_append_left, in_append_right}
-use Rattle.cp_model.specs.Term.{Sort, text_sort, datum_sort, name_sort, skey_sort, akey_sort, Variable, atom_of_variable, Term, atom_term, variables_of}
+use Rattle.cp_lists.proofs.Members.{in_append}
+use Rattle.cp_model.specs.Term.{Variable, Term, variables_of}
 use Rattle.cp_model.specs.Strand.{Declaration}
-use Rattle.cp_model.specs.declared.node.Node.{Node}
-use Rattle.cp_model.specs.Problem.{variable_terms, declared_sort, IsDeclared, IsPointOfView, variables_of_skeleton, HasDeclaredVariables}
+use Rattle.cp_model.specs.Problem.{IsDeclared, variables_of_skeleton}
 use Rattle.cp_model.specs.Tree.{Pattern, Test, Outcome, complete, at_step_limit, at_strand_limit, Label, Tree, Limits, IsTrueOf}
 use Rattle.cp_sexpr.specs.Syntax as syntax
 use Rattle.cp_sexpr.specs.Syntax.{Forms}
@@ -31,9 +31,10 @@ use Rattle.cp_model.proofs.SameTests.{in_has_variable}
 use Rattle.cp_guard.specs.Matching.{IsFreeIn}
 use Rattle.cp_tree.specs.Searched.{IsTreeOf}
 use Rattle.cp_tree.specs.Declared.{DeclaresItsOwn}
+use Rattle.cp_report.specs.Fitting.{TreeFits}
 use Rattle.cp_wellformed.proofs.Problems as wellformed
 use Rattle.cp_app.specs.Headline.{HaveTrees}
-use Rattle.cp_app.specs.Analysis.{IsAnalysable, IsAnalysisOf}
+use Rattle.cp_app.specs.Analysis.{HaveFewVariables, IsAnalysable, IsAnalysisOf}
 
 -- ---- variables
 
@@ -94,13 +95,36 @@ has_variables p t all l listed =
     record { later = d.more.more; variables = d.more.behind; declared = all_declared p.variables l d }
 
 -- the tree of a problem is its analysis
-analysis_of : (limits : Limits) (p : Problem) (t : Tree) → IsTrueOf p.protocol p.skeleton limits t → IsTreeOf p.protocol p.skeleton p.variables limits t → AllDeclare p t → IsAnalysisOf limits p t
-analysis_of limits p t truth searched declares = record { truth = truth; variables = has_variables p t declares; searched = searched }
+pub analysis_of : (limits : Limits) (p : Problem) (t : Tree) → IsTrueOf p.protocol p.skeleton limits t → IsTreeOf p.protocol p.skeleton p.variables limits t → AllDeclare p t
+    → (((l : Label) → IsIn l t.labels → HasItsVariables p l) → TreeFits p t) → IsAnalysisOf limits p t
+analysis_of limits p t truth searched declares fits =
+    let variables = has_variables p t declares in
+    record { truth = truth; variables = variables; searched = searched; fits = fits variables }
 
-pub analysis_if : {A : Type 0} (limits : Limits) (p : Problem) (r : Result ProgramTree A) → IsAnalysable p → IfOk r (λ t. IsTrueOf p.protocol p.skeleton limits (tree_view t))
-    → IfOk r (λ t. IsTreeOf p.protocol p.skeleton p.variables limits (tree_view t)) → IfOk r (λ t. AllDeclare p (tree_view t)) → IfOk r (λ t. IsAnalysisOf limits p (tree_view t))
-analysis_if limits p (Ok t) good truth searched declares = analysis_of limits p (tree_view t) truth searched declares
-analysis_if limits p (Err e) good truth searched declares = tt
+-- ---- fewer variables than can be counted
+
+pub few_counted : (ds : List Declared) (n : ℕ) → n ≡ length ds → n < 2 ^ 64 → length (variables_view ds) < 2 ^ 64
+few_counted ds n counted few = let same : length (variables_view ds) ≡ length ds = length-map ds declared_view in omega (arith, same, counted, few)
+
+-- the labels before number i have few
+abbrev pub HaveFewBefore : List TreeNode → ℕ → Type 0
+HaveFewBefore ls i = HaveFewVariables (map label_view (take i ls))
+
+pub few_before_first : (ls : List TreeNode) → HaveFewBefore ls 0
+few_before_first ls l listed = elim listed [ ]
+
+pub few_next : (ls : List TreeNode) (i : ℕ) (l : TreeNode) → i < length ls → l ≡ get_or ls i l → length (label_view l).variables < 2 ^ 64 → HaveFewBefore ls i → HaveFewBefore ls (i + 1)
+few_next ls i l lt is few before m listed =
+    let one : take (i + 1) ls ≡ take i ls ++ l ∷ [] = rw add-one (take-suc ls i l lt ∙ ap (λ q. take i ls ++ q ∷ []) (sym is)) in
+    ⊎_elim (before m) (λ last. of_one m last)
+    (in_append (map label_view (take i ls)) (label_view l ∷ []) (rw (ap (map label_view) one ∙ map-append label_view (take i ls) (l ∷ [])) at listed))
+  where
+    of_one : (m : Label) → IsIn m (label_view l ∷ []) → length m.variables < 2 ^ 64
+    of_one _ here = few
+    of_one m (there listed) = elim listed [ ]
+
+pub few_in_all : (ls : List TreeNode) (i : ℕ) → length ls ≤ i → HaveFewBefore ls i → HaveFewVariables (map label_view ls)
+few_in_all ls i h few = rw (take_all i ls h) at few
 
 -- ---- each problem with its tree
 

@@ -1,4 +1,4 @@
--- What `run` promises, top to bottom.
+-- What `run` promises, top to bottom. That a report is read back as its trees stands in `ReadBack.antt`, `IsReadBackAs`.
 use Rattle.std.specs.Prelude.{◌≡◌, ◌≢◌, ℕ, ◌+◌, ◌<◌, ◌≤◌, ◌⊎◌, List, [], ◌∷◌, ◌++◌, length, take, drop, Bool, true, false, codes, decimal, Option, Some, Ok, Err}
 use Rattle.std.specs.List.{AllZip, filter_map}
 use Rattle.cp_base.specs.Codes.{code_text}
@@ -6,7 +6,7 @@ use Rattle.cp_base.specs.Outside.{Rose}
 use Rattle.cp_base.specs.declared.place.Refusal.{Refusal}
 use Rattle.cp_base.specs.declared.status.Status.{Status}
 use Rattle.cp_base.specs.declared.status.Status.TheVariants.{Done, Limit, Usage, Refused, ReadFault, WriteFault, Memory, TooLong}
-use Rattle.cp_model.specs.Tree.{complete, Limits, Label, Tree, IsTrueOf}
+use Rattle.cp_model.specs.Tree.{complete, Label, Tree, IsTrueOf}
 use Rattle.cp_lists.specs.Lists.{IsIn}
 use Rattle.cp_sexpr.specs.Syntax.{Forms}
 use Rattle.cp_sexpr.specs.Reading.{IsReading}
@@ -14,6 +14,10 @@ use Rattle.cp_language.specs.Problems.{Problem}
 use Rattle.cp_language.specs.Faults.{IsFirstFault}
 use Rattle.cp_language.specs.Input.{Entry, faults_of, input_of}
 use Rattle.cp_language.specs.Report.{HasItsVariables, report_text}
+use Rattle.cp_language.specs.ShapesText.{shapes_text}
+use Rattle.cp_words.specs.Command.{Command}
+use Rattle.cp_words.specs.declared.command.CommandName.{CommandName}
+use Rattle.cp_words.specs.declared.command.CommandName.TheVariants.{Analyse, Shapes}
 
 -- ---- the input
 
@@ -37,14 +41,21 @@ IsRefusedFor input r = IsReading input (Err r) ⊎ ((fs : Forms) × IsReading in
 abbrev pub HaveTrees : (Problem → Tree → Type 0) → List Entry → List Tree → Type 0
 HaveTrees P entries trees = AllZip P (filter_map (λ e. e.problem) entries) trees
 
--- The text is that of one report over the forms of the input: each problem has its tree, which is true of it and whose labels
--- have their variables, and the text gives the forms in order and behind each problem its tree.
-pub record IsReportOf (limits : Limits) (input text : List ℕ) (trees : List Tree) : Type 0 where
+-- What a command prints of entries and trees: `analyse` the report, and `shapes` the report without the labels that are not
+-- marked as shapes.
+abbrev pub text_by : CommandName → List Entry → List Tree → List ℕ
+text_by Analyse = report_text
+text_by Shapes = shapes_text
+
+-- The text is what the command prints of one report over the forms of the input: each problem has its tree, which is true of
+-- it and whose labels have their variables, and the text gives the forms in order and behind each problem its tree, or the
+-- shapes of its tree.
+pub record IsReportOf (command : Command) (input text : List ℕ) (trees : List Tree) : Type 0 where
   pub forms : Forms
   pub accepted : IsAccepted input forms
-  pub true_trees : HaveTrees (λ p t. IsTrueOf p.protocol p.skeleton limits t) (input_of forms) trees
+  pub true_trees : HaveTrees (λ p t. IsTrueOf p.protocol p.skeleton command.limits t) (input_of forms) trees
   pub variables : HaveTrees (λ p t. (l : Label) → IsIn l t.labels → HasItsVariables p l) (input_of forms) trees
-  pub printed : text ≡ report_text (input_of forms) trees
+  pub printed : text ≡ text_by command.name (input_of forms) trees
 
 -- Done says that every outcome is complete, and Limit that some outcome is a limit.
 abbrev pub SaysOutcomes : Status → List Tree → Type 0
@@ -84,24 +95,24 @@ status_line TooLong = line (codes "too long")
 
 -- ---- what a call leaves, where the source tells what it held and the sinks what they hold
 
--- At Done and Limit the source was read to its end, and what was put is the text of a report of the whole input.
-pub record HasReported (limits : Limits) (input before : List ℕ) (left_new held_new : Option (List ℕ)) (status : Status) : Type 0 where
+-- At Done and Limit the source was read to its end, and what was put is what the command prints of a report of the whole input.
+pub record HasReported (command : Command) (input before : List ℕ) (left_new held_new : Option (List ℕ)) (status : Status) : Type 0 where
   pub text : List ℕ
   pub trees : List Tree
   pub at_end : left_new ≡ Some []
   pub held : held_new ≡ Some (before ++ text)
-  pub report : IsReportOf limits input text trees
+  pub report : IsReportOf command input text trees
   pub outcomes : SaysOutcomes status trees
 
 -- At a write fault the source was read to its end, and what was put is the front of such a text, shorter than it.
-pub record HasBrokenOff (limits : Limits) (input before : List ℕ) (left_new held_new : Option (List ℕ)) : Type 0 where
+pub record HasBrokenOff (command : Command) (input before : List ℕ) (left_new held_new : Option (List ℕ)) : Type 0 where
   pub text : List ℕ
   pub trees : List Tree
   pub put : ℕ
   pub shorter : put < length text
   pub at_end : left_new ≡ Some []
   pub held : held_new ≡ Some (before ++ take put text)
-  pub report : IsReportOf limits input text trees
+  pub report : IsReportOf command input text trees
 
 -- A refused input was read to its end, and is refused so.
 pub record HasRefused (input : List ℕ) (left_new : Option (List ℕ)) (r : Refusal) : Type 0 where

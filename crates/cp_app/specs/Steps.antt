@@ -3,13 +3,15 @@ use Rattle.std.specs.Prelude.{◌≡◌, ℕ, ◌<◌, List, [], ◌++◌, lengt
 use Rattle.cp_base.specs.declared.status.Failed.{Failed}
 use Rattle.cp_base.specs.declared.status.Status.{Status}
 use Rattle.cp_base.specs.declared.status.Status.TheVariants as status
-use Rattle.cp_model.specs.Tree.{Limits, Outcome, complete, Tree}
+use Rattle.cp_model.specs.Tree.{Outcome, complete, Tree}
 use Rattle.cp_sexpr.specs.declared.error.ReadError.{ReadError}
 use Rattle.cp_sexpr.specs.declared.error.ReadError.TheVariants as reading
 use Rattle.cp_load.specs.declared.error.LoadError.{LoadError}
 use Rattle.cp_load.specs.declared.error.LoadError.TheVariants as loading
+use Rattle.cp_words.specs.Command.{Command}
 use Rattle.cp_app.specs.Headline.{IsRefusedFor, IsReportOf, SaysOutcomes, HasRefused, WasTooLong, TookAtMost}
 use Rattle.cp_app.specs.Searched.{AreSearched}
+use Rattle.cp_app.specs.ReadBack.{IsReadBackAs}
 use Rattle.cp_app.specs.declared.stopped.Stopped.{Stopped}
 use Rattle.cp_app.specs.declared.stopped.Stopped.TheVariants.{Refused, ReadFault, Memory, TooLong}
 
@@ -58,11 +60,13 @@ abbrev pub outcomes_status : Bool → Status
 outcomes_status true = status.Done
 outcomes_status false = status.Limit
 
--- The text is that of a report of the input, whose trees are those of the search; and whether every outcome in it is complete.
-pub record IsWholeReport (limits : Limits) (input text : List ℕ) (complete : Bool) : Type 0 where
+-- The text is what the command prints of a report of the input, whose trees are those of the search, and as which it is read
+-- back; and whether every outcome in it is complete.
+pub record IsWholeReport (command : Command) (input text : List ℕ) (complete : Bool) : Type 0 where
   pub trees : List Tree
-  pub report : IsReportOf limits input text trees
-  pub searched : AreSearched limits report.forms trees
+  pub report : IsReportOf command input text trees
+  pub searched : AreSearched command.limits report.forms trees
+  pub read_back : IsReadBackAs command.name text report.forms trees
   pub outcomes : SaysOutcomes (outcomes_status complete) trees
 
 -- The text was put, and at a fault a front that is shorter.
@@ -71,28 +75,28 @@ HasPut before text held_new (Ok u) = held_new ≡ Some (before ++ text)
 HasPut before text held_new (Err failed) = (n : ℕ) × (n < length text) × (held_new ≡ Some (before ++ take n text))
 
 -- The source was read to its end, and the text of a report of its input was put so.
-pub record HasWritten (limits : Limits) (input : List ℕ) (left_new held_old held_new : Option (List ℕ)) (complete : Bool) (result : Result (Unit {0}) Failed) : Type 0 where
+pub record HasWritten (command : Command) (input : List ℕ) (left_new held_old held_new : Option (List ℕ)) (complete : Bool) (result : Result (Unit {0}) Failed) : Type 0 where
   pub text : List ℕ
-  pub report : IsWholeReport limits input text complete
+  pub report : IsWholeReport command input text complete
   pub at_end : left_new ≡ Some []
   pub put : (before : List ℕ) → held_old ≡ Some before → HasPut before text held_new result
 
 -- A report was put in part.
-abbrev pub HasWrittenPart : Limits → List ℕ → Option (List ℕ) → Option (List ℕ) → Option (List ℕ) → Type 0
-HasWrittenPart limits input left_new held_old held_new = (complete : Bool) × HasWritten limits input left_new held_old held_new complete (Err (record {}))
+abbrev pub HasWrittenPart : Command → List ℕ → Option (List ℕ) → Option (List ℕ) → Option (List ℕ) → Type 0
+HasWrittenPart command input left_new held_old held_new = (complete : Bool) × HasWritten command input left_new held_old held_new complete (Err (record {}))
 
 -- What a command that reads leaves of its source and of the sink for its output.
-abbrev pub HasEnded : Limits → List ℕ → Option (List ℕ) → Option (List ℕ) → Option (List ℕ) → Status → Type 0
-HasEnded limits input left_new held_old held_new status.Done = HasWritten limits input left_new held_old held_new true (Ok tt)
-HasEnded limits input left_new held_old held_new status.Limit = HasWritten limits input left_new held_old held_new false (Ok tt)
-HasEnded limits input left_new held_old held_new status.WriteFault = HasWrittenPart limits input left_new held_old held_new
-HasEnded limits input left_new held_old held_new (status.Refused r) = HasRefused input left_new r
-HasEnded limits input left_new held_old held_new status.TooLong = WasTooLong input left_new
-HasEnded limits input left_new held_old held_new status.ReadFault = TookAtMost input left_new
-HasEnded limits input left_new held_old held_new status.Memory = TookAtMost input left_new
-HasEnded limits input left_new held_old held_new status.Usage = ⊥
+abbrev pub HasEnded : Command → List ℕ → Option (List ℕ) → Option (List ℕ) → Option (List ℕ) → Status → Type 0
+HasEnded command input left_new held_old held_new status.Done = HasWritten command input left_new held_old held_new true (Ok tt)
+HasEnded command input left_new held_old held_new status.Limit = HasWritten command input left_new held_old held_new false (Ok tt)
+HasEnded command input left_new held_old held_new status.WriteFault = HasWrittenPart command input left_new held_old held_new
+HasEnded command input left_new held_old held_new (status.Refused r) = HasRefused input left_new r
+HasEnded command input left_new held_old held_new status.TooLong = WasTooLong input left_new
+HasEnded command input left_new held_old held_new status.ReadFault = TookAtMost input left_new
+HasEnded command input left_new held_old held_new status.Memory = TookAtMost input left_new
+HasEnded command input left_new held_old held_new status.Usage = ⊥
 
 -- What a run that was given these words leaves: of words that are no command nothing is read.
-abbrev pub HasExecuted : Option Limits → List ℕ → Option (List ℕ) → Option (List ℕ) → Option (List ℕ) → Status → Type 0
+abbrev pub HasExecuted : Option Command → List ℕ → Option (List ℕ) → Option (List ℕ) → Option (List ℕ) → Status → Type 0
 HasExecuted None input left_new held_old held_new s = (s ≡ status.Usage) × (left_new ≡ Some input)
-HasExecuted (Some limits) input left_new held_old held_new s = HasEnded limits input left_new held_old held_new s
+HasExecuted (Some command) input left_new held_old held_new s = HasEnded command input left_new held_old held_new s

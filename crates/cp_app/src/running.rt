@@ -1,30 +1,32 @@
 // The top call.
-ghost use Rattle.std.specs.Prelude.{◌≡◌, ◌≢◌, ◌≤◌, ◌<◌, ◌⊎◌, ◌↔◌, ℕ, List, [], length, map, string_bytes, true, None, Some, IfOk, IfErr, OnErr};
-ghost use Rattle.cp_app.specs.Headline.{most_bytes, IsAccepted, IsRefusedFor, IsAnalysed, puts_nothing, status_line, HasReported, HasBrokenOff, HasRefused, WasTooLong, TookAtMost, HasLine};
+ghost use Rattle.std.specs.Prelude.{◌≡◌, ◌≢◌, ◌≤◌, ◌<◌, ◌++◌, ◌⊎◌, ◌↔◌, ℕ, List, [], length, map, string_bytes, true, None, Some, IfOk, IfErr, OnOk, OnErr};
+ghost use Rattle.cp_app.specs.Headline.{most_bytes, IsAccepted, IsRefusedFor, IsAnalysed, puts_nothing, status_line, text_by, HasReported, HasBrokenOff, HasRefused, WasTooLong, TookAtMost, HasLine};
 ghost use Rattle.cp_app.specs.Searched.{HasReportedSearch, HasBrokenOffSearch};
+ghost use Rattle.cp_app.specs.ReadBack.{HasReportedReadBack};
 ghost use Rattle.cp_app.specs.Steps.{IsCauseFor, HasStopped, IsWholeReport, outcomes_status, HasPut, HasEnded, HasExecuted};
 ghost use Rattle.cp_app.specs.declared.stopped.Stopped.TheVariants as stopped;
 ghost use Rattle.cp_base.specs.Outside.{Rose};
 ghost use Rattle.cp_base.specs.declared.place.Refusal.{Refusal as RefusalData};
 ghost use Rattle.cp_base.specs.declared.status.Status.TheVariants.{Usage, Refused, ReadFault, WriteFault, Memory, TooLong};
-ghost use Rattle.cp_model.specs.Tree.{Limits as LimitsData};
 ghost use Rattle.cp_sexpr.specs.Syntax.{Forms};
-ghost use Rattle.cp_skel.specs.Trees.{limits_view};
-ghost use Rattle.cp_words.specs.Command.{command_of};
+ghost use Rattle.cp_load.specs.Inputs.{entries_of};
+ghost use Rattle.cp_skel.specs.Trees.{tree_view};
+ghost use Rattle.cp_words.specs.Command.{Command as CommandData, command_of};
+ghost use Rattle.cp_words.specs.Settings.{command_view};
 
 use crate::analysing::{are_complete, trees_of};
 use crate::reading::read_all;
 use crate::stopped::Stopped;
 use crate::writing::{put_line, put_pieces};
 use cp_base::{Failed, Sink, Source, Status};
-use cp_load::load;
-use cp_print::print_pieces;
+use cp_load::{Input, load};
+use cp_print::{print_pieces, print_shape_pieces};
 use cp_sexpr::read;
-use cp_skel::Limits;
-use cp_words::{WordsError, read_command};
-use std::alloc::Global;
+use cp_skel::Tree;
+use cp_words::{Command, CommandName, WordsError, read_command};
+use std::alloc::{AllocError, Global};
 
-// The text of a report, where each of its top forms ends, and whether every outcome in it is complete.
+// What is printed of a report, where each of its top forms ends, and whether every outcome in the report is complete.
 #[derive(Drop)]
 struct Report {
     text: Vec<u8>,
@@ -43,19 +45,36 @@ fn outcomes_status(complete: bool) -> Status
     }
 }
 
+// Appends what the command prints, and where each of its top forms ends.
+fn print_by(
+    alloc: Global,
+    name: CommandName,
+    input: &Input<'_>,
+    trees: &[Tree],
+    text: &mut Vec<u8>,
+    ends: &mut Vec<usize>,
+) -> Result<(), AllocError>
+    ensures { OnOk result (text.new.items ≡ text.old.items ++ text_by name (entries_of input.now) (map tree_view trees.now)) }
+{
+    match name {
+        CommandName::Analyse => print_pieces(alloc, input, trees, text, ends),
+        CommandName::Shapes => print_shape_pieces(alloc, input, trees, text, ends),
+    }
+}
+
 // The report of an input, or why there is none.
-fn report_of(alloc: Global, limits: Limits, input: &[u8]) -> Result<Report, Stopped>
+fn report_of(alloc: Global, command: Command, input: &[u8]) -> Result<Report, Stopped>
     requires short { length input.now ≤ most_bytes }
-    ensures report { IfOk result (λ report. IsWholeReport (limits_view limits) input.now report.text.items report.complete) }
+    ensures report { IfOk result (λ report. IsWholeReport (command_view command) input.now report.text.items report.complete) }
     ensures cause { IfErr result (IsCauseFor input.now) }
 {
     let forms = read(alloc, input)?;
     let loaded = load(alloc, &forms)?;
-    let trees = trees_of(alloc, &loaded.problems, limits)?;
+    let trees = trees_of(alloc, &loaded.problems, command.limits)?;
     let complete = are_complete(&trees);
     let mut text = Vec::new(alloc);
     let mut ends = Vec::new(alloc);
-    print_pieces(alloc, &loaded, &trees, &mut text, &mut ends)?;
+    print_by(alloc, command.name, &loaded, &trees, &mut text, &mut ends)?;
     Ok(Report {
         text,
         ends,
@@ -64,16 +83,20 @@ fn report_of(alloc: Global, limits: Limits, input: &[u8]) -> Result<Report, Stop
 }
 
 // The report of what the source holds, or why there is none.
-fn make_report<S: Source>(alloc: Global, limits: Limits, source: &mut S) -> Result<Report, Stopped>
+fn make_report<S: Source>(
+    alloc: Global,
+    command: Command,
+    source: &mut S,
+) -> Result<Report, Stopped>
     ensures report { (input : List ℕ) → S.left source.old ≡ Some input
-        → IfOk result (λ report. IsWholeReport (limits_view limits) input report.text.items report.complete × (S.left source.new ≡ Some [])) }
+        → IfOk result (λ report. IsWholeReport (command_view command) input report.text.items report.complete × (S.left source.new ≡ Some [])) }
     ensures stopped { (input : List ℕ) → S.left source.old ≡ Some input
         → IfErr result (HasStopped input (S.left source.new)) }
     ensures read_fault { IfErr result (λ cause. cause ≡ stopped.ReadFault
         → Rose (S.faults source.old) (S.faults source.new)) }
 {
     let input = read_all(alloc, source)?;
-    report_of(alloc, limits, &input)
+    report_of(alloc, command, &input)
 }
 
 // Puts a report, one top form a piece.
@@ -85,16 +108,21 @@ fn put_report<O: Sink>(out: &mut O, report: &Report) -> Result<(), Failed>
     put_pieces(out, &report.text, &report.ends)
 }
 
-// Puts the report of what the source holds.
-fn analyse<S: Source, O: Sink>(alloc: Global, limits: Limits, source: &mut S, out: &mut O) -> Status
+// Puts what the command prints of the report of what the source holds.
+fn analyse<S: Source, O: Sink>(
+    alloc: Global,
+    command: Command,
+    source: &mut S,
+    out: &mut O,
+) -> Status
     ensures ended { (input : List ℕ) → S.left source.old ≡ Some input
-        → HasEnded (limits_view limits) input (S.left source.new) (O.held out.old) (O.held out.new) result }
+        → HasEnded (command_view command) input (S.left source.new) (O.held out.old) (O.held out.new) result }
     ensures not_usage { result ≢ Usage }
     ensures read_fault { result ≡ ReadFault → Rose (S.faults source.old) (S.faults source.new) }
     ensures write_fault { result ≡ WriteFault → Rose (O.faults out.old) (O.faults out.new) }
     ensures nothing_put { puts_nothing result ≡ true → out.new ≡ out.old }
 {
-    match make_report(alloc, limits, source) {
+    match make_report(alloc, command, source) {
         Ok(report) => match put_report(out, &report) {
             Ok(()) => outcomes_status(report.complete),
             Err(_) => Status::WriteFault,
@@ -119,7 +147,7 @@ fn execute<S: Source, O: Sink>(
     ensures nothing_put { puts_nothing result ≡ true → out.new ≡ out.old }
 {
     match read_command(alloc, words) {
-        Ok(limits) => analyse(alloc, limits, source, out),
+        Ok(command) => analyse(alloc, command, source, out),
         Err(WordsError::Usage) => Status::Usage,
         Err(WordsError::Memory) => Status::Memory,
     }
@@ -129,10 +157,11 @@ fn execute<S: Source, O: Sink>(
 ///
 /// The words are a name for the program and the command. The command `analyse [--limit N] [--bound N]` reads the source
 /// to its end, at most one byte more than 1,048,576, searches for the shapes of each problem within these limits, makes the
-/// whole text of the report, and only then puts it, one top form a piece. The status says how that ended:
+/// whole text of the report, and only then puts it. The command `shapes`, with the same options, does
+/// the same, and leaves out of the text the labels that are not marked as shapes. The status says how that ended:
 ///
-/// - `Done`: the whole report was put, and each of its outcomes is complete;
-/// - `Limit`: the whole report was put, and some outcome is a limit;
+/// - `Done`: the whole text was put, and each outcome in the report is complete;
+/// - `Limit`: the whole text was put, and some outcome is a limit;
 /// - `Usage`: exactly where the words are no command, and nothing was read;
 /// - `TooLong`: exactly where the source held more than 1,048,576 bytes, if it does not fail before and memory lasts;
 /// - `Refused`: exactly where the input is not well formed, under the same condition; at the place of the first fault;
@@ -144,11 +173,15 @@ fn execute<S: Source, O: Sink>(
 /// the protocol, carries a homomorphism from the problem and keeps what the problem states itself; shapes are realised, and
 /// none embeds in another; where the tree is complete, whenever the problem stands in a bundle that standing factors through
 /// a shape, and at a limit through a shape or a label at a limit; and a limit is the outcome only where it was reached.
-/// Besides, each tree is exactly the one of the search.
+/// Besides, each tree is one that the rules of the search make, label by label.
 ///
-/// At `WriteFault` a front of such a report was put, which is shorter than it, and at the other statuses but `Done` and
-/// `Limit` nothing was. Each status but `Done` and `Limit` has a line on the sink for errors, and stays as it is where that
-/// sink fails. What is said of the input and the output holds where the source tells what it had left and the sink what it
+/// Whoever reads the forms of the report back gets these very trees, each label with its skeleton and its map from the problem, the
+/// same but for the names of variables, the places of forms, and the pairs that generate an order. So does who reads the text
+/// that `analyse` puts, where the forms of the report are such as the reader gives: symbols that are tokens, strings of their
+/// bytes, numbers of at most nine digits, and at most 200 lists inside each other.
+///
+/// At `WriteFault` a front of such a text was put, which is shorter than it, and at the other statuses but `Done` and
+/// `Limit` nothing was. Each status but `Done` and `Limit` has a line on the sink for errors. What is said of the input and the output holds where the source tells what it had left and the sink what it
 /// holds.
 pub fn run<S: Source, O: Sink, E: Sink>(
     alloc: Global,
@@ -161,25 +194,32 @@ pub fn run<S: Source, O: Sink, E: Sink>(
     ensures usage { (result ≡ Usage) ↔ (command_of (map string_bytes words.now) ≡ None) }
     ensures usage_reads_nothing { result ≡ Usage → source.new ≡ source.old }
 
-    // What was put is a report of the whole input, with trees that are true of its problems; at a write fault a front of one.
-    ensures reported { (limits : LimitsData) (input before : List ℕ)
-        → command_of (map string_bytes words.now) ≡ Some limits → S.left source.old ≡ Some input
+    // What was put is what the command prints of a report of the whole input, with trees that are true of its problems; at a
+    // write fault a front of it.
+    ensures reported { (command : CommandData) (input before : List ℕ)
+        → command_of (map string_bytes words.now) ≡ Some command → S.left source.old ≡ Some input
         → O.held out.old ≡ Some before → IsAnalysed result
-        → HasReported limits input before (S.left source.new) (O.held out.new) result }
-    ensures broken_off { (limits : LimitsData) (input before : List ℕ)
-        → command_of (map string_bytes words.now) ≡ Some limits → S.left source.old ≡ Some input
+        → HasReported command input before (S.left source.new) (O.held out.new) result }
+    ensures broken_off { (command : CommandData) (input before : List ℕ)
+        → command_of (map string_bytes words.now) ≡ Some command → S.left source.old ≡ Some input
         → O.held out.old ≡ Some before → result ≡ WriteFault
-        → HasBrokenOff limits input before (S.left source.new) (O.held out.new) }
+        → HasBrokenOff command input before (S.left source.new) (O.held out.new) }
 
     // The same, and the trees of this report are exactly those of the search.
-    ensures searched { (limits : LimitsData) (input before : List ℕ)
-        → command_of (map string_bytes words.now) ≡ Some limits → S.left source.old ≡ Some input
+    ensures searched { (command : CommandData) (input before : List ℕ)
+        → command_of (map string_bytes words.now) ≡ Some command → S.left source.old ≡ Some input
         → O.held out.old ≡ Some before → IsAnalysed result
-        → HasReportedSearch limits input before (S.left source.new) (O.held out.new) result }
-    ensures searched_before_fault { (limits : LimitsData) (input before : List ℕ)
-        → command_of (map string_bytes words.now) ≡ Some limits → S.left source.old ≡ Some input
+        → HasReportedSearch command input before (S.left source.new) (O.held out.new) result }
+    ensures searched_before_fault { (command : CommandData) (input before : List ℕ)
+        → command_of (map string_bytes words.now) ≡ Some command → S.left source.old ≡ Some input
         → O.held out.old ≡ Some before → result ≡ WriteFault
-        → HasBrokenOffSearch limits input before (S.left source.new) (O.held out.new) }
+        → HasBrokenOffSearch command input before (S.left source.new) (O.held out.new) }
+
+    // Whoever reads back what was put gets the trees of the report.
+    ensures read_back { (command : CommandData) (input before : List ℕ)
+        → command_of (map string_bytes words.now) ≡ Some command → S.left source.old ≡ Some input
+        → O.held out.old ≡ Some before → IsAnalysed result
+        → HasReportedReadBack command input before (S.left source.new) (O.held out.new) result }
 
     // Only accepted input is analysed, and it is read to its end.
     ensures accepted { (input : List ℕ) → S.left source.old ≡ Some input
@@ -189,16 +229,16 @@ pub fn run<S: Source, O: Sink, E: Sink>(
     // Exactly the input that is not accepted is refused, for its first fault.
     ensures refused { (r : RefusalData) (input : List ℕ) → result ≡ Refused r
         → S.left source.old ≡ Some input → HasRefused input (S.left source.new) r }
-    ensures only_refused { (limits : LimitsData) (r : RefusalData) (input : List ℕ)
-        → command_of (map string_bytes words.now) ≡ Some limits
+    ensures only_refused { (command : CommandData) (r : RefusalData) (input : List ℕ)
+        → command_of (map string_bytes words.now) ≡ Some command
         → S.left source.old ≡ Some input → length input ≤ most_bytes → IsRefusedFor input r
         → (result ≡ Refused r) ⊎ ((result ≡ ReadFault) ⊎ (result ≡ Memory)) }
 
     // Exactly the input of more than the most bytes is too long.
     ensures too_long { (input : List ℕ) → S.left source.old ≡ Some input → result ≡ TooLong
         → WasTooLong input (S.left source.new) }
-    ensures only_too_long { (limits : LimitsData) (input : List ℕ)
-        → command_of (map string_bytes words.now) ≡ Some limits
+    ensures only_too_long { (command : CommandData) (input : List ℕ)
+        → command_of (map string_bytes words.now) ≡ Some command
         → S.left source.old ≡ Some input → most_bytes < length input
         → (result ≡ TooLong) ⊎ ((result ≡ ReadFault) ⊎ (result ≡ Memory)) }
     ensures took_at_most { (input : List ℕ) → S.left source.old ≡ Some input
@@ -216,8 +256,8 @@ pub fn run<S: Source, O: Sink, E: Sink>(
     ensures no_line { IsAnalysed result → errs.new ≡ errs.old }
 
     // Accepted input is analysed.
-    ensures completes { (limits : LimitsData) (input : List ℕ) (fs : Forms)
-        → command_of (map string_bytes words.now) ≡ Some limits → S.left source.old ≡ Some input
+    ensures completes { (command : CommandData) (input : List ℕ) (fs : Forms)
+        → command_of (map string_bytes words.now) ≡ Some command → S.left source.old ≡ Some input
         → IsAccepted input fs → (Rose (S.faults source.old) (S.faults source.new) → ⊥)
         → (Rose (O.faults out.old) (O.faults out.new) → ⊥) → IsAnalysed result ⊎ (result ≡ Memory) }
 {

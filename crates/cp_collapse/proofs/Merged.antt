@@ -25,7 +25,7 @@ event_agrees s f t (send u) a = ap send (sym (agree_term (composed s f) t u a) �
 event_agrees s f t (recv u) a = ap recv (sym (agree_term (composed s f) t u a) ∙ term_composed s f u)
 
 -- The event of an instance, where the instance goes.
-event_goes : (l : Skeleton) (f : SkeletonMap) (s i : ℕ) (role : Role) (height : ℕ) (terms : Substitution) (e : Event Term) → GoesToInstance l f s role height terms →
+pub event_goes : (l : Skeleton) (f : SkeletonMap) (s i : ℕ) (role : Role) (height : ℕ) (terms : Substitution) (e : Event Term) → GoesToInstance l f s role height terms →
     item_at (skeleton_trace (instance role height terms)) i ≡ Some e → term_event_at l.strands (node_at (f.strands s) i) ≡ Some (event_map (apply_to f.terms) e)
 event_goes l f s i role height terms e g ev =
     let m = item_of_map (event_map (apply_to terms)) (prefix_of role height) i e ev in

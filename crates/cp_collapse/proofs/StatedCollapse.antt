@@ -21,13 +21,13 @@ use Rattle.cp_collapse.proofs.Lowest.{numbers_at}
 
 -- The strands of a problem's recorded origins and pairs are there.
 module _ (protocol : Protocol) (variables : List Declaration) (problem : Skeleton) (sk : IsSkeleton protocol problem) (own : IsPointOfView variables problem) where
-  node_below : (n : Node) (e : Event Term) → term_event_at problem.strands n ≡ Some e → n.strand < length problem.strands
+  pub node_below : (n : Node) (e : Event Term) → term_event_at problem.strands n ≡ Some e → n.strand < length problem.strands
   node_below n e at = let r = strand_of_event problem.strands n e at in item_below problem.strands n.strand r.0 r.1
 
-  origin_below : (u : UniqueAt) → IsIn u problem.from_problem.assumptions.uniquely_originating → u.origin.strand < length problem.strands
+  pub origin_below : (u : UniqueAt) → IsIn u problem.from_problem.assumptions.uniquely_originating → u.origin.strand < length problem.strands
   origin_below u i = let o = sk.origins u (own.assumed.unique u i) in item_below problem.strands u.origin.strand (instance o.role o.height o.terms) o.on_instance
 
-  pair_below : (q : OrderPair) → IsIn q problem.from_problem.pairs → (q.earlier.strand < length problem.strands) × (q.later.strand < length problem.strands)
+  pub pair_below : (q : OrderPair) → IsIn q problem.from_problem.pairs → (q.earlier.strand < length problem.strands) × (q.later.strand < length problem.strands)
   pair_below q i =
       let o = sk.order_pairs q (subst (IsIn q) own.pairs i) in
       (node_below q.earlier (send o.sent) o.transmission, node_below q.later (recv o.received) o.reception)

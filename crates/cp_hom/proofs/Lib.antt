@@ -8,5 +8,10 @@ pub mod Fingerprints
 pub mod Images
 pub mod Itemised
 pub mod Listed
+pub mod Listened
+pub mod NoMore
 pub mod Ordering
+pub mod SharedMore
 pub mod Stepping
+pub mod StrandSums
+pub mod Traits

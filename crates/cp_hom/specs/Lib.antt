@@ -1,8 +1,11 @@
 pub mod Counting
+pub mod Fingerprints
 pub mod FirstPlaces
 pub mod Following
+pub mod Heights
 pub mod Maps
 pub mod Mixing
 pub mod Opening
 pub mod Partition
+pub mod Sharing
 pub mod Taking

@@ -1,6 +1,6 @@
 // Whether maps keep role strands apart, and the order.
 ghost use Rattle.std.specs.Prelude.{◌≡◌, ◌≢◌, ◌↔◌, map, IsTrue, IfOk};
-ghost use Rattle.cp_model.specs.Order.{LeadsTo};
+ghost use Rattle.cp_model.specs.Order.{IsAtOrAfter, LeadsTo};
 ghost use Rattle.cp_strand.specs.View.{strand_view};
 ghost use Rattle.cp_hom.specs.Maps.{map_view};
 ghost use Rattle.cp_hom.specs.Taking.{IsRoleStrand, HoldsImage, IsTaken, IsBlocked, MeetsEarlier, KeepsApart, KeepsPairs};
@@ -99,6 +99,28 @@ fn is_same_node(x: Node, y: Node) -> bool
     x.strand == y.strand && x.index == y.index
 }
 
+/// Whether a node leads to another over this pair, along the strands of its two nodes.
+fn leads_over(pair: &OrderPair, x: Node, y: Node) -> bool
+    ensures { IsTrue result ↔ (IsAtOrAfter x pair.now.earlier × IsAtOrAfter pair.now.later y) }
+{
+    x.strand == pair.earlier.strand
+        && x.index <= pair.earlier.index
+        && pair.later.strand == y.strand
+        && pair.later.index <= y.index
+}
+
+/// Whether a node leads to another over one of the pairs alone.
+fn leads_over_one(pairs: &[OrderPair], x: Node, y: Node) -> bool
+    ensures { IsTrue result → LeadsTo pairs.now x y }
+{
+    for pair in pairs {
+        if leads_over(pair, x, y) {
+            return true;
+        }
+    }
+    false
+}
+
 /// Whether a node leads to another along strands and these pairs. The error is that memory ran out.
 fn leads_to_another(
     alloc: Global,
@@ -111,6 +133,10 @@ fn leads_to_another(
 {
     if is_same_node(x, y) {
         return Ok(false);
+    }
+    // Most pairs go to pairs, and what leads to a node need not be gathered then.
+    if leads_over_one(pairs, x, y) {
+        return Ok(true);
     }
     let leading = Leading::new(alloc, pairs, y)?;
     Ok(leading.has(x))

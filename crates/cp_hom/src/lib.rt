@@ -4,7 +4,9 @@
 mod checking;
 mod counting;
 mod embedding;
+mod fingerprint;
 mod first_places;
+mod heights;
 mod items;
 mod looking;
 mod mapping;
@@ -13,9 +15,11 @@ mod partials;
 mod partition;
 mod placing;
 mod searching;
+mod sharing;
+mod slots;
 mod starting;
 
 pub use embedding::{embed, isomorphic};
+pub use fingerprint::Fingerprint;
 pub use first_places::first_of;
 pub use mapping::Map;
-pub use partition::Fingerprint;

@@ -1,4 +1,4 @@
-// The partition of a problem's strands, by which skeletons are told apart that cannot embed in each other.
+// The partition of a problem's strands: which of them go to one role strand.
 ghost use Rattle.std.specs.Prelude.{◌≡◌, ◌↔◌, ◌⊎◌, false, IsTrue, IfOk};
 ghost use Rattle.cp_model.specs.Homomorphism.{Embeds};
 ghost use Rattle.cp_model.specs.Skeleton as model;
@@ -15,13 +15,13 @@ use std::marker::Model;
 /// in another identifies the same, where it is whole: no entry is none. The number, made of the entries, tells most that
 /// differ apart at once.
 #[derive(Drop)]
-pub struct Fingerprint {
+pub(crate) struct Partition {
     number: usize,
     whole: bool,
     entries: Vec<Option<usize>>,
 }
 
-impl Model for Fingerprint {
+impl Model for Partition {
     ghost use Rattle.std.specs.Prelude.{◌≡◌, ℕ, List, Option};
     ghost use Rattle.cp_hom.specs.Partition.{is_whole};
     ghost use Rattle.cp_hom.specs.Mixing.{number_of};
@@ -70,10 +70,10 @@ fn is_whole(entries: &[Option<usize>]) -> bool
     true
 }
 
-impl Fingerprint {
-    /// The fingerprint of a skeleton. The error is that memory ran out.
-    pub fn of(alloc: Global, k: &Skeleton) -> Result<Fingerprint, AllocError>
-        ensures exact { IfOk result (λ f. f ≡ partition_of (skeleton_view k.now)) }
+impl Partition {
+    /// The partition of a skeleton.
+    pub(crate) fn of(alloc: Global, k: &Skeleton) -> Result<Partition, AllocError>
+        ensures { IfOk result (λ f. f ≡ partition_of (skeleton_view k.now)) }
     {
         let mut entries = Vec::new(alloc);
         for (strand, place) in k.from_problem().strands().iter().enumerate() {
@@ -81,16 +81,16 @@ impl Fingerprint {
         }
         let number = number_of(&entries);
         let whole = is_whole(&entries);
-        Ok(Fingerprint {
+        Ok(Partition {
             number,
             whole,
             entries,
         })
     }
 
-    /// Whether a skeleton with this fingerprint may embed in one with the other: where this is whole, whether both are the
+    /// Whether a skeleton with this partition may embed in one with the other: where this is whole, whether both are the
     /// same. False only where it does not.
-    pub fn may_embed(&self, other: &Fingerprint) -> bool
+    pub(crate) fn may_embed(&self, other: &Partition) -> bool
         ensures exact { IsTrue result ↔ ((is_whole self.now ≡ false) ⊎ (self.now ≡ other.now)) }
         ensures kept { (a b : model.Skeleton) → partition_of a ≡ self.now → partition_of b ≡ other.now → Embeds a b → IsTrue result }
     {

@@ -4,4 +4,5 @@ mod RefusalExamplesTwo
 pub mod OneAnswer
 pub mod Reaching
 mod ReportExamples
+pub mod ChosenLabels
 pub mod ValidTests

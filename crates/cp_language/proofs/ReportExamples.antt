@@ -15,6 +15,7 @@ use Rattle.cp_sexpr.specs.Syntax.{symbol, string, number, list, Forms, none, mor
 use Rattle.cp_language.specs.Problems.{Problem}
 use Rattle.cp_language.specs.Input.{Entry, input_of}
 use Rattle.cp_language.specs.Report.{report_text}
+use Rattle.cp_language.specs.ShapesText.{shapes_text}
 
 abbrev p : ℕ → ℕ → Place
 p l c = record { line = l; col = c }
@@ -241,6 +242,31 @@ report_exchange : report_text (input_of input_exchange) (tree_exchange ∷ []) �
 unfolding digits
 report_exchange = refl
 
+-- of its shapes alone
+shapes_exchange : shapes_text (input_of input_exchange) (tree_exchange ∷ []) ≡ line (codes "(defprotocol ns basic")
+    (line (codes "  (defrole init (vars (a b name) (n1 n2 text)) (trace (send (enc n1 a (pubk b))) (recv (enc n1 n2 (pubk a))) (send (enc n2 (pubk b)))))")
+    (line (codes "  (defrole resp (vars (a b name) (n1 n2 text)) (trace (recv (enc n1 a (pubk b))) (send (enc n1 n2 (pubk a))) (recv (enc n2 (pubk b))))))")
+    (line (codes "(defskeleton ns")
+    (line (codes "  (vars (a b name) (n1 n2 text))")
+    (line (codes "  (defstrand init 3 (a a) (b b) (n1 n1) (n2 n2))")
+    (line (codes "  (non-orig (privk a) (privk b))")
+    (line (codes "  (uniq-orig n1))")
+    (line (codes "(label 3")
+    (line (codes "  (parent 1)")
+    (line (codes "  (by contracted 0 0)")
+    (line (codes "  (vars (a name) (b name) (n1 text) (n2 text))")
+    (line (codes "  (defstrand init 3 (a a) (b b) (n1 n1) (n2 n2))")
+    (line (codes "  (defstrand resp 2 (a a) (b b) (n1 n1) (n2 n2))")
+    (line (codes "  (precedes ((0 0) (1 0)) ((1 1) (0 1)))")
+    (line (codes "  (non-orig (privk a) (privk b))")
+    (line (codes "  (uniq-orig (n1 (0 0)))")
+    (line (codes "  (map (0) (a a) (b b) (n1 n1) (n2 n2))")
+    (line (codes "  (shape))")
+    (line (codes "(status complete labels 5 expanded 4 shapes 1)")
+    ([]))))))))))))))))))))
+unfolding digits
+shapes_exchange = refl
+
 -- ---- two initiators with one unique value
 
 abbrev variables_of_twice : List Declaration
@@ -415,6 +441,24 @@ report_many : report_text (input_of input_many) (tree_many ∷ []) ≡ line (cod
     ([])))))))))))))))))))))))))))))))))))))))))))))))))))))
 unfolding digits
 report_many = refl
+
+-- no label of which is a shape
+shapes_many : shapes_text (input_of input_many) (tree_many ∷ []) ≡ line (codes "(herald " ++ 34 ∷ codes "x" ++ 34 ∷ codes "")
+    (line (codes "  (bound 4))")
+    (line (codes "(defprotocol q basic")
+    (line (codes "  (defrole s (vars (a b name) (n text) (k skey) (e akey) (d data)) (trace (send (cat " ++ 34 ∷ codes "t" ++ 34 ∷ codes " a (cat n d) (enc (cat a b) n (invk e)))) (recv (enc " ++ 34 ∷ codes "x" ++ 34 ∷ codes " k)) (send (pubk " ++ 34 ∷ codes "p" ++ 34 ∷ codes " a))) (non-orig (privk a)) (pen-non-orig k)))")
+    (line (codes "(defskeleton q")
+    (line (codes "  (vars (a name) (x text) (e akey))")
+    (line (codes "  (defstrand s 1 (a a) (n x) (e (invk e)))")
+    (line (codes "  (deflistener (cat (cat x a) x))")
+    (line (codes "  (deflistener (enc (cat x (cat a x)) (ltk a a)))")
+    (line (codes "  (non-orig (invk e) (privk " ++ 34 ∷ codes "p" ++ 34 ∷ codes " a) (invk e))")
+    (line (codes "  (precedes ((0 0) (1 0)) ((1 1) (2 0)) ((0 0) (2 0)))")
+    (line (codes "  (uniq-orig x))")
+    (line (codes "(status limit strands labels 5 expanded 1 shapes 0)")
+    ([])))))))))))))
+unfolding digits
+shapes_many = refl
 
 -- ---- fresh variables and what roles assume
 

@@ -7,3 +7,4 @@ pub mod Input
 pub mod Names
 pub mod Printed
 pub mod Report
+pub mod ShapesText

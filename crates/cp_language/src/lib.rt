@@ -6,9 +6,12 @@ ghost use Rattle.std.specs.Prelude.{◌≡◌, ◌↔◌, List, length, Result, 
 ghost use Rattle.cp_base.specs.declared.place.Refusal.{Refusal};
 ghost use Rattle.cp_language.specs.Input.{Entry, IsInput};
 ghost use Rattle.cp_language.specs.Problems.{reaches};
+ghost use Rattle.cp_language.specs.Report.{report_text};
+ghost use Rattle.cp_language.specs.ShapesText.{chosen_text};
 ghost use Rattle.cp_model.specs.declared.node.Node.{Node};
 ghost use Rattle.cp_model.specs.Order.{LeadsTo};
 ghost use Rattle.cp_model.specs.declared.node.OrderPair.{OrderPair};
+ghost use Rattle.cp_model.specs.Tree.{Tree};
 ghost use Rattle.cp_sexpr.specs.Syntax.{Forms};
 
 /// Forms have exactly one answer: what they state where they are well formed, or else the first of their faults.
@@ -23,4 +26,10 @@ pub fn forms_have_one_answer()
 #[tactic(auto, using(crate::proofs::Reaching::reaches_all))]
 pub fn search_is_complete()
     ensures { (pairs : List OrderPair) (x y : Node) → (reaches (length pairs) pairs x y ≡ true) ↔ LeadsTo pairs x y }
+{}
+
+/// A report of chosen labels is the report, where all are chosen.
+#[tactic(auto, using(crate::proofs::ChosenLabels::all_text))]
+pub fn report_of_all_labels()
+    ensures { (entries : List Entry) (trees : List Tree) → chosen_text (λ _. true) entries trees ≡ report_text entries trees }
 {}

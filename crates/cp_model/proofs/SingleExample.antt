@@ -1,5 +1,5 @@
 -- The example meets the premises of the laws about one sending strand.
-use Rattle.std.proofs.Common.{◌≡◌, ℕ, ◌<◌, Some, refl, sym, ap, subst, le_refl, lt_trans, lt_irrefl, lt-suc_self, arith}
+use Rattle.std.proofs.Common.{◌≡◌, inl, ℕ, ◌<◌, Some, refl, sym, ap, subst, le_refl, lt_trans, lt_irrefl, lt-suc_self, arith}
 use Rattle.cp_lists.specs.Lists.{item_at, IsIn, here, there, one_step, more_steps}
 use Rattle.cp_model.specs.Term.{Variable, text_variable, name_variable, Term, atom_term, pair_term, enc_term, IsCarriedByTerm, itself_term, in_left_term, in_right_term, in_plaintext_term, apply_to_atom, unchanged, Substitution}
 use Rattle.cp_model.specs.Strand.{send, OriginatesInTerms, Role, IsHeight}
@@ -106,4 +106,4 @@ closed x (there (there (there (there here)))) = refl
 closed x (there (there (there (there (there h))))) = elim h [ ]
 
 pub example_problem : IsPointOfView example_role.variables example_skeleton
-example_problem = record { strands = refl; values = refl; closed = closed; assumed = record { non = λ v h. h; penetrator_non = λ v h. h; unique = λ u h. h }; pairs = refl }
+example_problem = record { strands = refl; values = refl; closed = closed; assumed = record { non = λ v h. h; penetrator_non = λ v h. h; unique = λ u h. h }; no_more = record { non = λ v h. inl h; penetrator_non = λ v h. inl h; unique = λ u h. inl h }; pairs = refl }

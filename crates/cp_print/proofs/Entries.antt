@@ -1,14 +1,15 @@
 -- The report entry by entry.
 use Rattle.std.proofs.Common.{◌≡◌, ℕ, ◌+◌, ◌<◌, ◌≤◌, List, [], ◌∷◌, ◌++◌, length, get_or, drop, map, option_map, refl, sym, ap, ap₂, ◌∙◌, arith, add-one, min, inl, inr}
-use Rattle.std.specs.Prelude.{Option, Some, None}
+use Rattle.std.specs.Prelude.{Bool, true, false, if◌then◌else◌, Option, Some, None}
 use Rattle.std.proofs.lemmas.List.{drop_all}
 use Rattle.cp_lists.proofs.Members.{drop_read}
-use Rattle.cp_model.specs.Tree.{Tree}
+use Rattle.cp_model.specs.Tree.{Label, Tree}
 use Rattle.cp_sexpr.specs.Syntax.{Form}
 use Rattle.cp_sexpr.specs.View.{view}
 use Rattle.cp_sexpr.specs.declared.form.Form as program
 use Rattle.cp_language.specs.Problems.{Problem}
-use Rattle.cp_language.specs.Report.{report_from, report_forms, labels_from, label_form}
+use Rattle.cp_language.specs.Report.{label_form}
+use Rattle.cp_language.specs.ShapesText.{chosen_from, chosen_report_from, chosen_report_forms}
 use Rattle.cp_load.specs.declared.input.Problem as loaded
 use Rattle.cp_load.specs.Inputs.{problem_view, entries_view}
 use Rattle.cp_skel.specs.declared.tree.TreeNode.{TreeNode}
@@ -17,55 +18,70 @@ use Rattle.cp_print.specs.Writing.{HasWritten, Leaves, entry_forms, trees_behind
 use Rattle.cp_print.proofs.ValueForms.{either}
 use Rattle.cp_print.proofs.Writings.{leaves_none}
 
-entry-first : (f : Form) (o : Option Problem) (ts : List Tree) (rest : List Tree → List Form) → report_from f o ts rest ≡ entry_forms f o ts ++ rest (trees_behind o ts)
-entry-first f None ts rest = refl
-entry-first f (Some p) [] rest = refl
-entry-first f (Some p) (t ∷ ts) rest = refl
+entry-first : (chosen : Label → Bool) (f : Form) (o : Option Problem) (ts : List Tree) (rest : List Tree → List Form) → chosen_report_from chosen f o ts rest ≡ entry_forms chosen f o ts ++ rest (trees_behind o ts)
+entry-first chosen f None ts rest = refl
+entry-first chosen f (Some p) [] rest = refl
+entry-first chosen f (Some p) (t ∷ ts) rest = refl
 
 -- The top forms from entry number k on, of a report with these trees for the problems among them.
-abbrev pub entries_left : List program.Form → List (Option loaded.Problem) → ℕ → List Tree → List Form
-entries_left fs ps k ts = report_forms (entries_view (map view (drop k fs)) (drop k ps)) ts
+abbrev pub entries_left : (Label → Bool) → List program.Form → List (Option loaded.Problem) → ℕ → List Tree → List Form
+entries_left chosen fs ps k ts = chosen_report_forms chosen (entries_view (map view (drop k fs)) (drop k ps)) ts
 
 -- one entry, and those behind it
-pub entry_next : (fs : List program.Form) (ps : List (Option loaded.Problem)) (k : ℕ) (f : program.Form) (p : Option loaded.Problem) (ts us : List Tree)
+pub entry_next : (chosen : Label → Bool) (fs : List program.Form) (ps : List (Option loaded.Problem)) (k : ℕ) (f : program.Form) (p : Option loaded.Problem) (ts us : List Tree)
     → k < min (length fs) (length ps) → f ≡ get_or fs k f → p ≡ get_or ps k p → us ≡ trees_behind (option_map problem_view p) ts
-    → report_forms (entries_view (map view (drop k fs)) (drop k ps)) ts ≡ entry_forms (view f) (option_map problem_view p) ts ++ report_forms (entries_view (map view (drop (k + 1) fs)) (drop (k + 1) ps)) us
-entry_next fs ps k f p ts us lt e e' g =
-    let rest = report_forms (entries_view (map view (drop (k + 1) fs)) (drop (k + 1) ps)) in
-    ap₂ (λ (xs : List program.Form) (qs : List (Option loaded.Problem)). report_forms (entries_view (map view xs) qs) ts) (drop_read fs k f (omega arith) e) (drop_read ps k p (omega arith) e')
-    ∙ entry-first (view f) (option_map problem_view p) ts rest ∙ ap (λ vs. entry_forms (view f) (option_map problem_view p) ts ++ rest vs) (sym g)
+    → chosen_report_forms chosen (entries_view (map view (drop k fs)) (drop k ps)) ts ≡ entry_forms chosen (view f) (option_map problem_view p) ts ++ chosen_report_forms chosen (entries_view (map view (drop (k + 1) fs)) (drop (k + 1) ps)) us
+entry_next chosen fs ps k f p ts us lt e e' g =
+    let rest = chosen_report_forms chosen (entries_view (map view (drop (k + 1) fs)) (drop (k + 1) ps)) in
+    ap₂ (λ (xs : List program.Form) (qs : List (Option loaded.Problem)). chosen_report_forms chosen (entries_view (map view xs) qs) ts) (drop_read fs k f (omega arith) e) (drop_read ps k p (omega arith) e')
+    ∙ entry-first chosen (view f) (option_map problem_view p) ts rest ∙ ap (λ vs. entry_forms chosen (view f) (option_map problem_view p) ts ++ rest vs) (sym g)
 
 entries-short : (fs : List Form) → entries_view fs [] ≡ []
 entries-short [] = refl
 entries-short (f ∷ fs) = refl
 
 -- at the end of the shorter list no entry is left
-pub entries_done : (fs : List program.Form) (ps : List (Option loaded.Problem)) (k : ℕ) (ts : List Tree) → min (length fs) (length ps) ≤ k → report_forms (entries_view (map view (drop k fs)) (drop k ps)) ts ≡ []
-entries_done fs ps k ts h = by_length (length fs) (length ps) refl refl h
+pub entries_done : (chosen : Label → Bool) (fs : List program.Form) (ps : List (Option loaded.Problem)) (k : ℕ) (ts : List Tree) → min (length fs) (length ps) ≤ k → chosen_report_forms chosen (entries_view (map view (drop k fs)) (drop k ps)) ts ≡ []
+entries_done chosen fs ps k ts h = by_length (length fs) (length ps) refl refl h
   where
-    by_forms : length fs ≤ k → report_forms (entries_view (map view (drop k fs)) (drop k ps)) ts ≡ []
-    by_forms g = ap (λ (xs : List program.Form). report_forms (entries_view (map view xs) (drop k ps)) ts) (drop_all k fs g)
+    by_forms : length fs ≤ k → chosen_report_forms chosen (entries_view (map view (drop k fs)) (drop k ps)) ts ≡ []
+    by_forms g = ap (λ (xs : List program.Form). chosen_report_forms chosen (entries_view (map view xs) (drop k ps)) ts) (drop_all k fs g)
 
-    by_problems : length ps ≤ k → report_forms (entries_view (map view (drop k fs)) (drop k ps)) ts ≡ []
-    by_problems g = ap (λ (qs : List (Option loaded.Problem)). report_forms (entries_view (map view (drop k fs)) qs) ts) (drop_all k ps g) ∙ ap (λ es. report_forms es ts) (entries-short (map view (drop k fs)))
+    by_problems : length ps ≤ k → chosen_report_forms chosen (entries_view (map view (drop k fs)) (drop k ps)) ts ≡ []
+    by_problems g = ap (λ (qs : List (Option loaded.Problem)). chosen_report_forms chosen (entries_view (map view (drop k fs)) qs) ts) (drop_all k ps g) ∙ ap (λ es. chosen_report_forms chosen es ts) (entries-short (map view (drop k fs)))
 
-    by_length : (m n : ℕ) → m ≡ length fs → n ≡ length ps → min m n ≤ k → report_forms (entries_view (map view (drop k fs)) (drop k ps)) ts ≡ []
+    by_length : (m n : ℕ) → m ≡ length fs → n ≡ length ps → min m n ≤ k → chosen_report_forms chosen (entries_view (map view (drop k fs)) (drop k ps)) ts ≡ []
     by_length m n e f h = elim (either m n k h) [ inl a ↦ by_forms (omega (arith, a, e)) | inr b ↦ by_problems (omega (arith, b, f)) ]
 
 -- all is written where no entry is left
-pub all_written : (a ea b eb : List ℕ) (fs : List program.Form) (ps : List (Option loaded.Problem)) (k : ℕ) (ts : List Tree) (whole : List Form)
-    → Leaves a ea b eb whole (entries_left fs ps k ts) → min (length fs) (length ps) ≤ k → HasWritten a ea b eb whole
-all_written a ea b eb fs ps k ts whole l past = leaves_none a ea b eb whole (entries_left fs ps k ts) l (entries_done fs ps k ts past)
+pub all_written : (chosen : Label → Bool) (a ea b eb : List ℕ) (fs : List program.Form) (ps : List (Option loaded.Problem)) (k : ℕ) (ts : List Tree) (whole : List Form)
+    → Leaves a ea b eb whole (entries_left chosen fs ps k ts) → min (length fs) (length ps) ≤ k → HasWritten a ea b eb whole
+all_written chosen a ea b eb fs ps k ts whole l past = leaves_none a ea b eb whole (entries_left chosen fs ps k ts) l (entries_done chosen fs ps k ts past)
 
 -- ---- labels
 
--- one label, and those behind it
-pub labels_next : (names : List (List ℕ)) (n : ℕ) (ls : List TreeNode) (l : TreeNode) → n < length ls → l ≡ get_or ls n l
-    → labels_from names n (map label_view (drop n ls)) ≡ (label_form names n (label_view l) ∷ []) ++ labels_from names (n + 1) (map label_view (drop (n + 1) ls))
-labels_next names n ls l lt e =
-    ap (λ (xs : List TreeNode). labels_from names n (map label_view xs)) (drop_read ls n l lt e)
-    ∙ ap (λ k. label_form names n (label_view l) ∷ labels_from names k (map label_view (drop (n + 1) ls))) (sym (add-one n))
+module _ (chosen : Label → Bool) (names : List (List ℕ)) (n : ℕ) (ls : List TreeNode) where
+  -- The forms of the labels from number n on.
+  abbrev pub labels_left : List Form
+  labels_left = chosen_from chosen names n (map label_view (drop n ls))
 
--- at the end no label is left
-pub labels_done : (names : List (List ℕ)) (n : ℕ) (ls : List TreeNode) → length ls ≤ n → labels_from names n (map label_view (drop n ls)) ≡ []
-labels_done names n ls h = ap (λ (xs : List TreeNode). labels_from names n (map label_view xs)) (drop_all n ls h)
+  -- and of those from the next on
+  abbrev pub labels_behind : List Form
+  labels_behind = chosen_from chosen names (n + 1) (map label_view (drop (n + 1) ls))
+
+  first_label : (l : TreeNode) (b : Bool) → n < length ls → l ≡ get_or ls n l → chosen (label_view l) ≡ b → labels_left ≡ (if b then label_form names n (label_view l) ∷ labels_behind else labels_behind)
+  first_label l b lt e is =
+      ap (λ (xs : List TreeNode). chosen_from chosen names n (map label_view xs)) (drop_read ls n l lt e)
+      ∙ ap₂ (λ (c : Bool) (fs : List Form). if c then label_form names n (label_view l) ∷ fs else fs) is (ap (λ k. chosen_from chosen names k (map label_view (drop (n + 1) ls))) (sym (add-one n)))
+
+  -- one label, and those behind it
+  pub labels_next : (l : TreeNode) → n < length ls → l ≡ get_or ls n l → chosen (label_view l) ≡ true → labels_left ≡ (label_form names n (label_view l) ∷ []) ++ labels_behind
+  labels_next l lt e is = first_label l true lt e is
+
+  -- a label that is not chosen
+  pub labels_skipped : (l : TreeNode) → n < length ls → l ≡ get_or ls n l → chosen (label_view l) ≡ false → labels_left ≡ labels_behind
+  labels_skipped l lt e is = first_label l false lt e is
+
+  -- at the end no label is left
+  pub labels_done : length ls ≤ n → labels_left ≡ []
+  labels_done h = ap (λ (xs : List TreeNode). chosen_from chosen names n (map label_view xs)) (drop_all n ls h)

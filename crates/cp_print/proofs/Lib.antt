@@ -1,5 +1,6 @@
 pub mod Spines
 pub mod Writings
+pub mod AllLabels
 pub mod ByMarks
 pub mod Covering
 pub mod Entries

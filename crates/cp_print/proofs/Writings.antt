@@ -67,6 +67,10 @@ leaves_front a ea b eb c whole fs before rest l e h =
 pub leaves_stop : (a ea b eb : List ℕ) (whole before : List Form) → Leaves a ea b eb whole before → AppendsFront a b (text_of_forms whole)
 leaves_stop a ea b eb whole before l = subst (λ (gs : List Form). AppendsFront a b (text_of_forms gs)) (sym l.split) (front_written a ea b eb l.done before l.written)
 
+-- the same is left, in other words
+pub leaves_same : (a ea b eb : List ℕ) (whole before rest : List Form) → Leaves a ea b eb whole before → before ≡ rest → Leaves a ea b eb whole rest
+leaves_same a ea b eb whole before rest l e = subst (λ (gs : List Form). Leaves a ea b eb whole gs) e l
+
 pub leaves_none : (a ea b eb : List ℕ) (whole before : List Form) → Leaves a ea b eb whole before → before ≡ [] → HasWritten a ea b eb whole
 leaves_none a ea b eb whole before l e = subst (λ (gs : List Form). HasWritten a ea b eb gs) (sym (l.split ∙ ap (λ gs. l.done ++ gs) e ∙ append-nil l.done)) l.written
 

@@ -1,10 +1,11 @@
 -- Top forms that are written, and where each ends.
-use Rattle.std.specs.Prelude.{◌≡◌, ℕ, ◌+◌, List, [], ◌∷◌, ◌++◌, length, Option, Some, None}
-use Rattle.cp_model.specs.Tree.{Tree}
+use Rattle.std.specs.Prelude.{◌≡◌, ℕ, ◌+◌, List, [], ◌∷◌, ◌++◌, length, Bool, Option, Some, None}
+use Rattle.cp_model.specs.Tree.{Label, Tree}
 use Rattle.cp_language.specs.Problems.{Problem}
 use Rattle.cp_sexpr.specs.Syntax.{Form}
 use Rattle.cp_sexpr.specs.Spelling.{top_spelling}
-use Rattle.cp_language.specs.Report.{tree_forms, text_of_forms}
+use Rattle.cp_language.specs.Report.{text_of_forms}
+use Rattle.cp_language.specs.ShapesText.{chosen_tree_forms}
 
 -- Where each of these top forms ends in a text, the first beginning at n.
 abbrev pub ends_from : ℕ → List Form → List ℕ
@@ -22,11 +23,11 @@ pub record Leaves (text ends new_text new_ends : List ℕ) (whole rest : List Fo
   pub split : whole ≡ done ++ rest
   pub written : HasWritten text ends new_text new_ends done
 
--- What is written for a form of the input, of a problem with the first of the trees that are left.
-abbrev pub entry_forms : Form → Option Problem → List Tree → List Form
-entry_forms f None ts = f ∷ []
-entry_forms f (Some p) [] = f ∷ []
-entry_forms f (Some p) (t ∷ ts) = f ∷ tree_forms p t
+-- What is written for a form of the input, of a problem with the chosen labels of the first of the trees that are left.
+abbrev pub entry_forms : (Label → Bool) → Form → Option Problem → List Tree → List Form
+entry_forms chosen f None ts = f ∷ []
+entry_forms chosen f (Some p) [] = f ∷ []
+entry_forms chosen f (Some p) (t ∷ ts) = f ∷ chosen_tree_forms chosen p t
 
 -- The trees that are left behind it.
 abbrev pub trees_behind : Option Problem → List Tree → List Tree

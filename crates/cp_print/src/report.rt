@@ -1,12 +1,14 @@
 // The report.
 ghost use Rattle.std.specs.Prelude.{◌≡◌, ◌++◌, [], ◌∷◌, length, map, option_map, IfOk, OnOk, OnErr};
 ghost use Rattle.cp_language.specs.Printed.{word, numeral};
-ghost use Rattle.cp_language.specs.Report.{labels_from, status_form, tree_forms, report_forms, report_text, shape_count, text_of_forms};
+ghost use Rattle.cp_language.specs.Report.{status_form, report_forms, report_text, shape_count, text_of_forms};
+ghost use Rattle.cp_language.specs.ShapesText.{chosen_from, chosen_tree_forms, chosen_report_forms, chosen_text, shapes_forms, shapes_text};
 ghost use Rattle.cp_load.specs.Inputs.{problem_view, entries_of};
 ghost use Rattle.cp_model.specs.Tree.{expanded_count};
 ghost use Rattle.cp_sexpr.specs.Spelling.{AppendsFront};
 ghost use Rattle.cp_sexpr.specs.View.{view};
 ghost use Rattle.cp_skel.specs.Trees.{label_view, tree_view};
+ghost use Rattle.cp_print.specs.Chosen.{chosen_by};
 ghost use Rattle.cp_print.specs.Writing.{ends_from, HasWritten, entry_forms, trees_behind};
 
 use crate::items::outcome_words;
@@ -19,6 +21,23 @@ use cp_skel::{Mark, Tree, TreeNode};
 use cp_term::Text;
 use std::alloc::{AllocError, Global};
 
+/// Which labels of a tree are printed.
+#[derive(Clone, Copy)]
+enum Labels {
+    All,
+    Shapes,
+}
+
+/// Whether the label is one of those that are printed.
+fn is_chosen(labels: Labels, label: &TreeNode) -> bool
+    ensures { result ≡ chosen_by labels (label_view label.now) }
+{
+    match labels {
+        Labels::All => true,
+        Labels::Shapes => matches!(label.mark, Some(Mark::Shape)),
+    }
+}
+
 /// Writes a top form.
 #[tactic(auto, using(crate::proofs::Writings::written_one, crate::proofs::Writings::front_one, crate::proofs::Writings::front_whole))]
 fn put(form: &Form, out: &mut Vec<u8>, ends: &mut Vec<usize>) -> Result<(), AllocError>
@@ -30,19 +49,24 @@ fn put(form: &Form, out: &mut Vec<u8>, ends: &mut Vec<usize>) -> Result<(), Allo
     Ok(())
 }
 
-/// Writes the labels of a tree, where these are the names of the problem's variables.
+/// Writes the chosen labels of a tree, where these are the names of the problem's variables.
 fn put_labels(
     alloc: Global,
+    chosen: Labels,
     of_problem: &[Text],
     labels: &[TreeNode],
     out: &mut Vec<u8>,
     ends: &mut Vec<usize>,
 ) -> Result<(), AllocError>
-    ensures ok { OnOk result (HasWritten out.old.items ends.old.items out.new.items ends.new.items (labels_from of_problem.now 0 (map label_view labels.now))) }
-    ensures err { OnErr result (AppendsFront out.old.items out.new.items (text_of_forms (labels_from of_problem.now 0 (map label_view labels.now)))) }
+    ensures ok { OnOk result (HasWritten out.old.items ends.old.items out.new.items ends.new.items (chosen_from (chosen_by chosen) of_problem.now 0 (map label_view labels.now))) }
+    ensures err { OnErr result (AppendsFront out.old.items out.new.items (text_of_forms (chosen_from (chosen_by chosen) of_problem.now 0 (map label_view labels.now)))) }
 {
     for number in 0..labels.len() {
-        let form = label_form(alloc, of_problem, number, &labels[number])?;
+        let label = &labels[number];
+        if !is_chosen(chosen, label) {
+            continue;
+        }
+        let form = label_form(alloc, of_problem, number, label)?;
         put(&form, out, ends)?;
     }
     Ok(())
@@ -99,21 +123,22 @@ fn status_form(alloc: Global, tree: &Tree) -> Result<Form, AllocError>
     headed_list(alloc, "status", words)
 }
 
-/// Writes the labels of a problem's tree, and its status.
+/// Writes the chosen labels of a problem's tree, and its status.
 #[tactic(auto, using(crate::proofs::Writings::front_none))]
 fn put_tree(
     alloc: Global,
+    chosen: Labels,
     problem: &Problem,
     tree: &Tree,
     out: &mut Vec<u8>,
     ends: &mut Vec<usize>,
 ) -> Result<(), AllocError>
-    ensures ok { OnOk result (HasWritten out.old.items ends.old.items out.new.items ends.new.items (tree_forms (problem_view problem.now) (tree_view tree.now))) }
-    ensures err { OnErr result (AppendsFront out.old.items out.new.items (text_of_forms (tree_forms (problem_view problem.now) (tree_view tree.now)))) }
+    ensures ok { OnOk result (HasWritten out.old.items ends.old.items out.new.items ends.new.items (chosen_tree_forms (chosen_by chosen) (problem_view problem.now) (tree_view tree.now))) }
+    ensures err { OnErr result (AppendsFront out.old.items out.new.items (text_of_forms (chosen_tree_forms (chosen_by chosen) (problem_view problem.now) (tree_view tree.now)))) }
 {
     let names = problem_names(alloc, problem.declared, problem.skeleton.variables())?;
     let status = status_form(alloc, tree)?;
-    put_labels(alloc, &names, &tree.nodes, out, ends)?;
+    put_labels(alloc, chosen, &names, &tree.nodes, out, ends)?;
     put(&status, out, ends)?;
     Ok(())
 }
@@ -121,17 +146,18 @@ fn put_tree(
 /// Writes the form of a problem, and its tree.
 fn put_problem(
     alloc: Global,
+    chosen: Labels,
     form: &Form,
     problem: &Problem,
     tree: &Tree,
     out: &mut Vec<u8>,
     ends: &mut Vec<usize>,
 ) -> Result<(), AllocError>
-    ensures ok { OnOk result (HasWritten out.old.items ends.old.items out.new.items ends.new.items (view form.now ∷ tree_forms (problem_view problem.now) (tree_view tree.now))) }
-    ensures err { OnErr result (AppendsFront out.old.items out.new.items (text_of_forms (view form.now ∷ tree_forms (problem_view problem.now) (tree_view tree.now)))) }
+    ensures ok { OnOk result (HasWritten out.old.items ends.old.items out.new.items ends.new.items (view form.now ∷ chosen_tree_forms (chosen_by chosen) (problem_view problem.now) (tree_view tree.now))) }
+    ensures err { OnErr result (AppendsFront out.old.items out.new.items (text_of_forms (view form.now ∷ chosen_tree_forms (chosen_by chosen) (problem_view problem.now) (tree_view tree.now)))) }
 {
     put(form, out, ends)?;
-    put_tree(alloc, problem, tree, out, ends)?;
+    put_tree(alloc, chosen, problem, tree, out, ends)?;
     Ok(())
 }
 
@@ -139,15 +165,16 @@ fn put_problem(
 /// is answered.
 fn put_entry<'a>(
     alloc: Global,
+    chosen: Labels,
     form: &Form,
     problem: &Option<Problem>,
     trees: &'a [Tree],
     out: &mut Vec<u8>,
     ends: &mut Vec<usize>,
 ) -> Result<&'a [Tree], AllocError>
-    ensures ok { OnOk result (HasWritten out.old.items ends.old.items out.new.items ends.new.items (entry_forms (view form.now) (option_map problem_view problem.now) (map tree_view trees.now))) }
+    ensures ok { OnOk result (HasWritten out.old.items ends.old.items out.new.items ends.new.items (entry_forms (chosen_by chosen) (view form.now) (option_map problem_view problem.now) (map tree_view trees.now))) }
     ensures rest { IfOk result (λ rest. map tree_view rest.now ≡ trees_behind (option_map problem_view problem.now) (map tree_view trees.now)) }
-    ensures err { OnErr result (AppendsFront out.old.items out.new.items (text_of_forms (entry_forms (view form.now) (option_map problem_view problem.now) (map tree_view trees.now)))) }
+    ensures err { OnErr result (AppendsFront out.old.items out.new.items (text_of_forms (entry_forms (chosen_by chosen) (view form.now) (option_map problem_view problem.now) (map tree_view trees.now)))) }
 {
     let Some(problem) = problem else {
         put(form, out, ends)?;
@@ -157,8 +184,36 @@ fn put_entry<'a>(
         put(form, out, ends)?;
         return Ok(trees);
     };
-    put_problem(alloc, form, problem, tree, out, ends)?;
+    put_problem(alloc, chosen, form, problem, tree, out, ends)?;
     Ok(rest)
+}
+
+/// Writes the report of the chosen labels.
+fn put_report(
+    alloc: Global,
+    chosen: Labels,
+    input: &Input<'_>,
+    trees: &[Tree],
+    out: &mut Vec<u8>,
+    ends: &mut Vec<usize>,
+) -> Result<(), AllocError>
+    ensures ok { OnOk result (HasWritten out.old.items ends.old.items out.new.items ends.new.items (chosen_report_forms (chosen_by chosen) (entries_of input.now) (map tree_view trees.now))) }
+    ensures err { OnErr result (AppendsFront out.old.items out.new.items (chosen_text (chosen_by chosen) (entries_of input.now) (map tree_view trees.now))) }
+{
+    let forms = input.forms;
+    let mut rest = trees;
+    for number in 0..forms.len().min(input.problems.len()) {
+        rest = put_entry(
+            alloc,
+            chosen,
+            &forms[number],
+            &input.problems[number],
+            rest,
+            out,
+            ends,
+        )?;
+    }
+    Ok(())
 }
 
 /// A report: the forms of the input, and the derivation tree of each problem that they state, in order.
@@ -182,19 +237,7 @@ pub fn print_pieces(
     ensures ends { OnOk result (ends.new.items ≡ ends.old.items ++ ends_from (length out.old.items) (report_forms (entries_of input.now) (map tree_view trees.now))) }
     ensures err { OnErr result (AppendsFront out.old.items out.new.items (report_text (entries_of input.now) (map tree_view trees.now))) }
 {
-    let forms = input.forms;
-    let mut rest = trees;
-    for number in 0..forms.len().min(input.problems.len()) {
-        rest = put_entry(
-            alloc,
-            &forms[number],
-            &input.problems[number],
-            rest,
-            out,
-            ends,
-        )?;
-    }
-    Ok(())
+    put_report(alloc, Labels::All, input, trees, out, ends)
 }
 
 /// Appends the text of the report on the input with these trees, one for each problem in order. The error is that memory
@@ -210,5 +253,37 @@ pub fn print(
 {
     let mut ends = Vec::new(alloc);
     print_pieces(alloc, input, trees, out, &mut ends)?;
+    Ok(())
+}
+
+/// Appends the text of the report without the labels that are not marked as shapes, and behind the ends the place in the
+/// text at which each of its top forms ends. The error is that memory ran out: a front of the text may have been appended.
+pub fn print_shape_pieces(
+    alloc: Global,
+    input: &Input<'_>,
+    trees: &[Tree],
+    out: &mut Vec<u8>,
+    ends: &mut Vec<usize>,
+) -> Result<(), AllocError>
+    ensures ok { OnOk result (out.new.items ≡ out.old.items ++ shapes_text (entries_of input.now) (map tree_view trees.now)) }
+    ensures ends { OnOk result (ends.new.items ≡ ends.old.items ++ ends_from (length out.old.items) (shapes_forms (entries_of input.now) (map tree_view trees.now))) }
+    ensures err { OnErr result (AppendsFront out.old.items out.new.items (shapes_text (entries_of input.now) (map tree_view trees.now))) }
+{
+    put_report(alloc, Labels::Shapes, input, trees, out, ends)
+}
+
+/// Appends the text of the report without the labels that are not marked as shapes, with these trees, one for each problem
+/// in order. The error is that memory ran out: a front of the text may have been appended.
+pub fn print_shapes(
+    alloc: Global,
+    input: &Input<'_>,
+    trees: &[Tree],
+    out: &mut Vec<u8>,
+) -> Result<(), AllocError>
+    ensures ok { OnOk result (out.new.items ≡ out.old.items ++ shapes_text (entries_of input.now) (map tree_view trees.now)) }
+    ensures err { OnErr result (AppendsFront out.old.items out.new.items (shapes_text (entries_of input.now) (map tree_view trees.now))) }
+{
+    let mut ends = Vec::new(alloc);
+    print_shape_pieces(alloc, input, trees, out, &mut ends)?;
     Ok(())
 }

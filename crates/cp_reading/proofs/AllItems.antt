@@ -1,5 +1,5 @@
 -- All items of a label form, one after another.
-use Rattle.std.proofs.Common.{◌≡◌, ℕ, ◌&&◌, Bool, true, false, List, [], ◌∷◌, ◌++◌, length, refl, sym, ap, ◌∙◌}
+use Rattle.std.proofs.Common.{◌≡◌, ℕ, ◌&&◌, Bool, List, [], ◌∷◌, ◌++◌, length, refl, sym, ap, ◌∙◌}
 use Rattle.std.specs.Prelude.{Option, Some, None, codes, if◌then◌else◌}
 use Rattle.cp_base.specs.declared.place.Place.{Place}
 use Rattle.cp_sexpr.specs.Syntax.{Form}
@@ -10,7 +10,7 @@ use Rattle.cp_report.specs.Misfits.{misfit_unless, unless_misfit, where_fitting,
 use Rattle.cp_report.specs.Heads.{entries_of, entries_or_none, item_with, optional_misfits, mark_heads, lines_of_label, order_misfits}
 use Rattle.cp_report.specs.Skeletons.{declarations_of_label, vars_item_misfits, strands_misfits, around_strands_misfits}
 use Rattle.cp_report.specs.Spelled.{pattern_misfits}
-use Rattle.cp_report.specs.Labels.{missing_misfits, no_parent_misfits, parent_misfits, operation_misfits, about_strands_misfits, escape_misfits, children_misfits, mark_misfits, has_children, items_misfits}
+use Rattle.cp_report.specs.Labels.{missing_misfits, operation_misfits, about_strands_misfits, mark_misfits, has_children, items_misfits}
 use Rattle.cp_spelled.specs.FirstMisfit.{first_onto}
 use Rattle.cp_spelled.proofs.Firsts.{first_then}
 use Rattle.cp_reading.specs.Parts.{is_fitting, operation_item_misfits, mark_item_misfits, no_parent_item_misfits, parent_item_misfits, operation_of_item_misfits, escape_of_items_misfits, children_item_misfits}

@@ -2,9 +2,10 @@ pub mod InLine
 pub mod Relations
 pub mod InFront
 pub mod InBlocks
-pub mod FaultPlaces
 pub mod Fitting
 pub mod Counted
 pub mod EachAsked
 pub mod AllItems
 pub mod InTree
+pub mod LabelsFit
+pub mod LabelParts

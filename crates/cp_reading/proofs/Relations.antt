@@ -1,5 +1,5 @@
 -- Parents and children in tables.
-use Rattle.std.proofs.Common.{◌≡◌, ℕ, zero, suc, ◌+◌, ◌<◌, ◌≤◌, ◌==◌, ◌&&◌, ◌||◌, cond, not, Bool, true, false, List, [], ◌∷◌, ◌++◌, length, get_or, map, drop, refl, sym, ap, ◌∙◌, add-one, arith}
+use Rattle.std.proofs.Common.{◌≡◌, ℕ, zero, suc, ◌+◌, ◌<◌, ◌≤◌, ◌==◌, ◌&&◌, ◌||◌, cond, not, Bool, true, false, List, [], ◌∷◌, length, get_or, map, drop, refl, sym, ap, ◌∙◌, add-one, arith}
 use Rattle.std.specs.Prelude.{Option, Some, None, nat_eq}
 use Rattle.std.specs.HashSet.{HashSet, contains}
 use Rattle.std.proofs.lemmas.Bool.Decides.{nat_tests}

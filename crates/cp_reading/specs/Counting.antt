@@ -1,5 +1,5 @@
 -- The counts of a tree, and status forms with them.
-use Rattle.std.specs.Prelude.{◌≡◌, ℕ, suc, List, [], ◌∷◌, ◌++◌, length, Bool, true, false, codes, if◌then◌else◌, Option, Some, None}
+use Rattle.std.specs.Prelude.{◌≡◌, ℕ, suc, List, [], ◌∷◌, ◌++◌, length, Bool, true, false, codes, if◌then◌else◌, Option, Some}
 use Rattle.cp_base.specs.declared.place.Place.{Place}
 use Rattle.cp_model.specs.Tree.{Mark, shape, Outcome, complete, at_step_limit, at_strand_limit, Label, expanded_count, shapes_of}
 use Rattle.cp_model.specs.Same.{same_text}

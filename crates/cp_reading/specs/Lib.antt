@@ -3,5 +3,5 @@ pub mod Families
 pub mod Words
 pub mod Parts
 pub mod Counting
-pub mod Sections
+pub mod InFront
 pub mod Items

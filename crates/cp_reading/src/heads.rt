@@ -58,7 +58,7 @@ fn is_tree_head(head: &[u8]) -> bool
 }
 
 /// Whether a form is a label form or a status form.
-pub(crate) fn is_of_tree(form: &Form) -> bool
+pub fn is_of_tree(form: &Form) -> bool
     ensures { result ≡ is_of_tree (view form.now) }
 {
     match headed(form) {

@@ -1,27 +1,34 @@
-// Trees: where what stands behind a problem fits none.
+// Trees: where what stands behind a problem fits none, and the tree that it is.
 ghost use Rattle.std.specs.Prelude.{◌≡◌, [], map, option_map, Some, IfOk, OnOk, IfSome};
 ghost use Rattle.cp_sexpr.specs.View.{view};
+ghost use Rattle.cp_base.specs.declared.place.Place.{Place as Where};
+ghost use Rattle.cp_lists.specs.Lists.{IsIn};
+ghost use Rattle.cp_model.specs.Strand.{Role};
+ghost use Rattle.cp_skel.specs.Sound.{DeclaresItsVariables};
+ghost use Rattle.cp_skel.specs.Trees.{tree_view};
 ghost use Rattle.cp_load.specs.Drafts.{draft_view};
-ghost use Rattle.cp_report.specs.ReadBack.{places_of, labels_misfits, if_whole, tree_misfits};
+ghost use Rattle.cp_report.specs.ReadBack.{places_of, labels_misfits, if_whole, tree_misfits, tree_of};
 ghost use Rattle.cp_spelled.specs.FirstMisfit.{first_onto};
 ghost use Rattle.cp_reading.specs.Families.{labels_of, IsFamily};
 ghost use Rattle.cp_reading.specs.Items.{IsSetting};
 ghost use Rattle.cp_reading.specs.Counting.{ending_form_misfits};
 
 use crate::family::{Family, family_of};
+use crate::in_front::split_at_labels;
 use crate::labels::{Setting, label_misfits};
-use crate::sections::split_at_labels;
-use crate::status::{Counts, counts_of, status_misfits};
+use crate::making::labels_stated;
+use crate::status::{Counts, counts_of, outcome_in, status_misfits};
 use cp_base::Place;
 use cp_forms::place_of;
 use cp_load::Draft;
 use cp_sexpr::Form;
+use cp_skel::Tree;
 use cp_spelled::FirstMisfit;
 use cp_stated::problem_variables;
 use std::alloc::{AllocError, Global};
 
 /// None of these forms may stand where it does.
-pub(crate) fn none_may_stand(forms: &[Form], first: &mut FirstMisfit)
+pub fn none_may_stand(forms: &[Form], first: &mut FirstMisfit)
     ensures { first.new ≡ first_onto first.old (places_of (map view forms.now)) }
 {
     for form in forms {
@@ -96,8 +103,9 @@ fn tree_misfits(
     Ok(())
 }
 
-/// Where what stands behind a form of the input, before the next one, which stands here, is not what has to stand there.
-pub(crate) fn behind_misfits(
+/// Where what stands behind a form of the input, which states this problem if it states one, before the next form of the
+/// input, which stands here, is not what has to stand there. The error is that memory ran out.
+pub fn behind_misfits(
     alloc: Global,
     problem: Option<&Draft>,
     next: Place,
@@ -113,4 +121,17 @@ pub(crate) fn behind_misfits(
             Ok(())
         }
     }
+}
+
+/// The tree that what stands behind a problem is, where it fits. The error is that memory ran out.
+pub fn tree_of(alloc: Global, problem: &Draft, behind: &[Form]) -> Result<Tree, AllocError>
+    requires declared { (role : Role) → IsIn role (draft_view problem.now).protocol.roles → DeclaresItsVariables role }
+    requires fits { (next : Where) × (tree_misfits (Some (draft_view problem.now)) next (map view behind.now) ≡ []) }
+    ensures { IfOk result (λ t. tree_view t ≡ tree_of (draft_view problem.now) (map view behind.now)) }
+{
+    let (labels, ending) = split_at_labels(behind);
+    let names = problem_variables(alloc, problem)?;
+    let nodes = labels_stated(alloc, problem, &names, labels)?;
+    let outcome = outcome_in(ending);
+    Ok(Tree { nodes, outcome })
 }

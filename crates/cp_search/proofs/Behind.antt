@@ -8,8 +8,9 @@ use Rattle.cp_model.specs.Skeleton.{Skeleton}
 use Rattle.cp_model.specs.Homomorphism.{Embeds}
 use Rattle.cp_skel.specs.View.{skeleton_view}
 use Rattle.cp_derive.specs.Unrealised.{ListsUnrealised}
-use Rattle.cp_hom.specs.Partition.{partition_of}
+use Rattle.cp_hom.specs.Fingerprints.{traits_of}
 use Rattle.cp_shapes.specs.Shapes.{EmbedsAt}
+use Rattle.cp_general.specs.Generalising.{IsMostGeneral}
 use Rattle.cp_tree.specs.Made.{Way, Reaches, MayPointTo}
 use Rattle.cp_tree.specs.Made as plain
 use Rattle.cp_search.specs.declared.made.Made.{Made}
@@ -17,7 +18,7 @@ use Rattle.cp_search.specs.Finding.{FindsLeast, IsFlagged}
 use Rattle.cp_search.specs.Making.{made_way, made_view, IsFound, AreFound, AreForbidden, MayBeSeenIn, AddsMade}
 use Rattle.cp_search.proofs.Ways.{finds_alike, skeleton_of, still_found}
 
-pub fingerprints_of : (given ms : List Made) → given ≡ ms → AreFound ms → (m : Made) → IsIn m given → m.fingerprint ≡ partition_of (skeleton_view m.skeleton)
+pub fingerprints_of : (given ms : List Made) → given ≡ ms → AreFound ms → (m : Made) → IsIn m given → m.fingerprint ≡ traits_of (skeleton_view m.skeleton)
 fingerprints_of given ms e found m listed = let at = place_of (subst (IsIn m) e listed) in (found.each at.0 m at.1).fingerprint
 
 module _ (ms : List Made) (x : Made) where
@@ -114,6 +115,7 @@ module _ (ms : List Made) (x : Made) where
           dead_unseen = one.dead_unseen;
           listed = one.listed;
           seen = λ lives. subst (λ (vs : List Way). FindsLeast (MayPointTo vs i) m.seen_in) (sym ways_after) (still_found ways (made_way x) i within m.seen_in (one.seen lives));
+          general = one.general;
         }
 
     module _ (own : IsFound after (length ms) x) (later : IfSome x.parent (λ p. p < length ms)) where
@@ -140,27 +142,29 @@ module _ (ms : List Made) (x : Made) where
         later = λ i p m at e. each_later i p m (item_of_push ms x i m at) e;
       }
 
-module _ (old : List Made) (x : Made) (new : List Made) (behind : new ≡ old ++ x ∷ []) (found : AreFound old) (m : plain.Made) (same : made_view x ≡ m) (fingerprint : x.fingerprint ≡ partition_of (skeleton_view x.skeleton)) where
+module _ (old : List Made) (x : Made) (new : List Made) (behind : new ≡ old ++ x ∷ []) (found : AreFound old) (m : plain.Made) (same : made_view x ≡ m) (fingerprint : x.fingerprint ≡ traits_of (skeleton_view x.skeleton)) where
   adds_one : IsFound (map made_way (old ++ x ∷ [])) (length old) x → IfSome x.parent (λ p. p < length old) → AddsMade m old new
   adds_one own later = record { added = x; behind = behind; same = same; found = subst AreFound (sym behind) (all_found old x found own later) }
 
   -- A label that may live is made.
   pub makes_one : (given : List Made) (flags : List Bool) → given ≡ old → AreForbidden old x.parent flags → IfSome x.parent (λ p. p < length old) → x.dead ≡ false →
-      FindsLeast (MayBeSeenIn given flags (skeleton_view x.skeleton)) x.seen_in → ListsUnrealised (skeleton_view x.skeleton) x.unrealised.items → AddsMade m old new
-  makes_one given flags e forbidden later lives least listed = adds_one (record {
+      FindsLeast (MayBeSeenIn given flags (skeleton_view x.skeleton)) x.seen_in → ListsUnrealised (skeleton_view x.skeleton) x.unrealised.items → (x.general ≡ true → IsMostGeneral (skeleton_view x.skeleton)) → AddsMade m old new
+  makes_one given flags e forbidden later lives least listed general = adds_one (record {
     fingerprint = fingerprint;
     dead_none = λ dead. absurd (cc);
     dead_unseen = λ dead. absurd (cc);
     listed = λ _. listed;
     seen = λ _. points_to_first old x flags forbidden x.seen_in (subst (λ (ms : List Made). FindsLeast (MayBeSeenIn ms flags (skeleton_view x.skeleton)) x.seen_in) e least);
+    general = general;
   }) later
 
   -- One that is dead from the start is made.
-  pub makes_dead : x.parent ≡ None → x.dead ≡ true → x.seen_in ≡ None → x.unrealised.items ≡ [] → AddsMade m old new
-  makes_dead root dead unseen none = adds_one (record {
+  pub makes_dead : x.parent ≡ None → x.dead ≡ true → x.seen_in ≡ None → x.unrealised.items ≡ [] → x.general ≡ false → AddsMade m old new
+  makes_dead root dead unseen none unknown = adds_one (record {
     fingerprint = fingerprint;
     dead_none = λ _. none;
     dead_unseen = λ _. unseen;
     listed = λ lives. absurd (cc);
     seen = λ lives. absurd (cc);
+    general = λ known. absurd (cc);
   }) (subst (λ (o : Option ℕ). IfSome o (λ p. p < length old)) (sym root) tt)

@@ -4,10 +4,9 @@ use Rattle.cp_lists.specs.Lists.{item_at, IsIn}
 use Rattle.cp_lists.proofs.Items.{item_below, item_of_read}
 use Rattle.cp_lists.proofs.Members.{item_is_in}
 use Rattle.cp_model.specs.Skeleton.{Skeleton}
-use Rattle.cp_model.specs.Homomorphism.{Embeds}
 use Rattle.cp_skel.specs.View.{skeleton_view}
 use Rattle.cp_hom.specs.Maps.{IsIsomorphic}
-use Rattle.cp_hom.specs.Partition.{partition_of}
+use Rattle.cp_hom.specs.Fingerprints.{Traits, traits_of}
 use Rattle.cp_term.proofs.CarriedTerms.{not_both}
 use Rattle.cp_search.specs.declared.made.Made.{Made}
 use Rattle.cp_search.specs.Finding.{IsFlagged}
@@ -28,9 +27,9 @@ module _ (ms : List Made) (i : ℕ) (other : Made) (l : i < length ms) (is : oth
   listed_here = item_is_in ms i other l is
 
   -- One with another fingerprint is no copy.
-  pub kept_apart : (first second : List (Option ℕ)) (flag : Bool) → first ≡ partition_of (skeleton_view other.skeleton) → second ≡ partition_of k → flag ≡ false →
-      ((a b : Skeleton) → partition_of a ≡ first → partition_of b ≡ second → Embeds a b → flag ≡ true) → MayBeSeenIn ms flags k i → ⊥
-  kept_apart first second flag e f q kept h = no_copy_here (λ same. not_both q (kept (skeleton_view other.skeleton) k (sym e) (sym f) same.0)) h
+  pub kept_apart : (first second : Traits) (flag : Bool) → first ≡ traits_of (skeleton_view other.skeleton) → second ≡ traits_of k → flag ≡ false →
+      ((a b : Skeleton) → traits_of a ≡ first → traits_of b ≡ second → IsIsomorphic a b → flag ≡ true) → MayBeSeenIn ms flags k i → ⊥
+  kept_apart first second flag e f q kept h = no_copy_here (λ same. not_both q (kept (skeleton_view other.skeleton) k (sym e) (sym f) same)) h
 
 pub flagged_no_copy : (ms : List Made) (flags : List Bool) (k : Skeleton) (i : ℕ) → IsFlagged flags i → MayBeSeenIn ms flags k i → ⊥
 flagged_no_copy ms flags k i flagged h = h.allowed flagged

@@ -101,6 +101,7 @@ pub sound_behind : (protocol : Protocol) (i : ℕ) (old new : List Made) (label 
 sound_behind protocol i old new label e a s at lives unrealised is law = record {
   problem = s.problem;
   variables = s.variables;
+  skeleton = s.skeleton;
   own = s.own;
   each = λ j m there.
       ⊎_elim

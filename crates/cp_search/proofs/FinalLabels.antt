@@ -1,5 +1,5 @@
 -- Labels whose open marks are put in.
-use Rattle.std.proofs.Common.{◌≡◌, ◌≢◌, ◌⊎◌, inl, inr, ℕ, zero, suc, ◌+◌, List, [], ◌∷◌, ◌++◌, length, map, option_map, Option, Some, None, sym, ap, subst, ◌∙◌, refl, arith}
+use Rattle.std.proofs.Common.{◌≡◌, ◌≢◌, ◌⊎◌, inl, inr, ℕ, suc, ◌+◌, List, [], ◌∷◌, ◌++◌, length, map, Option, Some, None, sym, ap, subst, ◌∙◌, refl, arith}
 use Rattle.cp_lists.specs.Lists.{item_at}
 use Rattle.cp_model.specs.Strand.{Protocol}
 use Rattle.cp_model.specs.Skeleton.{Skeleton}
@@ -9,7 +9,7 @@ use Rattle.cp_model.specs.Tree.{Mark, dead, seen, Test, Label, Limits, is_expand
 use Rattle.cp_skel.specs.View.{skeleton_view}
 use Rattle.cp_tree.specs.Candidates.{Candidate, IsCandidate, CandidatesFrom}
 use Rattle.cp_tree.specs.Made.{Made, Way, way_of, seen_in_of}
-use Rattle.cp_tree.specs.Searched.{Becomes, is_dead, is_seen, is_realised, above_bound, at_limit, is_tested, AreSettled, all_settled, then_settled, children_of}
+use Rattle.cp_tree.specs.Searched.{Becomes, is_dead, is_seen, is_realised, is_generalised, above_bound, at_limit, is_tested, AreSettled, all_settled, then_settled, children_of}
 use Rattle.cp_search.specs.declared.made.Made as program
 use Rattle.cp_search.specs.declared.settled.Settled.{Settled}
 use Rattle.cp_search.specs.declared.settled.Settled.TheVariants as settled
@@ -21,6 +21,7 @@ use Rattle.cp_search.specs.Settling.{settled_labels, IsOpenMark}
 pub record IsOpenLabel (l : Label) : Type 0 where
   pub unmarked : l.mark ≡ None
   pub untested : l.test ≡ None
+  pub childless : l.children ≡ []
 
 -- A label stays as it is; or its mark is open, and one is put in.
 abbrev pub TakesMark : (ℕ → Option Mark → Type 0) → ℕ → Label → Label → Type 0
@@ -33,20 +34,25 @@ TakeMarks marks i (l ∷ ls) [] = ⊥
 TakeMarks marks i (l ∷ ls) (n ∷ ns) = TakesMark marks i l n × TakeMarks marks (suc i) ls ns
 
 -- The candidates: labels whose marks are open.
-abbrev if_open_label : Option Test → Option Mark → Candidate → List Candidate → List Candidate
-if_open_label (Some t) mark c cs = cs
-if_open_label None (Some m) c cs = cs
-if_open_label None None c cs = c ∷ cs
+abbrev if_open_label : Option Test → Option Mark → List ℕ → Candidate → List Candidate → List Candidate
+if_open_label (Some t) mark children c cs = cs
+if_open_label None (Some m) children c cs = cs
+if_open_label None None (n ∷ ns) c cs = cs
+if_open_label None None [] c cs = c ∷ cs
+
+abbrev candidate_or_none : ℕ → Label → List Candidate → List Candidate
+candidate_or_none i l cs = if_open_label l.test l.mark l.children (record { number = i; skeleton = l.skeleton }) cs
 
 abbrev pub open_labels : ℕ → List Label → List Candidate
 open_labels i [] = []
-open_labels i (l ∷ ls) = if_open_label l.test l.mark (record { number = i; skeleton = l.skeleton }) (open_labels (suc i) ls)
+open_labels i (l ∷ ls) = candidate_or_none i l (open_labels (suc i) ls)
 
 pub open_ones : (n : ℕ) (ms : List program.Made) (ss : List Settled) → open_labels n (settled_labels ms ss) ≡ open_from n ms ss
 open_ones n [] ss = refl
 open_ones n (m ∷ ms) [] = refl
 open_ones n (m ∷ ms) (settled.Leaf None ∷ ss) = ap (λ (cs : List Candidate). record { number = n; skeleton = skeleton_view m.skeleton } ∷ cs) (open_ones (suc n) ms ss)
 open_ones n (m ∷ ms) (settled.Leaf (Some mark) ∷ ss) = open_ones (suc n) ms ss
+open_ones n (m ∷ ms) (settled.Generalised child ∷ ss) = open_ones (suc n) ms ss
 open_ones n (m ∷ ms) (settled.Expanded e ∷ ss) = open_ones (suc n) ms ss
 
 module _ (marks : ℕ → Option Mark → Type 0) where
@@ -56,10 +62,11 @@ module _ (marks : ℕ → Option Mark → Type 0) where
   marks_taken n (m ∷ ms) [] given count each = tt
   marks_taken n (m ∷ ms) (settled.Leaf None ∷ ss) [] count each = absurd (omega (arith, count))
   marks_taken n (m ∷ ms) (settled.Leaf None ∷ ss) (mark ∷ given) count each = (
-    inr (record { unmarked = refl; untested = refl }, (mark, each 0 (record { number = n; skeleton = skeleton_view m.skeleton }) mark refl refl, refl)),
+    inr (record { unmarked = refl; untested = refl; childless = refl }, (mark, each 0 (record { number = n; skeleton = skeleton_view m.skeleton }) mark refl refl, refl)),
     marks_taken (suc n) ms ss given (omega (arith, count)) (λ p c k at is. each (suc p) c k at is),
   )
   marks_taken n (m ∷ ms) (settled.Leaf (Some mark) ∷ ss) given count each = (inl (λ o. (let e = o.unmarked in cc), refl), marks_taken (suc n) ms ss given count each)
+  marks_taken n (m ∷ ms) (settled.Generalised child ∷ ss) given count each = (inl (λ o. (let e = o.childless in cc), refl), marks_taken (suc n) ms ss given count each)
   marks_taken n (m ∷ ms) (settled.Expanded x ∷ ss) given count each = (inl (λ o. (let e = o.untested in cc), refl), marks_taken (suc n) ms ss given count each)
 
   -- ---- what does not change
@@ -101,8 +108,10 @@ module _ (marks : ℕ → Option Mark → Type 0) where
     becomes_marked i before m l n gives (is_dead d) (inr t) = absurd (let e = t.0.unmarked in cc)
     becomes_marked i before m l n gives (is_seen d u s) (inl t) = subst (λ (x : Label). After i before m x []) t.1 (is_seen d u s)
     becomes_marked i before m l n gives (is_seen d u s) (inr t) = absurd (let e = t.0.unmarked in cc)
-    becomes_marked i before m l n gives (is_realised d w a s) (inl t) = absurd (t.0 (record { unmarked = s; untested = refl }))
-    becomes_marked i before m l n gives (is_realised d w a s) (inr t) = subst (λ (x : Label). After i before m x []) t.1.2 (is_realised d w a t.1.1)
+    becomes_marked i before m l n gives (is_realised d w a g s) (inl t) = absurd (t.0 (record { unmarked = s; untested = refl; childless = refl }))
+    becomes_marked i before m l n gives (is_realised d w a g s) (inr t) = subst (λ (x : Label). After i before m x []) t.1.2 (is_realised d w a g t.1.1)
+    becomes_marked i before m l n gives (is_generalised d w a g) (inl t) = subst (λ (x : Label). After i before m x gives) t.1 (is_generalised d w a g)
+    becomes_marked i before m l n gives (is_generalised d w a g) (inr t) = absurd (let e = t.0.childless in cc)
     becomes_marked i before m l n gives (above_bound d w u r b) (inl t) = subst (λ (x : Label). After i before m x []) t.1 (above_bound d w u r b)
     becomes_marked i before m l n gives (above_bound d w u r b) (inr t) = absurd (let e = t.0.unmarked in cc)
     becomes_marked i before m l n gives (at_limit d w u r b q) (inl t) = subst (λ (x : Label). After i before m x []) t.1 (at_limit d w u r b q)
@@ -129,8 +138,7 @@ module _ (marks : ℕ → Option Mark → Type 0) where
 
     module _ (lives : (i : ℕ) (mark : Mark) → marks i (Some mark) → mark ≢ dead) (unseen : (i k : ℕ) (mark : Mark) → marks i (Some mark) → mark ≢ seen k) where
       abbrev IsPick : ℕ → Label → Label → List Candidate → Type 0
-      IsPick i l n cs = (IsCandidate n × (if_open_label l.test l.mark (record { number = i; skeleton = l.skeleton }) cs ≡ record { number = i; skeleton = n.skeleton } ∷ cs))
-          ⊎ ((IsCandidate n → ⊥) × (if_open_label l.test l.mark (record { number = i; skeleton = l.skeleton }) cs ≡ cs))
+      IsPick i l n cs = (IsCandidate n × (candidate_or_none i l cs ≡ record { number = i; skeleton = n.skeleton } ∷ cs)) ⊎ ((IsCandidate n → ⊥) × (candidate_or_none i l cs ≡ cs))
 
       taken : (i : ℕ) (l n : Label) (mark : Mark) (cs : List Candidate) → l.mark ≡ None → l.test ≡ None → l.children ≡ [] → AllDerivable l.skeleton → marks i (Some mark) → record l { mark = Some mark } ≡ n → IsPick i l n cs
       taken i l n mark cs unmarked untested none all is e =
@@ -138,11 +146,12 @@ module _ (marks : ℕ → Option Mark → Type 0) where
           let c : IsCandidate (record l { mark = Some mark }) = record { lives = λ q. lives i mark is (cc); not_seen = λ k q. unseen i k mark is (cc); realised = all; own = none } in
           inl (
             subst IsCandidate e c,
-            ap (λ (t : Option Test). if_open_label t l.mark (record { number = i; skeleton = l.skeleton }) cs) untested ∙ (ap (λ (m : Option Mark). if_open_label None m (record { number = i; skeleton = l.skeleton }) cs) unmarked
-                ∙ ap (λ (k : Skeleton). record { number = i; skeleton = k } ∷ cs) same),
+            ap (λ (t : Option Test). if_open_label t l.mark l.children (record { number = i; skeleton = l.skeleton }) cs) untested
+                ∙ (ap (λ (m : Option Mark). if_open_label None m l.children (record { number = i; skeleton = l.skeleton }) cs) unmarked
+                ∙ (ap (λ (ns : List ℕ). if_open_label None None ns (record { number = i; skeleton = l.skeleton }) cs) none ∙ ap (λ (k : Skeleton). record { number = i; skeleton = k } ∷ cs) same)),
           )
 
-      left : (i : ℕ) (l n : Label) (cs : List Candidate) → (IsCandidate l → ⊥) → l ≡ n → if_open_label l.test l.mark (record { number = i; skeleton = l.skeleton }) cs ≡ cs → IsPick i l n cs
+      left : (i : ℕ) (l n : Label) (cs : List Candidate) → (IsCandidate l → ⊥) → l ≡ n → candidate_or_none i l cs ≡ cs → IsPick i l n cs
       left i l n cs other e same = inr (λ c. other (subst IsCandidate (sym e) c), same)
 
       pick : (i before : ℕ) (m : Made) (l n : Label) (gives : List Made) (cs : List Candidate) → Before i before m l gives → TakesMark marks i l n → IsPick i l n cs
@@ -150,8 +159,10 @@ module _ (marks : ℕ → Option Mark → Type 0) where
       pick i before m l n gives cs (is_dead d) (inr t) = absurd (let e = t.0.unmarked in cc)
       pick i before m l n gives cs (is_seen {n = k} d u s) (inl t) = left i l n cs (λ c. c.not_seen k refl) t.1 refl
       pick i before m l n gives cs (is_seen d u s) (inr t) = absurd (let e = t.0.unmarked in cc)
-      pick i before m l n gives cs (is_realised d w a s) (inl t) = absurd (t.0 (record { unmarked = s; untested = refl }))
-      pick i before m l n gives cs (is_realised d w a s) (inr t) = taken i l n t.1.0 cs s refl refl a t.1.1 t.1.2
+      pick i before m l n gives cs (is_realised d w a g s) (inl t) = absurd (t.0 (record { unmarked = s; untested = refl; childless = refl }))
+      pick i before m l n gives cs (is_realised d w a g s) (inr t) = taken i l n t.1.0 cs s refl refl a t.1.1 t.1.2
+      pick i before m l n gives cs (is_generalised {child = k} d w a g) (inl t) = left i l n cs (λ c. (let e : k ∷ [] ≡ [] = c.own in cc)) t.1 refl
+      pick i before m l n gives cs (is_generalised d w a g) (inr t) = absurd (let e = t.0.childless in cc)
       pick i before m l n gives cs (above_bound d w u r b) (inl t) = left i l n cs (λ c. not_both m.skeleton r c.realised) t.1 refl
       pick i before m l n gives cs (above_bound d w u r b) (inr t) = absurd (let e = t.0.unmarked in cc)
       pick i before m l n gives cs (at_limit d w u r b q) (inl t) = left i l n cs (λ c. not_both m.skeleton r c.realised) t.1 refl

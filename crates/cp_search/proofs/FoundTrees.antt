@@ -5,7 +5,7 @@ use Rattle.cp_lists.specs.Lists.{item_at, IsIn}
 use Rattle.cp_lists.proofs.Items.{place_of, item_of_map, map_of_item}
 use Rattle.cp_lists.proofs.Mapped.{map_then, map_alike}
 use Rattle.cp_model.specs.Strand.{Declaration, Protocol}
-use Rattle.cp_model.specs.Skeleton.{Skeleton}
+use Rattle.cp_model.specs.Skeleton.{Skeleton, IsSkeleton}
 use Rattle.cp_model.specs.Problem.{numbers_from, IsPointOfView, HasDeclaredVariables}
 use Rattle.cp_model.specs.Tree.{Mark, dead, seen, Label, Tree, Outcome, Limits}
 use Rattle.cp_skel.specs.Trees.{variables_view}
@@ -118,11 +118,12 @@ module _ (protocol : Protocol) (limits : Limits) (roots : List Root) (ms : List 
 pub same_variables : (roots : List Root) (variables : List Declared) → ((r : Root) → IsIn r roots → r.skeleton.variables ≡ variables) → (r : Root) → IsIn r roots → variables_view r.skeleton.variables ≡ variables_view variables
 same_variables roots variables same r i = ap variables_view (same r i)
 
-pub sound_roots : (protocol : Protocol) (variables : List Declaration) (k : Skeleton) (roots : List Root) → IsPointOfView variables k → AreSound protocol k (map root_view roots) → ((r : Root) → IsIn r roots → variables_view r.skeleton.variables ≡ variables)
+pub sound_roots : (protocol : Protocol) (variables : List Declaration) (k : Skeleton) (roots : List Root) → IsSkeleton protocol k → IsPointOfView variables k → AreSound protocol k (map root_view roots) → ((r : Root) → IsIn r roots → variables_view r.skeleton.variables ≡ variables)
     → ((i : ℕ) (root : PlainRoot) → item_at (map root_view roots) i ≡ Some root → HasDeclaredVariables variables root.skeleton) → AreSoundRoots protocol roots
-sound_roots protocol variables k roots own sound named declared = record {
+sound_roots protocol variables k roots skeleton own sound named declared = record {
   problem = k;
   variables = variables;
+  skeleton = skeleton;
   own = own;
   each = λ r is.
       let p = place_of is in

@@ -13,6 +13,9 @@ pub mod Opened
 pub mod SearchedFrom
 pub mod SettledLeaves
 pub mod SettledNext
+pub mod SettledAs
+pub mod Waiting
+pub mod LabelGeneralised
 pub mod Spreading
 pub mod WayEdges
 pub mod Ways

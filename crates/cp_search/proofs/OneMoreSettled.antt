@@ -6,7 +6,7 @@ use Rattle.cp_model.specs.Strand.{Protocol}
 use Rattle.cp_model.specs.Problem.{numbers_from}
 use Rattle.cp_model.specs.Tree.{Mark, Label, Limits, is_expanded, expanded_count}
 use Rattle.cp_tree.specs.Made.{Made, Way}
-use Rattle.cp_tree.specs.Searched.{Becomes, is_dead, is_seen, is_realised, above_bound, at_limit, is_tested, AreSettled, all_settled, then_settled, children_of}
+use Rattle.cp_tree.specs.Searched.{Becomes, is_dead, is_seen, is_realised, is_generalised, above_bound, at_limit, is_tested, AreSettled, all_settled, then_settled, children_of}
 use Rattle.cp_search.proofs.GrownWays.{least_still, new_still}
 
 -- ---- lists
@@ -49,7 +49,8 @@ module _ (protocol : Protocol) (limits : Limits) (marks : ℕ → Option Mark �
     becomes_still : (i before : ℕ) (m : Made) (l : Label) (gives : List Made) → i < length ways → Becomes protocol limits ways marks i before m l gives → Becomes protocol limits (ways ++ more) marks i before m l gives
     becomes_still i before m l gives w (is_dead d) = is_dead d
     becomes_still i before m l gives w (is_seen {n = n} d u s) = is_seen d u (least_still ways more i w n s)
-    becomes_still i before m l gives w (is_realised d n a s) = is_realised d (new_still ways more i w n) a s
+    becomes_still i before m l gives w (is_realised d n a g s) = is_realised d (new_still ways more i w n) a g s
+    becomes_still i before m l gives w (is_generalised d n a g) = is_generalised d (new_still ways more i w n) a g
     becomes_still i before m l gives w (above_bound d n u r b) = above_bound d (new_still ways more i w n) u r b
     becomes_still i before m l gives w (at_limit d n u r b e) = at_limit d (new_still ways more i w n) u r b e
     becomes_still i before m l gives w (is_tested d n u r b c x s) = is_tested d (new_still ways more i w n) u r b c x s

@@ -1,5 +1,5 @@
 -- Candidates are taken from labels one by one.
-use Rattle.std.proofs.Common.{◌≡◌, ℕ, suc, ◌+◌, ◌<◌, List, [], ◌∷◌, ◌++◌, Bool, true, false, length, map, drop, get_or, Option, Some, None, sym, ap, subst, ◌∙◌, refl, arith}
+use Rattle.std.proofs.Common.{◌≡◌, ℕ, suc, ◌+◌, ◌<◌, List, [], ◌∷◌, ◌++◌, Bool, true, false, length, map, drop, get_or, Some, None, sym, ap, ◌∙◌, refl, arith}
 use Rattle.std.proofs.lemmas.List.{append_assoc}
 use Rattle.cp_lists.specs.Lists.{item_at}
 use Rattle.cp_lists.proofs.Items.{item_there, item_of_read, drop_of_item}
@@ -16,11 +16,13 @@ candidate_of n m = record { number = n; skeleton = skeleton_view m.skeleton }
 closed_one : (s : Settled) (n : ℕ) (m : Made) (cs : List Candidate) → is_open s ≡ false → if_open s n m cs ≡ cs
 closed_one (settled.Leaf None) n m cs e = absurd (cc)
 closed_one (settled.Leaf (Some x)) n m cs e = refl
+closed_one (settled.Generalised x) n m cs e = refl
 closed_one (settled.Expanded x) n m cs e = refl
 
 opened_one : (s : Settled) (n : ℕ) (m : Made) (cs : List Candidate) → is_open s ≡ true → if_open s n m cs ≡ candidate_of n m ∷ cs
 opened_one (settled.Leaf None) n m cs e = refl
 opened_one (settled.Leaf (Some x)) n m cs e = absurd (cc)
+opened_one (settled.Generalised x) n m cs e = absurd (cc)
 opened_one (settled.Expanded x) n m cs e = absurd (cc)
 
 module _ {B : Type 0} (f : Candidate → B) (ms : List Made) (ss : List Settled) (k : ℕ) (all : List B) where

@@ -26,6 +26,7 @@ module _ (protocol : Protocol) (limits : Limits) (roots : List Root) (ms : List 
   are_sound = record {
     problem = sound.problem;
     variables = sound.variables;
+    skeleton = sound.skeleton;
     own = sound.own;
     each = λ i m at.
         let r = item_of_map root_made roots i (made_view m) (ap (λ (xs : List plain.Made). item_at xs i) (sym as_roots) ∙ map_of_item made_view ms i m at) in

@@ -1,8 +1,8 @@
 -- The next label is settled as a leaf.
-use Rattle.std.proofs.Common.{◌≡◌, ◌≢◌, ◌⊎◌, ⊎_elim, ℕ, suc, ◌+◌, ◌<◌, ◌≤◌, List, [], ◌∷◌, ◌++◌, length, map, get_or, true, false, nat_eq, option_map, Option, Some, None, sym, ap, subst, ◌∙◌, refl, arith, eqb-true}
-use Rattle.std.proofs.lemmas.List.{append-nil, length-append, length-map}
+use Rattle.std.proofs.Common.{◌≡◌, ◌≢◌, ⊎_elim, ℕ, ◌+◌, ◌<◌, ◌≤◌, List, [], ◌∷◌, ◌++◌, length, map, get_or, true, false, nat_eq, option_map, Option, Some, None, sym, ap, subst, ◌∙◌, refl, arith, eqb-true}
+use Rattle.std.proofs.lemmas.List.{append-nil, length-map}
 use Rattle.cp_lists.specs.Lists.{item_at, IsIn, here}
-use Rattle.cp_lists.proofs.Items.{item_of_read, item_below}
+use Rattle.cp_lists.proofs.Items.{item_of_read}
 use Rattle.cp_lists.proofs.Members.{not_in_none}
 use Rattle.cp_model.specs.Strand.{Protocol}
 use Rattle.cp_model.specs.declared.node.Node.{Node}
@@ -16,6 +16,7 @@ use Rattle.cp_skel.specs.Trees.{mark_view}
 use Rattle.cp_skel.specs.declared.tree.Mark.{Mark as ProgramMark}
 use Rattle.cp_skel.specs.declared.tree.Mark.TheVariants as program
 use Rattle.cp_derive.specs.Unrealised.{ListsUnrealised, IsUnrealisedAt}
+use Rattle.cp_general.specs.Generalising.{IsMostGeneral}
 use Rattle.cp_tree.specs.Made as plain
 use Rattle.cp_tree.specs.Made.{Way, way_of, seen_in_of, MayPointTo, IsNew}
 use Rattle.cp_tree.specs.Searched.{leaf, Becomes, is_dead, is_seen, is_realised}
@@ -53,7 +54,7 @@ pub some_unrealised : (k : Skeleton) (ns : List Node) → ns ≢ [] → ListsUnr
 some_unrealised k [] some lists = absurd (some refl)
 some_unrealised k (n ∷ ns) some lists = unrealised_first k n ns lists
 
-all_derivable : (k : Skeleton) (ns : List Node) → ns ≡ [] → ListsUnrealised k ns → AllDerivable k
+pub all_derivable : (k : Skeleton) (ns : List Node) → ns ≡ [] → ListsUnrealised k ns → AllDerivable k
 all_derivable k ns none lists n t at =
     ⊎_elim
     (λ (listed : IsIn n ns). absurd (not_in_none (subst (IsIn n) none listed)))
@@ -72,24 +73,24 @@ module _ (protocol : Protocol) (limits : Limits) (ways : List Way) (i before : �
   as_many : length (skeleton_view m.skeleton).strands ≡ length m.skeleton.strands
   as_many = length-map m.skeleton.strands strand_view
 
-  leaf_becomes : (o : Option (Option ProgramMark)) (mark : Option ProgramMark) → IsLeafOf limits m before o → o ≡ Some mark → Here m.unrealised.items (option_map mark_view mark)
-  leaf_becomes o mark (dead_leaf d) e =
+  leaf_becomes : (o : Option (Option ProgramMark)) (mark : Option ProgramMark) → IsLeafOf limits m before o → o ≡ Some mark → (mark ≡ None → IsMostGeneral (skeleton_view m.skeleton)) → Here m.unrealised.items (option_map mark_view mark)
+  leaf_becomes o mark (dead_leaf d) e own =
       let same : Some program.Dead ≡ mark = cc in
       subst (λ (x : Option ProgramMark). Here m.unrealised.items (option_map mark_view x)) same (subst (λ (ns : List Node). Here ns (Some (mark_view program.Dead))) (sym (found.dead_none d)) (is_dead d))
-  leaf_becomes o mark (seen_leaf {n = n} d s) e =
+  leaf_becomes o mark (seen_leaf {n = n} d s) e own =
       let same : Some (program.Seen n) ≡ mark = cc in
       subst (λ (x : Option ProgramMark). Here m.unrealised.items (option_map mark_view x)) same (is_seen d (found.listed d) (subst (FindsLeast (MayPointTo ways i)) s (found.seen d)))
-  leaf_becomes o mark (open_leaf d s u) e =
+  leaf_becomes o mark (open_leaf d s u) e own =
       let same : None ≡ mark = cc in
       subst (λ (x : Option ProgramMark). Here m.unrealised.items (option_map mark_view x)) same
-      (subst (λ (ns : List Node). Here ns None) (sym u) (is_realised d (is_new d s) (all_derivable (skeleton_view m.skeleton) m.unrealised.items u (found.listed d)) refl))
-  leaf_becomes o mark (above_bound d s u b) e =
+      (subst (λ (ns : List Node). Here ns None) (sym u) (is_realised d (is_new d s) (all_derivable (skeleton_view m.skeleton) m.unrealised.items u (found.listed d)) (own (sym same)) refl))
+  leaf_becomes o mark (above_bound d s u b) e own =
       let same : Some program.LimitStrands ≡ mark = cc in
       let more : limits.strands < length m.skeleton.strands = b in
       let n = as_many in
       subst (λ (x : Option ProgramMark). Here m.unrealised.items (option_map mark_view x)) same
       (becomes.above_bound d (is_new d s) (found.listed d) (some_unrealised (skeleton_view m.skeleton) m.unrealised.items u (found.listed d)) (omega (arith, more, n)))
-  leaf_becomes o mark (at_limit d s u b l) e =
+  leaf_becomes o mark (at_limit d s u b l) e own =
       let same : Some program.LimitSteps ≡ mark = cc in
       let no_more : length m.skeleton.strands ≤ limits.strands = b in
       let reached : limits.steps ≤ before = l in
@@ -97,7 +98,7 @@ module _ (protocol : Protocol) (limits : Limits) (ways : List Way) (i before : �
       let w = below in
       subst (λ (x : Option ProgramMark). Here m.unrealised.items (option_map mark_view x)) same
       (becomes.at_limit d (is_new d s) (found.listed d) (some_unrealised (skeleton_view m.skeleton) m.unrealised.items u (found.listed d)) (omega (arith, no_more, n)) (omega (arith, reached, w)))
-  leaf_becomes o mark (no_leaf x) e = absurd (cc)
+  leaf_becomes o mark (no_leaf x) e own = absurd (cc)
 
   seen_as : (mark : Option ProgramMark) → m.seen_in ≡ seen_in_of (option_map mark_view mark) → way_of (leaf_label m (option_map mark_view mark)) ≡ made_way m
   seen_as mark e = ap (λ (o : Option ℕ). record { parent = m.parent; seen_in = o; skeleton = skeleton_view m.skeleton }) (sym e)
@@ -115,20 +116,15 @@ not_expanded mark e q = absurd (cc)
 
 -- A search in which one leaf more is settled.
 pub leaf_settled : (protocol : Protocol) (limits : Limits) (roots : List plain.Made) (ms : List Made) (ss : List Settled) (n : ℕ) (m : Made) (mark : Option ProgramMark) → IsSearched protocol limits roots ms ss n → item_at ms (length ss) ≡ Some m
-    → IsLeafOf limits m n (Some mark) → IsSearched protocol limits roots ms (ss ++ settled.Leaf mark ∷ []) n
-leaf_settled protocol limits roots ms ss n m mark r at is =
+    → IsLeafOf limits m n (Some mark) → (mark ≡ None → IsMostGeneral (skeleton_view m.skeleton)) → IsSearched protocol limits roots ms (ss ++ settled.Leaf mark ∷ []) n
+leaf_settled protocol limits roots ms ss n m mark r at is own =
     let found = r.found.each (length ss) m at in
     let none : ms ++ [] ≡ ms = append-nil ms in
     let same : n + 0 ≡ n = omega arith in
     let next = settled_next protocol limits roots ms ss n r m at [] (settled.Leaf mark) (subst AreFound (sym none) r.found) (subst (AreSoundMade protocol) (sym none) r.sound) (λ e q. not_expanded mark e q)
     (seen_as protocol limits (map made_way ms) (length ss) n m found r.within_steps mark (leaf_way protocol limits (map made_way ms) (length ss) n m found r.within_steps (Some mark) mark is refl))
-    (leaf_becomes protocol limits (map made_way ms) (length ss) n m found r.within_steps (Some mark) mark is refl) refl (subst (λ (k : ℕ). k ≤ limits.steps) (sym same) r.within_steps) in
+    (leaf_becomes protocol limits (map made_way ms) (length ss) n m found r.within_steps (Some mark) mark is refl own) refl (subst (λ (k : ℕ). k ≤ limits.steps) (sym same) r.within_steps) in
     subst (λ (k : ℕ). IsSearched protocol limits roots ms (ss ++ settled.Leaf mark ∷ []) k) same (subst (λ (xs : List Made). IsSearched protocol limits roots xs (ss ++ settled.Leaf mark ∷ []) (n + 0)) none next)
-
-pub leaf_pushed : (protocol : Protocol) (limits : Limits) (roots : List plain.Made) (ms : List Made) (ss new : List Settled) (n : ℕ) (m : Made) (o : Option (Option ProgramMark)) (mark : Option ProgramMark) → IsSearched protocol limits roots ms ss n → item_at ms (length ss) ≡ Some m
-    → IsLeafOf limits m n o → o ≡ Some mark → new ≡ ss ++ settled.Leaf mark ∷ [] → IsSearched protocol limits roots ms new n
-leaf_pushed protocol limits roots ms ss new n m o mark r at is e pushed =
-    subst (λ (xs : List Settled). IsSearched protocol limits roots ms xs n) (sym pushed) (leaf_settled protocol limits roots ms ss n m mark r at (subst (IsLeafOf limits m n) e is))
 
 pub expands_now : (limits : Limits) (m : Made) (n : ℕ) (o : Option (Option ProgramMark)) → IsLeafOf limits m n o → ((mark : Option ProgramMark) → o ≡ Some mark → ⊥) → IsToExpand limits m n
 expands_now limits m n o (dead_leaf d) none = absurd (none (Some program.Dead) refl)
@@ -141,10 +137,3 @@ expands_now limits m n o (no_leaf x) none = x
 -- The next label of which something has to become.
 pub next_label : (ms : List Made) (ss : List Settled) (i : ℕ) (m : Made) → i < length ms → m ≡ get_or ms i m → i ≡ length ss → item_at ms (length ss) ≡ Some m
 next_label ms ss i m l is e = ap (item_at ms) (sym e) ∙ item_of_read ms i m l is
-
-pub one_within : (ms : List Made) (ss : List Settled) (s : Settled) (new : List Settled) (m : Made) → item_at ms (length ss) ≡ Some m → new ≡ ss ++ s ∷ [] → length new ≤ length ms
-one_within ms ss s new m at e =
-    let l : length ss < length ms = item_below ms (length ss) m at in
-    let n : length new ≡ length (ss ++ s ∷ []) = ap length e in
-    let a = length-append ss (s ∷ []) in
-    omega (arith, l, n, a)

@@ -1,6 +1,5 @@
 -- Candidates for shapes among labels that are settled, and their marks.
-use Rattle.std.specs.Prelude.{◌≡◌, ℕ, suc, List, [], ◌∷◌, length, map, slice_index_or, Bool, true, false, Option, Some, None}
-use Rattle.cp_lists.specs.Lists.{item_at}
+use Rattle.std.specs.Prelude.{ℕ, suc, List, [], ◌∷◌, slice_index_or, Bool, true, false, Option, Some, None}
 use Rattle.cp_model.specs.Tree.{Mark, shape, instance_of}
 use Rattle.cp_skel.specs.View.{skeleton_view}
 use Rattle.cp_tree.specs.Candidates.{Candidate}

@@ -3,5 +3,6 @@ pub mod Graph
 pub mod Making
 pub mod Roots
 pub mod Settling
+pub mod Generalising
 pub mod Candidates
 pub mod Labelling

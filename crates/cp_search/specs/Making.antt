@@ -8,11 +8,12 @@ use Rattle.cp_skel.specs.View.{skeleton_view}
 use Rattle.cp_skel.specs.Trees.{variables_view, operation_view}
 use Rattle.cp_derive.specs.Unrealised.{ListsUnrealised}
 use Rattle.cp_hom.specs.Maps.{IsIsomorphic}
-use Rattle.cp_hom.specs.Partition.{partition_of}
+use Rattle.cp_hom.specs.Fingerprints.{traits_of}
 use Rattle.cp_tree.specs.Made as plain
 use Rattle.cp_tree.specs.Made.{Way, Reaches, MayPointTo}
 use Rattle.cp_search.specs.declared.made.Made.{Made}
 use Rattle.cp_search.specs.Finding.{FindsLeast, IsFlagged}
+use Rattle.cp_general.specs.Generalising.{IsMostGeneral}
 
 abbrev pub made_view : Made → plain.Made
 made_view m = record { parent = m.parent; operation = operation_view m.operation; variables = variables_view m.skeleton.variables; skeleton = skeleton_view m.skeleton; dead = m.dead }
@@ -21,13 +22,15 @@ abbrev pub made_way : Made → Way
 made_way m = record { parent = m.parent; seen_in = m.seen_in; skeleton = skeleton_view m.skeleton }
 
 -- What is found of label i is true, where labels have these ways: of one that is dead from the start no unrealised receptions are
--- listed, and it is seen nowhere; any other is seen in the least label to which it may point.
+-- listed, and it is seen nowhere; any other is seen in the least label to which it may point; and no step of generalising applies
+-- to a general one.
 pub record IsFound (ways : List Way) (i : ℕ) (m : Made) : Type 0 where
-  pub fingerprint : m.fingerprint ≡ partition_of (skeleton_view m.skeleton)
+  pub fingerprint : m.fingerprint ≡ traits_of (skeleton_view m.skeleton)
   pub dead_none : m.dead ≡ true → m.unrealised.items ≡ []
   pub dead_unseen : m.dead ≡ true → m.seen_in ≡ None
   pub listed : m.dead ≡ false → ListsUnrealised (skeleton_view m.skeleton) m.unrealised.items
   pub seen : m.dead ≡ false → FindsLeast (MayPointTo ways i) m.seen_in
+  pub general : m.general ≡ true → IsMostGeneral (skeleton_view m.skeleton)
 
 -- A label is made from one before it, if from any.
 abbrev pub IsMadeLater : List Made → Type 0
@@ -61,6 +64,12 @@ pub record AddsMade (m : plain.Made) (old new : List Made) : Type 0 where
   pub behind : new ≡ old ++ added ∷ []
   pub same : made_view added ≡ m
   pub found : AreFound new
+
+-- One label more was made, which is a general one or not.
+pub record AddsGeneral (general : Bool) (old new : List Made) : Type 0 where
+  pub added : Made
+  pub behind : new ≡ old ++ added ∷ []
+  pub same : added.general ≡ general
 
 -- Labels were made behind others, and what is found of each is true.
 pub record AddMade (ms : List plain.Made) (old new : List Made) : Type 0 where

@@ -1,10 +1,10 @@
 -- What has become of labels, as the program keeps it.
-use Rattle.std.specs.Prelude.{◌≡◌, ◌≢◌, ◌<◌, ◌≤◌, ◌+◌, ℕ, suc, List, [], ◌∷◌, ◌++◌, length, map, take, option_map, true, false, Option, Some, None}
+use Rattle.std.specs.Prelude.{◌≡◌, ◌≢◌, ◌<◌, ◌≤◌, ℕ, List, [], ◌∷◌, ◌++◌, length, map, take, option_map, true, false, Option, Some, None}
 use Rattle.cp_lists.specs.Lists.{item_at, IsIn}
 use Rattle.cp_model.specs.Strand.{Declaration, Protocol}
-use Rattle.cp_model.specs.Skeleton.{Skeleton}
+use Rattle.cp_model.specs.Skeleton.{Skeleton, IsSkeleton}
 use Rattle.cp_model.specs.Problem.{numbers_from, IsPointOfView}
-use Rattle.cp_model.specs.Tree.{Mark, dead, seen, limit_steps, limit_strands, Label, Limits, expanded_count}
+use Rattle.cp_model.specs.Tree.{Mark, Label, Limits, expanded_count}
 use Rattle.cp_skel.specs.View.{skeleton_view}
 use Rattle.cp_skel.specs.Trees.{variables_view, mark_view, test_view}
 use Rattle.cp_skel.specs.declared.tree.Mark.{Mark as ProgramMark}
@@ -28,6 +28,10 @@ use Rattle.cp_search.specs.Making.{made_view, made_way, AreFound, AddMade}
 abbrev pub leaf_label : Made → Option Mark → Label
 leaf_label m mark = leaf (made_view m) m.unrealised.items mark
 
+-- The label that was made so and generalises to the label of this number.
+abbrev pub generalised_label : Made → ℕ → Label
+generalised_label m child = record (leaf_label m None) { children = child ∷ [] }
+
 -- The label that was made so and was expanded so.
 abbrev pub expanded_label : Made → Expanded → Label
 expanded_label m e = record (leaf_label m (mark_by e.children.items)) { variables = variables_view e.skeleton.variables; test = Some (test_view e.test); escape = e.patterns.items; children = e.children.items }
@@ -35,6 +39,7 @@ expanded_label m e = record (leaf_label m (mark_by e.children.items)) { variable
 -- The label that was made so and of which this has become.
 abbrev pub settled_label : Made → Settled → Label
 settled_label m (settled.Leaf mark) = leaf_label m (option_map mark_view mark)
+settled_label m (settled.Generalised child) = generalised_label m child
 settled_label m (settled.Expanded e) = expanded_label m e
 
 abbrev pub settled_labels : List Made → List Settled → List Label
@@ -68,17 +73,19 @@ pub record IsNextToExpand (limits : Limits) (s : Search) : Type 0 where
   pub at : item_at s.made.items (length s.settled.items) ≡ Some label
   pub expands : IsToExpand limits label s.expanded
 
--- Each label is sound for one problem.
+-- Each label is sound for one problem, which is a skeleton over the protocol.
 pub record AreSoundMade (protocol : Protocol) (ms : List Made) : Type 0 where
   pub problem : Skeleton
   pub variables : List Declaration
+  pub skeleton : IsSkeleton protocol problem
   pub own : IsPointOfView variables problem
   pub each : (i : ℕ) (m : Made) → item_at ms i ≡ Some m → IsSoundMade protocol problem (made_view m)
 
--- Each root is sound, as a label, for one problem.
+-- Each root is sound, as a label, for one problem, which is a skeleton over the protocol.
 pub record AreSoundRoots (protocol : Protocol) (roots : List Root) : Type 0 where
   pub problem : Skeleton
   pub variables : List Declaration
+  pub skeleton : IsSkeleton protocol problem
   pub own : IsPointOfView variables problem
   pub each : (r : Root) → IsIn r roots → IsSoundMade protocol problem (root_made r)
 

@@ -29,7 +29,15 @@ fn make_child(
         path: _,
     } = child;
     skeleton.list_assumptions(alloc)?;
-    make(alloc, made, forbidden, Some(parent), operation, skeleton)
+    make(
+        alloc,
+        made,
+        forbidden,
+        Some(parent),
+        operation,
+        skeleton,
+        false,
+    )
 }
 
 /// Makes the labels of the children of a label's test, in their order: their numbers. The error is that memory ran out.

@@ -6,7 +6,7 @@ ghost use Rattle.cp_search.specs.Candidates.{open_from};
 ghost use Rattle.cp_skel.specs.View.{skeleton_view};
 ghost use Rattle.cp_model.specs.Tree.{Mark as PlainMark};
 ghost use Rattle.cp_search.specs.Labelling.{label_with, labels_with, AreCandidateMarks};
-ghost use Rattle.cp_search.specs.Settling.{leaf_label, expanded_label, AreExpandedOf};
+ghost use Rattle.cp_search.specs.Settling.{leaf_label, generalised_label, expanded_label, AreExpandedOf};
 ghost use Rattle.cp_search.specs.declared.made.Made as program;
 ghost use Rattle.cp_search.specs.declared.settled.Settled as program_settled;
 ghost use Rattle.cp_search.specs.declared.settled.Settled.TheVariants as settled_as;
@@ -40,6 +40,15 @@ fn leaf(alloc: Global, made: Made, mark: Option<Mark>) -> TreeNode
         children: Vec::new(alloc),
         mark,
     }
+}
+
+/// The label that generalises to the one with this number.
+fn generalised(alloc: Global, made: Made, child: usize) -> Result<TreeNode, AllocError>
+    ensures { IfOk result (λ l. label_view l ≡ generalised_label made child) }
+{
+    let mut label = leaf(alloc, made, None);
+    label.children.push(child)?;
+    Ok(label)
 }
 
 /// The mark of an expanded label with these children.
@@ -83,14 +92,20 @@ fn expanded(made: Made, settled: Expanded) -> TreeNode
 }
 
 /// The label that was made so and of which this has become, with this mark where its own is open.
-fn label(alloc: Global, made: Made, settled: Settled, mark: Option<Mark>) -> TreeNode
+fn label(
+    alloc: Global,
+    made: Made,
+    settled: Settled,
+    mark: Option<Mark>,
+) -> Result<TreeNode, AllocError>
     requires { (e : program_expanded.Expanded) → settled ≡ settled_as.Expanded e → skeleton_view e.skeleton ≡ skeleton_view made.skeleton }
-    ensures { label_view result ≡ label_with made settled (option_map mark_view mark) }
+    ensures { IfOk result (λ l. label_view l ≡ label_with made settled (option_map mark_view mark)) }
 {
     match settled {
-        Settled::Expanded(expansion) => expanded(made, expansion),
-        Settled::Leaf(Some(own)) => leaf(alloc, made, Some(own)),
-        Settled::Leaf(None) => leaf(alloc, made, mark),
+        Settled::Expanded(expansion) => Ok(expanded(made, expansion)),
+        Settled::Generalised(child) => generalised(alloc, made, child),
+        Settled::Leaf(Some(own)) => Ok(leaf(alloc, made, Some(own))),
+        Settled::Leaf(None) => Ok(leaf(alloc, made, mark)),
     }
 }
 
@@ -126,7 +141,8 @@ fn labels(
             return Ok(labels);
         };
         let mark = next_mark(&settled, &mut rest_marks);
-        labels.push(label(alloc, made, settled, mark))?;
+        let label = label(alloc, made, settled, mark)?;
+        labels.push(label)?;
     }
     Ok(labels)
 }

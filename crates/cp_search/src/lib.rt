@@ -3,6 +3,7 @@
 
 mod candidates;
 mod children;
+mod generalising;
 mod graph;
 mod labelling;
 mod made;

@@ -20,7 +20,7 @@ fn make_root(alloc: Global, made: &mut Vec<Made>, root: Root) -> Result<(), Allo
     if dead {
         return make_dead(alloc, made, operation, skeleton);
     }
-    make(alloc, made, &[], None, operation, skeleton)
+    make(alloc, made, &[], None, operation, skeleton, false)
 }
 
 /// Makes the labels of the roots, in their order.

@@ -8,9 +8,11 @@ ghost use Rattle.cp_tree.specs.Made as plain;
 ghost use Rattle.cp_search.specs.declared.made.Made as program;
 ghost use Rattle.cp_search.specs.Roots.{root_made};
 ghost use Rattle.cp_search.specs.Making.{AreFound};
+ghost use Rattle.cp_search.specs.Generalising.{SettlesAs};
 ghost use Rattle.cp_search.specs.Settling.{IsLeafOf, IsToExpand, IsNextToExpand, ExpandsLabel, HasSearched, AreSoundMade, AreSoundRoots};
 
 use crate::children::make_children;
+use crate::generalising::generalise_label;
 use crate::made::Made;
 use crate::roots::make_roots;
 use crate::settled::{Expanded, Settled};
@@ -28,8 +30,8 @@ pub(crate) struct Search {
     pub expanded: usize,
 }
 
-/// What a label becomes where it is not expanded, when so many were expanded: a leaf with a mark, which is open where the label
-/// may be a shape.
+/// What a label becomes where it is not expanded, when so many were expanded: a leaf with a mark, which is open where all receptions
+/// of the label can be derived.
 fn leaf_of(label: &Made, limits: Limits, expanded: usize) -> Option<Option<Mark>>
     ensures { IsLeafOf (limits_view limits) label.now expanded result }
 {
@@ -51,19 +53,42 @@ fn leaf_of(label: &Made, limits: Limits, expanded: usize) -> Option<Option<Mark>
     None
 }
 
+/// What becomes of a label that is not expanded: a leaf with this mark; but where that is open, and a step of generalising applies
+/// to the label, the label of what it generalises to is made behind the others.
+fn settle_leaf(
+    alloc: Global,
+    made: &mut Vec<Made>,
+    number: usize,
+    mark: Option<Mark>,
+) -> Result<Settled, AllocError>
+    requires found { AreFound made.old.items }
+    requires there { number < length made.old.items }
+    ensures { IfOk result (SettlesAs number made.old.items made.new.items mark) }
+{
+    if mark.is_some() {
+        return Ok(Settled::Leaf(mark));
+    }
+    let Some(child) = generalise_label(alloc, made, number)? else {
+        return Ok(Settled::Leaf(None));
+    };
+    Ok(Settled::Generalised(child))
+}
+
 /// Settles the labels up to the next one that is to be expanded. Whether there is one.
-fn settle_leaves(limits: Limits, search: &mut Search) -> Result<bool, AllocError>
+fn settle_leaves(alloc: Global, limits: Limits, search: &mut Search) -> Result<bool, AllocError>
+    requires found { AreFound search.old.made.items }
     ensures searched { OnOk result ((protocol : PlainProtocol) (made : List plain.Made) → HasSearched protocol (limits_view limits) made search.old → HasSearched protocol (limits_view limits) made search.new) }
     ensures next { IfOk result (λ some. some ≡ true → IsNextToExpand (limits_view limits) search.new) }
     ensures all { IfOk result (λ some. some ≡ false → length search.old.settled.items ≤ length search.old.made.items → length search.new.settled.items ≡ length search.new.made.items) }
     ensures expanded { search.new.expanded ≡ search.old.expanded }
 {
     while search.settled.len() < search.made.len() {
-        let label = &search.made[search.settled.len()];
-        let Some(mark) = leaf_of(label, limits, search.expanded) else {
+        let next = search.settled.len();
+        let Some(mark) = leaf_of(&search.made[next], limits, search.expanded) else {
             return Ok(true);
         };
-        search.settled.push(Settled::Leaf(mark))?;
+        let settled = settle_leaf(alloc, &mut search.made, next, mark)?;
+        search.settled.push(settled)?;
     }
     Ok(false)
 }
@@ -140,7 +165,7 @@ pub(crate) fn search_from(
         settled: Vec::new(alloc),
         expanded: 0,
     };
-    while settle_leaves(limits, &mut search)? {
+    while settle_leaves(alloc, limits, &mut search)? {
         expand_next(alloc, protocol, limits, &mut search)?;
     }
     Ok(search)

@@ -11,9 +11,11 @@ pub(crate) struct Expanded {
     pub children: Vec<usize>,
 }
 
-/// What becomes of a label: a leaf, with its mark, which is open where it may be a shape; or it is expanded.
+/// What becomes of a label: a leaf, with its mark, which is open where it may be a shape; or it generalises to another, whose label
+/// has this number; or it is expanded.
 #[derive(Drop)]
 pub(crate) enum Settled {
     Leaf(Option<Mark>),
+    Generalised(usize),
     Expanded(Expanded),
 }

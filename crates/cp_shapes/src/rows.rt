@@ -1,7 +1,7 @@
 // For each candidate those of which it is an instance.
 ghost use Rattle.std.specs.Prelude.{◌≡◌, ◌↔◌, ◌<◌, length, map, IsTrue, IfOk};
 ghost use Rattle.cp_skel.specs.View.{skeleton_view};
-ghost use Rattle.cp_hom.specs.Partition.{partition_of};
+ghost use Rattle.cp_hom.specs.Fingerprints.{traits_of};
 ghost use Rattle.cp_shapes.specs.Shapes.{IsInstanceWithin};
 ghost use Rattle.cp_shapes.specs.Rows.{IsRowOf, AreRowsOf, rows_view};
 
@@ -11,7 +11,7 @@ use std::alloc::{AllocError, Global};
 
 /// The fingerprints of the candidates.
 fn fingerprints(alloc: Global, candidates: &[&Skeleton]) -> Result<Vec<Fingerprint>, AllocError>
-    ensures { IfOk result (λ fingerprints. fingerprints.items ≡ map (λ k. partition_of (skeleton_view k.now)) candidates.now) }
+    ensures { IfOk result (λ fingerprints. fingerprints.items ≡ map (λ k. traits_of (skeleton_view k.now)) candidates.now) }
 {
     let mut fingerprints = Vec::new(alloc);
     for candidate in candidates {
@@ -51,7 +51,7 @@ fn row_of(
     fingerprints: &[Fingerprint],
     instance: usize,
 ) -> Result<Vec<usize>, AllocError>
-    requires fingerprints { fingerprints.now ≡ map (λ k. partition_of (skeleton_view k.now)) candidates.now }
+    requires fingerprints { fingerprints.now ≡ map (λ k. traits_of (skeleton_view k.now)) candidates.now }
     requires within { instance < length candidates.now }
     ensures { IfOk result (λ row. IsRowOf (map (λ k. skeleton_view k.now) candidates.now) instance row.items) }
 {

@@ -1,10 +1,10 @@
-mod FromProblemWithout
+pub mod FromProblemWithout
 mod GivenElsewhere
 mod Leaving
-mod Numbering
-mod OrderWithout
-mod PairsWithout
-mod SkeletonWithout
+pub mod Numbering
+pub mod OrderWithout
+pub mod PairsWithout
+pub mod SkeletonWithout
 pub mod OrderKept
 pub mod SameNode
 pub mod Once

@@ -68,24 +68,29 @@ module _ (k : Skeleton) (a : Assumptions) (f : FromProblem) where
           penetrator_non = λ v i. same.penetrator_non v (s.assumed.penetrator_non v (subst (λ (b : Assumptions). IsIn v b.penetrator_non_originating) way.assumptions i));
           unique = λ u i. same.unique u (s.assumed.unique u (subst (λ (b : Assumptions). IsIn u b.uniquely_originating) way.assumptions i));
         };
-        ordered = λ p i. path_too (s.ordered p (subst (IsIn p) way.pairs i));
+        ordered = λ p i. path_too (s.ordered p (way.pairs p i));
       }
 
 -- the same way is none that goes further
 pub same_way : (old new : FromProblem) → new ≡ old → IsShorterWay old new
-same_way old new e = subst (IsShorterWay old) (sym e) (record { strands = λ n i. i; assumptions = refl; pairs = refl })
+same_way old new e = subst (IsShorterWay old) (sym e) (record { strands = λ n i. i; assumptions = refl; pairs = λ p i. i })
 
--- the first of the strands are some of them
-in_first : (n s : ℕ) (xs : List ℕ) → IsIn s (take n xs) → IsIn s xs
+-- the first of a list are some of it
+in_first : {A : Type 0} (n : ℕ) (s : A) (xs : List A) → IsIn s (take n xs) → IsIn s xs
 in_first zero s [] i = elim i [ ]
 in_first zero s (x ∷ xs) i = elim i [ ]
 in_first (suc n) s [] i = elim i [ ]
 in_first (suc n) s (x ∷ xs) here = here
 in_first (suc n) s (x ∷ xs) (there i) = there (in_first n s xs i)
 
--- a way to the first of the strands
-pub shorter_way : (count : ℕ) (old new : FromProblem) → new.strands ≡ take count old.strands → new.assumptions ≡ old.assumptions → new.pairs ≡ old.pairs → IsShorterWay old new
-shorter_way count old new strands assumptions pairs = record { strands = λ s i. in_first count s old.strands (subst (IsIn s) strands i); assumptions = assumptions; pairs = pairs }
+-- a way to the first of the strands and of the pairs
+pub shorter_way : (strands pairs : ℕ) (old new : FromProblem) → new.strands ≡ take strands old.strands → new.assumptions ≡ old.assumptions → new.pairs ≡ take pairs old.pairs → IsShorterWay old new
+shorter_way strands pairs old new same assumptions ordered =
+    record {
+      strands = λ s i. in_first strands s old.strands (subst (IsIn s) same i);
+      assumptions = assumptions;
+      pairs = λ p i. in_first pairs p old.pairs (subst (IsIn p) ordered i);
+    }
 
 -- assumptions that are the same have the same members
 pub same_has : (old new : Assumptions) → new ≡ old → HasSame old new

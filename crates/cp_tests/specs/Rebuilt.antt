@@ -2,6 +2,7 @@
 use Rattle.std.specs.Prelude.{◌≡◌, ℕ}
 use Rattle.cp_lists.specs.Lists.{IsIn}
 use Rattle.cp_model.specs.Term.{AtomTerm}
+use Rattle.cp_model.specs.declared.node.OrderPair.{OrderPair}
 use Rattle.cp_model.specs.Skeleton.{UniqueAt, Assumptions, FromProblem}
 
 -- The new assumptions have all of the old, and of unique values no others.
@@ -11,8 +12,8 @@ pub record HasSame (old new : Assumptions) : Type 0 where
   pub unique : (u : UniqueAt) → IsIn u old.uniquely_originating → IsIn u new.uniquely_originating
   pub no_others : (u : UniqueAt) → IsIn u new.uniquely_originating → IsIn u old.uniquely_originating
 
--- The new way goes to no other strands than the old, and has the same own assumptions and pairs.
+-- The new way goes to no other strands and pairs than the old, and has the same own assumptions.
 pub record IsShorterWay (old new : FromProblem) : Type 0 where
   pub strands : (s : ℕ) → IsIn s new.strands → IsIn s old.strands
   pub assumptions : new.assumptions ≡ old.assumptions
-  pub pairs : new.pairs ≡ old.pairs
+  pub pairs : (p : OrderPair) → IsIn p new.pairs → IsIn p old.pairs

@@ -38,7 +38,7 @@ const UNIQUE_SECOND: &str =
 /// The skeleton of the problem, of which the first strand and so many variables alone are said to come from a problem.
 fn over(alloc: Global, problem: &str, count: usize) -> Result<Skeleton, Fail> {
     let k = skeleton_of(alloc, PROTOCOL, problem)?;
-    Ok(with_way_of(alloc, &k, 1, count)?)
+    Ok(with_way_of(alloc, &k, 1, count, 0)?)
 }
 
 // Two problems, how many variables come from one, and whether the first embeds in the second and the second in the first.

@@ -18,6 +18,8 @@ mod embeddings;
 #[cfg(test)]
 mod forms;
 #[cfg(test)]
+mod generalising;
+#[cfg(test)]
 mod messages;
 #[cfg(test)]
 mod names;
@@ -26,7 +28,15 @@ mod normal_forms;
 #[cfg(test)]
 mod orders;
 #[cfg(test)]
+mod printing;
+#[cfg(test)]
+mod read_back;
+#[cfg(test)]
 mod rebuilt;
+#[cfg(test)]
+mod reports;
+#[cfg(test)]
+mod searches;
 #[cfg(test)]
 mod skeletons;
 #[cfg(test)]

@@ -43,7 +43,8 @@ fn without(alloc: Global, k: &Skeleton, strand: usize) -> Result<Skeleton, Fail>
     if strand >= k.strands().len() {
         return Err(Fail::new("no such strand"));
     }
-    let mut left = with_way_of(alloc, k, 0, k.from_problem().values().len())?;
+    let way = k.from_problem();
+    let mut left = with_way_of(alloc, k, 0, way.values().len(), way.pairs().len())?;
     left.delete_strand(alloc, strand)?;
     Ok(left)
 }

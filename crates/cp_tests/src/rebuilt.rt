@@ -62,12 +62,13 @@ fn first_terms(alloc: Global, terms: &[Term], count: usize) -> Result<Vec<Term>,
     Ok(first)
 }
 
-/// The way from a problem of so many of its strands and variables alone.
+/// The way from a problem of so many of its strands, variables and pairs alone.
 fn shorter(
     alloc: Global,
     way: &FromProblem,
     strands: usize,
     values: usize,
+    pairs: usize,
 ) -> Result<FromProblem, AllocError>
     ensures strands { IfOk result (λ f. f.strands ≡ take strands way.now.strands) }
     ensures way { IfOk result (IsShorterWay way.now) }
@@ -76,21 +77,23 @@ fn shorter(
     let mut numbers = Vec::from_slice(alloc, way.strands())?;
     numbers.truncate(strands);
     let assumptions = way.assumptions().copy(alloc)?;
-    let pairs = Vec::from_slice(alloc, way.pairs())?;
-    Ok(FromProblem::new(numbers, terms, assumptions, pairs))
+    let mut ordered = Vec::from_slice(alloc, way.pairs())?;
+    ordered.truncate(pairs);
+    Ok(FromProblem::new(numbers, terms, assumptions, ordered))
 }
 
-/// The skeleton, where so many strands and variables alone are said to come from a problem.
+/// The skeleton, where so many strands, variables and pairs alone are said to come from a problem.
 pub(crate) fn with_way_of(
     alloc: Global,
     k: &Skeleton,
     strands: usize,
     values: usize,
+    pairs: usize,
 ) -> Result<Skeleton, AllocError>
     ensures strands { IfOk result (λ new. new.strands ≡ k.now.strands) }
     ensures images { IfOk result (λ new. new.from_problem.strands ≡ take strands k.now.from_problem.strands) }
 {
-    let shorter = shorter(alloc, k.from_problem(), strands, values)?;
+    let shorter = shorter(alloc, k.from_problem(), strands, values, pairs)?;
     on_another_way(alloc, k, shorter)
 }
 

@@ -136,6 +136,8 @@ struct Ended {
 
 const COMMAND: &[&str] = &["cpsa", "analyse", "--limit", "0"];
 
+const SHAPES: &[&str] = &["cpsa", "shapes", "--limit", "3"];
+
 /// Runs these words over a source that fails at these calls, and a sink with so much room that fails at those.
 fn run_over(
     alloc: Global,
@@ -225,6 +227,24 @@ const RUNS: &[Row] = &[
         &[],
         Status::WriteFault,
         &[],
+        "write fault\n",
+    ),
+    (
+        SHAPES,
+        &[],
+        1_000,
+        &[],
+        Status::Done,
+        &[NEEDHAM_SCHROEDER, REPORT],
+        "",
+    ),
+    (
+        SHAPES,
+        &[],
+        1_000,
+        &[1],
+        Status::WriteFault,
+        &[NEEDHAM_SCHROEDER],
         "write fault\n",
     ),
     (

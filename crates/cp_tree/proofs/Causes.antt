@@ -1,41 +1,35 @@
 -- Each mark has its cause.
-use Rattle.std.proofs.Common.{◌≡◌, ◌⊎◌, inl, inr, ◌<◌, ◌≤◌, ℕ, List, [], ◌∷◌, length, map, true, false, Option, Some, None, refl, sym, ap, ◌∙◌, subst, ⊎_elim, arith}
-use Rattle.cp_lists.specs.Lists.{item_at, IsIn}
+use Rattle.std.proofs.Common.{◌≡◌, ◌⊎◌, inl, inr, ◌<◌, ◌≤◌, ℕ, List, [], ◌∷◌, length, map, true, false, Option, Some, None, refl, sym, ap, ◌∙◌, subst, ⊎_elim}
+use Rattle.cp_lists.specs.Lists.{item_at, IsIn, here}
 use Rattle.cp_lists.proofs.Items.{item_of_map}
+use Rattle.cp_lists.proofs.Members.{only_item}
 use Rattle.cp_model.specs.Strand.{Declaration, Protocol}
 use Rattle.cp_model.specs.Skeleton.{Skeleton}
 use Rattle.cp_model.specs.Derivable.{IsUnrealised}
 use Rattle.cp_model.specs.Realising.{AllDerivable}
 use Rattle.cp_model.specs.Homomorphism.{Embeds}
 use Rattle.cp_model.specs.Tree.{Mark, shape, dead, seen, instance_of, limit_steps, limit_strands, Label, Tree, Limits, expanded_count}
-use Rattle.cp_shapes.specs.Shapes.{IsLeast}
+use Rattle.cp_shapes.specs.Shapes.{IsLeast, IsInstanceWithin, IsShapeAt}
 use Rattle.cp_shapes.proofs.Instances.{same_item}
 use Rattle.cp_roots.specs.Roots.{Root}
+use Rattle.cp_general.specs.Generalising.{IsMostGeneral, GeneralisesTo}
 use Rattle.cp_tree.specs.Candidates.{IsCandidate, skeletons_of, IsLabelAt}
-use Rattle.cp_tree.specs.Made.{Made, made_of_root, Way, way_of, MayPointTo}
-use Rattle.cp_tree.specs.Searched.{mark_by, is_dead, is_seen, is_realised, above_bound, at_limit, is_tested, IsMarkedAmong, as_shape, as_instance, IsTreeFrom}
+use Rattle.cp_tree.specs.Made.{Made, made_of_root, made_of_generalisation, Way, way_of, MayPointTo}
+use Rattle.cp_tree.specs.Searched.{mark_by, is_dead, is_seen, is_realised, is_generalised, above_bound, at_limit, is_tested, IsMarkedAmong, as_shape, as_instance, IsTreeFrom}
 use Rattle.cp_tree.specs.Edges.{IsLeaf}
+use Rattle.cp_tree.specs.Marked.{IsShapeAmong, IsDeadRoot, IsSeenInLeast, IsGeneralised}
 use Rattle.cp_tree.proofs.Numbered.{front_or_behind}
-use Rattle.cp_tree.proofs.Picked.{item_of, skeleton_at_place}
+use Rattle.cp_tree.proofs.Picked.{item_of, skeleton_at_place, place_of_item, place_before}
+use Rattle.cp_tree.proofs.CandidatesEmbed.{as_labels, as_candidates, one_label}
 use Rattle.cp_tree.proofs.Settled.{made_from}
 use Rattle.cp_tree.proofs.MarksSay.{only_dead, shape_says, instance_says, seen_says, steps_says, strands_says, candidate_shape}
 use Rattle.cp_tree.proofs.SoundLabels.{made, SettledHere, settled_here, BecomesHere, becomes_here, skeleton_here}
+use Rattle.cp_tree.proofs.MadeChildren.{IsLabelOfMade, given_labels}
+use Rattle.cp_tree.proofs.Placed.{same_operation}
 use Rattle.cp_tree.proofs.ReachedLimits.{count_reached}
 
 leaf_of : (l : Label) → l.test ≡ None → l.children ≡ [] → IsLeaf l
 leaf_of l t c = record { unexpanded = t; no_children = c }
-
--- Two numbers that are the least of one property are the same.
-one_least : (P : ℕ → Type 0) (n m : ℕ) → IsLeast P n → IsLeast P m → n ≡ m
-one_least P n m a b = by (apart n m)
-  where
-    apart : (i j : ℕ) → (i < j) ⊎ ((j < i) ⊎ (i ≡ j))
-    apart i j = grind arith
-
-    by : (n < m) ⊎ ((m < n) ⊎ (n ≡ m)) → n ≡ m
-    by (inl l) = absurd (b.least n l a.holds)
-    by (inr (inl l)) = absurd (a.least m l b.holds)
-    by (inr (inr e)) = e
 
 none_by_children : (children : List ℕ) → mark_by children ≡ Some dead → children ≡ []
 none_by_children [] e = refl
@@ -61,7 +55,8 @@ module _ (protocol : Protocol) (variables : List Declaration) (limits : Limits) 
   leaf_by : (i before : ℕ) (m : Made) (l : Label) (gives : List Made) (mark : Mark) → Here i before m l gives → l.mark ≡ Some mark → (dead ≡ mark → ⊥) → IsLeaf l
   leaf_by i before m l gives mark (is_dead d) e ne = leaf_of l refl refl
   leaf_by i before m l gives mark (is_seen d u s) e ne = leaf_of l refl refl
-  leaf_by i before m l gives mark (is_realised d n a s) e ne = leaf_of l refl refl
+  leaf_by i before m l gives mark (is_realised d n a y s) e ne = leaf_of l refl refl
+  leaf_by i before m l gives mark (is_generalised d n a w) e ne = absurd (cc)
   leaf_by i before m l gives mark (above_bound d n u r b) e ne = leaf_of l refl refl
   leaf_by i before m l gives mark (at_limit d n u r b q) e ne = leaf_of l refl refl
   leaf_by i before m l gives mark (is_tested {children = children} d n u r b c x s) e ne = absurd (ne (only_dead children mark e))
@@ -71,11 +66,31 @@ module _ (protocol : Protocol) (variables : List Declaration) (limits : Limits) 
 
   -- ---- shapes and instances
 
-  pub shape_cause : (i : ℕ) (l : Label) → item_at tree.labels i ≡ Some l → l.mark ≡ Some shape → AllDerivable l.skeleton × IsLeaf l
+  -- A shape is an instance of no other candidate.
+  instance_of_none : (p i j : ℕ) (m : Label) → IsLabelAt from.candidates p i → IsShapeAt (skeletons_of from.candidates) p → item_at tree.labels j ≡ Some m → IsCandidate m
+      → IsInstanceWithin (map (λ (x : Label). x.skeleton) tree.labels) i j → ⊥
+  instance_of_none p i j m a is at candidate within =
+      let q = place_of_item IsCandidate (λ (x : Label). x.skeleton) tree.labels from.candidates from.are_candidates j m at candidate in
+      is.no_instance q.0 (record {
+        other = λ e. within.other (one_label tree.labels from.candidates from.are_candidates q.0 p j i q.1 a e);
+        embeds = as_candidates tree.labels from.candidates from.are_candidates p q.0 i j a q.1 within.embeds;
+        first = ⊎_elim
+            (λ none. inl (λ e. none (as_labels tree.labels from.candidates from.are_candidates q.0 p j i q.1 a e)))
+            (λ (l : j < i). inr (place_before IsCandidate (λ (x : Label). x.skeleton) tree.labels from.candidates from.are_candidates p q.0 i j a q.1 l))
+            within.first;
+      })
+
+  pub shape_cause : (i : ℕ) (l : Label) → item_at tree.labels i ≡ Some l → l.mark ≡ Some shape → IsShapeAmong tree.labels i l
   shape_cause i l at e =
       let s = settled i l at in
       let r = shape_says protocol limits ways from.candidates i s.expanded_before s.so l s.gives (here_is i l s) e in
-      (subst AllDerivable (sym (skeleton_here protocol variables limits roots tree from i l s)) r.realised, leaf i l shape at e (λ q. cc))
+      let same : s.so.skeleton ≡ l.skeleton = sym (skeleton_here protocol variables limits roots tree from i l s) in
+      record {
+        realised = subst AllDerivable same r.realised;
+        most_general = subst IsMostGeneral same r.most_general;
+        leaf = leaf i l shape at e (λ q. cc);
+        no_instance = λ j m au candidate within. instance_of_none r.place i j m r.at r.is_shape au candidate within;
+      }
 
   -- A candidate's skeleton is that of its label.
   place_skeleton : (p i : ℕ) (l : Label) (a : IsLabelAt from.candidates p i) → item_at tree.labels i ≡ Some l → item_at (skeletons_of from.candidates) p ≡ Some l.skeleton
@@ -102,7 +117,8 @@ module _ (protocol : Protocol) (variables : List Declaration) (limits : Limits) 
   least_says : (i before : ℕ) (m : Made) (l : Label) (gives : List Made) (n : ℕ) → Here i before m l gives → l.mark ≡ Some (seen n) → IsLeast (MayPointTo ways i) n
   least_says i before m l gives n (is_dead d) e = absurd (cc)
   least_says i before m l gives n (is_seen {n = o} d u s) e = let same : o ≡ n = cc in subst (IsLeast (MayPointTo ways i)) same s
-  least_says i before m l gives n (is_realised {mark = mark} d o a s) e = absurd (o n (seen_says protocol limits ways from.candidates i before m (record l { mark = mark }) gives n (is_realised d o a s) e))
+  least_says i before m l gives n (is_realised {mark = mark} d o a y s) e = absurd (o n (seen_says protocol limits ways from.candidates i before m (record l { mark = mark }) gives n (is_realised d o a y s) e))
+  least_says i before m l gives n (is_generalised d o a w) e = absurd (cc)
   least_says i before m l gives n (above_bound d o u r b) e = absurd (cc)
   least_says i before m l gives n (at_limit d o u r b q) e = absurd (cc)
   least_says i before m l gives n (is_tested {children = children} d o u r b c x s) e = absurd (let f = only_dead children (seen n) e in cc)
@@ -110,48 +126,99 @@ module _ (protocol : Protocol) (variables : List Declaration) (limits : Limits) 
   pub seen_cause : (i n : ℕ) (l : Label) → item_at tree.labels i ≡ Some l → l.mark ≡ Some (seen n) → IsLeast (MayPointTo ways i) n × IsLeaf l
   seen_cause i n l at e = let s = settled i l at in (least_says i s.expanded_before s.so l s.gives n (here_is i l s) e, leaf i l (seen n) at e (λ q. cc))
 
-  seen_by : (i before : ℕ) (m : Made) (l : Label) (gives : List Made) (n : ℕ) → Here i before m l gives → IsLeast (MayPointTo ways i) n → (l.mark ≡ Some (seen n)) ⊎ (l.mark ≡ Some dead)
-  seen_by i before m l gives n (is_dead d) s = inr refl
-  seen_by i before m l gives n (is_seen {n = o} d u t) s = inl (ap (λ (a : ℕ). Some (seen a)) (one_least (MayPointTo ways i) o n t s))
-  seen_by i before m l gives n (is_realised d o a t) s = absurd (o n s.holds)
-  seen_by i before m l gives n (above_bound d o u r b) s = absurd (o n s.holds)
-  seen_by i before m l gives n (at_limit d o u r b q) s = absurd (o n s.holds)
-  seen_by i before m l gives n (is_tested d o u r b c x t) s = absurd (o n s.holds)
-
-  pub seen_where_it_may : (i n : ℕ) (l : Label) → item_at tree.labels i ≡ Some l → IsLeast (MayPointTo ways i) n → (l.mark ≡ Some (seen n)) ⊎ (l.mark ≡ Some dead)
-  seen_where_it_may i n l at least = let s = settled i l at in seen_by i s.expanded_before s.so l s.gives n (here_is i l s) least
-
   -- ---- dead
 
-  abbrev IsDeadRoot : ℕ → Type 0
-  IsDeadRoot i = (root : Root) × (item_at roots i ≡ Some root) × (root.dead ≡ true)
-
-  dead_from_start : (i : ℕ) (m : Made) → item_at (made protocol variables limits roots tree from) i ≡ Some m → m.dead ≡ true → IsDeadRoot i
+  dead_from_start : (i : ℕ) (m : Made) → item_at (made protocol variables limits roots tree from) i ≡ Some m → m.dead ≡ true → IsDeadRoot roots i
   dead_from_start i m at d =
       ⊎_elim
       (λ (front : item_at (map (made_of_root variables) roots) i ≡ Some m).
       let r = item_of_map (made_of_root variables) roots i m front in
-      (r.0, r.1, ap (λ (x : Made). x.dead) r.2 ∙ d))
+      record { root = r.0; at = r.1; dead = ap (λ (x : Made). x.dead) r.2 ∙ d })
       (λ (listed : IsIn m from.children).
       let f = made_from protocol limits ways (IsMarkedAmong from.candidates) 0 0 (made protocol variables limits roots tree from) tree.labels from.children from.settled m listed in
-      let alive : false ≡ m.dead = ap (λ (x : Made). x.dead) f.of_child.is_made in
-      absurd (let e : false ≡ true = alive ∙ d in cc))
+      absurd (let e : false ≡ true = sym f.is_made.made_lives ∙ d in cc))
       (front_or_behind (map (made_of_root variables) roots) from.children i m at)
 
-  dead_by : (i before : ℕ) (m : Made) (l : Label) (gives : List Made) → Here i before m l gives → l.mark ≡ Some dead → (m.dead ≡ true → IsDeadRoot i) → (l.children ≡ []) × ((l.test ≡ None → ⊥) ⊎ IsDeadRoot i)
+  dead_by : (i before : ℕ) (m : Made) (l : Label) (gives : List Made) → Here i before m l gives → l.mark ≡ Some dead → (m.dead ≡ true → IsDeadRoot roots i) → (l.children ≡ []) × ((l.test ≡ None → ⊥) ⊎ IsDeadRoot roots i)
   dead_by i before m l gives (is_dead d) e root = (refl, inr (root d))
   dead_by i before m l gives (is_seen d u s) e root = absurd (cc)
-  dead_by i before m l gives (is_realised {mark = mark} d n a s) e root = absurd (never mark s e)
+  dead_by i before m l gives (is_realised {mark = mark} d n a y s) e root = absurd (never mark s e)
     where
       never : (o : Option Mark) → IsMarkedAmong from.candidates i o → o ≡ Some dead → ⊥
       never o (as_shape b t) q = cc
       never o (as_instance b t c) q = cc
+  dead_by i before m l gives (is_generalised d n a w) e root = absurd (cc)
   dead_by i before m l gives (above_bound d n u r b) e root = absurd (cc)
   dead_by i before m l gives (at_limit d n u r b q) e root = absurd (cc)
   dead_by i before m l gives (is_tested {children = children} d n u r b c x s) e root = (none_by_children children e, inl (λ q. cc))
 
-  pub dead_cause : (i : ℕ) (l : Label) → item_at tree.labels i ≡ Some l → l.mark ≡ Some dead → (l.children ≡ []) × ((l.test ≡ None → ⊥) ⊎ IsDeadRoot i)
+  pub dead_cause : (i : ℕ) (l : Label) → item_at tree.labels i ≡ Some l → l.mark ≡ Some dead → (l.children ≡ []) × ((l.test ≡ None → ⊥) ⊎ IsDeadRoot roots i)
   dead_cause i l at e = let s = settled i l at in dead_by i s.expanded_before s.so l s.gives (here_is i l s) e (λ d. dead_from_start i s.so s.at_made d)
+
+  -- ---- labels that may point to some label
+
+  abbrev SeenOrDead : ℕ → Label → Type 0
+  SeenOrDead i l = IsSeenInLeast tree.labels i l ⊎ ((l.mark ≡ Some dead) × IsDeadRoot roots i)
+
+  seen_by : (i before : ℕ) (m : Made) (l : Label) (gives : List Made) (n : ℕ) → Here i before m l gives → MayPointTo ways i n → (m.dead ≡ true → IsDeadRoot roots i) → SeenOrDead i l
+  seen_by i before m l gives n (is_dead d) p root = inr (refl, root d)
+  seen_by i before m l gives n (is_seen {n = o} d u s) p root = inl (record { number = o; mark = refl; least = s })
+  seen_by i before m l gives n (is_realised d o a y t) p root = absurd (o n p)
+  seen_by i before m l gives n (is_generalised d o a w) p root = absurd (o n p)
+  seen_by i before m l gives n (above_bound d o u r b) p root = absurd (o n p)
+  seen_by i before m l gives n (at_limit d o u r b q) p root = absurd (o n p)
+  seen_by i before m l gives n (is_tested d o u r b c x t) p root = absurd (o n p)
+
+  pub seen_where_it_may : (i n : ℕ) (l : Label) → item_at tree.labels i ≡ Some l → MayPointTo ways i n → SeenOrDead i l
+  seen_where_it_may i n l at may = let s = settled i l at in seen_by i s.expanded_before s.so l s.gives n (here_is i l s) may (λ d. dead_from_start i s.so s.at_made d)
+
+  -- ---- generalised labels
+
+  -- The label was made so and generalises to g.
+  record GoesOnTo (m : Made) (l : Label) (gives : List Made) (i : ℕ) : Type 0 where
+    generalisation : Skeleton
+    generalises : GeneralisesTo m.skeleton generalisation
+    realised : AllDerivable m.skeleton
+    number : ℕ
+    one_child : l.children ≡ number ∷ []
+    listed : IsIn (made_of_generalisation i m.variables generalisation) gives
+
+  goes_on : (i before : ℕ) (m : Made) (l : Label) (gives : List Made) → Here i before m l gives → l.mark ≡ None → l.test ≡ None → GoesOnTo m l gives i
+  goes_on i before m l gives (is_dead d) e t = absurd (cc)
+  goes_on i before m l gives (is_seen d u s) e t = absurd (cc)
+  goes_on i before m l gives (is_realised {mark = mark} d n a y s) e t = absurd (always mark s e)
+    where
+      always : (o : Option Mark) → IsMarkedAmong from.candidates i o → o ≡ None → ⊥
+      always o (as_shape b t) q = cc
+      always o (as_instance b t c) q = cc
+  goes_on i before m l gives (is_generalised {g = g} {child = child} d n a w) e t = record { generalisation = g; generalises = w; realised = a; number = child; one_child = refl; listed = here }
+  goes_on i before m l gives (above_bound d n u r b) e t = absurd (cc)
+  goes_on i before m l gives (at_limit d n u r b q) e t = absurd (cc)
+  goes_on i before m l gives (is_tested d n u r b c x s) e t = absurd (cc)
+
+  -- What was made of it is its one child.
+  child_of : (i : ℕ) (l : Label) (s : Settled i l) (g : GoesOnTo s.so l s.gives i) → IsLabelOfMade protocol variables limits roots tree from l.children (made_of_generalisation i s.so.variables g.generalisation) → IsGeneralised tree.labels l
+  child_of i l s g c =
+      let number : c.number ≡ g.number = only_item (subst (λ (ns : List ℕ). IsIn c.number ns) g.one_child c.listed) in
+      let so = c.made_label.same in
+      let t = c.made_label.settled in
+      let skeleton : g.generalisation ≡ c.made_label.label.skeleton = sym (skeleton_here protocol variables limits roots tree from c.number c.made_label.label t ∙ ap (λ (x : Made). x.skeleton) so) in
+      let same : s.so.skeleton ≡ l.skeleton = sym (skeleton_here protocol variables limits roots tree from i l s) in
+      record {
+        realised = subst AllDerivable same g.realised;
+        number = g.number;
+        one_child = g.one_child;
+        child = c.made_label.label;
+        at = ap (item_at tree.labels) (sym number) ∙ c.made_label.at;
+        operation = same_operation protocol limits ways (IsMarkedAmong from.candidates) c.number t.expanded_before t.so c.made_label.label t.gives (here_is c.number c.made_label.label t) ∙ ap (λ (x : Made). x.operation) so;
+        generalises = subst (λ (x : Skeleton). GeneralisesTo l.skeleton x) skeleton (subst (λ (x : Skeleton). GeneralisesTo x g.generalisation) same g.generalises);
+      }
+
+  pub generalised_cause : (i : ℕ) (l : Label) → item_at tree.labels i ≡ Some l → l.mark ≡ None → l.test ≡ None → IsGeneralised tree.labels l
+  generalised_cause i l at e t =
+      let s = settled i l at in
+      let g = goes_on i s.expanded_before s.so l s.gives (here_is i l s) e t in
+      child_of i l s g (given_labels protocol variables limits roots tree from i l s (made_of_generalisation i s.so.variables g.generalisation) g.listed)
 
   -- ---- limits
 

@@ -1,5 +1,5 @@
 -- The labels of a tree declare their variables, the problem's first.
-use Rattle.std.proofs.Common.{◌≡◌, ℕ, zero, suc, ◌<◌, List, [], ◌∷◌, ◌++◌, map, Option, Some, None, refl, sym, ap, ◌∙◌, subst, ⊎_elim, arith}
+use Rattle.std.proofs.Common.{◌≡◌, ◌⊎◌, inl, inr, ℕ, zero, suc, ◌<◌, List, [], ◌∷◌, map, Some, None, refl, sym, ap, ◌∙◌, subst, ⊎_elim, arith}
 use Rattle.cp_lists.specs.Lists.{item_at, IsIn, here, there}
 use Rattle.cp_lists.proofs.Items.{item_of_map}
 use Rattle.cp_lists.proofs.Members.{in_append}
@@ -7,10 +7,10 @@ use Rattle.cp_model.specs.Term.{Variable, Term, variables_of}
 use Rattle.cp_model.specs.Strand.{Declaration, Role, Protocol}
 use Rattle.cp_model.specs.Skeleton.{Skeleton}
 use Rattle.cp_model.specs.Problem.{variables_of_skeleton, IsDeclared, HasDeclaredVariables}
-use Rattle.cp_model.specs.Tree.{Mark, Pattern, Test, Label, Tree, Limits}
+use Rattle.cp_model.specs.Tree.{Pattern, Test, Label, Tree, Limits}
 use Rattle.cp_completeness.specs.Normal.{variables_of_terms}
 use Rattle.cp_skel.specs.Sound.{DeclaresItsVariables}
-use Rattle.cp_guard.specs.Critical.{IsTest, used_variables}
+use Rattle.cp_guard.specs.Critical.{used_variables}
 use Rattle.cp_guard.specs.Matching.{IsFreeIn}
 use Rattle.cp_roots.specs.Roots.{Root}
 use Rattle.cp_roots.specs.Sound.{AreSound}
@@ -18,15 +18,16 @@ use Rattle.cp_covering.specs.Children.{Child}
 use Rattle.cp_covering.specs.Cohort.{Question, IsCohort}
 use Rattle.cp_covering.specs.Way.{DeclaresMore}
 use Rattle.cp_covering.proofs.SoundChildren.{more_itself, more_then, sound_child}
-use Rattle.cp_expansion.specs.Expansion.{IsWidening, asked_under, question_about, Expansion, IsExpansionOf, AreWidened, has_most, none_widens, one_widens}
+use Rattle.cp_expansion.specs.Expansion.{question_about, Expansion, IsExpansionOf, AreWidened, has_most, none_widens, one_widens}
 use Rattle.cp_tree.specs.Made.{Made, made_of_root, way_of}
-use Rattle.cp_tree.specs.Searched.{IsMarkedAmong, Becomes, is_dead, is_seen, is_realised, above_bound, at_limit, is_tested, IsTreeFrom}
+use Rattle.cp_tree.specs.Searched.{IsMarkedAmong, Becomes, is_dead, is_seen, is_realised, is_generalised, above_bound, at_limit, is_tested, IsTreeFrom}
 use Rattle.cp_tree.specs.Sound.{IsSoundMade, ExpandsSoundly}
 use Rattle.cp_tree.specs.Declared.{DeclaresItsOwn}
 use Rattle.cp_tree.proofs.AskedOn.{IsWellAsked, asked_on, first_listed, last_asked}
 use Rattle.cp_tree.proofs.SoundExpansions.{well_asked}
-use Rattle.cp_tree.proofs.Settled.{IsMadeOfChild, made_from}
-use Rattle.cp_tree.proofs.SoundLabels.{SettledHere, settled_here, becomes_here, comes_behind, label_sound, sound_below, made}
+use Rattle.cp_tree.proofs.Settled.{IsMadeOfChild, IsMadeOfGeneralisation, made_from}
+use Rattle.cp_tree.proofs.SoundOrGeneralised.{IsSoundLabel, label_declared, where_unrealised}
+use Rattle.cp_tree.proofs.SoundLabels.{settled_here, becomes_here, comes_behind, label_sound, sound_below, made}
 use Rattle.cp_tree.proofs.Numbered.{front_or_behind}
 
 -- ---- what is declared
@@ -73,6 +74,16 @@ module _ (protocol : Protocol) (declares : (role : Role) → IsIn role protocol.
 
   module _ (variables : List Declaration) (limits : Limits) (roots : List Root) (tree : Tree) (from : IsTreeFrom protocol variables limits roots tree) (k : Skeleton) (sound : AreSound protocol k roots)
       (declared : (i : ℕ) (root : Root) → item_at roots i ≡ Some root → HasDeclaredVariables variables root.skeleton) (expands : ExpandsSoundly protocol k) where
+    -- What is made from a label declares what that does.
+    more_made : (number : ℕ) (so m : Made) → IsMadeOfChild protocol limits (map way_of tree.labels) (IsMarkedAmong from.candidates) number so m ⊎ IsMadeOfGeneralisation protocol limits (map way_of tree.labels) (IsMarkedAmong from.candidates) number so m
+        → IsSoundLabel protocol k so → DeclaresMore variables so.variables → DeclaresMore variables m.variables
+    more_made number so m (inl c) parent_sound parent_more =
+        let d = expansion_declares k so c.expansion (where_unrealised protocol k so parent_sound c.unrealised) c.is_expansion in
+        let child : DeclaresMore variables c.child.variables =
+        more_then variables so.variables c.child.variables parent_more (more_then so.variables c.expansion.variables c.child.variables d.more (d.children c.child c.listed)) in
+        subst (λ (x : Made). DeclaresMore variables x.variables) c.is_made child
+    more_made number so m (inr c) parent_sound parent_more = subst (λ (x : Made). DeclaresMore variables x.variables) c.is_made parent_more
+
     more_below : (n i : ℕ) (m : Made) → i < n → item_at (made protocol variables limits roots tree from) i ≡ Some m → DeclaresMore variables m.variables
     more_below zero i m l at = absurd (omega (arith, l))
     more_below (suc n) i m l at =
@@ -83,14 +94,11 @@ module _ (protocol : Protocol) (declares : (role : Role) → IsIn role protocol.
         (λ (listed : IsIn m from.children).
         let f = made_from protocol limits (map way_of tree.labels) (IsMarkedAmong from.candidates) 0 0 (made protocol variables limits roots tree from) tree.labels from.children from.settled m listed in
         let number : f.number ≡ f.place = (let w = f.number_is in omega (arith, w)) in
-        let parent : m.parent ≡ Some f.place = ap (λ (x : Made). x.parent) (sym f.of_child.is_made) ∙ ap Some number in
+        let parent : m.parent ≡ Some f.place = f.is_made.parent ∙ ap Some number in
         let before : f.place < i = comes_behind protocol variables limits roots tree from f.place i m at parent in
-        let parent_sound : IsSoundMade protocol k f.so = sound_below protocol variables limits roots tree from k sound declared expands n f.place f.so (omega (arith, l, before)) f.at_made in
-        let d = expansion_declares k f.so f.of_child.expansion parent_sound f.of_child.is_expansion in
+        let parent_sound : IsSoundLabel protocol k f.so = sound_below protocol variables limits roots tree from k sound declared expands n f.place f.so (omega (arith, l, before)) f.at_made in
         let parent_more : DeclaresMore variables f.so.variables = more_below n f.place f.so (omega (arith, l, before)) f.at_made in
-        let child : DeclaresMore variables f.of_child.child.variables =
-        more_then variables f.so.variables f.of_child.child.variables parent_more (more_then f.so.variables f.of_child.expansion.variables f.of_child.child.variables d.more (d.children f.of_child.child f.of_child.listed)) in
-        subst (λ (x : Made). DeclaresMore variables x.variables) f.of_child.is_made child)
+        more_made f.number f.so m f.is_made.way parent_sound parent_more)
         (front_or_behind (map (made_of_root variables) roots) from.children i m at)
 
     declares_leaf : (m : Made) (l : Label) → DeclaresMore variables m.variables → HasDeclaredVariables m.variables m.skeleton → l.variables ≡ m.variables → l.skeleton ≡ m.skeleton → l.test ≡ None → l.escape ≡ [] → DeclaresItsOwn variables l
@@ -101,14 +109,15 @@ module _ (protocol : Protocol) (declares : (role : Role) → IsIn role protocol.
       patterns = λ p x i free. let none : IsIn p [] = subst (λ (ps : List Pattern). IsIn p ps) no_pattern i in elim none [ ];
     }
 
-    declares_by : (i before : ℕ) (m : Made) (l : Label) (gives : List Made) → Becomes protocol limits (map way_of tree.labels) (IsMarkedAmong from.candidates) i before m l gives → IsSoundMade protocol k m → DeclaresMore variables m.variables → DeclaresItsOwn variables l
-    declares_by i before m _ _ (is_dead d) s more = declares_leaf m _ more s.declared refl refl refl refl
-    declares_by i before m _ _ (is_seen lives lists least) s more = declares_leaf m _ more s.declared refl refl refl refl
-    declares_by i before m _ _ (is_realised lives new derivable mark) s more = declares_leaf m _ more s.declared refl refl refl refl
-    declares_by i before m _ _ (above_bound lives new lists unrealised above) s more = declares_leaf m _ more s.declared refl refl refl refl
-    declares_by i before m _ _ (at_limit lives new lists unrealised within steps) s more = declares_leaf m _ more s.declared refl refl refl refl
+    declares_by : (i before : ℕ) (m : Made) (l : Label) (gives : List Made) → Becomes protocol limits (map way_of tree.labels) (IsMarkedAmong from.candidates) i before m l gives → IsSoundLabel protocol k m → DeclaresMore variables m.variables → DeclaresItsOwn variables l
+    declares_by i before m _ _ (is_dead d) s more = declares_leaf m _ more (label_declared protocol k m s) refl refl refl refl
+    declares_by i before m _ _ (is_seen lives lists least) s more = declares_leaf m _ more (label_declared protocol k m s) refl refl refl refl
+    declares_by i before m _ _ (is_realised lives new derivable own mark) s more = declares_leaf m _ more (label_declared protocol k m s) refl refl refl refl
+    declares_by i before m _ _ (is_generalised lives new derivable generalises) s more = declares_leaf m _ more (label_declared protocol k m s) refl refl refl refl
+    declares_by i before m _ _ (above_bound lives new lists unrealised above) s more = declares_leaf m _ more (label_declared protocol k m s) refl refl refl refl
+    declares_by i before m _ _ (at_limit lives new lists unrealised within steps) s more = declares_leaf m _ more (label_declared protocol k m s) refl refl refl refl
     declares_by i before m _ _ (is_tested {e = e} lives new lists unrealised within steps is count) s more =
-        let d = expansion_declares k m e s is in
+        let d = expansion_declares k m e (where_unrealised protocol k m s unrealised) is in
         record {
           more = more_then variables m.variables e.variables more d.more;
           skeleton = d.declared;

@@ -1,5 +1,5 @@
 -- The example's problem is its own root, and that root is sound.
-use Rattle.std.proofs.Common.{◌≡◌, ℕ, zero, suc, [], ◌∷◌, true, false, Some, refl, ap, ◌∙◌, subst}
+use Rattle.std.proofs.Common.{◌≡◌, inl, ℕ, zero, suc, [], ◌∷◌, true, false, Some, refl, ap, ◌∙◌, subst}
 use Rattle.cp_lists.specs.Lists.{item_at}
 use Rattle.cp_lists.proofs.Members.{not_in_none}
 use Rattle.cp_model.specs.Skeleton.{IsSkeleton}
@@ -17,7 +17,7 @@ use Rattle.cp_covering.proofs.OneChild.{heard_declared}
 use Rattle.cp_tree.specs.Example.{heard_root}
 
 pub heard_own : IsPointOfView locker.variables heard
-heard_own = record { strands = refl; values = refl; closed = heard_declared.occurring; assumed = record { non = λ v i. i; penetrator_non = λ v i. i; unique = λ u i. i }; pairs = refl }
+heard_own = record { strands = refl; values = refl; closed = heard_declared.occurring; assumed = record { non = λ v i. i; penetrator_non = λ v i. i; unique = λ u i. i }; no_more = record { non = λ v i. inl i; penetrator_non = λ v i. inl i; unique = λ u i. inl i }; pairs = refl }
 
 -- No role strand is there to originate anything.
 keeps_assumptions : KeepsAssumptions heard

@@ -30,6 +30,7 @@ use Rattle.cp_tree.specs.Made.{Made, made_of_root, made_of_child, Way, way_of, I
 use Rattle.cp_tree.specs.Searched.{Becomes, is_realised, is_tested, all_settled, then_settled, IsMarkedAmong, as_shape, IsMarked, none_at_limit, IsTreeFrom}
 use Rattle.cp_tree.specs.Example.{heard_root, heard_test, heard_label, sent_label, heard_tree, one_step_limits}
 use Rattle.cp_tree.proofs.MarksSay.{not_both}
+use Rattle.cp_tree.proofs.ExampleGeneral.{sent_is_most_general}
 
 -- ---- the one reception that cannot be derived
 
@@ -169,7 +170,7 @@ expands : Becomes protocol one_step_limits ways (IsMarkedAmong candidates) 0 0 (
 expands = is_tested {nodes = reception ∷ []} {e = expansion} {children = 1 ∷ []} refl first_is_new lists_reception heard_unrealised (omega arith) (omega arith) is_expansion refl
 
 stays : Becomes protocol one_step_limits ways (IsMarkedAmong candidates) 1 1 sent_made sent_label []
-stays = is_realised {mark = Some shape} refl second_is_new sent_realised (as_shape {p = 0} (record { candidate = record { number = 1; skeleton = sent }; at = refl; number = refl }) only_candidate)
+stays = is_realised {mark = Some shape} refl second_is_new sent_realised sent_is_most_general (as_shape {p = 0} (record { candidate = record { number = 1; skeleton = sent }; at = refl; number = refl }) only_candidate)
 
 sent_is_candidate : IsCandidate sent_label
 sent_is_candidate = record { lives = λ e. cc; not_seen = λ n e. cc; realised = sent_realised; own = refl }

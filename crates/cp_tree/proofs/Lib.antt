@@ -1,20 +1,27 @@
 mod Acyclic
 pub mod Numbered
-mod Settled
-mod Picked
-mod SoundLabels
+pub mod Settled
+pub mod Picked
+pub mod SoundLabels
 mod MarksSay
-mod MadeChildren
+pub mod MadeChildren
 mod TreeEdges
 mod PassingOn
-mod Placed
+pub mod Placed
 mod ReachedLimits
+mod ExactLimits
 mod TreeShapes
 mod TrueTrees
 mod NormalChildren
-mod AskedOn
+pub mod AskedOn
 mod SoundExpansions
 mod ExampleRoot
 mod ExampleTree
 mod Causes
 mod DeclaredLabels
+mod CandidatesEmbed
+mod NoStep
+mod SoundGeneralisations
+mod GeneralisedOnce
+mod SoundOrGeneralised
+mod ExampleGeneral

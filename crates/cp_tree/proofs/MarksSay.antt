@@ -5,10 +5,11 @@ use Rattle.cp_model.specs.Skeleton.{Skeleton}
 use Rattle.cp_model.specs.Derivable.{IsUnrealised}
 use Rattle.cp_model.specs.Realising.{AllDerivable}
 use Rattle.cp_model.specs.Tree.{Mark, shape, dead, seen, instance_of, limit_steps, limit_strands, Label, Limits}
+use Rattle.cp_general.specs.Generalising.{IsMostGeneral}
 use Rattle.cp_shapes.specs.Shapes.{IsLeast, IsInstanceWithin, IsShapeAt, IsShapeOf}
 use Rattle.cp_tree.specs.Candidates.{Candidate, IsCandidate, AreCandidates, skeletons_of, IsLabelAt}
 use Rattle.cp_tree.specs.Made.{Made, Way, MayPointTo}
-use Rattle.cp_tree.specs.Searched.{mark_by, Becomes, is_dead, is_seen, is_realised, above_bound, at_limit, is_tested, IsMarkedAmong, as_shape, as_instance}
+use Rattle.cp_tree.specs.Searched.{mark_by, Becomes, is_dead, is_seen, is_realised, is_generalised, above_bound, at_limit, is_tested, IsMarkedAmong, as_shape, as_instance}
 use Rattle.cp_tree.proofs.Picked.{one_place}
 
 -- A label is not marked by its children but where it has none, as dead.
@@ -28,18 +29,20 @@ module _ (protocol : Protocol) (limits : Limits) (ways : List Way) (cs : List Ca
   pub record IsMarkedShape : Type 0 where
     pub lives : m.dead ≡ false
     pub realised : AllDerivable m.skeleton
+    pub most_general : IsMostGeneral m.skeleton
     pub place : ℕ
     pub at : IsLabelAt cs place i
     pub is_shape : IsShapeAt (skeletons_of cs) place
 
-  shape_among : (mark : Option Mark) → IsMarkedAmong cs i mark → mark ≡ Some shape → m.dead ≡ false → AllDerivable m.skeleton → IsMarkedShape
-  shape_among mark (as_shape {p = p} a s) e d all = record { lives = d; realised = all; place = p; at = a; is_shape = s }
-  shape_among mark (as_instance a l b) e d all = absurd (cc)
+  shape_among : (mark : Option Mark) → IsMarkedAmong cs i mark → mark ≡ Some shape → m.dead ≡ false → AllDerivable m.skeleton → IsMostGeneral m.skeleton → IsMarkedShape
+  shape_among mark (as_shape {p = p} a s) e d all most = record { lives = d; realised = all; most_general = most; place = p; at = a; is_shape = s }
+  shape_among mark (as_instance a l b) e d all most = absurd (cc)
 
   pub shape_says : (l : Label) (gives : List Made) → Here l gives → l.mark ≡ Some shape → IsMarkedShape
   shape_says l gives (is_dead d) e = absurd (cc)
   shape_says l gives (is_seen d u s) e = absurd (cc)
-  shape_says l gives (is_realised {mark = mark} d n a s) e = shape_among mark s e d a
+  shape_says l gives (is_realised {mark = mark} d n a y s) e = shape_among mark s e d a y
+  shape_says l gives (is_generalised d n a w) e = absurd (cc)
   shape_says l gives (above_bound d n u r b) e = absurd (cc)
   shape_says l gives (at_limit d n u r b q) e = absurd (cc)
   shape_says l gives (is_tested {children = children} d n u r b c x s) e = absurd (let f = only_dead children shape e in cc)
@@ -63,7 +66,8 @@ module _ (protocol : Protocol) (limits : Limits) (ways : List Way) (cs : List Ca
   pub instance_says : (l : Label) (gives : List Made) (n : ℕ) → Here l gives → l.mark ≡ Some (instance_of n) → IsMarkedInstance n
   instance_says l gives n (is_dead d) e = absurd (cc)
   instance_says l gives n (is_seen d u s) e = absurd (cc)
-  instance_says l gives n (is_realised {mark = mark} d o a s) e = instance_among n mark s e d
+  instance_says l gives n (is_realised {mark = mark} d o a y s) e = instance_among n mark s e d
+  instance_says l gives n (is_generalised d o a w) e = absurd (cc)
   instance_says l gives n (above_bound d o u r b) e = absurd (cc)
   instance_says l gives n (at_limit d o u r b q) e = absurd (cc)
   instance_says l gives n (is_tested {children = children} d o u r b c x s) e = absurd (let f = only_dead children (instance_of n) e in cc)
@@ -77,7 +81,8 @@ module _ (protocol : Protocol) (limits : Limits) (ways : List Way) (cs : List Ca
   pub seen_says : (l : Label) (gives : List Made) (n : ℕ) → Here l gives → l.mark ≡ Some (seen n) → MayPointTo ways i n
   seen_says l gives n (is_dead d) e = absurd (cc)
   seen_says l gives n (is_seen {n = o} d u s) e = let same : o ≡ n = cc in subst (MayPointTo ways i) same s.holds
-  seen_says l gives n (is_realised {mark = mark} d o a s) e = absurd (not_seen_among n mark s e)
+  seen_says l gives n (is_realised {mark = mark} d o a y s) e = absurd (not_seen_among n mark s e)
+  seen_says l gives n (is_generalised d o a w) e = absurd (cc)
   seen_says l gives n (above_bound d o u r b) e = absurd (cc)
   seen_says l gives n (at_limit d o u r b q) e = absurd (cc)
   seen_says l gives n (is_tested {children = children} d o u r b c x s) e = absurd (let f = only_dead children (seen n) e in cc)
@@ -97,7 +102,8 @@ module _ (protocol : Protocol) (limits : Limits) (ways : List Way) (cs : List Ca
   pub steps_says : (l : Label) (gives : List Made) → Here l gives → l.mark ≡ Some limit_steps → IsAtStepLimit l
   steps_says l gives (is_dead d) e = absurd (cc)
   steps_says l gives (is_seen d u s) e = absurd (cc)
-  steps_says l gives (is_realised {mark = mark} d n a s) e = absurd ((no_limit_among mark s).0 e)
+  steps_says l gives (is_realised {mark = mark} d n a y s) e = absurd ((no_limit_among mark s).0 e)
+  steps_says l gives (is_generalised d n a w) e = absurd (cc)
   steps_says l gives (above_bound d n u r b) e = absurd (cc)
   steps_says l gives (at_limit d n u r b q) e = record { unrealised = r; within = b; reached = q; unexpanded = refl }
   steps_says l gives (is_tested {children = children} d n u r b c x s) e = absurd (let f = only_dead children limit_steps e in cc)
@@ -105,7 +111,8 @@ module _ (protocol : Protocol) (limits : Limits) (ways : List Way) (cs : List Ca
   pub strands_says : (l : Label) (gives : List Made) → Here l gives → l.mark ≡ Some limit_strands → IsUnrealised l.skeleton × (limits.strands < length l.skeleton.strands)
   strands_says l gives (is_dead d) e = absurd (cc)
   strands_says l gives (is_seen d u s) e = absurd (cc)
-  strands_says l gives (is_realised {mark = mark} d n a s) e = absurd ((no_limit_among mark s).1 e)
+  strands_says l gives (is_realised {mark = mark} d n a y s) e = absurd ((no_limit_among mark s).1 e)
+  strands_says l gives (is_generalised d n a w) e = absurd (cc)
   strands_says l gives (above_bound d n u r b) e = (r, b)
   strands_says l gives (at_limit d n u r b q) e = absurd (cc)
   strands_says l gives (is_tested {children = children} d n u r b c x s) e = absurd (let f = only_dead children limit_strands e in cc)
@@ -123,7 +130,8 @@ module _ (protocol : Protocol) (limits : Limits) (ways : List Way) (cs : List Ca
     pub candidate_shape : (q : ℕ) (l : Label) (gives : List Made) → Here l gives → IsCandidate l → IsLabelAt cs q i → IsShapeAt (skeletons_of cs) q → l.mark ≡ Some shape
     candidate_shape q l gives (is_dead d) c at is = absurd (c.lives refl)
     candidate_shape q l gives (is_seen {n = n} d u s) c at is = absurd (c.not_seen n refl)
-    candidate_shape q l gives (is_realised {mark = mark} d n a s) c at is = marked_shape q mark s at is
+    candidate_shape q l gives (is_realised {mark = mark} d n a y s) c at is = marked_shape q mark s at is
+    candidate_shape q l gives (is_generalised {child = child} d n a w) c at is = absurd (let e : (child ∷ []) ≡ [] = c.own in cc)
     candidate_shape q l gives (above_bound d n u r b) c at is = absurd (not_both m.skeleton r c.realised)
     candidate_shape q l gives (at_limit d n u r b e) c at is = absurd (not_both m.skeleton r c.realised)
     candidate_shape q l gives (is_tested d n u r b e x s) c at is = absurd (not_both m.skeleton r c.realised)

@@ -1,5 +1,5 @@
 -- Candidates among items, and where they stand.
-use Rattle.std.proofs.Common.{◌≡◌, inl, inr, ℕ, zero, suc, ◌+◌, ◌≤◌, List, [], ◌∷◌, Some, map, refl, sym, ap, ◌∙◌, arith}
+use Rattle.std.proofs.Common.{◌≡◌, ◌⊎◌, inl, inr, ℕ, zero, suc, ◌+◌, ◌<◌, ◌≤◌, List, [], ◌∷◌, Some, map, refl, sym, ap, ◌∙◌, subst, arith}
 use Rattle.cp_lists.specs.Lists.{item_at}
 use Rattle.cp_model.specs.Skeleton.{Skeleton}
 use Rattle.cp_lists.proofs.Items.{map_of_item}
@@ -48,6 +48,29 @@ module _ {A : Type 0} (fact : A → Type 0) (skeleton : A → Skeleton) where
       let l = not_before (suc n) xs h.1.0 h.1.2 p c (ap (λ (ds : List Candidate). item_at ds (suc p)) (sym h.1.1) ∙ at) in
       absurd (omega (arith, m, l, e))
 
+  -- Each item of which the fact is true is a candidate.
+  listed_from : (n : ℕ) (xs : List A) (cs : List Candidate) → CandidatesFrom fact skeleton n xs cs → (i : ℕ) (x : A) → item_at xs i ≡ Some x → fact x → (p : ℕ) × (c : Candidate) × (item_at cs p ≡ Some c) × (c.number ≡ n + i)
+  listed_from n [] cs h i x at f = absurd (cc)
+  listed_from n (y ∷ ys) cs (inl h) zero x at f = (0, record { number = n; skeleton = skeleton y }, ap (λ (ds : List Candidate). item_at ds 0) h.1.1, omega arith)
+  listed_from n (y ∷ ys) cs (inr h) zero x at f = absurd (let same : y ≡ x = cc in h.0 (subst fact (sym same) f))
+  listed_from n (y ∷ ys) cs (inl h) (suc i) x at f =
+      let r = listed_from (suc n) ys h.1.0 h.1.2 i x at f in
+      (suc r.0, r.1, ap (λ (ds : List Candidate). item_at ds (suc r.0)) h.1.1 ∙ r.2, (let e = r.3 in omega (arith, e)))
+  listed_from n (y ∷ ys) cs (inr h) (suc i) x at f = let r = listed_from (suc n) ys cs h.1 i x at f in (r.0, r.1, r.2, (let e = r.3 in omega (arith, e)))
+
+  -- Their numbers rise.
+  rising : (n : ℕ) (xs : List A) (cs : List Candidate) → CandidatesFrom fact skeleton n xs cs → (p q : ℕ) (c d : Candidate) → item_at cs p ≡ Some c → item_at cs q ≡ Some d → p < q → c.number < d.number
+  rising n [] cs h p q c d at au l = absurd (let k = h in cc)
+  rising n (x ∷ xs) cs (inr h) p q c d at au l = rising (suc n) xs cs h.1 p q c d at au l
+  rising n (x ∷ xs) cs (inl h) p zero c d at au l = absurd (omega (arith, l))
+  rising n (x ∷ xs) cs (inl h) (suc p) (suc q) c d at au l =
+      rising (suc n) xs h.1.0 h.1.2 p q c d (ap (λ (ds : List Candidate). item_at ds (suc p)) (sym h.1.1) ∙ at) (ap (λ (ds : List Candidate). item_at ds (suc q)) (sym h.1.1) ∙ au) (omega (arith, l))
+  rising n (x ∷ xs) cs (inl h) zero (suc q) c d at au l =
+      let one : Some (record { number = n; skeleton = skeleton x }) ≡ Some c = ap (λ (ds : List Candidate). item_at ds 0) (sym h.1.1) ∙ at in
+      let m : n ≡ c.number = (let same : record { number = n; skeleton = skeleton x } ≡ c = cc in ap (λ (e : Candidate). e.number) same) in
+      let b = not_before (suc n) xs h.1.0 h.1.2 q d (ap (λ (ds : List Candidate). item_at ds (suc q)) (sym h.1.1) ∙ au) in
+      omega (arith, m, b)
+
   module _ (xs : List A) (cs : List Candidate) (are : CandidatesFrom fact skeleton 0 xs cs) where
     -- Candidates at one number are one.
     pub one_place : (p q i : ℕ) → IsLabelAt cs p i → IsLabelAt cs q i → p ≡ q
@@ -71,3 +94,24 @@ module _ {A : Type 0} (fact : A → Type 0) (skeleton : A → Skeleton) where
 
     pub skeleton_at_number : (p i : ℕ) (h : IsLabelAt cs p i) → item_at (map skeleton xs) i ≡ Some h.candidate.skeleton
     skeleton_at_number p i h = let g = item_of p i h in map_of_item skeleton xs i g.item g.at ∙ ap Some (sym g.skeleton_is)
+
+    pub place_of_item : (i : ℕ) (x : A) → item_at xs i ≡ Some x → fact x → (p : ℕ) × IsLabelAt cs p i
+    place_of_item i x at f = let r = listed_from 0 xs cs are i x at f in (r.0, record { candidate = r.1; at = r.2; number = (let e = r.3 in omega (arith, e)) })
+
+    -- Candidates stand in the order of their items.
+    pub place_before : (p q i j : ℕ) → IsLabelAt cs p i → IsLabelAt cs q j → j < i → q < p
+    place_before p q i j a b l = by (apart p q)
+      where
+        apart : (n m : ℕ) → (n < m) ⊎ ((m < n) ⊎ (n ≡ m))
+        apart n m = grind arith
+
+        by : (p < q) ⊎ ((q < p) ⊎ (p ≡ q)) → q < p
+        by (inl r) = absurd (let n = a.number in let m = b.number in let s : a.candidate.number < b.candidate.number = rising 0 xs cs are p q a.candidate b.candidate a.at b.at r in omega (arith, l, n, m, s))
+        by (inr (inl r)) = r
+        by (inr (inr e)) = absurd (
+            let n = a.number in
+            let m = b.number in
+            let f : Some a.candidate ≡ Some b.candidate = sym a.at ∙ (ap (item_at cs) e ∙ b.at) in
+            let same : a.candidate.number ≡ b.candidate.number = (let c : a.candidate ≡ b.candidate = cc in ap (λ (d : Candidate). d.number) c) in
+            omega (arith, l, n, m, same)
+            )

@@ -8,7 +8,7 @@ use Rattle.cp_model.specs.Problem.{numbers_from}
 use Rattle.cp_model.specs.Tree.{Mark, Label, Tree, Limits, is_expanded}
 use Rattle.cp_roots.specs.Roots.{Root}
 use Rattle.cp_tree.specs.Made.{Made, made_of_root, Way, way_of}
-use Rattle.cp_tree.specs.Searched.{Becomes, is_dead, is_seen, is_realised, above_bound, at_limit, is_tested, AreSettled, all_settled, then_settled, IsMarkedAmong, children_of, IsTreeFrom}
+use Rattle.cp_tree.specs.Searched.{Becomes, is_dead, is_seen, is_realised, is_generalised, above_bound, at_limit, is_tested, AreSettled, all_settled, then_settled, IsMarkedAmong, children_of, IsTreeFrom}
 use Rattle.cp_tree.specs.Placed.{IsLabelOfRoot, RootsAreFirst}
 use Rattle.cp_tree.proofs.Numbered.{length_of_numbers, numbers_append, same_parts, number_there}
 use Rattle.cp_tree.proofs.Settled.{same_count, made_of}
@@ -22,18 +22,20 @@ item_in_parts (x ∷ xs) ys zero y at = inl at
 item_in_parts (x ∷ xs) ys (suc i) y at = ⊎_elim inl (λ r. inr (r.0, (let e = r.1 in omega (arith, e)), r.2)) (item_in_parts xs ys i y at)
 
 module _ (protocol : Protocol) (limits : Limits) (ways : List Way) (marks : ℕ → Option Mark → Type 0) where
-  same_operation : (i before : ℕ) (m : Made) (l : Label) (gives : List Made) → Becomes protocol limits ways marks i before m l gives → l.operation ≡ m.operation
+  pub same_operation : (i before : ℕ) (m : Made) (l : Label) (gives : List Made) → Becomes protocol limits ways marks i before m l gives → l.operation ≡ m.operation
   same_operation i before m l gives (is_dead d) = refl
   same_operation i before m l gives (is_seen d u s) = refl
-  same_operation i before m l gives (is_realised d n a s) = refl
+  same_operation i before m l gives (is_realised d n a y s) = refl
+  same_operation i before m l gives (is_generalised d n a w) = refl
   same_operation i before m l gives (above_bound d n u r b) = refl
   same_operation i before m l gives (at_limit d n u r b e) = refl
   same_operation i before m l gives (is_tested d n u r b c x s) = refl
 
-  same_variables : (i before : ℕ) (m : Made) (l : Label) (gives : List Made) → Becomes protocol limits ways marks i before m l gives → l.test ≡ None → l.variables ≡ m.variables
+  pub same_variables : (i before : ℕ) (m : Made) (l : Label) (gives : List Made) → Becomes protocol limits ways marks i before m l gives → l.test ≡ None → l.variables ≡ m.variables
   same_variables i before m l gives (is_dead d) e = refl
   same_variables i before m l gives (is_seen d u s) e = refl
-  same_variables i before m l gives (is_realised d n a s) e = refl
+  same_variables i before m l gives (is_realised d n a y s) e = refl
+  same_variables i before m l gives (is_generalised d n a w) e = refl
   same_variables i before m l gives (above_bound d n u r b) e = refl
   same_variables i before m l gives (at_limit d n u r b q) e = refl
   same_variables i before m l gives (is_tested d n u r b c x s) e = absurd (cc)
@@ -66,7 +68,7 @@ module _ (protocol : Protocol) (limits : Limits) (ways : List Way) (marks : ℕ 
         listed = subst (λ (ns : List ℕ). IsIn (n + q) ns) (sym first) (number_there n q fs x front);
         number = i;
         number_is = omega arith;
-        parent = (let c = made_of protocol limits ways marks i before m l fs x b (at_place fs q x front) in ap (λ (y : Made). y.parent) (sym c.is_made));
+        parent = (made_of protocol limits ways marks i before m l fs x b (at_place fs q x front)).parent;
       })
       (λ (r : (p : ℕ) × (q ≡ length fs + p) × (item_at gs p ≡ Some x)).
       let place : (n + length fs) + r.0 ≡ n + q = (let w = r.1 in omega (arith, w)) in

@@ -1,16 +1,13 @@
 -- A limit is the outcome of a tree only where it was reached.
-use Rattle.std.proofs.Common.{◌≡◌, ◌⊎◌, ℕ, zero, suc, ◌+◌, ◌<◌, ◌≤◌, List, [], ◌∷◌, ◌++◌, length, map, take, Option, Some, None, refl, ap, ◌∙◌, ⊎_elim, append-nil, arith}
-use Rattle.std.proofs.lemmas.List.{length-map}
+use Rattle.std.proofs.Common.{◌≡◌, ◌⊎◌, ℕ, zero, suc, ◌+◌, ◌<◌, ◌≤◌, List, [], ◌∷◌, map, take, Option, Some, None, refl, ⊎_elim, arith}
 use Rattle.cp_lists.specs.Lists.{item_at, IsIn}
 use Rattle.cp_lists.proofs.Items.{place_of}
 use Rattle.cp_model.specs.Strand.{Declaration, Protocol}
 use Rattle.cp_model.specs.Derivable.{IsUnrealised}
 use Rattle.cp_model.specs.Tree.{Mark, limit_steps, limit_strands, Label, Tree, Limits, is_expanded, expanded_count, IsOpen, ReachedSteps, ReachedStrands}
 use Rattle.cp_roots.specs.Roots.{Root}
-use Rattle.cp_tree.specs.Made.{Made, made_of_root, way_of, Way}
-use Rattle.cp_tree.specs.Searched.{Becomes, is_dead, is_seen, is_realised, above_bound, at_limit, is_tested, AreSettled, all_settled, then_settled, IsMarkedAmong, IsMarked, IsTreeFrom}
-use Rattle.cp_tree.specs.Placed.{AreRootsAlone}
-use Rattle.cp_tree.proofs.Placed.{roots_are_first}
+use Rattle.cp_tree.specs.Made.{Made, way_of, Way}
+use Rattle.cp_tree.specs.Searched.{Becomes, is_dead, is_seen, is_realised, is_generalised, above_bound, at_limit, is_tested, AreSettled, all_settled, then_settled, IsMarkedAmong, IsMarked, IsTreeFrom}
 use Rattle.cp_tree.proofs.MarksSay.{steps_says, strands_says}
 use Rattle.cp_tree.proofs.SoundLabels.{made, settled_here, becomes_here}
 
@@ -19,7 +16,8 @@ module _ (protocol : Protocol) (limits : Limits) (ways : List Way) (marks : ℕ 
   counts_within : (i before : ℕ) (m : Made) (l : Label) (gives : List Made) → Becomes protocol limits ways marks i before m l gives → before ≤ limits.steps → before + is_expanded l.test ≤ limits.steps
   counts_within i before m l gives (is_dead d) b = omega (arith, b)
   counts_within i before m l gives (is_seen d u s) b = omega (arith, b)
-  counts_within i before m l gives (is_realised d n a s) b = omega (arith, b)
+  counts_within i before m l gives (is_realised d n a y s) b = omega (arith, b)
+  counts_within i before m l gives (is_generalised d n a w) b = omega (arith, b)
   counts_within i before m l gives (above_bound d n u r c) b = omega (arith, b)
   counts_within i before m l gives (at_limit d n u r c e) b = omega (arith, b)
   counts_within i before m l gives (is_tested d n u r c x y s) b = omega (arith, x)
@@ -31,33 +29,13 @@ module _ (protocol : Protocol) (limits : Limits) (ways : List Way) (marks : ℕ 
       let r = all_within (suc i) (before + is_expanded l.test) ms ls gs s (counts_within i before m l fs h b) in
       omega (arith, r)
 
-  -- ---- no step at all
-
-  module _ (none : limits.steps ≡ 0) where
-    pub unexpanded : (i before : ℕ) (m : Made) (l : Label) (gives : List Made) → Becomes protocol limits ways marks i before m l gives → (l.test ≡ None) × (l.children ≡ []) × (gives ≡ [])
-    unexpanded i before m l gives (is_dead d) = (refl, refl, refl)
-    unexpanded i before m l gives (is_seen d u s) = (refl, refl, refl)
-    unexpanded i before m l gives (is_realised d n a s) = (refl, refl, refl)
-    unexpanded i before m l gives (above_bound d n u r c) = (refl, refl, refl)
-    unexpanded i before m l gives (at_limit d n u r c e) = (refl, refl, refl)
-    unexpanded i before m l gives (is_tested d n u r c x y s) = absurd (omega (arith, x, none))
-
-    pub none_given : (i before : ℕ) (so : List Made) (labels : List Label) (given : List Made) → AreSettled protocol limits ways marks i before so labels given → given ≡ []
-    none_given i before so labels given all_settled = refl
-    none_given i before so labels given (then_settled {m = m} {l = l} {made = ms} {labels = ls} {from_this = fs} {from_others = gs} h s) =
-        let first : fs ≡ [] = (unexpanded i before m l fs h).2 in
-        ap (λ (xs : List Made). xs ++ gs) first ∙ none_given (suc i) (before + is_expanded l.test) ms ls gs s
-
-  pub as_many : (i before : ℕ) (so : List Made) (labels : List Label) (given : List Made) → AreSettled protocol limits ways marks i before so labels given → length labels ≡ length so
-  as_many i before so labels given all_settled = refl
-  as_many i before so labels given (then_settled {l = l} {made = ms} {labels = ls} {from_others = gs} h s) = ap suc (as_many (suc i) (before + is_expanded l.test) ms ls gs s)
-
   -- ---- a label that was expanded
 
   counted_before : (i before : ℕ) (m : Made) (l : Label) (gives : List Made) → Becomes protocol limits ways marks i before m l gives → (l.test ≡ None → ⊥) → before < limits.steps
   counted_before i before m l gives (is_dead d) t = absurd (t refl)
   counted_before i before m l gives (is_seen d u s) t = absurd (t refl)
-  counted_before i before m l gives (is_realised d n a s) t = absurd (t refl)
+  counted_before i before m l gives (is_realised d n a y s) t = absurd (t refl)
+  counted_before i before m l gives (is_generalised d n a w) t = absurd (t refl)
   counted_before i before m l gives (above_bound d n u r c) t = absurd (t refl)
   counted_before i before m l gives (at_limit d n u r c e) t = absurd (t refl)
   counted_before i before m l gives (is_tested d n u r c x y s) t = x
@@ -102,21 +80,6 @@ module _ (protocol : Protocol) (variables : List Declaration) (limits : Limits) 
       let a : s.expanded_before ≡ 0 + expanded_count (take i tree.labels) = s.counted in
       let b : t.expanded_before ≡ 0 + expanded_count (take j tree.labels) = t.counted in
       ⊎_elim (λ (n : i < j). n) (λ (n : j ≤ i). absurd (let c = more_counted j i tree.labels n in omega (arith, fewer, all, a, b, c))) (before_or_not i j)
-
-  -- Where no label may be expanded those of the roots stand alone.
-  pub roots_alone : limits.steps ≡ 0 → AreRootsAlone variables roots tree.labels
-  roots_alone none =
-      let no_more : from.children ≡ [] = none_given protocol limits ways (IsMarkedAmong from.candidates) none 0 0 MadeHere tree.labels from.children from.settled in
-      let front : List Made = map (made_of_root variables) roots in
-      let same : MadeHere ≡ front = ap (λ (xs : List Made). front ++ xs) no_more ∙ append-nil front in
-      record {
-        first = roots_are_first protocol variables limits roots tree from;
-        count = as_many protocol limits ways (IsMarkedAmong from.candidates) 0 0 MadeHere tree.labels from.children from.settled ∙ ap length same ∙ length-map roots (made_of_root variables);
-        unexpanded = λ i l at.
-            let s = settled_here protocol variables limits roots tree from i l at in
-            let u = unexpanded protocol limits ways (IsMarkedAmong from.candidates) none i s.expanded_before s.so l s.gives (becomes_here protocol variables limits roots tree from i l s) in
-            (u.0, u.1);
-      }
 
   open_at_steps : (l : Label) → IsIn l tree.labels → l.mark ≡ Some limit_steps → IsUnrealised l.skeleton → IsOpen tree l
   open_at_steps l listed mark u = record { listed = listed; unrealised = u; not_seen = λ n e. cc; not_dead = λ e. cc }

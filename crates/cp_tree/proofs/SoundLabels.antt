@@ -1,5 +1,5 @@
--- Each label of a tree from sound roots is sound.
-use Rattle.std.proofs.Common.{◌≡◌, ℕ, zero, suc, ◌<◌, List, ◌++◌, length, map, Some, sym, ap, ◌∙◌, subst, ⊎_elim, arith}
+-- Each label of a tree from sound roots is sound, or was made by generalising from one that is.
+use Rattle.std.proofs.Common.{◌≡◌, ◌⊎◌, inl, inr, ℕ, zero, suc, ◌<◌, List, ◌++◌, length, map, false, Some, sym, ap, ◌∙◌, subst, ⊎_elim, arith}
 use Rattle.cp_lists.specs.Lists.{item_at, IsIn}
 use Rattle.cp_lists.proofs.Items.{item_of_map}
 use Rattle.cp_model.specs.Strand.{Declaration, Protocol}
@@ -12,7 +12,8 @@ use Rattle.cp_tree.specs.Made.{Made, made_of_root, way_of}
 use Rattle.cp_tree.specs.Searched.{IsMarkedAmong, Becomes, IsTreeFrom}
 use Rattle.cp_tree.specs.Sound.{IsSoundMade, ExpandsSoundly}
 use Rattle.cp_tree.proofs.Numbered.{front_or_behind}
-use Rattle.cp_tree.proofs.Settled.{same_parent, same_skeleton, IsMadeOfChild, IsSettledAt, settled_at, label_of_made, made_from}
+use Rattle.cp_tree.proofs.Settled.{same_parent, same_skeleton, IsMadeOfChild, IsMadeOfGeneralisation, IsSettledAt, settled_at, label_of_made, made_from}
+use Rattle.cp_tree.proofs.SoundOrGeneralised.{IsSoundLabel, where_unrealised, where_further}
 
 -- What was made of a sound root is sound.
 root_is_sound : (protocol : Protocol) (variables : List Declaration) (k : Skeleton) (roots : List Root) → AreSound protocol k roots → ((i : ℕ) (root : Root) → item_at roots i ≡ Some root → HasDeclaredVariables variables root.skeleton)
@@ -78,24 +79,29 @@ module _ (protocol : Protocol) (variables : List Declaration) (limits : Limits) 
       from.parents_first i j h.label h.at (parent_here j h.label h.settled ∙ ap (λ (x : Made). x.parent) h.same ∙ e)
 
   module _ (k : Skeleton) (sound : AreSound protocol k roots) (declared : (i : ℕ) (root : Root) → item_at roots i ≡ Some root → HasDeclaredVariables variables root.skeleton) (expands : ExpandsSoundly protocol k) where
-    child_is_sound : (place number j : ℕ) (so m : Made) → number ≡ place → IsMadeOfChild protocol limits (map way_of tree.labels) (IsMarkedAmong from.candidates) number so m → IsSoundMade protocol k so → IsSoundMade protocol k m
-    child_is_sound place number j so m e c s = subst (IsSoundMade protocol k) c.is_made ((expands so c.expansion s c.lives c.unrealised c.is_expansion).children number c.child c.listed)
+    -- So is what is made from a label that is sound, or was made by generalising.
+    made_is_sound : (number : ℕ) (so m : Made) → so.dead ≡ false → IsMadeOfChild protocol limits (map way_of tree.labels) (IsMarkedAmong from.candidates) number so m ⊎ IsMadeOfGeneralisation protocol limits (map way_of tree.labels) (IsMarkedAmong from.candidates) number so m
+        → IsSoundLabel protocol k so → IsSoundLabel protocol k m
+    made_is_sound number so m lives (inl c) s =
+        inl (subst (IsSoundMade protocol k) c.is_made ((expands so c.expansion (where_unrealised protocol k so s c.unrealised) lives c.unrealised c.is_expansion).children number c.child c.listed))
+    made_is_sound number so m lives (inr c) s =
+        inr (record { so = so; sound = where_further protocol k so c.skeleton s c.generalises; lives = lives; skeleton = c.skeleton; generalises = c.generalises; number = number; is_made = c.is_made })
 
-    pub sound_below : (n i : ℕ) (m : Made) → i < n → item_at made i ≡ Some m → IsSoundMade protocol k m
+    pub sound_below : (n i : ℕ) (m : Made) → i < n → item_at made i ≡ Some m → IsSoundLabel protocol k m
     sound_below zero i m l at = absurd (omega (arith, l))
     sound_below (suc n) i m l at =
         ⊎_elim
         (λ (front : item_at (map (made_of_root variables) roots) i ≡ Some m).
         let r = item_of_map (made_of_root variables) roots i m front in
-        subst (IsSoundMade protocol k) r.2 (root_is_sound protocol variables k roots sound declared i r.0 r.1))
+        inl (subst (IsSoundMade protocol k) r.2 (root_is_sound protocol variables k roots sound declared i r.0 r.1)))
         (λ (listed : IsIn m from.children).
         let f = made_from protocol limits (map way_of tree.labels) (IsMarkedAmong from.candidates) 0 0 made tree.labels from.children from.settled m listed in
         let number : f.number ≡ f.place = (let w = f.number_is in omega (arith, w)) in
-        let parent : m.parent ≡ Some f.place = ap (λ (x : Made). x.parent) (sym f.of_child.is_made) ∙ ap Some number in
+        let parent : m.parent ≡ Some f.place = f.is_made.parent ∙ ap Some number in
         let before : f.place < i = comes_behind f.place i m at parent in
-        child_is_sound f.place f.number i f.so m number f.of_child (sound_below n f.place f.so (omega (arith, l, before)) f.at_made))
+        made_is_sound f.number f.so m f.is_made.lives f.is_made.way (sound_below n f.place f.so (omega (arith, l, before)) f.at_made))
         (front_or_behind (map (made_of_root variables) roots) from.children i m at)
 
     -- Each label is.
-    pub label_sound : (i : ℕ) (l : Label) → item_at tree.labels i ≡ Some l → (s : SettledHere i l) → IsSoundMade protocol k s.so
+    pub label_sound : (i : ℕ) (l : Label) → item_at tree.labels i ≡ Some l → (s : SettledHere i l) → IsSoundLabel protocol k s.so
     label_sound i l at s = sound_below (suc i) i s.so (omega arith) s.at_made

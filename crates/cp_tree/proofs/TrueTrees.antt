@@ -5,39 +5,27 @@ use Rattle.cp_model.specs.Strand.{Declaration, Protocol}
 use Rattle.cp_model.specs.Skeleton.{Skeleton}
 use Rattle.cp_model.specs.Homomorphism.{IsCompleteList}
 use Rattle.cp_model.specs.Problem.{HasDeclaredVariables, numbers_from}
-use Rattle.cp_model.specs.Tree.{Outcome, complete, at_step_limit, at_strand_limit, limit_steps, limit_strands, Label, Tree, Limits, shapes_of, skeletons_left, ReachedStrands, IsTrueOf}
+use Rattle.cp_model.specs.Tree.{Outcome, complete, limit_steps, limit_strands, Label, Tree, Limits, shapes_of, skeletons_left, IsTrueOf}
 use Rattle.cp_answers.specs.Lawful.{IsWithinLimits}
 use Rattle.cp_answers.proofs.Descending.{left_is_complete, shapes_are_complete}
 use Rattle.cp_roots.specs.Roots.{Root}
 use Rattle.cp_roots.specs.Sound.{AreSound}
 use Rattle.cp_tree.specs.Searched.{IsMarked, HasOutcome, some_at_step_limit, some_at_strand_limit, none_at_limit, IsTreeFrom}
-use Rattle.cp_tree.specs.Sound.{ExpandsSoundly}
+use Rattle.cp_tree.specs.Sound.{ExpandsSoundly, GeneralisesSoundly}
 use Rattle.cp_tree.specs.Edges.{edges}
 use Rattle.cp_tree.proofs.PassingOn.{is_lawful, roots_cover}
-use Rattle.cp_tree.proofs.ReachedLimits.{reached_steps, reached_strands}
+use Rattle.cp_tree.proofs.ExactLimits.{exact_steps, exact_strands}
 use Rattle.cp_tree.proofs.TreeShapes.{none_embeds_in_another, are_skeletons, labels_from_problem, labels_keep_stated, shapes_realised}
 
--- ---- what the outcome says
-
+-- Where the outcome is complete no label is at a limit.
 none_left : (labels : List Label) (outcome : Outcome) → HasOutcome labels outcome → outcome ≡ complete → (IsMarked labels limit_steps → ⊥) × (IsMarked labels limit_strands → ⊥)
 none_left labels outcome (some_at_step_limit m) e = absurd (cc)
 none_left labels outcome (some_at_strand_limit n m) e = absurd (cc)
 none_left labels outcome (none_at_limit n m) e = (n, m)
 
-steps_left : (labels : List Label) (outcome : Outcome) → HasOutcome labels outcome → outcome ≡ at_step_limit → IsMarked labels limit_steps
-steps_left labels outcome (some_at_step_limit m) e = m
-steps_left labels outcome (some_at_strand_limit n m) e = absurd (cc)
-steps_left labels outcome (none_at_limit n m) e = absurd (cc)
-
-strands_left : (labels : List Label) (outcome : Outcome) → HasOutcome labels outcome → outcome ≡ at_strand_limit → (IsMarked labels limit_steps → ⊥) × IsMarked labels limit_strands
-strands_left labels outcome (some_at_step_limit m) e = absurd (cc)
-strands_left labels outcome (some_at_strand_limit n m) e = (n, m)
-strands_left labels outcome (none_at_limit n m) e = absurd (cc)
-
--- ---- by the outcome
-
 module _ (protocol : Protocol) (variables : List Declaration) (limits : Limits) (roots : List Root) (tree : Tree) (from : IsTreeFrom protocol variables limits roots tree)
-    (k : Skeleton) (sound : AreSound protocol k roots) (declared : (i : ℕ) (root : Root) → item_at roots i ≡ Some root → HasDeclaredVariables variables root.skeleton) (expands : ExpandsSoundly protocol k) where
+    (k : Skeleton) (sound : AreSound protocol k roots) (declared : (i : ℕ) (root : Root) → item_at roots i ≡ Some root → HasDeclaredVariables variables root.skeleton) (expands : ExpandsSoundly protocol k)
+    (generalises : GeneralisesSoundly protocol k) where
   within_limits : tree.outcome ≡ complete → IsWithinLimits tree.labels
   within_limits e =
       let n = none_left tree.labels tree.outcome from.outcome e in
@@ -51,18 +39,15 @@ module _ (protocol : Protocol) (variables : List Declaration) (limits : Limits) 
   shapes_complete e = shapes_are_complete protocol k tree.labels (edges tree.labels) (numbers_from 0 roots) (is_lawful protocol variables limits roots tree from k sound declared expands)
       (roots_cover protocol variables limits roots tree from k sound declared expands) (within_limits e)
 
-  at_strands : tree.outcome ≡ at_strand_limit → ReachedStrands limits tree
-  at_strands e = let l = strands_left tree.labels tree.outcome from.outcome e in reached_strands protocol variables limits roots tree from l.0 l.1
-
   pub true_of : IsTrueOf protocol k limits tree
   true_of = record {
     skeletons = are_skeletons protocol variables limits roots tree from k sound declared expands;
-    from_problem = labels_from_problem protocol variables limits roots tree from k sound declared expands;
-    stated = labels_keep_stated protocol variables limits roots tree from k sound declared expands;
+    from_problem = labels_from_problem protocol variables limits roots tree from k sound declared expands generalises;
+    stated = labels_keep_stated protocol variables limits roots tree from k sound declared expands generalises;
     realised = shapes_realised protocol variables limits roots tree from k sound declared expands;
     none_embeds = none_embeds_in_another protocol variables limits roots tree from;
     nothing_missed = shapes_complete;
     nothing_left_out = left_complete;
-    steps_reached = λ e. reached_steps protocol variables limits roots tree from (steps_left tree.labels tree.outcome from.outcome e);
-    strands_reached = at_strands;
+    steps_reached = (exact_steps protocol variables limits roots tree from).0;
+    strands_reached = (exact_strands protocol variables limits roots tree from).0;
   }

@@ -10,8 +10,8 @@ use Rattle.cp_model.specs.Tree.{dead, seen, Label}
 abbrev pub HasNoChild : Label → Type 0
 HasNoChild l = l.children ≡ []
 
--- The label is a candidate for a shape: it lives, is seen in no other, all its receptions are derivable, and it is its own
--- generalisation.
+-- The label is a candidate for a shape: it lives, is seen in no other, all its receptions are derivable, and no label was
+-- made from it.
 pub record IsCandidate (l : Label) : Type 0 where
   pub lives : l.mark ≢ Some dead
   pub not_seen : (n : ℕ) → l.mark ≢ Some (seen n)

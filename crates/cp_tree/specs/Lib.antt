@@ -6,3 +6,4 @@ pub mod Edges
 pub mod Placed
 pub mod Example
 pub mod Declared
+pub mod Marked

@@ -3,7 +3,7 @@ use Rattle.std.specs.Prelude.{◌≡◌, ◌<◌, ◌⊎◌, ℕ, List, map, tak
 use Rattle.cp_lists.specs.Lists.{item_at, Steps}
 use Rattle.cp_model.specs.Strand.{Declaration}
 use Rattle.cp_model.specs.Skeleton.{Skeleton}
-use Rattle.cp_model.specs.Tree.{Operation, Mark, seen, Label}
+use Rattle.cp_model.specs.Tree.{Operation, by_generalising, Mark, seen, Label}
 use Rattle.cp_shapes.specs.Shapes.{EmbedsAt}
 use Rattle.cp_roots.specs.Roots.{Root, in_report_order}
 use Rattle.cp_covering.specs.Children.{Child}
@@ -24,6 +24,10 @@ made_of_root variables r = record { parent = None; operation = r.operation; vari
 -- A child of the test of label i; its assumptions stand in the order of a report.
 abbrev pub made_of_child : ℕ → Child → Made
 made_of_child i c = record { parent = Some i; operation = c.operation; variables = c.variables; skeleton = in_report_order c.skeleton; dead = false }
+
+-- What label i, of these variables, generalises to.
+abbrev pub made_of_generalisation : ℕ → List Declaration → Skeleton → Made
+made_of_generalisation i variables g = record { parent = Some i; operation = by_generalising; variables = variables; skeleton = g; dead = false }
 
 -- What a label is for others that may point to it: from which it was made, in which it is seen, and its skeleton.
 pub record Way : Type 0 where

@@ -1,9 +1,10 @@
--- Labels that are those of roots, at the roots' numbers.
-use Rattle.std.specs.Prelude.{◌≡◌, ℕ, List, [], length, Some, None}
+-- Labels that are those of roots, at the roots' numbers, and those that were made from them by generalising.
+use Rattle.std.specs.Prelude.{◌≡◌, ◌⊎◌, ℕ, List, Some, None}
 use Rattle.cp_lists.specs.Lists.{item_at}
 use Rattle.cp_model.specs.Strand.{Declaration}
-use Rattle.cp_model.specs.Tree.{Label}
+use Rattle.cp_model.specs.Tree.{by_generalising, Label}
 use Rattle.cp_roots.specs.Roots.{Root}
+use Rattle.cp_general.specs.Generalising.{GeneralisesTo}
 
 -- The label is that of the root of a problem of these variables: it was made from no other, as the root was.
 pub record IsLabelOfRoot (variables : List Declaration) (root : Root) (l : Label) : Type 0 where
@@ -16,8 +17,25 @@ pub record IsLabelOfRoot (variables : List Declaration) (root : Root) (l : Label
 pub record RootsAreFirst (variables : List Declaration) (roots : List Root) (labels : List Label) : Type 0 where
   pub there : (i : ℕ) (root : Root) → item_at roots i ≡ Some root → (l : Label) × (item_at labels i ≡ Some l) × IsLabelOfRoot variables root l
 
--- There are no labels but those of the roots, and none of them was expanded.
-pub record AreRootsAlone (variables : List Declaration) (roots : List Root) (labels : List Label) : Type 0 where
+-- The label was made by generalising from that of a root of a problem of these variables.
+pub record IsGeneralisedRoot (variables : List Declaration) (roots : List Root) (l : Label) : Type 0 where
+  pub number : ℕ
+  pub root : Root
+  pub at : item_at roots number ≡ Some root
+  pub parent : l.parent ≡ Some number
+  pub operation : l.operation ≡ by_generalising
+  pub declared : l.variables ≡ variables
+  pub generalises : GeneralisesTo root.skeleton l.skeleton
+
+-- Label i is that of root number i.
+pub record IsOfRoot (variables : List Declaration) (roots : List Root) (i : ℕ) (l : Label) : Type 0 where
+  pub root : Root
+  pub at : item_at roots i ≡ Some root
+  pub label : IsLabelOfRoot variables root l
+
+-- The labels of the roots are the first, none was expanded, and each label is that of a root, or was made by generalising from
+-- one of these.
+pub record AreRootsGeneralised (variables : List Declaration) (roots : List Root) (labels : List Label) : Type 0 where
   pub first : RootsAreFirst variables roots labels
-  pub count : length labels ≡ length roots
-  pub unexpanded : (i : ℕ) (l : Label) → item_at labels i ≡ Some l → (l.test ≡ None) × (l.children ≡ [])
+  pub unexpanded : (i : ℕ) (l : Label) → item_at labels i ≡ Some l → l.test ≡ None
+  pub each : (i : ℕ) (l : Label) → item_at labels i ≡ Some l → IsOfRoot variables roots i l ⊎ IsGeneralisedRoot variables roots l

@@ -12,8 +12,9 @@ use Rattle.cp_derive.specs.Unrealised.{ListsUnrealised}
 use Rattle.cp_shapes.specs.Shapes.{IsLeast, IsShapeAt, IsShapeOf}
 use Rattle.cp_roots.specs.Roots.{Root, AreRoots}
 use Rattle.cp_expansion.specs.Expansion.{Expansion, IsExpansionOf}
+use Rattle.cp_general.specs.Generalising.{IsMostGeneral, GeneralisesTo}
 use Rattle.cp_tree.specs.Candidates.{Candidate, AreCandidates, skeletons_of, IsLabelAt}
-use Rattle.cp_tree.specs.Made.{Made, made_of_root, made_of_child, Way, way_of, MayPointTo, IsNew}
+use Rattle.cp_tree.specs.Made.{Made, made_of_root, made_of_child, made_of_generalisation, Way, way_of, MayPointTo, IsNew}
 
 -- The label that was made so and is a leaf, with its unrealised receptions and its mark.
 abbrev pub leaf : Made → List Node → Option Mark → Label
@@ -28,15 +29,22 @@ mark_by (n ∷ ns) = None
 abbrev pub expanded : Made → List Node → Expansion → List ℕ → Label
 expanded m nodes e children = record { parent = m.parent; operation = m.operation; variables = e.variables; skeleton = m.skeleton; unrealised = nodes; test = Some e.test; escape = e.patterns; children = children; mark = mark_by children }
 
+-- The label that was made so and generalises to another, whose label has this number.
+abbrev pub generalised : Made → ℕ → Label
+generalised m child = record (leaf m [] None) { children = child ∷ [] }
+
 -- What becomes of label i, which was made so when `before` of the labels in front of it had been expanded, and which labels are
 -- then made from it. One that is dead from the start stays so, and no unrealised receptions are listed of it. Any other is seen in
--- the least label to which it may point, if there is any. Of those that are new one that is realised is marked by the candidates;
--- one that is unrealised is at the bound on strands, listeners counted, where it has more; and else it is expanded, or, where as
--- many labels were expanded as the step limit says, at that limit.
+-- the least label to which it may point, if there is any. Of those that are new one that is realised is marked by the candidates,
+-- where it is its own generalisation, and else its generalisation is made from it; one that is unrealised is at the bound on
+-- strands, listeners counted, where it has more; and else it is expanded, or, where as many labels were expanded as the step limit
+-- says, at that limit.
 pub data Becomes (protocol : Protocol) (limits : Limits) (ways : List Way) (marks : ℕ → Option Mark → Type 0) (i before : ℕ) (m : Made) : Label → List Made → Type 0 where
   is_dead : m.dead ≡ true → Becomes protocol limits ways marks i before m (leaf m [] (Some dead)) []
   is_seen : {nodes : List Node} {n : ℕ} → m.dead ≡ false → ListsUnrealised m.skeleton nodes → IsLeast (MayPointTo ways i) n → Becomes protocol limits ways marks i before m (leaf m nodes (Some (seen n))) []
-  is_realised : {mark : Option Mark} → m.dead ≡ false → IsNew ways i → AllDerivable m.skeleton → marks i mark → Becomes protocol limits ways marks i before m (leaf m [] mark) []
+  is_realised : {mark : Option Mark} → m.dead ≡ false → IsNew ways i → AllDerivable m.skeleton → IsMostGeneral m.skeleton → marks i mark → Becomes protocol limits ways marks i before m (leaf m [] mark) []
+  is_generalised : {g : Skeleton} {child : ℕ} → m.dead ≡ false → IsNew ways i → AllDerivable m.skeleton → GeneralisesTo m.skeleton g
+      → Becomes protocol limits ways marks i before m (generalised m child) (made_of_generalisation i m.variables g ∷ [])
   above_bound : {nodes : List Node} → m.dead ≡ false → IsNew ways i → ListsUnrealised m.skeleton nodes → IsUnrealised m.skeleton → limits.strands < length m.skeleton.strands
       → Becomes protocol limits ways marks i before m (leaf m nodes (Some limit_strands)) []
   at_limit : {nodes : List Node} → m.dead ≡ false → IsNew ways i → ListsUnrealised m.skeleton nodes → IsUnrealised m.skeleton → length m.skeleton.strands ≤ limits.strands → before ≡ limits.steps
@@ -72,8 +80,8 @@ pub data HasOutcome (labels : List Label) : Outcome → Type 0 where
   none_at_limit : (IsMarked labels limit_steps → ⊥) → (IsMarked labels limit_strands → ⊥) → HasOutcome labels complete
 
 -- The tree that a search from these roots makes, of a problem of these variables. The roots have the first numbers; behind them
--- stand the children of the labels, of a smaller label before those of a greater one, and of one label in the order of its test's
--- children; each comes behind the label from which it was made. What becomes of each label is settled in ascending order.
+-- stand the children of the labels, of a smaller label before those of a greater one, and of an expanded label in the order of its
+-- test's children; each comes behind the label from which it was made. What becomes of each label is settled in ascending order.
 pub record IsTreeFrom (protocol : Protocol) (variables : List Declaration) (limits : Limits) (roots : List Root) (tree : Tree) : Type 0 where
   pub children : List Made
   pub candidates : List Candidate

@@ -7,14 +7,15 @@ use Rattle.cp_model.specs.Skeleton.{Skeleton, IsSkeleton}
 use Rattle.cp_model.specs.Derivable.{IsUnrealised}
 use Rattle.cp_model.specs.Realising.{KeepsAssumptions}
 use Rattle.cp_model.specs.Standing.{Standing, StandsIn, StandsApart}
-use Rattle.cp_model.specs.Homomorphism.{CarriesHomomorphism}
+use Rattle.cp_model.specs.Homomorphism.{CarriesHomomorphism, Embeds}
 use Rattle.cp_model.specs.Problem.{HasDeclaredVariables}
 use Rattle.cp_model.specs.Stated.{KeepsStated}
 use Rattle.cp_answers.specs.LeavingOut.{LeavesNoneOut}
 use Rattle.cp_roots.specs.Roots.{in_report_order}
 use Rattle.cp_covering.specs.Children.{Child}
 use Rattle.cp_expansion.specs.Expansion.{Expansion, IsExpansionOf}
-use Rattle.cp_tree.specs.Made.{Made, made_of_child}
+use Rattle.cp_general.specs.Generalising.{GeneralisesTo}
+use Rattle.cp_tree.specs.Made.{Made, made_of_child, made_of_generalisation}
 
 -- What is made is a skeleton over the protocol, carries a homomorphism from the problem k, and keeps what that states itself;
 -- its variables are declared. If it lives its assumptions are true of it; if it is dead from the start it stands apart nowhere.
@@ -34,3 +35,12 @@ pub record IsSoundExpansion (protocol : Protocol) (k : Skeleton) (m : Made) (e :
 -- Each expansion of what is sound, lives and is unrealised is sound.
 abbrev pub ExpandsSoundly : Protocol → Skeleton → Type 0
 ExpandsSoundly protocol k = (m : Made) (e : Expansion) → IsSoundMade protocol k m → m.dead ≡ false → IsUnrealised m.skeleton → IsExpansionOf protocol m.variables m.skeleton e → IsSoundExpansion protocol k m e
+
+-- What a label generalises to is sound, and embeds in the label.
+pub record IsSoundGeneralisation (protocol : Protocol) (k : Skeleton) (m : Made) (g : Skeleton) : Type 0 where
+  pub made : (i : ℕ) → IsSoundMade protocol k (made_of_generalisation i m.variables g)
+  pub embeds : Embeds g m.skeleton
+
+-- Each generalisation of what is sound and lives is sound.
+abbrev pub GeneralisesSoundly : Protocol → Skeleton → Type 0
+GeneralisesSoundly protocol k = (m : Made) (g : Skeleton) → IsSoundMade protocol k m → m.dead ≡ false → GeneralisesTo m.skeleton g → IsSoundGeneralisation protocol k m g

@@ -1,9 +1,8 @@
 // The law of marks: it stands as the contract of a function that does nothing.
-ghost use Rattle.std.specs.Prelude.{◌≡◌, ◌⊎◌, ◌<◌, ◌≤◌, ℕ, List, [], length, map, true, Some, None};
+ghost use Rattle.std.specs.Prelude.{◌≡◌, ◌⊎◌, ◌<◌, ◌≤◌, ℕ, List, [], length, map, Some, None};
 ghost use Rattle.cp_lists.specs.Lists.{item_at};
 ghost use Rattle.cp_model.specs.Strand.{Declaration, Protocol};
 ghost use Rattle.cp_model.specs.Derivable.{IsUnrealised};
-ghost use Rattle.cp_model.specs.Realising.{AllDerivable};
 ghost use Rattle.cp_model.specs.Homomorphism.{Embeds};
 ghost use Rattle.cp_model.specs.Tree.{shape, dead, seen, instance_of, limit_steps, limit_strands, Label, Tree, Limits, expanded_count};
 ghost use Rattle.cp_shapes.specs.Shapes.{IsLeast};
@@ -11,24 +10,29 @@ ghost use Rattle.cp_roots.specs.Roots.{Root};
 ghost use Rattle.cp_tree.specs.Made.{way_of, MayPointTo};
 ghost use Rattle.cp_tree.specs.Searched.{IsTreeFrom};
 ghost use Rattle.cp_tree.specs.Edges.{IsLeaf};
+ghost use Rattle.cp_tree.specs.Marked.{IsShapeAmong, IsDeadRoot, IsSeenInLeast, IsGeneralised};
 
-/// Each mark has its cause. A shape is realised, and a leaf. A label that is dead has no child, and was expanded, or is a root
-/// that is dead from the start. A label is seen exactly in the least label to which it may point, unless it is dead, and is a
-/// leaf. A label is an instance of one that is a shape and embeds in it. At the bound on strands a label is unrealised, with more
-/// strands; at the step limit it is unrealised, within that bound, and as many labels were expanded as the limit says.
+/// Each mark has its cause. A shape is realised, its own generalisation, a leaf, and an instance of no other candidate. A label
+/// that is dead has no child, and was expanded, or is a root that is dead from the start. A label is seen only in the least label
+/// to which it may point, and is a leaf; each that may point to some label is seen so, unless it is a root that is dead from the
+/// start. A label is an instance of one that is a shape and embeds in it. At the bound on strands a label is unrealised, with more
+/// strands; at the step limit it is unrealised, within that bound, and as many labels were expanded as the limit says. A label
+/// that has no mark and was not expanded is realised, and its one child is what it generalises to.
 pub fn marks_have_causes()
     ensures shape { (protocol : Protocol) (variables : List Declaration) (limits : Limits) (roots : List Root) (tree : Tree) → IsTreeFrom protocol variables limits roots tree
-        → (i : ℕ) (l : Label) → item_at tree.labels i ≡ Some l → l.mark ≡ Some shape → AllDerivable l.skeleton × IsLeaf l }
+        → (i : ℕ) (l : Label) → item_at tree.labels i ≡ Some l → l.mark ≡ Some shape → IsShapeAmong tree.labels i l }
     ensures dead { (protocol : Protocol) (variables : List Declaration) (limits : Limits) (roots : List Root) (tree : Tree) → IsTreeFrom protocol variables limits roots tree
-        → (i : ℕ) (l : Label) → item_at tree.labels i ≡ Some l → l.mark ≡ Some dead → (l.children ≡ []) × ((l.test ≡ None → ⊥) ⊎ ((root : Root) × (item_at roots i ≡ Some root) × (root.dead ≡ true))) }
+        → (i : ℕ) (l : Label) → item_at tree.labels i ≡ Some l → l.mark ≡ Some dead → (l.children ≡ []) × ((l.test ≡ None → ⊥) ⊎ IsDeadRoot roots i) }
     ensures seen { (protocol : Protocol) (variables : List Declaration) (limits : Limits) (roots : List Root) (tree : Tree) → IsTreeFrom protocol variables limits roots tree
         → (i n : ℕ) (l : Label) → item_at tree.labels i ≡ Some l → l.mark ≡ Some (seen n) → IsLeast (MayPointTo (map way_of tree.labels) i) n × IsLeaf l }
     ensures seen_where_it_may { (protocol : Protocol) (variables : List Declaration) (limits : Limits) (roots : List Root) (tree : Tree) → IsTreeFrom protocol variables limits roots tree
-        → (i n : ℕ) (l : Label) → item_at tree.labels i ≡ Some l → IsLeast (MayPointTo (map way_of tree.labels) i) n → (l.mark ≡ Some (seen n)) ⊎ (l.mark ≡ Some dead) }
+        → (i n : ℕ) (l : Label) → item_at tree.labels i ≡ Some l → MayPointTo (map way_of tree.labels) i n → IsSeenInLeast tree.labels i l ⊎ ((l.mark ≡ Some dead) × IsDeadRoot roots i) }
     ensures instance { (protocol : Protocol) (variables : List Declaration) (limits : Limits) (roots : List Root) (tree : Tree) → IsTreeFrom protocol variables limits roots tree
         → (i n : ℕ) (l : Label) → item_at tree.labels i ≡ Some l → l.mark ≡ Some (instance_of n) → (m : Label) × (item_at tree.labels n ≡ Some m) × (m.mark ≡ Some shape) × Embeds m.skeleton l.skeleton }
     ensures limit_strands { (protocol : Protocol) (variables : List Declaration) (limits : Limits) (roots : List Root) (tree : Tree) → IsTreeFrom protocol variables limits roots tree
         → (i : ℕ) (l : Label) → item_at tree.labels i ≡ Some l → l.mark ≡ Some limit_strands → IsUnrealised l.skeleton × (limits.strands < length l.skeleton.strands) × IsLeaf l }
     ensures limit_steps { (protocol : Protocol) (variables : List Declaration) (limits : Limits) (roots : List Root) (tree : Tree) → IsTreeFrom protocol variables limits roots tree
         → (i : ℕ) (l : Label) → item_at tree.labels i ≡ Some l → l.mark ≡ Some limit_steps → IsUnrealised l.skeleton × (length l.skeleton.strands ≤ limits.strands) × (expanded_count tree.labels ≡ limits.steps) × IsLeaf l }
+    ensures generalised { (protocol : Protocol) (variables : List Declaration) (limits : Limits) (roots : List Root) (tree : Tree) → IsTreeFrom protocol variables limits roots tree
+        → (i : ℕ) (l : Label) → item_at tree.labels i ≡ Some l → l.mark ≡ None → l.test ≡ None → IsGeneralised tree.labels l }
 {}

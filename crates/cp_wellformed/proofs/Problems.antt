@@ -7,7 +7,7 @@ use Rattle.cp_model.specs.Term.{AtomTerm, variables_of, Substitution, apply_to_a
 use Rattle.cp_model.specs.Strand.{Declaration, Role, Protocol, prefix_of, variables_of_trace}
 use Rattle.cp_model.specs.Bundle.{node_at}
 use Rattle.cp_model.specs.Skeleton.{SkeletonStrand, instance, listener, skeleton_trace, Assumptions, Skeleton, GivesAssumptions, IsSkeleton}
-use Rattle.cp_model.specs.Problem.{variables_of_strands, variables_of_atoms, variables_of_uniques, variables_of_assumptions, variables_of_skeleton, IsPointOfView}
+use Rattle.cp_model.specs.Problem.{variables_of_strands, variables_of_atoms, variables_of_uniques, variables_of_assumptions, variables_of_skeleton, AssumesNoMore, IsPointOfView}
 use Rattle.cp_model.specs.Stated.{HasOwnAssumptions}
 use Rattle.cp_sexpr.specs.Syntax.{Form, Forms}
 use Rattle.cp_language.specs.Words.{TopHead, protocol_form, problem_form, free_form, top_out_of_profile, no_top, top_head}
@@ -27,7 +27,7 @@ use Rattle.cp_wellformed.proofs.Strands.{IsSoundStrand, AreSoundStrands, protoco
 use Rattle.cp_wellformed.proofs.Bodies.{SaysBody, says_body}
 use Rattle.cp_wellformed.proofs.Values.{AtomsDeclared, atoms_declared, stated_declared}
 use Rattle.cp_lists.proofs.Items.{at_place}
-use Rattle.cp_model.proofs.Gathered.{onto-keeps, onto-takes, atoms, uniques as gathered_uniques}
+use Rattle.cp_model.proofs.Gathered.{onto-keeps, onto-takes, onto-only, atoms, uniques as gathered_uniques}
 use Rattle.cp_wellformed.proofs.Atoms.{onto_declared, given_declared, given_there, non_given, penetrator_non_given}
 use Rattle.cp_wellformed.proofs.Uniques as uniques
 use Rattle.cp_wellformed.proofs.Leading.{no_cycle, are_pairs}
@@ -122,8 +122,15 @@ module _ (protocol : Protocol) (ds : List Declaration) (body : List Form) (stran
     unique = λ u i. onto-keeps gathered_uniques own.uniquely_originating (given_uniques 0 strands) u i;
   }
 
+  no_more : AssumesNoMore k
+  no_more = record {
+    non = λ v i. onto-only atoms own.non_originating (given_non strands) v i;
+    penetrator_non = λ v i. onto-only atoms own.penetrator_non_originating (given_penetrator_non strands) v i;
+    unique = λ u i. onto-only gathered_uniques own.uniquely_originating (given_uniques 0 strands) u i;
+  }
+
   is_own : IsPointOfView full k
-  is_own = record { strands = refl; values = refl; closed = all_declared; assumed = own_assumed; pairs = refl }
+  is_own = record { strands = refl; values = refl; closed = all_declared; assumed = own_assumed; no_more = no_more; pairs = refl }
 
 abbrev at_start : Stage
 at_start = record { after_strand = false; after_item = false }

@@ -6,10 +6,9 @@ use Rattle.clap.proofs.WalkLemmas.{first_value-rows}
 use Rattle.clap.specs.Words.{App, Row, Text, first_value, rows_of, subcommand_of, takes}
 use Rattle.clap.specs.declared.error.kind.ErrorKind.{ErrorKind}
 use Rattle.clap.specs.declared.error.kind.ErrorKind.TheVariants.{OutOfMemory}
-use Rattle.cp_model.specs.Tree.{Limits}
-use Rattle.cp_words.specs.Command.{command_of, number_of}
+use Rattle.cp_words.specs.Command.{Command, command_of, number_of}
 use Rattle.cp_words.specs.Description.{described}
-use Rattle.cp_words.specs.Parsed.{cause_of, limits_found, number_in}
+use Rattle.cp_words.specs.Parsed.{cause_of, command_found, number_in}
 use Rattle.cp_words.specs.declared.error.WordsError.{WordsError}
 use Rattle.cp_words.specs.declared.error.WordsError.TheVariants.{Usage, Memory}
 use Rattle.cp_words.proofs.Commands.{command_parsed}
@@ -20,9 +19,9 @@ memory_only (Ok x) kind a words is passes cause = tt
 memory_only (Err e) kind a words is passes cause = λ t. cause ∙ ap cause_of (passes (ap (λ b. takes b words) is ∙ t))
 
 pub failed : {X : Type 0} (r : Result X WordsError) (e : WordsError) (words : List Text) → (takes described words ≡ true → e ≡ Memory) → IsErrAnd r (λ y. y ≡ e)
-    → (l : Limits) → command_of words ≡ Some l → IfErr r (λ y. y ≡ Memory)
-failed (Ok x) e words memory is l h = tt
-failed (Err y) e words memory is l h = is ∙ memory (command_parsed words l h).taken
+    → (d : Command) → command_of words ≡ Some d → IfErr r (λ y. y ≡ Memory)
+failed (Ok x) e words memory is d h = tt
+failed (Err y) e words memory is d h = is ∙ memory (command_parsed words d h).taken
 
 -- ---- what the parser found
 
@@ -32,27 +31,27 @@ no_number f name r found is = is ∙ ap (option_and_then number_of) (found ∙ f
 pub a_number : (f : Found) (name text : Text) (r : Option ℕ) → Some text ≡ first_value f name → r ≡ number_of text → r ≡ number_in name (rows_of f)
 a_number f name text r found is = is ∙ ap (option_and_then number_of) (found ∙ first_value-rows f name)
 
-module _ {X : Type 0} (view : X → Limits) (words : List Text) (rows : Option (Text × List Row)) (same : rows ≡ subcommand_of described words) where
-  some_found : (o : Option X) → option_map view o ≡ limits_found rows → (l : Limits) → command_of words ≡ Some l → option_map view o ≡ Some l
-  some_found o found l h = found ∙ ap limits_found same ∙ (command_parsed words l h).found
+module _ {X : Type 0} (view : X → Command) (words : List Text) (rows : Option (Text × List Row)) (same : rows ≡ subcommand_of described words) where
+  some_found : (o : Option X) → option_map view o ≡ command_found rows → (d : Command) → command_of words ≡ Some d → option_map view o ≡ Some d
+  some_found o found d h = found ∙ ap command_found same ∙ (command_parsed words d h).found
 
-  pub limits_are_found : (r : Result X WordsError) → option_map view (result_ok r) ≡ limits_found rows → (l : Limits) → command_of words ≡ Some l → IfOk r (λ x. view x ≡ l)
-  limits_are_found (Ok x) found l h = let e : Some (view x) ≡ Some l = some_found (Some x) found l h in cc
-  limits_are_found (Err e) found l h = tt
+  pub command_is_found : (r : Result X WordsError) → option_map view (result_ok r) ≡ command_found rows → (d : Command) → command_of words ≡ Some d → IfOk r (λ x. view x ≡ d)
+  command_is_found (Ok x) found d h = let e : Some (view x) ≡ Some d = some_found (Some x) found d h in cc
+  command_is_found (Err e) found d h = tt
 
-  pub none_is_memory : (r : Result X WordsError) → option_map view (result_ok r) ≡ limits_found rows → (l : Limits) → command_of words ≡ Some l → IfErr r (λ e. e ≡ Memory)
-  none_is_memory (Ok x) found l h = tt
-  none_is_memory (Err e) found l h = let bad : None ≡ Some l = some_found None found l h in absurd (cc)
+  pub none_is_memory : (r : Result X WordsError) → option_map view (result_ok r) ≡ command_found rows → (d : Command) → command_of words ≡ Some d → IfErr r (λ e. e ≡ Memory)
+  none_is_memory (Ok x) found d h = tt
+  none_is_memory (Err e) found d h = let bad : None ≡ Some d = some_found None found d h in absurd (cc)
 
 -- ---- the answer
 
-module _ {X : Type 0} (view : X → Limits) where
-  pub limits_where_some : (o : Option Limits) (r : Result X WordsError) → is_some o ≡ true → ((l : Limits) → o ≡ Some l → IfOk r (λ x. view x ≡ l)) → IfOk r (λ x. o ≡ Some (view x))
-  limits_where_some None r e read = absurd (cc)
-  limits_where_some (Some l) (Ok x) e read = ap Some (sym (read l refl))
-  limits_where_some (Some l) (Err w) e read = tt
+module _ {X : Type 0} (view : X → Command) where
+  pub command_where_some : (o : Option Command) (r : Result X WordsError) → is_some o ≡ true → ((d : Command) → o ≡ Some d → IfOk r (λ x. view x ≡ d)) → IfOk r (λ x. o ≡ Some (view x))
+  command_where_some None r e read = absurd (cc)
+  command_where_some (Some d) (Ok x) e read = ap Some (sym (read d refl))
+  command_where_some (Some d) (Err w) e read = tt
 
-  pub memory_where_some : (o : Option Limits) (r : Result X WordsError) → is_some o ≡ true → ((l : Limits) → o ≡ Some l → IfErr r (λ w. w ≡ Memory)) → IfErr r (λ w. (w ≡ Usage) ↔ (o ≡ None))
+  pub memory_where_some : (o : Option Command) (r : Result X WordsError) → is_some o ≡ true → ((d : Command) → o ≡ Some d → IfErr r (λ w. w ≡ Memory)) → IfErr r (λ w. (w ≡ Usage) ↔ (o ≡ None))
   memory_where_some None r e read = absurd (cc)
-  memory_where_some (Some l) (Ok x) e read = tt
-  memory_where_some (Some l) (Err w) e read = let is : w ≡ Memory = read l refl in (λ u. absurd (cc), λ n. absurd (cc))
+  memory_where_some (Some d) (Ok x) e read = tt
+  memory_where_some (Some d) (Err w) e read = let is : w ≡ Memory = read d refl in (λ u. absurd (cc), λ n. absurd (cc))

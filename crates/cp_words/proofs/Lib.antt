@@ -1,7 +1,8 @@
 pub mod Refused
 pub mod Cutting
 pub mod Numerals
-pub mod Shapes
+pub mod Described
+pub mod Entering
 pub mod Options
 pub mod Steps
 pub mod Spelled

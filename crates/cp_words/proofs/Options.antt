@@ -6,7 +6,8 @@ use Rattle.clap.specs.Takes.{settle_passes, step_passes, turn_passes, use_passes
 use Rattle.clap.specs.Walk.{Held, Step, Walk, after_step, option, plain_word, settled_rows, used, walk_from, walked, word_met}
 use Rattle.clap.proofs.OnLiterals.{clap_on_literals}
 use Rattle.cp_words.specs.Description.{limit_rule, bound_rule}
-use Rattle.cp_words.proofs.Shapes.{options}
+use Rattle.cp_words.specs.declared.command.CommandName.{CommandName}
+use Rattle.cp_words.proofs.Entering.{options, rules}
 
 -- ---- a word that begins with no hyphen, where an option waits for its value
 
@@ -32,58 +33,58 @@ name_word bound_named = codes "--bound"
 
 -- the option waits for its value
 abbrev pub waits : Named → Held → Held
-waits o h = record h { rows = settled_rows options.rules h.pending h.rows; pending = Some ((rule_named o).id, []) }
+waits o h = record h { rows = settled_rows rules h.pending h.rows; pending = Some ((rule_named o).id, []) }
 
 abbrev pub has_value : Named → Text → Held → Held
-has_value o n h = record h { rows = settled_rows options.rules h.pending h.rows; pending = Some ((rule_named o).id, n ∷ []) }
+has_value o n h = record h { rows = settled_rows rules h.pending h.rows; pending = Some ((rule_named o).id, n ∷ []) }
 
 abbrev pub is_used : Named → Text → Held → Held
-is_used o n h = record h { rows = used (rule_named o) (n ∷ []) (settled_rows options.rules h.pending h.rows); pending = None }
+is_used o n h = record h { rows = used (rule_named o) (n ∷ []) (settled_rows rules h.pending h.rows); pending = None }
 
 abbrev pub waiting_at : Named → Held → Walk
 waiting_at o h = record (walk_from h) { waiting = option (rule_named o).id }
 
-pub name_walked : (o : Named) (h : Held) → walked options.rules [] (walk_from h) (name_word o) ≡ waiting_at o (waits o h)
+pub name_walked : (o : Named) (h : Held) → walked rules [] (walk_from h) (name_word o) ≡ waiting_at o (waits o h)
 unfolding clap_on_literals
 name_walked limit_named h = refl
 name_walked bound_named h = refl
 
-pub name_passes : (o : Named) (h : Held) → turn_passes options [] (walk_from h) (name_word o) ≡ (settle_passes options.rules false h && true)
+pub name_passes : (c : CommandName) (o : Named) (h : Held) → turn_passes (options c) [] (walk_from h) (name_word o) ≡ (settle_passes rules false h && true)
 unfolding clap_on_literals
-name_passes limit_named h = refl
-name_passes bound_named h = refl
+name_passes c limit_named h = refl
+name_passes c bound_named h = refl
 
 abbrev stepped : Named → Text → Held → Held × Step → Walk
-stepped o n h p = after_step options.rules n (waiting_at o (waits o h)) p.0 p.1
+stepped o n h p = after_step rules n (waiting_at o (waits o h)) p.0 p.1
 
-plain_walked : (o : Named) (h : Held) (n : Text) → stepped o n h (plain_word options.rules (option (rule_named o).id) n (waits o h)) ≡ walk_from (has_value o n h)
+plain_walked : (o : Named) (h : Held) (n : Text) → stepped o n h (plain_word rules (option (rule_named o).id) n (waits o h)) ≡ walk_from (has_value o n h)
 unfolding clap_on_literals
 plain_walked limit_named h n = refl
 plain_walked bound_named h n = refl
 
-pub value_walked : (o : Named) (h : Held) (d : ℕ) (ds : Text) → (d == 45) ≡ false → walked options.rules [] (waiting_at o (waits o h)) (d ∷ ds) ≡ walk_from (has_value o (d ∷ ds) h)
+pub value_walked : (o : Named) (h : Held) (d : ℕ) (ds : Text) → (d == 45) ≡ false → walked rules [] (waiting_at o (waits o h)) (d ∷ ds) ≡ walk_from (has_value o (d ∷ ds) h)
 unfolding clap_on_literals
-value_walked o h d ds e = ap (stepped o (d ∷ ds) h) (value_met options.rules (rule_named o).id 1 d ds (waits o h) e) ∙ plain_walked o h (d ∷ ds)
+value_walked o h d ds e = ap (stepped o (d ∷ ds) h) (value_met rules (rule_named o).id 1 d ds (waits o h) e) ∙ plain_walked o h (d ∷ ds)
 
-plain_passes : (o : Named) (h : Held) (n : Text) → step_passes options 1 (plain_word options.rules (option (rule_named o).id) n (waits o h)).0 (plain_word options.rules (option (rule_named o).id) n (waits o h)).1 ≡ true
+plain_passes : (c : CommandName) (o : Named) (h : Held) (n : Text) → step_passes (options c) 1 (plain_word rules (option (rule_named o).id) n (waits o h)).0 (plain_word rules (option (rule_named o).id) n (waits o h)).1 ≡ true
 unfolding clap_on_literals
-plain_passes limit_named h n = refl
-plain_passes bound_named h n = refl
+plain_passes c limit_named h n = refl
+plain_passes c bound_named h n = refl
 
-pub value_turn : (o : Named) (h : Held) (d : ℕ) (ds : Text) → (d == 45) ≡ false → turn_passes options [] (waiting_at o (waits o h)) (d ∷ ds) ≡ true
-value_turn o h d ds e =
-    ap₂ (λ (b : Bool) (p : Held × Step). b && step_passes options 1 p.0 p.1) (value_passes options (rule_named o).id d ds (waits o h) e) (value_met options.rules (rule_named o).id 1 d ds (waits o h) e)
-    ∙ plain_passes o h (d ∷ ds)
+pub value_turn : (c : CommandName) (o : Named) (h : Held) (d : ℕ) (ds : Text) → (d == 45) ≡ false → turn_passes (options c) [] (waiting_at o (waits o h)) (d ∷ ds) ≡ true
+value_turn c o h d ds e =
+    ap₂ (λ (b : Bool) (p : Held × Step). b && step_passes (options c) 1 p.0 p.1) (value_passes (options c) (rule_named o).id d ds (waits o h) e) (value_met rules (rule_named o).id 1 d ds (waits o h) e)
+    ∙ plain_passes c o h (d ∷ ds)
 
 -- ---- an option and its value in one word
 
-pub attached_walked : (o : Named) (h : Held) (n : Text) → walked options.rules [] (walk_from h) (name_word o ++ 61 ∷ n) ≡ walk_from (is_used o n h)
+pub attached_walked : (o : Named) (h : Held) (n : Text) → walked rules [] (walk_from h) (name_word o ++ 61 ∷ n) ≡ walk_from (is_used o n h)
 unfolding clap_on_literals
 attached_walked limit_named h n = refl
 attached_walked bound_named h n = refl
 
-pub attached_passes : (o : Named) (h : Held) (n : Text) → turn_passes options [] (walk_from h) (name_word o ++ 61 ∷ n)
-    ≡ ((settle_passes options.rules false h && use_passes false (rule_named o) (n ∷ []) (settled_rows options.rules h.pending h.rows)) && true)
+pub attached_passes : (c : CommandName) (o : Named) (h : Held) (n : Text) → turn_passes (options c) [] (walk_from h) (name_word o ++ 61 ∷ n)
+    ≡ ((settle_passes rules false h && use_passes false (rule_named o) (n ∷ []) (settled_rows rules h.pending h.rows)) && true)
 unfolding clap_on_literals
-attached_passes limit_named h n = refl
-attached_passes bound_named h n = refl
+attached_passes c limit_named h n = refl
+attached_passes c bound_named h n = refl

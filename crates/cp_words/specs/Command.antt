@@ -4,6 +4,8 @@ use Rattle.std.specs.List.{position_or_len, before_first, after_first}
 use Rattle.std.specs.Str.{bytes_eq, all_ascii_digits}
 use Rattle.std.specs.Str.Parse.{without_leading_plus, digits_value}
 use Rattle.cp_model.specs.Tree.{Limits}
+use Rattle.cp_words.specs.declared.command.CommandName.{CommandName}
+use Rattle.cp_words.specs.declared.command.CommandName.TheVariants.{Analyse, Shapes}
 
 -- ---- numbers
 
@@ -56,7 +58,7 @@ abbrev pub first_setting : List (List ℕ) → Option (Setting × List (List ℕ
 first_setting [] = None
 first_setting (word ∷ words) = setting_from (name_and_value word) word words
 
--- ---- the command
+-- ---- limits
 
 -- The step limit is 0 to 100,000, and the bound on the number of strands 1 to 32.
 abbrev pub limits_of : ℕ → ℕ → Option Limits
@@ -85,8 +87,30 @@ abbrev pub limits_by : List (List ℕ) → Option Limits
 limits_by [] = limits_of 2000 8
 limits_by (word ∷ words) = option_and_then limits_behind (first_setting (word ∷ words))
 
--- The words are a name for the program, `analyse`, and its options, each at most once and in any order; any others ask for nothing.
-abbrev pub command_of : List (List ℕ) → Option Limits
-command_of (program ∷ command ∷ options) =
-    if bytes_eq command (codes "analyse") then limits_by options else None
+-- ---- the command
+
+-- A command, with its limits.
+pub record Command : Type 0 where
+  pub name : CommandName
+  pub limits : Limits
+
+-- The word that stands for a command.
+abbrev pub name_text : CommandName → List ℕ
+name_text Analyse = codes "analyse"
+name_text Shapes = codes "shapes"
+
+-- The command that a word stands for.
+abbrev pub command_named : List ℕ → Option CommandName
+command_named word =
+    if bytes_eq word (codes "analyse") then Some Analyse else
+    if bytes_eq word (codes "shapes") then Some Shapes else None
+
+-- The command with these options behind its name.
+abbrev pub command_with : List (List ℕ) → CommandName → Option Command
+command_with options name = option_map (λ limits. record { name = name; limits = limits }) (limits_by options)
+
+-- The words are a name for the program, the name of a command, and its options, each at most once and in any order; any others
+-- are no command.
+abbrev pub command_of : List (List ℕ) → Option Command
+command_of (program ∷ name ∷ options) = option_and_then (command_with options) (command_named name)
 command_of _ = None

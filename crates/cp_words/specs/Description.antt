@@ -1,6 +1,6 @@
--- What the parser of command lines is told of a command.
+-- What the parser of command lines is told of the commands.
 use Rattle.std.specs.Prelude.{[], ◌∷◌, Some, codes}
-use Rattle.clap.specs.Words.{App, Rule, new_app, new_rule, with_rule, with_subcommand}
+use Rattle.clap.specs.Words.{App, Rule, Text, new_app, new_rule, with_rule, with_subcommand}
 
 -- The limit is 2,000 where it does not stand.
 abbrev pub limit_rule : Rule
@@ -10,9 +10,10 @@ limit_rule = record (new_rule (codes "limit")) { long = Some (codes "limit"); de
 abbrev pub bound_rule : Rule
 bound_rule = record (new_rule (codes "bound")) { long = Some (codes "bound"); defaults = codes "8" ∷ [] }
 
-abbrev pub analyse : App
-analyse = with_rule (with_rule (new_app (codes "analyse")) limit_rule) bound_rule
+-- A command of this name, with the two options.
+abbrev pub described_as : Text → App
+described_as name = with_rule (with_rule (new_app name) limit_rule) bound_rule
 
--- A command is `analyse` with the two options.
+-- The commands are `analyse` and `shapes`.
 abbrev pub described : App
-described = with_subcommand (new_app (codes "cpsa")) analyse.top
+described = with_subcommand (with_subcommand (new_app (codes "cpsa")) (described_as (codes "analyse")).top) (described_as (codes "shapes")).top

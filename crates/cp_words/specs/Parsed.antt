@@ -1,11 +1,12 @@
 -- What the parser of command lines reads of a command's words.
-use Rattle.std.specs.Prelude.{◌≡◌, ℕ, true, List, Option, Some, None, codes, option_and_then}
+use Rattle.std.specs.Prelude.{◌≡◌, ℕ, true, List, Option, Some, None, codes, option_and_then, option_map}
 use Rattle.clap.specs.Words.{Row, Text, first_of, subcommand_of, takes}
 use Rattle.clap.specs.declared.error.kind.ErrorKind.{ErrorKind}
 use Rattle.clap.specs.declared.error.kind.ErrorKind.TheVariants.{OutOfMemory}
 use Rattle.cp_model.specs.Tree.{Limits}
-use Rattle.cp_words.specs.Command.{number_of}
+use Rattle.cp_words.specs.Command.{number_of, Command, command_named}
 use Rattle.cp_words.specs.Description.{described}
+use Rattle.cp_words.specs.declared.command.CommandName.{CommandName}
 use Rattle.cp_words.specs.declared.error.WordsError.{WordsError}
 use Rattle.cp_words.specs.declared.error.WordsError.TheVariants.{Usage, Memory}
 
@@ -25,11 +26,15 @@ limits_from _ _ = None
 abbrev pub limits_in : List Row → Option Limits
 limits_in rows = limits_from (number_in (codes "limit") rows) (number_in (codes "bound") rows)
 
--- the limits that stand behind `analyse`
-abbrev pub limits_found : Option (Text × List Row) → Option Limits
-limits_found = option_and_then (λ p. limits_in p.1)
+-- the command of this name, with the limits that stand behind it
+abbrev pub command_in : List Row → CommandName → Option Command
+command_in rows name = option_map (λ limits. record { name = name; limits = limits }) (limits_in rows)
 
--- The parser takes the words, and finds these limits in them.
-pub record IsParsedAs (words : List Text) (limits : Limits) : Type 0 where
+-- the command that the parser found
+abbrev pub command_found : Option (Text × List Row) → Option Command
+command_found = option_and_then (λ p. option_and_then (command_in p.1) (command_named p.0))
+
+-- The parser takes the words, and finds this command in them.
+pub record IsParsedAs (words : List Text) (command : Command) : Type 0 where
   pub taken : takes described words ≡ true
-  pub found : limits_found (subcommand_of described words) ≡ Some limits
+  pub found : command_found (subcommand_of described words) ≡ Some command

@@ -1,9 +1,10 @@
 // The words that are a command.
 ghost use Rattle.std.specs.Prelude.{◌≡◌, is_some, map, option_map, string_bytes};
-ghost use Rattle.cp_words.specs.Command.{number_of, setting_of, name_and_value, first_setting, limits_of, limits_set, limits_behind, limits_by, command_of};
-ghost use Rattle.cp_words.specs.Settings.{setting_view};
+ghost use Rattle.cp_words.specs.Command.{number_of, setting_of, name_and_value, first_setting, limits_of, limits_set, limits_behind, limits_by, command_named, command_of};
+ghost use Rattle.cp_words.specs.Settings.{setting_view, command_view};
 ghost use Rattle.cp_skel.specs.Trees.{limits_view};
 
+use crate::{Command, CommandName};
 use cp_skel::Limits;
 
 /// The step limit where the words give none, and the greatest that they may give.
@@ -105,23 +106,33 @@ fn limits_by(options: &[String]) -> Option<Limits>
     limits_behind(first, rest)
 }
 
-/// The limits of the command that the words are: a name for the program, `analyse`, and its options, each at most once:
-/// `--limit` with a number of at most 100,000, and `--bound` with a number of 1 to 32; `None` of any other words.
-fn command(words: &[String]) -> Option<Limits>
-    ensures { option_map limits_view result ≡ command_of (map string_bytes words.now) }
+/// The command that a word stands for.
+pub(crate) fn command_named(word: &str) -> Option<CommandName>
+    ensures { result ≡ command_named word.now }
 {
-    let [_, command, options @ ..] = words else {
+    match word {
+        "analyse" => Some(CommandName::Analyse),
+        "shapes" => Some(CommandName::Shapes),
+        _ => None,
+    }
+}
+
+/// The command that the words are: a name for the program, the name of the command, and its options, each at most once:
+/// `--limit` with a number of at most 100,000, and `--bound` with a number of 1 to 32; `None` of any other words.
+fn command_of(words: &[String]) -> Option<Command>
+    ensures { option_map command_view result ≡ command_of (map string_bytes words.now) }
+{
+    let [_, name, options @ ..] = words else {
         return None;
     };
-    if command.as_str() != "analyse" {
-        return None;
-    }
-    limits_by(options)
+    let name = command_named(name.as_str())?;
+    let limits = limits_by(options)?;
+    Some(Command { name, limits })
 }
 
 /// Whether the words are a command.
 pub(crate) fn is_command(words: &[String]) -> bool
     ensures { result ≡ is_some (command_of (map string_bytes words.now)) }
 {
-    command(words).is_some()
+    command_of(words).is_some()
 }

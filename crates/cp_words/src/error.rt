@@ -1,4 +1,4 @@
-// Why words give no limits.
+// Why words give no command.
 ghost use Rattle.std.specs.Prelude.{◌≡◌};
 ghost use Rattle.clap.specs.Words.{kind_of};
 ghost use Rattle.cp_words.specs.Parsed.{cause_of};
@@ -8,7 +8,7 @@ use clap::error::ErrorKind;
 use std::alloc::AllocError;
 use thiserror::Error;
 
-/// Why words give no limits.
+/// Why words give no command.
 #[derive(Debug, Drop, Error)]
 pub enum WordsError {
     /// The words are no command.

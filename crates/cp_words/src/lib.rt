@@ -6,5 +6,5 @@ mod command;
 mod error;
 mod parsing;
 
-pub use command::read_command;
+pub use command::{Command, CommandName, read_command};
 pub use error::WordsError;

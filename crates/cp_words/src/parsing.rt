@@ -1,27 +1,37 @@
-// The limits of a command's words, as the parser of command lines reads them.
+// The command that words are, as the parser of command lines reads them.
 ghost use Rattle.std.specs.Prelude.{◌≡◌, IfErr, IfOk, Some, map, option_map, string_bytes, true};
 ghost use Rattle.clap.specs.Words.{HasMatchesOf, app_of, found_of, rows_of, subcommand_rows_of, takes};
-ghost use Rattle.cp_model.specs.Tree.{Limits as LimitsData};
 ghost use Rattle.cp_skel.specs.Trees.{limits_view};
-ghost use Rattle.cp_words.specs.Command.{command_of};
-ghost use Rattle.cp_words.specs.Description.{described};
-ghost use Rattle.cp_words.specs.Parsed.{limits_found, number_in};
+ghost use Rattle.cp_words.specs.Command.{Command as CommandData, command_of};
+ghost use Rattle.cp_words.specs.Description.{described, described_as};
+ghost use Rattle.cp_words.specs.Parsed.{command_found, limits_in, number_in};
+ghost use Rattle.cp_words.specs.Settings.{command_view};
 ghost use Rattle.cp_words.specs.declared.error.WordsError.TheVariants.{Memory};
 
-use crate::WordsError;
-use crate::accepted::number;
-use clap::{Arg, ArgMatches, Command};
+use crate::accepted::{command_named, number};
+use crate::{Command, WordsError};
+use clap::{Arg, ArgMatches};
 use cp_skel::Limits;
 use std::alloc::{AllocError, Global};
 
-// A command, as the parser is told of it: `analyse`, and its two options.
-fn description<'a>(alloc: Global) -> Result<Command<'a>, AllocError>
-    ensures { IfOk result (λ c. app_of c ≡ described) }
+// A command of this name and its two options, as the parser is told of it.
+fn description_of<'a>(alloc: Global, name: &'a str) -> Result<clap::Command<'a>, AllocError>
+    ensures { IfOk result (λ c. app_of c ≡ described_as name.now) }
 {
     let limit = Arg::new(alloc, "limit").long("limit").default_value("2000");
     let bound = Arg::new(alloc, "bound").long("bound").default_value("8");
-    let analyse = Command::new(alloc, "analyse").arg(limit)?.arg(bound)?;
-    Command::new(alloc, "cpsa").subcommand(analyse)
+    clap::Command::new(alloc, name).arg(limit)?.arg(bound)
+}
+
+// The commands, as the parser is told of them.
+fn description<'a>(alloc: Global) -> Result<clap::Command<'a>, AllocError>
+    ensures { IfOk result (λ c. app_of c ≡ described) }
+{
+    let analyse = description_of(alloc, "analyse")?;
+    let shapes = description_of(alloc, "shapes")?;
+    clap::Command::new(alloc, "cpsa")
+        .subcommand(analyse)?
+        .subcommand(shapes)
 }
 
 // What the parser makes of the words.
@@ -39,20 +49,29 @@ fn number_in(options: &ArgMatches<'_>, name: &str) -> Option<u32>
     number(options.get_str(name)?)
 }
 
-// The limits that stand behind `analyse`.
-fn limits_found(matches: &ArgMatches<'_>) -> Option<Limits>
-    ensures { option_map limits_view result ≡ limits_found (subcommand_rows_of matches.now) }
+// The limits that the options set.
+fn limits_in(options: &ArgMatches<'_>) -> Option<Limits>
+    ensures { option_map limits_view result ≡ limits_in (rows_of (found_of options.now)) }
 {
-    let (_, options) = matches.subcommand()?;
     let steps = number_in(options, "limit")?;
     let strands = number_in(options, "bound")?;
     Some(Limits { steps, strands })
 }
 
-/// The limits that the words of a command ask for.
-pub(crate) fn parse(alloc: Global, words: &[String]) -> Result<Limits, WordsError>
-    ensures limits { (l : LimitsData) → command_of (map string_bytes words.now) ≡ Some l → IfOk result (λ r. limits_view r ≡ l) }
-    ensures memory { (l : LimitsData) → command_of (map string_bytes words.now) ≡ Some l → IfErr result (λ e. e ≡ Memory) }
+// The command that was found.
+fn command_found(matches: &ArgMatches<'_>) -> Option<Command>
+    ensures { option_map command_view result ≡ command_found (subcommand_rows_of matches.now) }
 {
-    limits_found(&matches_in(alloc, words)?).ok_or(WordsError::Usage)
+    let (name, options) = matches.subcommand()?;
+    let name = command_named(name)?;
+    let limits = limits_in(options)?;
+    Some(Command { name, limits })
+}
+
+/// The command that the words are.
+pub(crate) fn parse(alloc: Global, words: &[String]) -> Result<Command, WordsError>
+    ensures command { (d : CommandData) → command_of (map string_bytes words.now) ≡ Some d → IfOk result (λ c. command_view c ≡ d) }
+    ensures memory { (d : CommandData) → command_of (map string_bytes words.now) ≡ Some d → IfErr result (λ e. e ≡ Memory) }
+{
+    command_found(&matches_in(alloc, words)?).ok_or(WordsError::Usage)
 }

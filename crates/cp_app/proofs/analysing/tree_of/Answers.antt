@@ -1,7 +1,16 @@
 use Rattle.cp_load.specs.Inputs.{problem_view}
-use Rattle.cp_skel.specs.Trees.{limits_view}
-use Rattle.cp_app.proofs.Trees.{analysis_if}
+use Rattle.cp_skel.specs.Trees.{limits_view, tree_view}
+use Rattle.cp_app.proofs.Trees.{analysis_of}
 use Rattle.cp_app.proofs.analysing.tree_of.Goals as goal
 
 pub returns : goal.returns
-returns c = analysis_if (limits_view c.args.limits) (problem_view c.args.problem.now) c.search.result c.requires.analysable (rw c.deref.ensures at c.search.ensures.true_tree) (rw c.deref.ensures at c.search.ensures.exact) c.search.ensures.variables
+returns c =
+    let limits = limits_view c.args.limits in
+    let problem = problem_view c.args.problem.now in
+    let tree = tree_view c.in_ok-tree.tree in
+    let found = c.in_ok-tree.ensures in
+    let truth = rw c.deref.ensures at found.true_tree in
+    let exact = rw c.deref.ensures at found.exact in
+    let few = rw c.deref-2.ensures.value at c.have_few_variables.ensures in
+    analysis_of limits problem tree truth exact found.variables
+    (λ variables. c.search_trees_can_be_stated.ensures problem limits tree c.requires.analysable.roles c.requires.analysable.own truth exact variables few)

@@ -1,8 +1,9 @@
 use Rattle.std.proofs.Common.{map, sym, ap, ◌++◌, ◌∙◌}
 use Rattle.cp_sexpr.specs.View.{views}
-use Rattle.cp_language.specs.Report.{report_text}
 use Rattle.cp_load.specs.Inputs.{entries_of}
 use Rattle.cp_skel.specs.Trees.{limits_view, tree_view}
+use Rattle.cp_words.specs.Settings.{command_view}
+use Rattle.cp_app.specs.Headline.{text_by}
 use Rattle.cp_app.proofs.Trees.{analysable_problems, all_analysed}
 use Rattle.cp_app.proofs.Endings.{whole_report, load_cause}
 use Rattle.cp_app.proofs.running.report_of.Goals as goal
@@ -22,8 +23,8 @@ returns-clause-report c =
     let input = c.in_ok-loaded.loaded in
     let loaded = c.in_ok-loaded.ensures in
     let entries = entries_of input in
-    whole_report (limits_view c.args.limits) c.args.input.now c.print_pieces.new.out.items (views c.in_ok-forms.forms.items) entries (map tree_view c.in_ok-trees.trees.items) c.are_complete-complete.result
+    whole_report (command_view c.args.command) c.args.input.now c.print_by.new.text.items (views c.in_ok-forms.forms.items) entries (map tree_view c.in_ok-trees.trees.items) c.are_complete-complete.result
     c.requires.short c.in_ok-forms.ensures.forms (rw c.deref.ensures.value at loaded.input)
-    (all_analysed (limits_view c.args.limits) input c.deref.result.now (map tree_view c.in_ok-trees.trees.items) loaded.forms loaded.problems (rw c.deref-2.ensures.value at c.in_ok-trees.ensures))
+    (all_analysed (limits_view c.args.command.limits) input c.deref.result.now (map tree_view c.in_ok-trees.trees.items) loaded.forms loaded.problems (rw c.deref-2.ensures.value at c.in_ok-trees.ensures))
     (rw c.deref-3.ensures.value at c.are_complete-complete.ensures)
-    (c.in_ok-print_pieces.ensures.ok ∙ ap (λ xs. xs ++ report_text entries (map tree_view c.deref-4.result.now)) c.new-text.ensures.items ∙ ap (λ ts. report_text entries (map tree_view ts)) c.deref-4.ensures.value)
+    (c.in_ok-print_by.ensures ∙ ap (λ xs. xs ++ text_by c.args.command.name entries (map tree_view c.deref-4.result.now)) c.new-text.ensures.items ∙ ap (λ ts. text_by c.args.command.name entries (map tree_view ts)) c.deref-4.ensures.value)

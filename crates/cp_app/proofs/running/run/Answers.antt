@@ -5,20 +5,25 @@ use Rattle.cp_app.proofs.Endings as endings
 use Rattle.cp_app.proofs.running.run.Goals as goal
 
 pub returns-clause-searched : goal.returns-clause-searched
-returns-clause-searched g c = λ limits input before command is held analysed.
+returns-clause-searched g c = λ command input before named is held analysed.
     endings.executed_searched (command_of (map string_bytes c.args.words.now)) input (g.S.Source.left c.execute-status.new.source) (g.O.Sink.held c.args.out.now) (g.O.Sink.held c.execute-status.new.out)
-    limits before c.execute-status.result (c.execute-status.ensures.executed input is) command held analysed
+    command before c.execute-status.result (c.execute-status.ensures.executed input is) named held analysed
+
+pub returns-clause-read_back : goal.returns-clause-read_back
+returns-clause-read_back g c = λ command input before named is held analysed.
+    endings.executed_read_back (command_of (map string_bytes c.args.words.now)) input (g.S.Source.left c.execute-status.new.source) (g.O.Sink.held c.args.out.now) (g.O.Sink.held c.execute-status.new.out)
+    command before c.execute-status.result (c.execute-status.ensures.executed input is) named held analysed
 
 pub returns-clause-searched_before_fault : goal.returns-clause-searched_before_fault
-returns-clause-searched_before_fault g c = λ limits input before command is held broken.
+returns-clause-searched_before_fault g c = λ command input before named is held broken.
     endings.executed_broken_off (command_of (map string_bytes c.args.words.now)) input (g.S.Source.left c.execute-status.new.source) (g.O.Sink.held c.args.out.now) (g.O.Sink.held c.execute-status.new.out)
-    limits before c.execute-status.result (c.execute-status.ensures.executed input is) command held broken
+    command before c.execute-status.result (c.execute-status.ensures.executed input is) named held broken
 
 pub returns-clause-reported : goal.returns-clause-reported
-returns-clause-reported g c = λ limits input before command is held analysed. (returns-clause-searched g c limits input before command is held analysed).reported
+returns-clause-reported g c = λ command input before named is held analysed. (returns-clause-searched g c command input before named is held analysed).reported
 
 pub returns-clause-broken_off : goal.returns-clause-broken_off
-returns-clause-broken_off g c = λ limits input before command is held broken. (returns-clause-searched_before_fault g c limits input before command is held broken).broken_off
+returns-clause-broken_off g c = λ command input before named is held broken. (returns-clause-searched_before_fault g c command input before named is held broken).broken_off
 
 pub returns-clause-accepted : goal.returns-clause-accepted
 returns-clause-accepted g c = λ input is accepted.
@@ -31,9 +36,9 @@ returns-clause-refused g c = λ r input refused is.
     c.execute-status.result r (c.execute-status.ensures.executed input is) refused
 
 pub returns-clause-only_refused : goal.returns-clause-only_refused
-returns-clause-only_refused g c = λ limits r input command is short refused.
+returns-clause-only_refused g c = λ command r input named is short refused.
     endings.executed_only_refused (command_of (map string_bytes c.args.words.now)) input (g.S.Source.left c.execute-status.new.source) (g.O.Sink.held c.args.out.now) (g.O.Sink.held c.execute-status.new.out)
-    limits r c.execute-status.result (c.execute-status.ensures.executed input is) command short refused
+    command r c.execute-status.result (c.execute-status.ensures.executed input is) named short refused
 
 pub returns-clause-too_long : goal.returns-clause-too_long
 returns-clause-too_long g c = λ input is long.
@@ -41,9 +46,9 @@ returns-clause-too_long g c = λ input is long.
     c.execute-status.result (c.execute-status.ensures.executed input is) long
 
 pub returns-clause-only_too_long : goal.returns-clause-only_too_long
-returns-clause-only_too_long g c = λ limits input command is long.
+returns-clause-only_too_long g c = λ command input named is long.
     endings.executed_only_too_long (command_of (map string_bytes c.args.words.now)) input (g.S.Source.left c.execute-status.new.source) (g.O.Sink.held c.args.out.now) (g.O.Sink.held c.execute-status.new.out)
-    limits c.execute-status.result (c.execute-status.ensures.executed input is) command long
+    command c.execute-status.result (c.execute-status.ensures.executed input is) named long
 
 pub returns-clause-took_at_most : goal.returns-clause-took_at_most
 returns-clause-took_at_most g c = λ input is.
@@ -51,7 +56,7 @@ returns-clause-took_at_most g c = λ input is.
     c.execute-status.result (c.execute-status.ensures.executed input is)
 
 pub returns-clause-completes : goal.returns-clause-completes
-returns-clause-completes g c = λ limits input fs command is accepted not_read not_written.
+returns-clause-completes g c = λ command input fs named is accepted not_read not_written.
     endings.executed_completes (command_of (map string_bytes c.args.words.now)) input (g.S.Source.left c.execute-status.new.source) (g.O.Sink.held c.args.out.now) (g.O.Sink.held c.execute-status.new.out)
-    limits c.execute-status.result fs (Rose (g.S.Source.faults c.args.source.now) (g.S.Source.faults c.execute-status.new.source)) (Rose (g.O.Sink.faults c.args.out.now) (g.O.Sink.faults c.execute-status.new.out))
-    (c.execute-status.ensures.executed input is) command c.execute-status.ensures.read_fault c.execute-status.ensures.write_fault accepted not_read not_written
+    command c.execute-status.result fs (Rose (g.S.Source.faults c.args.source.now) (g.S.Source.faults c.execute-status.new.source)) (Rose (g.O.Sink.faults c.args.out.now) (g.O.Sink.faults c.execute-status.new.out))
+    (c.execute-status.ensures.executed input is) named c.execute-status.ensures.read_fault c.execute-status.ensures.write_fault accepted not_read not_written

@@ -1,4 +1,4 @@
-use Rattle.std.proofs.Common.{◌≡◌, List, map, ap, ◌∙◌}
+use Rattle.std.proofs.Common.{List, map, ap, ◌∙◌}
 use Rattle.cp_model.specs.Strand.{Role}
 use Rattle.cp_model.specs.Skeleton.{SkeletonStrand}
 use Rattle.cp_sexpr.specs.View.{view}
@@ -6,7 +6,7 @@ use Rattle.cp_load.specs.Drafts.{draft_view}
 use Rattle.cp_strand.specs.View.{strand_view}
 use Rattle.cp_report.specs.Heads.{items_with, strand_heads}
 use Rattle.cp_report.specs.Spelled.{Scope}
-use Rattle.cp_report.specs.Skeletons.{strand_of, strands_of_label, around_strands_misfits}
+use Rattle.cp_report.specs.Skeletons.{strand_of, around_strands_misfits}
 use Rattle.cp_report.specs.Labels.{about_strands_misfits}
 use Rattle.cp_spelled.specs.FirstMisfit.{first_onto}
 use Rattle.cp_spelled.specs.Views.{scope_view}

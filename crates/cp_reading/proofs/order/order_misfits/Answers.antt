@@ -1,6 +1,6 @@
 use Rattle.std.proofs.Common.{map}
 use Rattle.cp_reading.specs.Lines.{line_view}
-use Rattle.cp_reading.proofs.InLine.{line-taken, lines-done}
+use Rattle.cp_reading.proofs.InLine.{lines-done}
 use Rattle.cp_reading.proofs.order.order_misfits.Goals as goal
 
 pub returns : goal.returns

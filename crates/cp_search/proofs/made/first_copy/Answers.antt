@@ -11,13 +11,13 @@ loop-number-preserved-then-is_flagged c =
     below_more (λ (n : ℕ). MayBeSeenIn c.args.made.now c.args.forbidden.now k n → ⊥) c.loop-number.number c.loop-number.invariant
     (flagged_no_copy c.args.made.now c.args.forbidden.now k c.loop-number.number (c.is_flagged.ensures.0 c.if-is_flagged.true))
 
-pub loop-number-preserved-then-not-may_embed : goal.loop-number-preserved-then-not-may_embed
-loop-number-preserved-then-not-may_embed c =
+pub loop-number-preserved-then-not-may_be_isomorphic : goal.loop-number-preserved-then-not-may_be_isomorphic
+loop-number-preserved-then-not-may_be_isomorphic c =
     let k = skeleton_view c.args.skeleton.now in
     let other = c.index-made-number.result in
     let listed = listed_here c.args.made.now c.loop-number.number other c.loop-number-test.true c.index-made-number.is c.args.forbidden.now k in
     below_more (λ (n : ℕ). MayBeSeenIn c.args.made.now c.args.forbidden.now k n → ⊥) c.loop-number.number c.loop-number.invariant
-    (kept_apart c.args.made.now c.loop-number.number other c.loop-number-test.true c.index-made-number.is c.args.forbidden.now k other.fingerprint c.args.fingerprint.now c.may_embed.result (c.requires.fingerprints other listed) c.requires.fingerprint c.if-not-may_embed.true c.may_embed.ensures.kept)
+    (kept_apart c.args.made.now c.loop-number.number other c.loop-number-test.true c.index-made-number.is c.args.forbidden.now k other.fingerprint c.args.fingerprint.now c.may_be_isomorphic.result (c.requires.fingerprints other listed) c.requires.fingerprint c.if-not-may_be_isomorphic.true c.may_be_isomorphic.ensures.kept)
 
 pub returns-then-branch : goal.returns-then-branch
 returns-then-branch c = record {

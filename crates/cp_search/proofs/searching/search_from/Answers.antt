@@ -8,6 +8,11 @@ use Rattle.cp_search.proofs.searching.search_from.Goals as goal
 pub loop-search-init : goal.loop-search-init
 loop-search-init c = searched_first c.args.protocol.now (limits_view c.args.limits) c.args.roots.items c.in_ok-made.made.items c.in_ok-made.ensures c.requires.sound c.new.result.items c.new.ensures.items
 
+pub settle_leaves-requires : goal.settle_leaves-requires
+settle_leaves-requires c =
+    let r : IsSearched c.args.protocol.now (limits_view c.args.limits) (map root_made c.args.roots.items) c.loop-search.search.made.items c.loop-search.search.settled.items c.loop-search.search.expanded = c.loop-search.invariant in
+    record { found = r.found }
+
 pub expand_next-requires-clause-next : goal.expand_next-requires-clause-next
 expand_next-requires-clause-next c = c.in_ok-settle_leaves.ensures.next c.if-branch.true
 

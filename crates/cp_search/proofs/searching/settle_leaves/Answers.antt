@@ -1,33 +1,63 @@
-use Rattle.std.proofs.Common.{◌<◌, ◌≡◌, length, ◌∙◌, arith}
-use Rattle.std.proofs.lemmas.List.{length-append}
+use Rattle.std.proofs.Common.{◌∙◌, arith}
 use Rattle.cp_skel.specs.Trees.{limits_view}
-use Rattle.cp_lists.proofs.Items.{item_below}
-use Rattle.cp_search.proofs.SettledLeaves.{leaf_pushed, expands_now, next_label, one_within}
+use Rattle.cp_search.proofs.SettledLeaves.{expands_now, next_label}
+use Rattle.cp_search.proofs.SettledAs.{settled_pushed}
+use Rattle.cp_search.proofs.Waiting.{all_found, fewer_left, still_within}
 use Rattle.cp_search.proofs.searching.settle_leaves.Goals as goal
 
 pub returns-in_default-clause-next : goal.returns-in_default-clause-next
 returns-in_default-clause-next c = λ _.
-    let test = c.loop-limits-test.true in
+    let test = c.loop-alloc-test.true in
     let s = c.len.ensures in
-    let m = c.len-in-loop-limits.ensures in
-    let made = c.loop-limits.search.made.ok.0 in
-    let place = c.len-in-loop-limits-2.ensures in
+    let m = c.len-in-loop-alloc.ensures in
+    let made = c.loop-alloc.search.made.ok.0 in
+    let place = c.len-next.ensures in
     record {
-      label = c.index-label.result.now;
-      at = next_label c.loop-limits.search.made.items c.loop-limits.search.settled.items c.len-in-loop-limits-2.result c.index-label.result.now (omega (arith, test, s, m, made, place)) c.index-label.ensures (c.len-in-loop-limits-2.ensures ∙ c.loop-limits.search.settled.ok.0);
-      expands = expands_now (limits_view c.args.limits) c.index-label.result.now c.loop-limits.search.expanded c.leaf_of.result c.leaf_of.ensures c.in_default.not-Some;
+      label = c.index.result.now;
+      at = next_label c.loop-alloc.search.made.items c.loop-alloc.search.settled.items c.len-next.result c.index.result.now (omega (arith, test, s, m, made, place)) c.index.ensures (c.len-next.ensures ∙ c.loop-alloc.search.settled.ok.0);
+      expands = expands_now (limits_view c.args.limits) c.index.result.now c.loop-alloc.search.expanded c.leaf_of.result c.leaf_of.ensures c.in_default.not-Some;
     }
 
-pub loop-limits-preserved : goal.loop-limits-preserved
-loop-limits-preserved c =
-    let test = c.loop-limits-test.true in
+pub settle_leaf-requires : goal.settle_leaf-requires
+settle_leaf-requires c =
+    let test = c.loop-alloc-test.true in
     let s = c.len.ensures in
-    let m = c.len-in-loop-limits.ensures in
-    let made = c.loop-limits.search.made.ok.0 in
-    let place = c.len-in-loop-limits-2.ensures in
-    let at = next_label c.loop-limits.search.made.items c.loop-limits.search.settled.items c.len-in-loop-limits-2.result c.index-label.result.now (omega (arith, test, s, m, made, place)) c.index-label.ensures (c.len-in-loop-limits-2.ensures ∙ c.loop-limits.search.settled.ok.0) in
+    let m = c.len-in-loop-alloc.ensures in
+    let made = c.loop-alloc.search.made.ok.0 in
+    let place = c.len-next.ensures in
+    record { found = c.loop-alloc.invariant.found; there = omega (arith, test, s, m, made, place) }
+
+pub loop-alloc-preserved : goal.loop-alloc-preserved
+loop-alloc-preserved c =
+    let test = c.loop-alloc-test.true in
+    let s = c.len.ensures in
+    let m = c.len-in-loop-alloc.ensures in
+    let made = c.loop-alloc.search.made.ok.0 in
+    let place = c.len-next.ensures in
+    let number = c.len-next.ensures ∙ c.loop-alloc.search.settled.ok.0 in
+    let old = c.loop-alloc.search.made.items in
+    let new = c.settle_leaf.new.made.items in
+    let done = c.loop-alloc.search.settled.items in
+    let label = c.index.result.now in
+    let at = next_label old done c.len-next.result label (omega (arith, test, s, m, made, place)) c.index.ensures number in
     record {
-      searched = λ protocol made h. leaf_pushed protocol (limits_view c.args.limits) made c.loop-limits.search.made.items c.loop-limits.search.settled.items c.push.new.self.items c.loop-limits.search.expanded c.index-label.result.now c.leaf_of.result c.in-Some.mark (c.loop-limits.invariant.searched protocol made h) at c.leaf_of.ensures c.in-Some.is c.in_ok-push.ensures.items;
-      within = λ w. one_within c.loop-limits.search.made.items c.loop-limits.search.settled.items _ c.push.new.self.items c.index-label.result.now at c.in_ok-push.ensures.items;
-      expanded = c.loop-limits.invariant.expanded;
+      searched = λ protocol made h. settled_pushed protocol (limits_view c.args.limits) made old new done c.push.new.self.items c.loop-alloc.search.expanded label c.leaf_of.result c.in-Some.mark c.in_ok-settled.settled c.len-next.result (c.loop-alloc.invariant.searched protocol made h) at c.leaf_of.ensures c.in-Some.is number c.in_ok-settled.ensures c.in_ok-push.ensures.items;
+      found = all_found old new done c.push.new.self.items label c.in-Some.mark at c.in_ok-settled.settled c.len-next.result number c.in_ok-settled.ensures c.loop-alloc.invariant.found;
+      within = λ _. still_within old new done c.push.new.self.items label c.in-Some.mark at c.in_ok-settled.settled c.len-next.result number c.in_ok-settled.ensures c.in_ok-push.ensures.items;
+      expanded = c.loop-alloc.invariant.expanded;
     }
+
+pub loop-alloc-smaller : goal.loop-alloc-smaller
+loop-alloc-smaller c =
+    let test = c.loop-alloc-test.true in
+    let s = c.len.ensures in
+    let m = c.len-in-loop-alloc.ensures in
+    let made = c.loop-alloc.search.made.ok.0 in
+    let place = c.len-next.ensures in
+    let number = c.len-next.ensures ∙ c.loop-alloc.search.settled.ok.0 in
+    let old = c.loop-alloc.search.made.items in
+    let new = c.settle_leaf.new.made.items in
+    let done = c.loop-alloc.search.settled.items in
+    let label = c.index.result.now in
+    let at = next_label old done c.len-next.result label (omega (arith, test, s, m, made, place)) c.index.ensures number in
+    fewer_left old new done c.push.new.self.items label c.in-Some.mark at c.in_ok-settled.settled c.len-next.result number c.in_ok-settled.ensures c.in_ok-push.ensures.items

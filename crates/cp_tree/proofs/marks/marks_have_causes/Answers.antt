@@ -1,4 +1,4 @@
-use Rattle.cp_tree.proofs.Causes.{shape_cause, instance_cause, seen_cause, seen_where_it_may, dead_cause, strands_cause, steps_cause}
+use Rattle.cp_tree.proofs.Causes.{shape_cause, instance_cause, seen_cause, seen_where_it_may, dead_cause, strands_cause, steps_cause, generalised_cause}
 use Rattle.cp_tree.proofs.marks.marks_have_causes.Goals as goal
 
 pub returns-clause-shape : goal.returns-clause-shape
@@ -21,3 +21,6 @@ returns-clause-limit_strands c = strands_cause
 
 pub returns-clause-limit_steps : goal.returns-clause-limit_steps
 returns-clause-limit_steps c = steps_cause
+
+pub returns-clause-generalised : goal.returns-clause-generalised
+returns-clause-generalised c = generalised_cause

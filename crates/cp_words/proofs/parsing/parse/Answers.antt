@@ -1,19 +1,19 @@
 use Rattle.std.proofs.Common.{◌∙◌, map, string_bytes, option_map, ap, sym}
 use Rattle.clap.specs.Words.{subcommand_rows_of}
-use Rattle.cp_skel.specs.Trees.{limits_view}
-use Rattle.cp_words.proofs.Shapes.{is_simple_command}
-use Rattle.cp_words.proofs.Failing.{failed, limits_are_found, none_is_memory}
+use Rattle.cp_words.specs.Settings.{command_view}
+use Rattle.cp_words.proofs.Entering.{is_simple_command}
+use Rattle.cp_words.proofs.Failing.{failed, command_is_found, none_is_memory}
 use Rattle.cp_words.proofs.parsing.parse.Goals as goal
 
 pub returns-in_err-matches_in-clause-memory : goal.returns-in_err-matches_in-clause-memory
 returns-in_err-matches_in-clause-memory c = failed c.from_residual.result c.in_err-matches_in.field-0.0 (map string_bytes c.args.words.now) c.in_err-matches_in.ensures.memory c.from_residual.ensures.1
 
-pub returns-clause-limits : goal.returns-clause-limits
-returns-clause-limits c =
-    limits_are_found limits_view (map string_bytes c.args.words.now) (subcommand_rows_of c.in_ok-matches_in.field-0) (c.in_ok-matches_in.ensures.matches is_simple_command).1 c.ok_or.result
-    (ap (option_map limits_view) (sym c.ok_or.ensures.ok_part) ∙ c.limits_found.ensures)
+pub returns-clause-command : goal.returns-clause-command
+returns-clause-command c =
+    command_is_found command_view (map string_bytes c.args.words.now) (subcommand_rows_of c.in_ok-matches_in.field-0) (c.in_ok-matches_in.ensures.matches is_simple_command).1 c.ok_or.result
+    (ap (option_map command_view) (sym c.ok_or.ensures.ok_part) ∙ c.command_found.ensures)
 
 pub returns-clause-memory : goal.returns-clause-memory
 returns-clause-memory c =
-    none_is_memory limits_view (map string_bytes c.args.words.now) (subcommand_rows_of c.in_ok-matches_in.field-0) (c.in_ok-matches_in.ensures.matches is_simple_command).1 c.ok_or.result
-    (ap (option_map limits_view) (sym c.ok_or.ensures.ok_part) ∙ c.limits_found.ensures)
+    none_is_memory command_view (map string_bytes c.args.words.now) (subcommand_rows_of c.in_ok-matches_in.field-0) (c.in_ok-matches_in.ensures.matches is_simple_command).1 c.ok_or.result
+    (ap (option_map command_view) (sym c.ok_or.ensures.ok_part) ∙ c.command_found.ensures)

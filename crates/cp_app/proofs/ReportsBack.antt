@@ -1,0 +1,79 @@
+-- Reports are read back as what they are printed for.
+use Rattle.std.proofs.Common.{◌≡◌, ℕ, List, [], ◌∷◌, ◌++◌, Option, Some, None, Result, Ok, refl, sym, ap, ◌∙◌, subst}
+use Rattle.std.specs.List.{AllZip, cons_option, filter_map}
+use Rattle.cp_base.specs.declared.place.Refusal.{Refusal}
+use Rattle.cp_model.specs.Linking.{ArePaired}
+use Rattle.cp_model.specs.Tree.{Tree}
+use Rattle.cp_sexpr.specs.Syntax.{Form, Forms, forms_of}
+use Rattle.cp_sexpr.specs.Reading.{IsReading}
+use Rattle.cp_sexpr.specs.ReadingBack.{all_unplaced, top_spellings, ReadsAs}
+use Rattle.cp_sexpr.specs.Spelling.{top_spelling}
+use Rattle.cp_sexpr.proofs.ReadBack.{top_forms_read_back}
+use Rattle.cp_sexpr.proofs.Unique.{one_reading_of}
+use Rattle.cp_language.specs.Problems.{Problem}
+use Rattle.cp_language.specs.Input.{Entry, faults_of, input_of}
+use Rattle.cp_language.specs.Report.{report_forms, text_of_forms, report_text}
+use Rattle.cp_report.specs.Fitting.{TreeFits, problem_onto, problems_in}
+use Rattle.cp_report.specs.Laws.{CanBeStated}
+use Rattle.cp_report.proofs.Premises.{reads_back}
+use Rattle.cp_words.specs.declared.command.CommandName.{CommandName}
+use Rattle.cp_app.specs.Headline.{HaveTrees, text_by}
+use Rattle.cp_app.specs.ReadBack.{report_over, AreReadBack, IsReadAs, AreReadable, IsReadBackAs}
+
+-- ---- problems with their trees
+
+onto_same : (o : Option Problem) (ps qs : List Problem) → ps ≡ qs → problem_onto o ps ≡ cons_option o qs
+onto_same None ps qs same = same
+onto_same (Some p) ps qs same = ap (λ rs. p ∷ rs) same
+
+problems_same : (es : List Entry) → problems_in es ≡ filter_map (λ e. e.problem) es
+problems_same [] = refl
+problems_same (e ∷ es) = onto_same e.problem (problems_in es) (filter_map (λ d. d.problem) es) (problems_same es)
+
+paired : {A B : Type 0} (R : A → B → Type 0) (xs : List A) (ys : List B) → AllZip R xs ys → ArePaired R xs ys
+paired R [] [] all = tt
+paired R [] (y ∷ ys) all = absurd all
+paired R (x ∷ xs) [] all = absurd all
+paired R (x ∷ xs) (y ∷ ys) all = (all.0, paired R xs ys all.1)
+
+can_be_stated : (input : Forms) (trees : List Tree) → faults_of input ≡ [] → HaveTrees TreeFits (input_of input) trees → CanBeStated input trees
+can_be_stated input trees well_formed fit = record {
+  well_formed = well_formed;
+  fit = subst (λ ps. ArePaired TreeFits ps trees) (sym (problems_same (input_of input))) (paired TreeFits (filter_map (λ e. e.problem) (input_of input)) trees fit);
+}
+
+-- ---- texts
+
+text_is : (fs : List Form) → text_of_forms fs ≡ top_spellings (forms_of fs)
+text_is [] = refl
+text_is (f ∷ fs) = ap (λ t. top_spelling f ++ t) (text_is fs)
+
+same_forms : (fs gs : Forms) (a b : Result Forms Refusal) → a ≡ Ok fs → b ≡ Ok gs → a ≡ b → fs ≡ gs
+same_forms fs gs a b is also e = cc
+
+-- a text gives the same forms whenever it is read
+pub same_reading : (text : List ℕ) (fs gs : Forms) → IsReading text (Ok fs) → IsReading text (Ok gs) → fs ≡ gs
+same_reading text fs gs reading again = same_forms fs gs (Ok fs) (Ok gs) refl refl (one_reading_of text (Ok fs) (Ok gs) reading again)
+
+text_reads : (fs : List Form) → AreReadable (forms_of fs) → ReadsAs (text_of_forms fs) (forms_of fs)
+text_reads fs readable = subst (λ t. ReadsAs t (forms_of fs)) (sym (text_is fs)) (top_forms_read_back (forms_of fs) readable.spelled readable.depth)
+
+read_as : (input : Forms) (trees : List Tree) → AreReadBack input trees → AreReadable (forms_of (report_forms (input_of input) trees)) → IsReadAs (report_text (input_of input) trees) (report_over input trees)
+read_as input trees back readable =
+    let text = report_text (input_of input) trees in
+    let reads = text_reads (report_forms (input_of input) trees) readable in
+    record {
+      forms = (reads.0, reads.1);
+      report = λ fs reading. back fs (ap all_unplaced (same_reading text fs reads.0 reading reads.1) ∙ reads.2);
+    }
+
+-- ---- what is printed of trees that can be stated
+
+pub read_back_as : (name : CommandName) (text : List ℕ) (input : Forms) (trees : List Tree) → text ≡ text_by name (input_of input) trees → faults_of input ≡ [] → HaveTrees TreeFits (input_of input) trees
+    → IsReadBackAs name text input trees
+read_back_as name text input trees printed well_formed fit =
+    let back : AreReadBack input trees = λ fs same. reads_back input trees fs (can_be_stated input trees well_formed fit) same in
+    record {
+      forms = back;
+      report = λ is readable. subst (λ t. IsReadAs t (report_over input trees)) (sym (printed ∙ ap (λ n. text_by n (input_of input) trees) is)) (read_as input trees back readable);
+    }

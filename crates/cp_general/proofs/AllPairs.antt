@@ -1,0 +1,89 @@
+-- A skeleton with all pairs of its order.
+use Rattle.std.proofs.Common.{◌≡◌, ◌↔◌, List, refl, sym, ap, ◌∙◌, subst}
+use Rattle.cp_lists.specs.Lists.{IsIn, one_step, more_steps}
+use Rattle.cp_lists.proofs.Reached.{steps_append}
+use Rattle.cp_model.specs.Skeleton.{Skeleton, OrderStep, along_strand_of, along_pair, Before, IsOrderPair}
+use Rattle.cp_model.specs.declared.node.Node.{Node}
+use Rattle.cp_model.specs.declared.node.OrderPair.{OrderPair}
+use Rattle.cp_strand.specs.View.{strand_view}
+use Rattle.cp_skel.specs.Data.{SkeletonData}
+use Rattle.cp_skel.specs.View.{skeleton_view}
+use Rattle.cp_skel.specs.Ordered.{IsOrdered, ordered_by, ChangesOrderOnly}
+use Rattle.cp_skel.specs.Sound.{IsSound}
+use Rattle.cp_skel.proofs.SoundSkeletons.{sound_ordered, reordered_sound}
+use Rattle.cp_general.specs.Steps.{IsPairOfOrder}
+use Rattle.cp_general.specs.Listing.{ListsOrder}
+use Rattle.cp_general.proofs.Dropped.{way_back}
+
+module _ (k : Skeleton) (sound : IsSound k) (ps : List OrderPair) (lists : ListsOrder k ps) where
+  abbrev whole : Skeleton
+  whole = ordered_by k ps
+
+  step_to : (x y : Node) → OrderStep k x y → OrderStep whole x y
+  step_to x y (along_strand_of e) = along_strand_of e
+  step_to x y (along_pair {p = q} m) = along_pair ((lists.each q).1 (record { pair = sound.skeleton.order_pairs q m; ordered = one_step (along_pair m) }))
+
+  way_to : (x y : Node) → Before k x y → Before whole x y
+  way_to x y (one_step s) = one_step (step_to x y s)
+  way_to x z (more_steps {y = y} s r) = more_steps (step_to x y s) (way_to y z r)
+
+  way_from : (x y : Node) → Before whole x y → Before k x y
+  way_from = way_back k ps (λ q m. ((lists.each q).0 m).ordered)
+
+  pair_to : (q : OrderPair) → IsOrderPair k q → IsOrderPair whole q
+  pair_to q o = record { sent = o.sent; received = o.received; transmission = o.transmission; reception = o.reception; between_strands = o.between_strands }
+
+  pair_from : (q : OrderPair) → IsOrderPair whole q → IsOrderPair k q
+  pair_from q o = record { sent = o.sent; received = o.received; transmission = o.transmission; reception = o.reception; between_strands = o.between_strands }
+
+  whole_ordered : IsOrdered whole
+  whole_ordered = record { order_pairs = λ q m. pair_to q ((lists.each q).0 m).pair; no_cycle = λ n b. (sound_ordered k sound).no_cycle n (way_from n n b) }
+
+  pub whole_sound : IsSound whole
+  whole_sound = reordered_sound k ps sound whole_ordered way_to
+
+  pub whole_lists : ListsOrder whole ps
+  whole_lists = record {
+    each = λ q. (
+      λ m. let o = (lists.each q).0 m in record { pair = pair_to q o.pair; ordered = way_to q.earlier q.later o.ordered },
+      λ h. (lists.each q).1 (record { pair = pair_from q h.pair; ordered = way_from q.earlier q.later h.ordered }),
+    );
+    rising = lists.rising;
+  }
+
+  pub whole_before : (x y : Node) → Before whole x y ↔ Before k x y
+  whole_before x y = (way_from x y, way_to x y)
+
+-- ---- as the program makes it
+
+pub sound_by : (closed : SkeletonData) (ps order : List OrderPair) → IsSound (skeleton_view closed) → ListsOrder (skeleton_view closed) ps → order ≡ ps → IsSound (ordered_by (skeleton_view closed) order)
+sound_by closed ps order sound lists same = subst (λ qs. IsSound (ordered_by (skeleton_view closed) qs)) (sym same) (whole_sound (skeleton_view closed) sound ps lists)
+
+module _ (k copy closed h : SkeletonData) (ps order : List OrderPair) (copied : copy ≡ k) (changes : ChangesOrderOnly copy closed)
+    (before : (x y : Node) → Before (skeleton_view closed) x y ↔ Before (skeleton_view copy) x y) (sound : IsSound (skeleton_view closed)) (lists : ListsOrder (skeleton_view closed) ps) (same : order ≡ ps)
+    (made : h ≡ record closed { order = order }) where
+  to_whole : skeleton_view h ≡ ordered_by (skeleton_view closed) ps
+  to_whole = ap skeleton_view made ∙ ap (ordered_by (skeleton_view closed)) same
+
+  order_is : h.order ≡ ps
+  order_is = ap (λ (d : SkeletonData). d.order) made ∙ same
+
+  pub made_same : h ≡ record k { order = h.order }
+  made_same =
+      let variables = ap (λ (d : SkeletonData). d.variables) made ∙ changes.variables ∙ ap (λ (d : SkeletonData). d.variables) copied in
+      let strands = ap (λ (d : SkeletonData). d.strands) made ∙ changes.strands ∙ ap (λ (d : SkeletonData). d.strands) copied in
+      let assumptions = ap (λ (d : SkeletonData). d.assumptions) made ∙ changes.assumptions ∙ ap (λ (d : SkeletonData). d.assumptions) copied in
+      let from_problem = ap (λ (d : SkeletonData). d.from_problem) made ∙ changes.from_problem ∙ ap (λ (d : SkeletonData). d.from_problem) copied in
+      λ i. record { variables = variables i; strands = strands i; order = h.order; assumptions = assumptions i; from_problem = from_problem i }
+
+  pub made_before : (x y : Node) → Before (skeleton_view h) x y ↔ Before (skeleton_view k) x y
+  made_before x y =
+      let w : Before (skeleton_view h) x y ↔ Before (skeleton_view closed) x y =
+      subst (λ (z : Skeleton). Before z x y ↔ Before (skeleton_view closed) x y) (sym to_whole) (whole_before (skeleton_view closed) sound ps lists x y) in
+      let c : Before (skeleton_view closed) x y ↔ Before (skeleton_view k) x y = subst (λ (d : SkeletonData). Before (skeleton_view closed) x y ↔ Before (skeleton_view d) x y) copied (before x y) in
+      (λ b. c.0 (w.0 b), λ b. w.1 (c.1 b))
+
+  pub made_lists : ListsOrder (skeleton_view h) h.order
+  made_lists =
+      subst (ListsOrder (skeleton_view h)) (sym order_is)
+      (subst (λ (z : Skeleton). ListsOrder z ps) (sym to_whole) (whole_lists (skeleton_view closed) sound ps lists))

@@ -1,0 +1,85 @@
+-- What is gathered from the roles of strands is given by one of the strands.
+use Rattle.std.proofs.Common.{◌≡◌, ℕ, suc, ◌+◌, List, [], ◌∷◌, Some, refl, subst, ⊎_elim, arith}
+use Rattle.cp_lists.specs.Lists.{item_at, IsIn}
+use Rattle.cp_lists.proofs.Members.{in_append}
+use Rattle.cp_model.specs.Term.{AtomTerm, Substitution}
+use Rattle.cp_model.specs.Strand.{Role}
+use Rattle.cp_model.specs.Skeleton.{SkeletonStrand, instance, listener, UniqueAt}
+use Rattle.cp_model.specs.Given.{applying, applying_uniques, given_non, given_penetrator_non, given_uniques}
+use Rattle.cp_model.proofs.Gathered.{atoms, uniques, onto-takes}
+use Rattle.cp_skel.specs.Given.{IsGivenFrom, IsOriginFrom}
+use Rattle.cp_skel.proofs.GivenParts.{atoms-given, uniques-given}
+
+-- One of the strands is an instance that gives something.
+pub record IsGivenByOne (gives : Role → ℕ → Substitution → ℕ → Type 0) (strands : List SkeletonStrand) : Type 0 where
+  pub strand : ℕ
+  pub role : Role
+  pub height : ℕ
+  pub terms : Substitution
+  pub on_instance : item_at strands strand ≡ Some (instance role height terms)
+  pub given : gives role height terms strand
+
+given_first : (gives : Role → ℕ → Substitution → ℕ → Type 0) (role : Role) (height : ℕ) (terms : Substitution) (strands : List SkeletonStrand) → gives role height terms 0 → IsGivenByOne gives (instance role height terms ∷ strands)
+given_first gives role height terms strands g = record { strand = 0; role = role; height = height; terms = terms; on_instance = refl; given = g }
+
+given_later : (gives : Role → ℕ → Substitution → ℕ → Type 0) (s : SkeletonStrand) (strands : List SkeletonStrand) → IsGivenByOne (λ role height terms n. gives role height terms (suc n)) strands → IsGivenByOne gives (s ∷ strands)
+given_later gives s strands r = record { strand = suc r.strand; role = r.role; height = r.height; terms = r.terms; on_instance = r.on_instance; given = r.given }
+
+atom_given : (role : Role) (height : ℕ) (terms : Substitution) (stated : List AtomTerm) (v : AtomTerm) → IsIn v (applying role height terms stated) → IsGivenFrom stated role height terms v
+atom_given role height terms stated v i =
+    let a = atoms-given role height terms stated [] in
+    a.only_given v (subst (IsIn v) a.behind (onto-takes atoms [] (applying role height terms stated) v i))
+
+unique_given : (role : Role) (height : ℕ) (terms : Substitution) (s : ℕ) (stated : List AtomTerm) (u : UniqueAt) → IsIn u (applying_uniques role height terms s stated) → IsOriginFrom stated role height terms s u
+unique_given role height terms s stated u i =
+    let a = uniques-given role height terms s stated [] in
+    a.only_given u (subst (IsIn u) a.behind (onto-takes uniques [] (applying_uniques role height terms s stated) u i))
+
+-- A strand gives the value as non-originating, or as one that the penetrator does not originate.
+abbrev GivesNon : AtomTerm → Role → ℕ → Substitution → ℕ → Type 0
+GivesNon v role height terms s = IsGivenFrom role.non_originating role height terms v
+
+abbrev GivesPenetratorNon : AtomTerm → Role → ℕ → Substitution → ℕ → Type 0
+GivesPenetratorNon v role height terms s = IsGivenFrom role.penetrator_non_originating role height terms v
+
+-- A strand, of those that have numbers from n on, gives the unique value.
+abbrev GivesUnique : UniqueAt → ℕ → Role → ℕ → Substitution → ℕ → Type 0
+GivesUnique u n role height terms s = IsOriginFrom role.uniquely_originating role height terms (n + s) u
+
+pub non_given_by : (strands : List SkeletonStrand) (v : AtomTerm) → IsIn v (given_non strands) → IsGivenByOne (GivesNon v) strands
+non_given_by [] v i = elim i [ ]
+non_given_by (listener t ∷ strands) v i = given_later (GivesNon v) (listener t) strands (non_given_by strands v i)
+non_given_by (instance role height terms ∷ strands) v i =
+    ⊎_elim
+    (λ j. given_first (GivesNon v) role height terms strands (atom_given role height terms role.non_originating v j))
+    (λ j. given_later (GivesNon v) (instance role height terms) strands (non_given_by strands v j))
+    (in_append (applying role height terms role.non_originating) (given_non strands) i)
+
+pub penetrator_non_given_by : (strands : List SkeletonStrand) (v : AtomTerm) → IsIn v (given_penetrator_non strands) → IsGivenByOne (GivesPenetratorNon v) strands
+penetrator_non_given_by [] v i = elim i [ ]
+penetrator_non_given_by (listener t ∷ strands) v i = given_later (GivesPenetratorNon v) (listener t) strands (penetrator_non_given_by strands v i)
+penetrator_non_given_by (instance role height terms ∷ strands) v i =
+    ⊎_elim
+    (λ j. given_first (GivesPenetratorNon v) role height terms strands (atom_given role height terms role.penetrator_non_originating v j))
+    (λ j. given_later (GivesPenetratorNon v) (instance role height terms) strands (penetrator_non_given_by strands v j))
+    (in_append (applying role height terms role.penetrator_non_originating) (given_penetrator_non strands) i)
+
+one_on : (u : UniqueAt) (n : ℕ) (strands : List SkeletonStrand) → IsGivenByOne (GivesUnique u (suc n)) strands → IsGivenByOne (λ role height terms s. GivesUnique u n role height terms (suc s)) strands
+one_on u n strands r = record {
+  strand = r.strand;
+  role = r.role;
+  height = r.height;
+  terms = r.terms;
+  on_instance = r.on_instance;
+  given = let e : suc n + r.strand ≡ n + suc r.strand = omega arith in subst (λ (s : ℕ). IsOriginFrom r.role.uniquely_originating r.role r.height r.terms s u) e r.given;
+}
+
+pub unique_given_by : (n : ℕ) (strands : List SkeletonStrand) (u : UniqueAt) → IsIn u (given_uniques n strands) → IsGivenByOne (GivesUnique u n) strands
+unique_given_by n [] u i = elim i [ ]
+unique_given_by n (listener t ∷ strands) u i = given_later (GivesUnique u n) (listener t) strands (one_on u n strands (unique_given_by (suc n) strands u i))
+unique_given_by n (instance role height terms ∷ strands) u i =
+    ⊎_elim
+    (λ j. given_first (GivesUnique u n) role height terms strands
+    (let e : n ≡ n + 0 = omega arith in subst (λ (s : ℕ). IsOriginFrom role.uniquely_originating role height terms s u) e (unique_given role height terms n role.uniquely_originating u j)))
+    (λ j. given_later (GivesUnique u n) (instance role height terms) strands (one_on u n strands (unique_given_by (suc n) strands u j)))
+    (in_append (applying_uniques role height terms n role.uniquely_originating) (given_uniques (suc n) strands) i)

@@ -1,0 +1,21 @@
+pub mod DeletedStrands
+pub mod DroppedPairs
+pub mod FitInReportOrder
+pub mod GivenByStrands
+pub mod HomomorphismByStated
+pub mod ProblemStrands
+pub mod StatedWithoutStrand
+pub mod StatedWithoutPair
+pub mod SoundGeneralisations
+pub mod Alike
+pub mod Deleted
+pub mod Ways
+pub mod Covered
+pub mod CoveringPairs
+pub mod Listed
+pub mod Dropped
+pub mod FreePairs
+pub mod Stepped
+pub mod Fitting
+pub mod AllPairs
+mod SentTwice

@@ -1,0 +1,96 @@
+-- What a skeleton generalises to is sound where the skeleton is, it is fit, it embeds in the skeleton, and no step applies to it.
+use Rattle.std.proofs.Common.{List}
+use Rattle.cp_model.specs.Strand.{Declaration, Protocol}
+use Rattle.cp_model.specs.Skeleton.{Skeleton, IsSkeleton}
+use Rattle.cp_model.specs.Homomorphism.{Embeds, CarriesHomomorphism}
+use Rattle.cp_model.specs.Problem.{HasDeclaredVariables, IsPointOfView}
+use Rattle.cp_model.specs.Stated.{KeepsStated}
+use Rattle.cp_model.specs.Realising.{KeepsAssumptions}
+use Rattle.cp_model.specs.Standing.{IsRealised}
+use Rattle.cp_model.proofs.LawEmbeddings.{embeds_then}
+use Rattle.cp_soundness.proofs.Realised.{realised}
+use Rattle.cp_normal.proofs.Keeping.{normal_keeps_assumptions}
+use Rattle.cp_roots.specs.Roots.{in_report_order}
+use Rattle.cp_roots.proofs.InReportOrder.{skeleton_listed, carries_listed, stated_listed, declared_listed}
+use Rattle.cp_general.specs.Fit.{IsFit}
+use Rattle.cp_general.specs.Generalising.{IsMostGeneral, StepsTo, deletes, drops, GeneralisesTo, last_step, next_step}
+use Rattle.cp_general.proofs.DeletedStrands.{deleted_is_skeleton, deleted_embeds, deleted_declared}
+use Rattle.cp_general.proofs.DroppedPairs.{dropped_is_skeleton, dropped_embeds, dropped_declared}
+use Rattle.cp_general.proofs.FitInReportOrder.{fit_listed, listed_embeds}
+use Rattle.cp_general.proofs.StatedWithoutStrand.{deleted_keeps_stated, deleted_carries}
+use Rattle.cp_general.proofs.StatedWithoutPair.{dropped_keeps_stated, dropped_carries}
+
+-- ---- fit, and most general
+
+step_is_fit : {k g : Skeleton} → StepsTo k g → IsFit g
+step_is_fit (deletes {h = h} del fit first) = fit_listed h fit
+step_is_fit (drops none drop fit first) = fit
+
+pub is_fit : {k g : Skeleton} → GeneralisesTo k g → IsFit g
+is_fit (last_step s most) = step_is_fit s
+is_fit (next_step s rest) = is_fit rest
+
+pub is_most_general : {k g : Skeleton} → GeneralisesTo k g → IsMostGeneral g
+is_most_general (last_step s most) = most
+is_most_general (next_step s rest) = is_most_general rest
+
+-- ---- skeletons that embed
+
+step_embeds : {k g : Skeleton} → StepsTo k g → Embeds g k
+step_embeds {k} (deletes {d = d} {h = h} del fit first) = embeds_then (in_report_order h) h k (listed_embeds h) (deleted_embeds d k h del)
+step_embeds {k} (drops {p = p} {h = h} none drop fit first) = dropped_embeds p k h drop
+
+pub embeds_back : {k g : Skeleton} → GeneralisesTo k g → Embeds g k
+embeds_back (last_step s most) = step_embeds s
+embeds_back {k} {g} (next_step {h = h} s rest) = embeds_then g h k (embeds_back rest) (step_embeds s)
+
+module _ (protocol : Protocol) where
+  step_is_skeleton : {k g : Skeleton} → StepsTo k g → IsSkeleton protocol k → IsSkeleton protocol g
+  step_is_skeleton {k} (deletes {d = d} {h = h} del fit first) sk = skeleton_listed h protocol (deleted_is_skeleton d k h del protocol sk)
+  step_is_skeleton {k} (drops {p = p} {h = h} none drop fit first) sk = dropped_is_skeleton p k h drop protocol sk
+
+  pub is_skeleton : {k g : Skeleton} → GeneralisesTo k g → IsSkeleton protocol k → IsSkeleton protocol g
+  is_skeleton (last_step s most) sk = step_is_skeleton s sk
+  is_skeleton (next_step s rest) sk = is_skeleton rest (step_is_skeleton s sk)
+
+  pub keeps_assumptions : {k g : Skeleton} → GeneralisesTo k g → IsSkeleton protocol k → KeepsAssumptions g
+  keeps_assumptions {k} {g} r sk = normal_keeps_assumptions protocol g (is_skeleton r sk) (is_fit r).normal
+
+  pub is_realised : {k g : Skeleton} → GeneralisesTo k g → IsSkeleton protocol k → IsRealised protocol g
+  is_realised {k} {g} r sk = realised protocol g (is_skeleton r sk) (keeps_assumptions r sk) (is_fit r).realised
+
+-- ---- declared variables
+
+module _ (variables : List Declaration) where
+  step_declared : {k g : Skeleton} → StepsTo k g → HasDeclaredVariables variables k → HasDeclaredVariables variables g
+  step_declared {k} (deletes {d = d} {h = h} del fit first) declared = declared_listed h variables (deleted_declared d k h del variables declared)
+  step_declared {k} (drops {p = p} {h = h} none drop fit first) declared = dropped_declared p k h drop variables declared
+
+  pub are_declared : {k g : Skeleton} → GeneralisesTo k g → HasDeclaredVariables variables k → HasDeclaredVariables variables g
+  are_declared (last_step s most) declared = step_declared s declared
+  are_declared (next_step s rest) declared = are_declared rest (step_declared s declared)
+
+-- ---- the way from the problem
+
+-- The skeleton is one over the protocol, carries a homomorphism from the problem, and keeps what that states.
+pub record IsSoundFrom (protocol : Protocol) (problem k : Skeleton) : Type 0 where
+  pub skeleton : IsSkeleton protocol k
+  pub carries : CarriesHomomorphism problem k
+  pub stated : KeepsStated problem k
+
+module _ (protocol : Protocol) (variables : List Declaration) (problem : Skeleton) (sp : IsSkeleton protocol problem) (own : IsPointOfView variables problem) where
+  step_is_sound : {k g : Skeleton} → StepsTo k g → IsSoundFrom protocol problem k → IsSoundFrom protocol problem g
+  step_is_sound {k} (deletes {d = d} {h = h} del fit first) s = record {
+    skeleton = step_is_skeleton protocol (deletes del fit first) s.skeleton;
+    carries = carries_listed h problem (deleted_carries protocol variables problem k h sp own s.carries s.stated d del s.skeleton);
+    stated = stated_listed h problem (deleted_keeps_stated protocol variables problem k h sp own s.carries s.stated d del);
+  }
+  step_is_sound {k} (drops {p = p} {h = h} none drop fit first) s = record {
+    skeleton = step_is_skeleton protocol (drops none drop fit first) s.skeleton;
+    carries = dropped_carries protocol variables problem k h sp own s.carries s.stated p drop s.skeleton;
+    stated = dropped_keeps_stated protocol variables problem k h sp own s.carries s.stated p drop;
+  }
+
+  pub sound_from : {k g : Skeleton} → GeneralisesTo k g → IsSoundFrom protocol problem k → IsSoundFrom protocol problem g
+  sound_from (last_step s most) sound = step_is_sound s sound
+  sound_from (next_step s rest) sound = sound_from rest (step_is_sound s sound)

@@ -1,0 +1,113 @@
+-- Ways from strand to strand.
+use Rattle.std.proofs.Common.{◌≡◌, ◌≢◌, ◌⊎◌, inl, inr, ℕ, suc, ◌<◌, ◌≤◌, Bool, true, false, refl, sym, ap, ◌∙◌, subst, arith}
+use Rattle.std.specs.Prelude.{◌==◌, nat_lt, Some}
+use Rattle.std.proofs.lemmas.Bool.Decides.{nat_tests}
+use Rattle.cp_lists.specs.Lists.{IsIn, one_step, more_steps}
+use Rattle.cp_lists.proofs.Items.{item_before}
+use Rattle.cp_lists.proofs.Reached.{steps_append}
+use Rattle.cp_model.specs.Term.{Term}
+use Rattle.cp_model.specs.Strand.{send, recv}
+use Rattle.cp_model.specs.Bundle.{node_at}
+use Rattle.cp_model.specs.declared.node.Node.{Node}
+use Rattle.cp_model.specs.declared.node.OrderPair.{OrderPair}
+use Rattle.cp_model.specs.Order.{on_strand}
+use Rattle.cp_model.specs.Skeleton.{term_event_at, skeleton_trace_or_none, IsNodeOf, Skeleton, along_strand_of, along_pair, Before, IsOrderPair}
+use Rattle.cp_model.proofs.LawOrder.{leads_before}
+use Rattle.cp_skel.specs.Ordered.{IsOrdered}
+
+pub same_or_not : (s t : ℕ) → (s ≡ t) ⊎ (s ≢ t)
+same_or_not s t = by_test (s == t) refl
+  where
+    by_test : (b : Bool) → (s == t) ≡ b → (s ≡ t) ⊎ (s ≢ t)
+    by_test true e = inl (grind (arith, nat_tests))
+    by_test false e = inr (λ h. grind (arith, nat_tests))
+
+pub less_or_not : (i j : ℕ) → (i < j) ⊎ (j ≤ i)
+less_or_not i j = by_test (nat_lt i j) refl
+  where
+    by_test : (b : Bool) → nat_lt i j ≡ b → (i < j) ⊎ (j ≤ i)
+    by_test true e = inl (grind (arith, nat_tests))
+    by_test false e = inr (grind (arith, nat_tests))
+
+module _ (k : Skeleton) (ordered : IsOrdered k) where
+  -- ---- nodes of a way
+
+  pub begins : (x y : Node) → Before k x y → IsNodeOf k.strands x
+  begins x y (one_step (along_strand_of {s = s} {i = i} {e = e} p)) = item_before (skeleton_trace_or_none _) i (suc i) e p (omega arith)
+  begins x y (one_step (along_pair {p = p} m)) = (send (ordered.order_pairs p m).sent, (ordered.order_pairs p m).transmission)
+  begins x y (more_steps (along_strand_of {s = s} {i = i} {e = e} p) r) = item_before (skeleton_trace_or_none _) i (suc i) e p (omega arith)
+  begins x y (more_steps (along_pair {p = p} m) r) = (send (ordered.order_pairs p m).sent, (ordered.order_pairs p m).transmission)
+
+  pub ends : (x y : Node) → Before k x y → IsNodeOf k.strands y
+  ends x y (one_step (along_strand_of {e = e} p)) = (e, p)
+  ends x y (one_step (along_pair {p = p} m)) = (recv (ordered.order_pairs p m).received, (ordered.order_pairs p m).reception)
+  ends x y (more_steps {y = z} s r) = ends z y r
+
+  -- ---- on one strand
+
+  pub along : (x y : Node) → x.strand ≡ y.strand → x.index < y.index → IsNodeOf k.strands y → Before k x y
+  along x y s l n = of (leads_before k ordered.order_pairs x y n (on_strand (s, omega (arith, l))))
+    where
+      of : (x ≡ y) ⊎ Before k x y → Before k x y
+      of (inl e) = let same : x.index ≡ y.index = ap (λ (z : Node). z.index) e in absurd (omega (arith, l, same))
+      of (inr b) = b
+
+  pub rises : (x y : Node) → x.strand ≡ y.strand → Before k x y → x.index < y.index
+  rises x y s b = of (less_or_not x.index y.index)
+    where
+      none : (y ≡ x) ⊎ Before k y x → ⊥
+      none (inl e) = ordered.no_cycle x (subst (λ (z : Node). Before k x z) e b)
+      none (inr c) = ordered.no_cycle x (steps_append b c)
+
+      of : (x.index < y.index) ⊎ (y.index ≤ x.index) → x.index < y.index
+      of (inl l) = l
+      of (inr l) = absurd (none (leads_before k ordered.order_pairs y x (begins x y b) (on_strand (sym s, l))))
+
+  -- ---- to another strand
+
+  -- On the way from x a reception is reached that is y or before it on its strand.
+  pub record Arrives (x y : Node) : Type 0 where
+    pub node : Node
+    pub message : Term
+    pub reception : term_event_at k.strands node ≡ Some (recv message)
+    pub strand : node.strand ≡ y.strand
+    pub index : node.index ≤ y.index
+    pub before : Before k x node
+
+  by_pair : (p : OrderPair) → IsIn p k.pairs → (y : Node) → p.later.strand ≡ y.strand → p.later.index ≤ y.index → Arrives p.earlier y
+  by_pair p m y s l = record { node = p.later; message = (ordered.order_pairs p m).received; reception = (ordered.order_pairs p m).reception; strand = s; index = l; before = one_step (along_pair m) }
+
+  pub arrives : (x y : Node) → x.strand ≢ y.strand → Before k x y → Arrives x y
+  arrives x y apart (one_step (along_strand_of e)) = absurd (apart refl)
+  arrives x y apart (one_step (along_pair {p = p} m)) = by_pair p m y refl (omega arith)
+  arrives x y apart (more_steps (along_strand_of {s = s} {i = i} e) r) =
+      let a = arrives (node_at s (suc i)) y apart r in
+      record { node = a.node; message = a.message; reception = a.reception; strand = a.strand; index = a.index; before = more_steps (along_strand_of e) a.before }
+  arrives x y apart (more_steps (along_pair {p = p} m) r) = of (same_or_not p.later.strand y.strand) (λ h. arrives p.later y h r)
+    where
+      of : (p.later.strand ≡ y.strand) ⊎ (p.later.strand ≢ y.strand) → (p.later.strand ≢ y.strand → Arrives p.later y) → Arrives p.earlier y
+      of (inl s) more = let l : p.later.index < y.index = rises p.later y s r in by_pair p m y s (omega (arith, l))
+      of (inr h) more =
+          let a = more h in
+          record { node = a.node; message = a.message; reception = a.reception; strand = a.strand; index = a.index; before = more_steps (along_pair m) a.before }
+
+  -- The way to y goes from a transmission that is x or behind it on its strand.
+  pub record Departs (x y : Node) : Type 0 where
+    pub node : Node
+    pub message : Term
+    pub transmission : term_event_at k.strands node ≡ Some (send message)
+    pub strand : x.strand ≡ node.strand
+    pub index : x.index ≤ node.index
+    pub before : Before k node y
+
+  from_pair : (p : OrderPair) → IsIn p k.pairs → (y : Node) → Before k p.earlier y → Departs p.earlier y
+  from_pair p m y b = record { node = p.earlier; message = (ordered.order_pairs p m).sent; transmission = (ordered.order_pairs p m).transmission; strand = refl; index = omega arith; before = b }
+
+  pub departs : (x y : Node) → x.strand ≢ y.strand → Before k x y → Departs x y
+  departs x y apart (one_step (along_strand_of e)) = absurd (apart refl)
+  departs x y apart (one_step (along_pair {p = p} m)) = from_pair p m y (one_step (along_pair m))
+  departs x y apart (more_steps (along_strand_of {s = s} {i = i} e) r) =
+      let d = departs (node_at s (suc i)) y apart r in
+      let l : suc i ≤ d.node.index = d.index in
+      record { node = d.node; message = d.message; transmission = d.transmission; strand = d.strand; index = omega (arith, l); before = d.before }
+  departs x y apart (more_steps (along_pair {p = p} m) r) = from_pair p m y (more_steps (along_pair m) r)

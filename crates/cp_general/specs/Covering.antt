@@ -1,0 +1,33 @@
+-- Whether a pair covers, among all pairs of an order.
+use Rattle.std.specs.Prelude.{◌==◌, ◌&&◌, ◌||◌, nat_lt, if◌then◌else◌, Bool, false, List, [], ◌∷◌, ◌++◌}
+use Rattle.cp_model.specs.Same.{same_node}
+use Rattle.cp_model.specs.declared.node.Node.{Node}
+use Rattle.cp_model.specs.declared.node.OrderPair.{OrderPair}
+
+-- The nodes to which pairs lead from x, and those from which pairs lead to y.
+abbrev pub led_to : List OrderPair → Node → List Node
+led_to [] x = []
+led_to (p ∷ ps) x = if same_node p.earlier x then p.later ∷ led_to ps x else led_to ps x
+
+abbrev pub leading_to : List OrderPair → Node → List Node
+leading_to [] y = []
+leading_to (p ∷ ps) y = if same_node p.later y then p.earlier ∷ leading_to ps y else leading_to ps y
+
+-- x is before y on one strand.
+abbrev pub is_below : Node → Node → Bool
+is_below x y = (x.strand == y.strand) && nat_lt x.index y.index
+
+-- x is so before a node of the list.
+abbrev pub is_below_one : Node → List Node → Bool
+is_below_one x [] = false
+is_below_one x (y ∷ ys) = is_below x y || is_below_one x ys
+
+-- So it is for a node of the first.
+abbrev pub some_is_below : List Node → List Node → Bool
+some_is_below [] ys = false
+some_is_below (x ∷ xs) ys = is_below_one x ys || some_is_below xs ys
+
+-- Among all pairs of an order: something is between the nodes of the pair. The first node leads along a pair, or not at all, to a
+-- node that is before one on its strand from which a pair, or nothing, leads to the second.
+abbrev pub is_covered : List OrderPair → OrderPair → Bool
+is_covered pairs p = some_is_below (led_to pairs p.earlier ++ (p.earlier ∷ [])) (leading_to pairs p.later ++ (p.later ∷ []))

@@ -1,0 +1,9 @@
+-- The skeletons that generalising leaves.
+use Rattle.cp_model.specs.Skeleton.{Skeleton}
+use Rattle.cp_model.specs.Realising.{AllDerivable}
+use Rattle.cp_normal.specs.Narrowing.{IsNormal}
+
+-- The skeleton is normal, and all its receptions, listeners' included, are derivable.
+pub record IsFit (k : Skeleton) : Type 0 where
+  pub normal : IsNormal k
+  pub realised : AllDerivable k

@@ -1,0 +1,248 @@
+-- Role strands of a skeleton that embeds in another share values there at least as much.
+use Rattle.std.proofs.Common.{◌≡◌, ℕ, suc, ◌+◌, ◌-◌, ◌*◌, ◌^◌, ◌<◌, ◌≤◌, Bool, true, false, if◌then◌else◌, min, List, [], ◌∷◌, map, drop, length, get_or, refl, sym, ap, ◌∙◌, subst, subst₂, arith, ◌⊎◌, inl, inr}
+use Rattle.std.specs.Prelude.{Some}
+use Rattle.std.specs.Bool.{Decides}
+use Rattle.std.proofs.lemmas.Bool.{cases_lt}
+use Rattle.std.proofs.Math.Nat.{min-eq_left, min-eq_right, min-le_right, mul-le-mul_left}
+use Rattle.cp_lists.specs.Lists.{item_at, IsIn}
+use Rattle.cp_lists.proofs.Members.{drop_read}
+use Rattle.cp_lists.proofs.Items.{map_of_item}
+use Rattle.cp_model.specs.Term.{Term, Variable, Substitution, atom_term, atom_of_variable, apply_to, apply_to_atom, composed, AgreeOnTerms}
+use Rattle.cp_model.specs.Strand.{Event, Role, Declaration, variables_of_trace, variables_of_prefix}
+use Rattle.cp_model.specs.Skeleton.{SkeletonStrand, instance, listener, Skeleton}
+use Rattle.cp_model.specs.Homomorphism.{SkeletonMap, IsEmbedding, Embeds}
+use Rattle.cp_model.specs.Same.{same_term, has_variable}
+use Rattle.cp_model.proofs.LawTerms.{atom_composed}
+use Rattle.cp_model.proofs.LawPrefixes.{variables_of_higher}
+use Rattle.cp_model.proofs.SameTests.{variable_in, in_has_variable}
+use Rattle.cp_term.proofs.SameTerms.{same_Decides, test_is}
+use Rattle.cp_hom.specs.Sharing.{place_weight, text_number, value_slots, declared_variable, declared_slots, strand_slots, strands_slots, slots_of, listened, heard_weight, kept, weight_from, part_of, sharing_from, sharing_of}
+use Rattle.cp_hom.specs.declared.slots.Slot.{Slot}
+use Rattle.cp_hom.proofs.Listened.{heard_more, heard_within}
+use Rattle.cp_hom.proofs.StrandSums.{total, sum_of, sum_append, total_map, GoesToMore, GoApart, no_more_in_all}
+
+-- ---- numbers that are kept within a bound
+
+min_of_kept : (m a b : ℕ) → min (min a m + b) m ≡ min (a + b) m
+min_of_kept m a b = by (cases_lt a m)
+  where
+    by : (a < m) ⊎ (m ≤ a) → min (min a m + b) m ≡ min (a + b) m
+    by (inl l) = let le : a ≤ m = omega (arith, l) in ap (λ (n : ℕ). min (n + b) m) (min-eq_left le)
+    by (inr l) =
+        let one : m ≤ m + b = omega arith in
+        let other : m ≤ a + b = omega (arith, l) in
+        ap (λ (n : ℕ). min (n + b) m) (min-eq_right l) ∙ (min-eq_right one ∙ sym (min-eq_right other))
+
+min_no_more : (m a b : ℕ) → a ≤ b → min a m ≤ min b m
+min_no_more m a b le = by (cases_lt b m)
+  where
+    by : (b < m) ⊎ (m ≤ b) → min a m ≤ min b m
+    by (inl l) =
+        let one : min a m ≡ a = min-eq_left (let h : a ≤ m = omega (arith, l, le) in h) in
+        let other : min b m ≡ b = min-eq_left (let h : b ≤ m = omega (arith, l) in h) in
+        omega (arith, le, one, other)
+    by (inr l) =
+        let one : min a m ≤ m = min-le_right a m in
+        let other : min b m ≡ m = min-eq_right l in
+        omega (arith, one, other)
+
+module _ (m : ℕ) where
+  -- A sum that is kept within the bound as it grows.
+  abbrev bounded_from : {A : Type 0} → (A → ℕ) → ℕ → List A → ℕ
+  bounded_from w n [] = n
+  bounded_from w n (x ∷ xs) = bounded_from w (min (n + w x) m) xs
+
+  bounded_is : {A : Type 0} (w : A → ℕ) (n : ℕ) (xs : List A) → min (bounded_from w n xs) m ≡ min (n + sum_of w xs) m
+  bounded_is w n [] = let e : n ≡ n + 0 = omega arith in ap (λ (k : ℕ). min k m) e
+  bounded_is w n (x ∷ xs) =
+      let e : (n + w x) + sum_of w xs ≡ n + (w x + sum_of w xs) = omega arith in
+      bounded_is w (min (n + w x) m) xs ∙ (min_of_kept m (n + w x) (sum_of w xs) ∙ ap (λ (k : ℕ). min k m) e)
+
+  bounded_within : {A : Type 0} (w : A → ℕ) (n : ℕ) (xs : List A) → n ≤ m → bounded_from w n xs ≤ m
+  bounded_within w n [] l = l
+  bounded_within w n (x ∷ xs) l = bounded_within w (min (n + w x) m) xs (min-le_right (n + w x) m)
+
+  bounded_sum : {A : Type 0} (w : A → ℕ) (xs : List A) → bounded_from w 0 xs ≡ min (sum_of w xs) m
+  bounded_sum w xs =
+      let l : 0 ≤ m = omega arith in
+      let e : 0 + sum_of w xs ≡ sum_of w xs = omega arith in
+      sym (min-eq_left (bounded_within w 0 xs l)) ∙ (bounded_is w 0 xs ∙ ap (λ (k : ℕ). min k m) e)
+
+-- ---- the numbers are sums that are kept within a bound
+
+abbrev bound : ℕ
+bound = 2 ^ 64 - 1
+
+-- The weight of a place, if this value stands there.
+abbrev here : Term → Slot → ℕ
+here t x = if same_term x.value t then x.weight else 0
+
+weight_is : (n : ℕ) (t : Term) (xs : List Slot) → n ≤ bound → weight_from n t xs ≡ bounded_from bound (here t) n xs
+weight_is n t [] l = refl
+weight_is n t (x ∷ xs) l = step (λ k h. weight_is k t xs h) (same_term x.value t)
+  where
+    step : ((k : ℕ) → k ≤ bound → weight_from k t xs ≡ bounded_from bound (here t) k xs) → (c : Bool) →
+        weight_from (if c then kept (n + x.weight) else n) t xs ≡ bounded_from bound (here t) (min (n + (if c then x.weight else 0)) bound) xs
+    step rest true = rest (kept (n + x.weight)) (min-le_right (n + x.weight) bound)
+    step rest false =
+        let z : n + 0 ≡ n = omega arith in
+        let e : min (n + 0) bound ≡ n = ap (λ (k : ℕ). min k bound) z ∙ min-eq_left l in
+        rest n l ∙ ap (λ (k : ℕ). bounded_from bound (here t) k xs) (sym e)
+
+weight_sum : (n : ℕ) (t : Term) (xs : List Slot) → n ≤ bound → weight_from n t xs ≡ kept (n + sum_of (here t) xs)
+weight_sum n t xs l = weight_is n t xs l ∙ (sym (min-eq_left (bounded_within bound (here t) n xs l)) ∙ bounded_is bound (here t) n xs)
+
+sharing_is : (n : ℕ) (es : List (Event Term)) (all xs : List Slot) → sharing_from n es all xs ≡ bounded_from bound (part_of es all) n xs
+sharing_is n es all [] = refl
+sharing_is n es all (x ∷ xs) = sharing_is (kept (n + part_of es all x)) es all xs
+
+sharing_sum : (es : List (Event Term)) (all : List Slot) → sharing_from 0 es all all ≡ kept (sum_of (part_of es all) all)
+sharing_sum es all = sharing_is 0 es all all ∙ bounded_sum bound (part_of es all) all
+
+-- ---- loops over places
+
+module _ (t : Term) (xs : List Slot) (i : ℕ) (x : Slot) (l : i < length xs) (is : x ≡ get_or xs i x) (same : Bool) (told : Decides same (x.value ≡ t)) where
+  weight_next : (n : ℕ) → weight_from (if same then kept (n + x.weight) else n) t (drop (i + 1) xs) ≡ weight_from n t (drop i xs)
+  weight_next n =
+      sym (ap (weight_from n t) (drop_read xs i x l is)
+      ∙ ap (λ (c : Bool). weight_from (if c then kept (n + x.weight) else n) t (drop (i + 1) xs)) (test_is x.value t same told))
+
+  pub weight_taken : (n m : ℕ) → same ≡ true → m ≡ kept (n + x.weight) → weight_from m t (drop (i + 1) xs) ≡ weight_from n t (drop i xs)
+  weight_taken n m found e =
+      ap (λ (k : ℕ). weight_from k t (drop (i + 1) xs)) e
+      ∙ (sym (ap (λ (c : Bool). weight_from (if c then kept (n + x.weight) else n) t (drop (i + 1) xs)) found) ∙ weight_next n)
+
+  pub weight_left : (n : ℕ) → same ≡ false → weight_from n t (drop (i + 1) xs) ≡ weight_from n t (drop i xs)
+  weight_left n other =
+      sym (ap (λ (c : Bool). weight_from (if c then kept (n + x.weight) else n) t (drop (i + 1) xs)) other) ∙ weight_next n
+
+-- ---- what an embedding keeps
+
+-- It is an instance of a role.
+abbrev pub IsRoleStrand : SkeletonStrand → Type 0
+IsRoleStrand st = (role : Role) × ((height : ℕ) × ((terms : Substitution) × (st ≡ instance role height terms)))
+
+sums_of_strands : (w : Slot → ℕ) (ss : List SkeletonStrand) → sum_of w (strands_slots ss) ≡ sum_of (λ s. sum_of w (strand_slots s)) ss
+sums_of_strands w [] = refl
+sums_of_strands w (s ∷ ss) = sum_append w (strand_slots s) (strands_slots ss) ∙ ap (λ (n : ℕ). sum_of w (strand_slots s) + n) (sums_of_strands w ss)
+
+module _ (f : SkeletonMap) where
+  abbrev moved : Slot → Slot
+  moved x = record { weight = x.weight; value = apply_to f.terms x.value }
+
+  module _ (u w : Slot → ℕ) (more : (x : Slot) → u x ≤ w (moved x)) where
+    values_more : (i : ℕ) (ts : List Term) → sum_of u (value_slots i ts) ≤ sum_of w (value_slots i (map (apply_to f.terms) ts))
+    values_more i [] = omega arith
+    values_more i (t ∷ ts) =
+        let first = more (record { weight = place_weight 1 i; value = t }) in
+        let rest = values_more (suc i) ts in
+        omega (arith, first, rest)
+
+    step : (p q : Bool) (x y : Slot) (xs ys : List Slot) → (p ≡ true → q ≡ true) → (p ≡ true → u x ≤ w y) → sum_of u xs ≤ sum_of w ys →
+        sum_of u (if p then x ∷ xs else xs) ≤ sum_of w (if q then y ∷ ys else ys)
+    step true true x y xs ys on first rest = let h = first refl in omega (arith, h, rest)
+    step true false x y xs ys on first rest = absurd (let h : false ≡ true = on refl in cc)
+    step false true x y xs ys on first rest = omega (arith, rest)
+    step false false x y xs ys on first rest = rest
+
+    module _ (name : ℕ) (xs ys : List Variable) (s t : Substitution) (within : (x : Variable) → IsIn x xs → IsIn x ys) (agree : AgreeOnTerms xs (composed s f.terms) t) where
+      one_more : (i : ℕ) (d : Declaration) → IsIn (declared_variable i d) xs →
+          u (record { weight = place_weight name i; value = apply_to s (atom_term (atom_of_variable (declared_variable i d))) })
+          ≤ w (record { weight = place_weight name i; value = apply_to t (atom_term (atom_of_variable (declared_variable i d))) })
+      one_more i d p =
+          let v = atom_of_variable (declared_variable i d) in
+          let e : apply_to_atom f.terms (apply_to_atom s v) ≡ apply_to_atom t v = sym (atom_composed s f.terms v) ∙ agree (declared_variable i d) p in
+          subst (λ a. u (record { weight = place_weight name i; value = apply_to s (atom_term v) }) ≤ w (record { weight = place_weight name i; value = atom_term a })) e
+          (more (record { weight = place_weight name i; value = apply_to s (atom_term v) }))
+
+      declared_more : (i : ℕ) (ds : List Declaration) → sum_of u (declared_slots name xs s i ds) ≤ sum_of w (declared_slots name ys t i ds)
+      declared_more i [] = omega arith
+      declared_more i (d ∷ ds) =
+          let x = declared_variable i d in
+          step (has_variable xs x) (has_variable ys x)
+          (record { weight = place_weight name i; value = apply_to s (atom_term (atom_of_variable x)) })
+          (record { weight = place_weight name i; value = apply_to t (atom_term (atom_of_variable x)) })
+          (declared_slots name xs s (suc i) ds) (declared_slots name ys t (suc i) ds)
+          (λ e. in_has_variable ys x (within x (variable_in xs x e)))
+          (λ e. one_more i d (variable_in xs x e))
+          (declared_more (suc i) ds)
+
+    module _ (a b : Skeleton) (emb : IsEmbedding a b f) where
+      abbrev own : SkeletonStrand → ℕ
+      own s = sum_of u (strand_slots s)
+
+      abbrev others : List ℕ
+      others = map (λ s. sum_of w (strand_slots s)) b.strands
+
+      strand_more : (i : ℕ) (st : SkeletonStrand) → item_at a.strands i ≡ Some st → GoesToMore own IsRoleStrand others (f.strands i) st
+      strand_more i (listener t) at = inl refl
+      strand_more i (instance role height s) at =
+          let g = emb.homomorphism.instances i role height s at in
+          inr (
+            (role, (height, (s, refl))),
+            (
+              sum_of w (strand_slots (instance role g.to_height g.to_terms)),
+              map_of_item (λ st. sum_of w (strand_slots st)) b.strands (f.strands i) (instance role g.to_height g.to_terms) g.on_instance,
+              declared_more (text_number 1 role.name) (variables_of_prefix role height) (variables_of_prefix role g.to_height) s g.to_terms
+                  (variables_of_higher role height g.to_height g.at_least) g.equal_terms 0 role.variables,
+            ),
+          )
+
+      apart : GoApart IsRoleStrand a.strands f.strands
+      apart i j x y at au p q e =
+          emb.injective i j p.0 p.1.0 p.1.1.0 q.0 q.1.0 q.1.1.0 (at ∙ ap (λ (st : SkeletonStrand). Some st) p.1.1.1) (au ∙ ap (λ (st : SkeletonStrand). Some st) q.1.1.1) e
+
+      all_more : sum_of u (slots_of a) ≤ sum_of w (slots_of b)
+      all_more =
+          let first : sum_of u (value_slots 0 a.from_problem.values) ≤ sum_of w (value_slots 0 b.from_problem.values) =
+          subst (λ (ts : List Term). sum_of u (value_slots 0 a.from_problem.values) ≤ sum_of w (value_slots 0 ts)) emb.same_values (values_more 0 a.from_problem.values) in
+          let strands : sum_of own a.strands ≤ total others = no_more_in_all own IsRoleStrand a.strands f.strands others strand_more apart in
+          let one : sum_of u (slots_of a) ≡ sum_of u (value_slots 0 a.from_problem.values) + sum_of u (strands_slots a.strands) = sum_append u (value_slots 0 a.from_problem.values) (strands_slots a.strands) in
+          let other : sum_of w (slots_of b) ≡ sum_of w (value_slots 0 b.from_problem.values) + sum_of w (strands_slots b.strands) = sum_append w (value_slots 0 b.from_problem.values) (strands_slots b.strands) in
+          let mine : sum_of u (strands_slots a.strands) ≡ sum_of own a.strands = sums_of_strands u a.strands in
+          let theirs : sum_of w (strands_slots b.strands) ≡ total others = sums_of_strands w b.strands ∙ sym (total_map (λ s. sum_of w (strand_slots s)) b.strands) in
+          omega (arith, first, strands, one, other, mine, theirs)
+
+module _ (a b : Skeleton) (f : SkeletonMap) (emb : IsEmbedding a b f) where
+  here_more : (t : Term) (x : Slot) → here t x ≤ here (apply_to f.terms t) (moved f x)
+  here_more t x = by (same_term x.value t) (same_term (apply_to f.terms x.value) (apply_to f.terms t))
+      (λ e. (same_Decides (apply_to f.terms x.value) (apply_to f.terms t)).1 (ap (apply_to f.terms) ((same_Decides x.value t).0 e)))
+    where
+      by : (p q : Bool) → (p ≡ true → q ≡ true) → (if p then x.weight else 0) ≤ (if q then x.weight else 0)
+      by true true on = omega arith
+      by true false on = absurd (let h : false ≡ true = on refl in cc)
+      by false q on = omega arith
+
+  abbrev weight_here : Term → ℕ
+  weight_here t = weight_from (heard_weight (listened a.strands) t) t (slots_of a)
+
+  abbrev weight_there : Term → ℕ
+  weight_there t = weight_from (heard_weight (listened b.strands) t) t (slots_of b)
+
+  weight_more : (t : Term) → weight_here t ≤ weight_there (apply_to f.terms t)
+  weight_more t =
+      let u = apply_to f.terms t in
+      let m = heard_weight (listened a.strands) t in
+      let n = heard_weight (listened b.strands) u in
+      let heard : m ≤ n = heard_more a b f emb t in
+      let all : sum_of (here t) (slots_of a) ≤ sum_of (here u) (slots_of b) = all_more f (here t) (here u) (here_more t) a b emb in
+      subst₂ (λ (i j : ℕ). i ≤ j) (sym (weight_sum m t (slots_of a) (heard_within (variables_of_trace (listened a.strands)) t))) (sym (weight_sum n u (slots_of b) (heard_within (variables_of_trace (listened b.strands)) u)))
+      (min_no_more bound (m + sum_of (here t) (slots_of a)) (n + sum_of (here u) (slots_of b)) (let l : m + sum_of (here t) (slots_of a) ≤ n + sum_of (here u) (slots_of b) = omega (arith, heard, all) in l))
+
+  abbrev part_here : Slot → ℕ
+  part_here = part_of (listened a.strands) (slots_of a)
+
+  abbrev part_there : Slot → ℕ
+  part_there = part_of (listened b.strands) (slots_of b)
+
+  part_more : (x : Slot) → part_here x ≤ part_there (moved f x)
+  part_more x = min_no_more bound (x.weight * weight_here x.value) (x.weight * weight_there (apply_to f.terms x.value)) (mul-le-mul_left x.weight (weight_more x.value))
+
+  sharing_kept : sharing_of a ≤ sharing_of b
+  sharing_kept =
+      subst₂ (λ (m n : ℕ). m ≤ n) (sym (sharing_sum (listened a.strands) (slots_of a))) (sym (sharing_sum (listened b.strands) (slots_of b)))
+      (min_no_more bound (sum_of part_here (slots_of a)) (sum_of part_there (slots_of b)) (all_more f part_here part_there part_more a b emb))
+
+-- A skeleton that embeds in another shares no more.
+pub embedded_shares_less : (a b : Skeleton) → Embeds a b → sharing_of a ≤ sharing_of b
+embedded_shares_less a b h = sharing_kept a b h.0 h.1

@@ -1,0 +1,80 @@
+// How role strands share values, as a number.
+ghost use Rattle.std.specs.Prelude.{◌≡◌, map, IfOk};
+ghost use Rattle.cp_model.specs.Strand.{variables_of_trace};
+ghost use Rattle.cp_strand.specs.View.{event_view, strand_view};
+ghost use Rattle.cp_skel.specs.View.{skeleton_view};
+ghost use Rattle.cp_hom.specs.Sharing.{listened, is_heard, heard_weight, weight_from, sharing_from, sharing_of};
+
+use crate::slots::{Slot, slots_of};
+use cp_skel::{Event, Skeleton, Strand, StrandShape, occurs};
+use cp_term::{Shape, Sort, Term};
+use std::alloc::{AllocError, Global};
+
+/// What the listeners hear.
+fn listened(alloc: Global, strands: &[Strand]) -> Result<Vec<Event>, AllocError>
+    ensures { IfOk result (λ es. map event_view es.items ≡ listened (map strand_view strands.now)) }
+{
+    let mut events = Vec::new(alloc);
+    for strand in strands {
+        let StrandShape::Listener(message) = strand.shape() else {
+            continue;
+        };
+        events.push(Event::Receive(message.copy()?))?;
+    }
+    Ok(events)
+}
+
+/// Whether the value occurs in these events, where it is a variable of another sort than that of key pairs. Any other value
+/// counts as one that does, since a variable may become one.
+fn is_heard(events: &[Event], value: &Term) -> bool
+    ensures { result ≡ is_heard (variables_of_trace (map event_view events.now)) value.now }
+{
+    match value.shape() {
+        Shape::Variable(id, sort) => sort == Sort::Akey || occurs(events, id, sort),
+        _ => true,
+    }
+}
+
+/// How much it weighs that listeners hear the value.
+fn heard_weight(events: &[Event], value: &Term) -> usize
+    ensures { result ≡ heard_weight (map event_view events.now) value.now }
+{
+    if is_heard(events, value) { 4099 } else { 0 }
+}
+
+/// With a first weight, how much the places weigh at which a value stands.
+fn weight_of(first: usize, value: &Term, slots: &[Slot]) -> usize
+    ensures { result ≡ weight_from first value.now slots.now }
+{
+    let mut weight = first;
+    for slot in slots {
+        if !slot.value.same(value) {
+            continue;
+        }
+        weight = weight.saturating_add(slot.weight);
+    }
+    weight
+}
+
+/// For each two places at which one value stands their weights, multiplied, and for each place whose value is heard its
+/// weight as often as that weighs, all added up.
+fn sharing(heard: &[Event], slots: &[Slot]) -> usize
+    ensures { result ≡ sharing_from 0 (map event_view heard.now) slots.now slots.now }
+{
+    let mut sharing: usize = 0;
+    for slot in slots {
+        let first = heard_weight(heard, &slot.value);
+        let weight = weight_of(first, &slot.value, slots);
+        sharing = sharing.saturating_add(slot.weight.saturating_mul(weight));
+    }
+    sharing
+}
+
+/// How the role strands of a skeleton share values.
+pub(crate) fn sharing_of(alloc: Global, k: &Skeleton) -> Result<usize, AllocError>
+    ensures { IfOk result (λ n. n ≡ sharing_of (skeleton_view k.now)) }
+{
+    let heard = listened(alloc, k.strands())?;
+    let slots = slots_of(alloc, k)?;
+    Ok(sharing(&heard, &slots))
+}

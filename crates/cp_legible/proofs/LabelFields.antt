@@ -1,0 +1,96 @@
+-- What stands in each label of a tree: its unrealised receptions, its test, its escape set and its mark.
+use Rattle.std.proofs.Common.{◌≡◌, ℕ, ◌<◌, List, [], ◌∷◌, length, map, Option, Some, None, refl, arith}
+use Rattle.cp_lists.specs.Lists.{item_at, IsIn}
+use Rattle.cp_lists.proofs.Items.{item_below}
+use Rattle.cp_lists.proofs.Members.{not_in_none}
+use Rattle.cp_model.specs.Strand.{recv, Declaration, Protocol}
+use Rattle.cp_model.specs.declared.node.Node.{Node}
+use Rattle.cp_model.specs.Skeleton.{IsNodeOf, Skeleton}
+use Rattle.cp_model.specs.Tree.{Mark, Label, Tree, Limits}
+use Rattle.cp_derive.specs.Unrealised.{ListsUnrealised}
+use Rattle.cp_roots.specs.Roots.{Root}
+use Rattle.cp_tree.specs.Candidates.{IsCandidate}
+use Rattle.cp_tree.specs.Made.{Made, Way, way_of}
+use Rattle.cp_tree.specs.Searched.{mark_by, Becomes, is_dead, is_seen, is_realised, is_generalised, above_bound, at_limit, is_tested, IsMarkedAmong, as_shape, as_instance, IsTreeFrom}
+use Rattle.cp_tree.proofs.Picked.{item_of}
+use Rattle.cp_tree.proofs.SoundLabels.{settled_here, becomes_here}
+use Rattle.cp_report.specs.Fitting.{IsTestOn, HasMarkOrChildren}
+
+-- ---- in a label that became so
+
+listed_node : (k : Skeleton) (nodes : List Node) → ListsUnrealised k nodes → (n : Node) → IsIn n nodes → IsNodeOf k.strands n
+listed_node k nodes lists n i = let u = (lists.each n).0 i in (recv u.message, u.reception)
+
+module _ (protocol : Protocol) (limits : Limits) (ways : List Way) (marks : ℕ → Option Mark → Type 0) where
+  unrealised_by : (i before : ℕ) (m : Made) (l : Label) (gives : List Made) → Becomes protocol limits ways marks i before m l gives → (n : Node) → IsIn n l.unrealised → IsNodeOf l.skeleton.strands n
+  unrealised_by i before m l gives (is_dead d) n p = absurd (not_in_none p)
+  unrealised_by i before m l gives (is_seen {nodes = nodes} d u s) n p = listed_node m.skeleton nodes u n p
+  unrealised_by i before m l gives (is_realised d new a g s) n p = absurd (not_in_none p)
+  unrealised_by i before m l gives (is_generalised d new a to) n p = absurd (not_in_none p)
+  unrealised_by i before m l gives (above_bound {nodes = nodes} d new u r b) n p = listed_node m.skeleton nodes u n p
+  unrealised_by i before m l gives (at_limit {nodes = nodes} d new u r b q) n p = listed_node m.skeleton nodes u n p
+  unrealised_by i before m l gives (is_tested {nodes = nodes} d new u r b c e s) n p = listed_node m.skeleton nodes u n p
+
+  test_by : (i before : ℕ) (m : Made) (l : Label) (gives : List Made) → Becomes protocol limits ways marks i before m l gives → IsTestOn l.skeleton l.test
+  test_by i before m l gives (is_dead d) = tt
+  test_by i before m l gives (is_seen d u s) = tt
+  test_by i before m l gives (is_realised d n a g s) = tt
+  test_by i before m l gives (is_generalised d n a to) = tt
+  test_by i before m l gives (above_bound d n u r b) = tt
+  test_by i before m l gives (at_limit d n u r b q) = tt
+  test_by i before m l gives (is_tested d n u r b c e s) = (recv e.test.message, e.test.reception)
+
+  escape_by : (i before : ℕ) (m : Made) (l : Label) (gives : List Made) → Becomes protocol limits ways marks i before m l gives → l.test ≡ None → l.escape ≡ []
+  escape_by i before m l gives (is_dead d) none = refl
+  escape_by i before m l gives (is_seen d u s) none = refl
+  escape_by i before m l gives (is_realised d n a g s) none = refl
+  escape_by i before m l gives (is_generalised d n a to) none = refl
+  escape_by i before m l gives (above_bound d n u r b) none = refl
+  escape_by i before m l gives (at_limit d n u r b q) none = refl
+  escape_by i before m l gives (is_tested d n u r b c e s) none = absurd (cc)
+
+  -- An expanded label is dead or has children.
+  dead_or_children : (labels : List Label) (children : List ℕ) → HasMarkOrChildren labels (mark_by children) children
+  dead_or_children labels [] = (tt, refl)
+  dead_or_children labels (n ∷ ns) = λ e. cc
+
+  -- What a mark of a realised label says is there.
+  abbrev MarksAreIn : List Label → ℕ → Type 0
+  MarksAreIn labels i = (mark : Option Mark) → marks i mark → HasMarkOrChildren labels mark []
+
+  mark_of : (labels : List Label) (i before : ℕ) (m : Made) (l : Label) (gives : List Made) → Becomes protocol limits ways marks i before m l gives → i < length labels → MarksAreIn labels i → HasMarkOrChildren labels l.mark l.children
+  mark_of labels i before m l gives (is_dead d) within are = (tt, refl)
+  mark_of labels i before m l gives (is_seen {n = n} d u s) within are = (let earlier = s.holds.earlier in omega (arith, earlier, within), refl)
+  mark_of labels i before m l gives (is_realised {mark = mark} d n a g s) within are = are mark s
+  mark_of labels i before m l gives (is_generalised d n a to) within are = λ e. cc
+  mark_of labels i before m l gives (above_bound d n u r b) within are = (tt, refl)
+  mark_of labels i before m l gives (at_limit d n u r b q) within are = (tt, refl)
+  mark_of labels i before m l gives (is_tested {children = children} d n u r b c e s) within are = dead_or_children labels children
+
+-- ---- in each label of a tree
+
+module _ (protocol : Protocol) (variables : List Declaration) (limits : Limits) (roots : List Root) (tree : Tree) (from : IsTreeFrom protocol variables limits roots tree) where
+  abbrev ways : List Way
+  ways = map way_of tree.labels
+
+  -- The label of which one is an instance is there.
+  marks_are_in : (i : ℕ) (mark : Option Mark) → IsMarkedAmong from.candidates i mark → HasMarkOrChildren tree.labels mark []
+  marks_are_in i mark (as_shape a s) = (tt, refl)
+  marks_are_in i mark (as_instance {q = q} {n = n} a l b) =
+      let g = item_of IsCandidate (λ (x : Label). x.skeleton) tree.labels from.candidates from.are_candidates q n b in
+      (item_below tree.labels n g.item g.at, refl)
+
+  module _ (i : ℕ) (l : Label) (at : item_at tree.labels i ≡ Some l) where
+    pub label_unrealised : (n : Node) → IsIn n l.unrealised → IsNodeOf l.skeleton.strands n
+    label_unrealised = let s = settled_here protocol variables limits roots tree from i l at in unrealised_by protocol limits ways (IsMarkedAmong from.candidates) i s.expanded_before s.so l s.gives (becomes_here protocol variables limits roots tree from i l s)
+
+    pub label_test : IsTestOn l.skeleton l.test
+    label_test = let s = settled_here protocol variables limits roots tree from i l at in test_by protocol limits ways (IsMarkedAmong from.candidates) i s.expanded_before s.so l s.gives (becomes_here protocol variables limits roots tree from i l s)
+
+    pub label_escape : l.test ≡ None → l.escape ≡ []
+    label_escape = let s = settled_here protocol variables limits roots tree from i l at in escape_by protocol limits ways (IsMarkedAmong from.candidates) i s.expanded_before s.so l s.gives (becomes_here protocol variables limits roots tree from i l s)
+
+    pub label_mark : HasMarkOrChildren tree.labels l.mark l.children
+    label_mark =
+        let s = settled_here protocol variables limits roots tree from i l at in
+        mark_of protocol limits ways (IsMarkedAmong from.candidates) tree.labels i s.expanded_before s.so l s.gives (becomes_here protocol variables limits roots tree from i l s) (item_below tree.labels i l at) (marks_are_in i)

@@ -1,0 +1,9 @@
+mod KeepingNodes
+mod NamedChildren
+mod ProblemMaps
+mod LabelPatterns
+mod LabelPlaces
+mod LabelFields
+mod StatedTrees
+mod ExampleRoots
+mod ExampleVariables

@@ -1,0 +1,136 @@
+-- The node or strand that a child of a test names is one of its skeleton.
+use Rattle.std.proofs.Common.{◌≡◌, ℕ, ◌<◌, List, [], length, Option, Some, None, refl, sym, ap, subst, ⊎_elim}
+use Rattle.cp_lists.specs.Lists.{item_at, IsIn}
+use Rattle.cp_lists.proofs.Items.{item_below, item_last, there_or_none}
+use Rattle.cp_lists.proofs.Members.{not_in_none, from_map}
+use Rattle.cp_model.specs.Term.{Term}
+use Rattle.cp_model.specs.Strand.{send, Declaration, Role, Protocol}
+use Rattle.cp_model.specs.Bundle.{node_at}
+use Rattle.cp_model.specs.declared.node.Node.{Node}
+use Rattle.cp_model.specs.Skeleton.{SkeletonStrand, listener, skeleton_trace_or_none, IsNodeOf, Skeleton}
+use Rattle.cp_model.specs.Tree.{Operation, by_problem, by_collapse, by_contraction, by_displacement, by_added_strand, by_added_listener, by_generalising}
+use Rattle.cp_term.specs.declared.path.Step.{Step}
+use Rattle.cp_skel.specs.Changing.{AddsListener}
+use Rattle.cp_skel.specs.Events.{Occurrence, events_of}
+use Rattle.cp_skel.proofs.EventLists.{listed_event}
+use Rattle.cp_answers.specs.Covering.{put_before}
+use Rattle.cp_settle.specs.Releasing.{Release, Tried}
+use Rattle.cp_covering.specs.Children.{Child, child}
+use Rattle.cp_covering.specs.Cohort.{Question, Contracts, AreContracted, release_at, DisplacesAt, DisplacesEvent, DisplacesStrand, AddsAt, AddsEvent, Listens, IsCohort, is_before, is_displaced, is_added, of_listener, of_node, of_role, is_inside, is_critical, cyclic}
+use Rattle.cp_covering.specs.Cohort as cohort
+use Rattle.cp_covering.proofs.EachChild.{each_child}
+use Rattle.cp_covering.proofs.Listed.{given, those_have}
+use Rattle.cp_legible.proofs.KeepingNodes.{nodes_like_under, nodes_forms, nodes_settle}
+
+-- The operation is a step that a test allows, and the node or strand that it names is one of the skeleton.
+abbrev pub NamesIn : Skeleton → Operation → Type 0
+NamesIn k by_problem = ⊥
+NamesIn k (by_collapse ps) = ⊥
+NamesIn k (by_contraction n) = IsNodeOf k.strands n
+NamesIn k (by_displacement n) = IsNodeOf k.strands n
+NamesIn k (by_added_strand s) = s < length k.strands
+NamesIn k (by_added_listener s) = s < length k.strands
+NamesIn k by_generalising = ⊥
+
+abbrev pub IsNamed : Child → Type 0
+IsNamed c = NamesIn c.skeleton c.operation
+
+-- The strand of a node is there.
+strand_of_node : (ss : List SkeletonStrand) (n : Node) → IsNodeOf ss n → n.strand < length ss
+strand_of_node ss n is =
+    ⊎_elim
+    (λ (h : (x : SkeletonStrand) × (item_at ss n.strand ≡ Some x)). item_below ss n.strand h.0 h.1)
+    (λ (e : item_at ss n.strand ≡ None).
+    absurd (let past : item_at (skeleton_trace_or_none None) n.index ≡ Some is.0 = subst (λ (o : Option SkeletonStrand). item_at (skeleton_trace_or_none o) n.index ≡ Some is.0) e is.1 in cc))
+    (there_or_none (item_at ss n.strand))
+
+-- The transmission of a new listener.
+listener_node : (t : Term) (k l : Skeleton) → AddsListener t k l → IsNodeOf l.strands (node_at (length k.strands) 1)
+listener_node t k l adds =
+    subst (λ (x : Skeleton). IsNodeOf x.strands (node_at (length k.strands) 1)) (sym adds) (send t, ap (λ (o : Option SkeletonStrand). item_at (skeleton_trace_or_none o) 1) (item_last k.strands (listener t)))
+
+module _ (q : Question) where
+  -- ---- contracted
+
+  contracts_named : (o : Occurrence) (path : List Step) (children : List Child) → IsIn o (events_of q.skeleton) → Contracts q o path children → (d : Child) → IsIn d children → IsNamed d
+  contracts_named o path children there_is (is_inside inside) d i = absurd (not_in_none i)
+  contracts_named o path children there_is (is_critical at) d i = absurd (not_in_none i)
+  contracts_named o path children there_is (cohort.never_equal at never) d i = absurd (not_in_none i)
+  contracts_named o path children there_is (cohort.unified {s = s} {l = l} {forms = forms} outside at ne unifies same has) d i =
+      let m = from_map (child q.variables (by_contraction o.node) path) forms i in
+      subst IsNamed m.2 (nodes_forms l forms has m.0 m.1 o.node (nodes_like_under s q.skeleton l same o.node (o.event, listed_event q.skeleton o there_is)))
+
+  contracted_named : (children : List Child) → AreContracted q children → (d : Child) → IsIn d children → IsNamed d
+  contracted_named children are d i =
+      let event = given are.each d i in
+      let path = given event.gives_it d event.among in
+      contracts_named event.giver path.giver path.given (those_have are.before event.giver event.listed).0 path.gives_it d path.among
+
+  -- ---- released
+
+  -- The child was made by the operation, and the node is one of its skeleton.
+  record HasReleased (operation : Operation) (n : Node) (d : Child) : Type 0 where
+    by : d.operation ≡ operation
+    node : IsNodeOf d.skeleton.strands n
+
+  releases_node : (variables : List Declaration) (operation : Operation) (r : Release) (grown : Skeleton) (children : List Child) → cohort.Releases q variables operation r grown children
+      → (d : Child) → IsIn d children → HasReleased operation (node_at r.strand r.index) d
+  releases_node variables operation r grown children (cyclic before) d i = absurd (not_in_none i)
+  releases_node variables operation r grown children (cohort.never_equal ev at never) d i = absurd (not_in_none i)
+  releases_node variables operation r grown children (cohort.unified {t = t} {s = s} {l = l} {settled = ends} acyclic ev at m same settles) d i =
+      let n = node_at r.strand r.index in
+      let put : Skeleton = put_before n q.node grown in
+      let o = from_map (λ (x : Tried). child x.variables operation r.path x.skeleton) ends i in
+      subst (HasReleased operation n) o.2 (record { by = refl; node = nodes_settle r settles o.0 o.1 n (nodes_like_under s put l same n (send t, ev)) })
+
+  displaced_at : (s : ℕ) (role : Role) (height j : ℕ) (path : List Step) (children : List Child) → DisplacesAt q s role height j path children → (d : Child) → IsIn d children → IsNamed d
+  displaced_at s role height j path children a d i =
+      let h = releases_node a.variables (by_displacement (node_at s j)) (release_at q s j path) a.grown children a.releases d i in
+      subst (NamesIn d.skeleton) (sym h.by) h.node
+
+  displaced_event : (s : ℕ) (role : Role) (height j : ℕ) (children : List Child) → DisplacesEvent q s role height j children → (d : Child) → IsIn d children → IsNamed d
+  displaced_event s role height j children (cohort.is_reception there_is) d i = absurd (not_in_none i)
+  displaced_event s role height j children (is_before before) d i = absurd (not_in_none i)
+  displaced_event s role height j children (is_displaced there_is never each) d i =
+      let a = given each d i in displaced_at s role height j a.giver a.given a.gives_it d a.among
+
+  displaced_strand : (s : ℕ) (children : List Child) → DisplacesStrand q s children → (d : Child) → IsIn d children → IsNamed d
+  displaced_strand s children (of_listener there_is) d i = absurd (not_in_none i)
+  displaced_strand s children (of_node same) d i = absurd (not_in_none i)
+  displaced_strand s children (of_role {role = role} {height = height} there_is ne each) d i =
+      let a = given each d i in displaced_event s role height a.giver a.given a.gives_it d a.among
+
+  added_at : (role : Role) (j : ℕ) (path : List Step) (children : List Child) → AddsAt q role j path children → (d : Child) → IsIn d children → IsNamed d
+  added_at role j path children a d i =
+      let s = length q.skeleton.strands in
+      let h = releases_node _ (by_added_strand s) (release_at q s j path) a.grown children a.releases d i in
+      subst (NamesIn d.skeleton) (sym h.by) (strand_of_node d.skeleton.strands (node_at s j) h.node)
+
+  added_event : (role : Role) (j : ℕ) (children : List Child) → AddsEvent q role j children → (d : Child) → IsIn d children → IsNamed d
+  added_event role j children (cohort.is_reception there_is) d i = absurd (not_in_none i)
+  added_event role j children (is_added there_is each) d i = let a = given each d i in added_at role j a.giver a.given a.gives_it d a.among
+
+  -- ---- listeners
+
+  listens_named : (t : Term) (children : List Child) → Listens q t children → (d : Child) → IsIn d children → IsNamed d
+  listens_named t children l d i =
+      let s = length q.skeleton.strands in
+      let put : Skeleton = put_before (node_at s 1) q.node l.added in
+      let m = from_map (child q.variables (by_added_listener s) []) l.forms (subst (IsIn d) l.are_children i) in
+      subst IsNamed m.2 (strand_of_node m.0.strands (node_at s 1) (nodes_forms put l.forms l.normal m.0 m.1 (node_at s 1) (listener_node t q.skeleton l.added l.adds)))
+
+  -- ---- the cohort
+
+  pub named_child : (protocol : Protocol) (children : List Child) → IsCohort protocol q children → (d : Child) → IsIn d children → IsNamed d
+  named_child protocol children is d i = each_child protocol q children is IsNamed (contracted_named is.contracted is.are_contracted) displaced_named added_named listeners_named d i
+    where
+      displaced_named : (e : Child) → IsIn e is.displaced → IsNamed e
+      displaced_named e n = let a = given is.are_displaced e n in displaced_strand a.giver a.given a.gives_it e a.among
+
+      added_named : (e : Child) → IsIn e is.added → IsNamed e
+      added_named e n =
+          let role = given is.are_added e n in
+          let event = given role.gives_it e role.among in added_event role.giver event.giver event.given event.gives_it e event.among
+
+      listeners_named : (e : Child) → IsIn e is.listeners → IsNamed e
+      listeners_named e n = let a = given is.are_listeners.each e n in listens_named a.giver a.given a.gives_it e a.among

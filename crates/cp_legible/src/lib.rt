@@ -1,0 +1,8 @@
+//! Reports of searches can be read back.
+#![tactic(auto)]
+
+mod examples;
+mod trees;
+
+pub use examples::heard_encryption_can_be_stated;
+pub use trees::search_trees_can_be_stated;

@@ -1,0 +1,4 @@
+pub mod Sectioned
+pub mod FaultPlaces
+pub mod InSections
+pub mod Reported

@@ -1,0 +1,167 @@
+-- The answer of reading back, from what its parts say.
+use Rattle.std.proofs.Common.{◌≡◌, ℕ, zero, suc, List, [], ◌∷◌, ◌++◌, length, map, refl, sym, ap, ◌∙◌, subst}
+use Rattle.std.specs.Prelude.{Option, Some, None, option_map, Ok, Err}
+use Rattle.std.proofs.lemmas.List.{length-map}
+use Rattle.cp_lists.specs.Lists.{item_at, IsIn, here, there}
+use Rattle.cp_lists.proofs.Members.{from_map}
+use Rattle.cp_base.specs.declared.place.Place.{Place}
+use Rattle.cp_base.specs.declared.place.Refusal.{Refusal}
+use Rattle.cp_model.specs.Strand.{Protocol}
+use Rattle.cp_model.specs.Tree.{Tree}
+use Rattle.cp_sexpr.specs.Syntax.{Form, forms_of as syntax_of}
+use Rattle.cp_sexpr.specs.View.{view, views}
+use Rattle.cp_sexpr.specs.declared.form.Form as program
+use Rattle.cp_language.specs.Roles.{headed}
+use Rattle.cp_language.specs.Problems.{Problem}
+use Rattle.cp_language.specs.Input.{stated_problem, protocols_behind, faults_from, faults_of, Entry, entries_from, input_of}
+use Rattle.cp_forms.specs.FirstFault as faults
+use Rattle.cp_forms.proofs.Views.{items_of-forms_of}
+use Rattle.cp_wellformed.proofs.Problems.{roles_are_well_formed}
+use Rattle.cp_load.specs.Drafts.{draft_view, HaveSoundSkeletons}
+use Rattle.cp_load.specs.Inputs.{problem_view, entries_view}
+use Rattle.cp_load.specs.declared.drafts.Draft.{Draft}
+use Rattle.cp_load.specs.declared.input.Problem as loaded
+use Rattle.cp_load.proofs.SoundDrafts.{drafts_sound}
+use Rattle.cp_load.proofs.TopForms.{entries-finished}
+use Rattle.cp_report.specs.ReadBack.{Section, Sections, sections_of, input_forms, fault_places, first_place, next_place, places_of, tree_misfits, trees_misfits, tree_onto, trees_from, misfits, report_of, IsReadBack}
+use Rattle.cp_spelled.specs.FirstMisfit.{first_onto, merged}
+use Rattle.cp_spelled.proofs.Firsts.{first_then, first_found, none_found}
+use Rattle.cp_stated.proofs.NoMisfits.{none_in_both}
+use Rattle.cp_readback.specs.Sections.{section_view}
+use Rattle.cp_readback.specs.declared.sections.Section as of_program
+use Rattle.cp_readback.specs.Reports.{forms_in, problems_stated, drafts_view, problem_at, trees_by, HaveTrees, HaveDeclaredVariables}
+use Rattle.cp_readback.proofs.FaultPlaces.{gathered}
+
+-- ---- the problems of the input
+
+no_faults : (rs : List Refusal) → fault_places rs ≡ [] → rs ≡ []
+no_faults [] e = refl
+no_faults (r ∷ rs) e = absurd (cc)
+
+-- what is read of sections, and of the forms in them
+forms-same : (ss : List of_program.Section) → map view (map (λ s. s.form.now) ss) ≡ forms_in (map section_view ss)
+forms-same [] = refl
+forms-same (s ∷ ss) = ap (λ fs. view s.form.now ∷ fs) (forms-same ss)
+
+pub sound-drafts : (ss : List of_program.Section) (ds : List (Option Draft)) → faults_from [] (forms_in (map section_view ss)) ≡ [] → drafts_view ds ≡ problems_stated (map section_view ss) → HaveSoundSkeletons ds
+sound-drafts ss ds none same =
+    let fs = map (λ s. s.form.now) ss in
+    drafts_sound fs ds (ap (faults_from []) (items_of-forms_of (map view fs)) ∙ ap (faults_from []) (forms-same ss) ∙ none)
+    (same ∙ ap (λ gs. map (λ e. e.problem) (entries_from [] gs)) (sym (forms-same ss)))
+
+pub declared-variables : (fs : List Form) (os : List (Option Problem)) → faults_from [] fs ≡ [] → os ≡ map (λ e. e.problem) (entries_from [] fs) → HaveDeclaredVariables os
+declared-variables fs os none same p m role i =
+    let all : entries_from [] fs ≡ input_of (syntax_of fs) = ap (entries_from []) (sym (items_of-forms_of fs)) in
+    let listed = subst (λ qs. IsIn (Some p) qs) same m in
+    let found = from_map (λ (e : Entry). e.problem) (entries_from [] fs) listed in
+    (roles_are_well_formed (syntax_of fs) found.0 p role (ap (faults_from []) (items_of-forms_of fs) ∙ none) (subst (λ es. IsIn found.0 es) all found.1) found.2 i).trace
+
+pub problem_in : (os : List (Option Problem)) (n : ℕ) (p : Problem) → problem_at os n ≡ Some p → IsIn (Some p) os
+problem_in [] n p e = absurd (cc)
+problem_in (o ∷ os) zero p e = subst (λ q. IsIn q (o ∷ os)) e here
+problem_in (o ∷ os) (suc n) p e = there (problem_in os n p e)
+
+pub draft-read : (ds : List (Option Draft)) (n : ℕ) (d : Option Draft) → Some d ≡ item_at ds n → option_map draft_view d ≡ problem_at (drafts_view ds) n
+draft-read [] n d e = absurd (cc)
+draft-read (x ∷ ds) zero d e = let is : d ≡ x = cc in ap (option_map draft_view) is
+draft-read (x ∷ ds) (suc n) d e = draft-read ds n d e
+
+pub draft-none : (ds : List (Option Draft)) (n : ℕ) → None ≡ item_at ds n → None ≡ problem_at (drafts_view ds) n
+draft-none [] n e = refl
+draft-none (x ∷ ds) zero e = absurd (cc)
+draft-none (x ∷ ds) (suc n) e = draft-none ds n e
+
+-- ---- the trees behind them
+
+have-trees : (first : Place) (above : List Protocol) (ss : List Section) → trees_misfits first above ss ≡ [] → HaveTrees (map (λ e. e.problem) (entries_from above (forms_in ss))) ss
+have-trees first above [] e n p s g h = absurd (cc)
+have-trees first above (t ∷ ss) e zero p s g h =
+    let is : t ≡ s = cc in
+    let fits = (none_in_both (tree_misfits (stated_problem above (headed t.form)) (next_place first ss) t.behind) (trees_misfits first (protocols_behind (headed t.form) above) ss) e).0 in
+    (next_place first ss, subst (λ u. tree_misfits (Some p) (next_place first ss) u.behind ≡ []) is (sym (ap (λ o. tree_misfits o (next_place first ss) t.behind) g) ∙ fits))
+have-trees first above (t ∷ ss) e (suc n) p s g h =
+    have-trees first (protocols_behind (headed t.form) above) ss
+    (none_in_both (tree_misfits (stated_problem above (headed t.form)) (next_place first ss) t.behind) (trees_misfits first (protocols_behind (headed t.form) above) ss) e).1 n p s g h
+
+trees-same : (above : List Protocol) (ss : List Section) → trees_by (map (λ e. e.problem) (entries_from above (forms_in ss))) ss ≡ trees_from above ss
+trees-same above [] = refl
+trees-same above (s ∷ ss) = ap (tree_onto (stated_problem above (headed s.form)) s.behind) (trees-same (protocols_behind (headed s.form) above) ss)
+
+-- ---- all forms
+
+module _ (fs : List program.Form) (cut : Sections) (is_cut : cut ≡ sections_of (map view fs)) (read : List Section) (is_read : read ≡ cut.sections) where
+  abbrev front : List Place
+  front = places_of cut.front
+
+  misfits-are : misfits (views fs) ≡ fault_places (faults_from [] (forms_in read)) ++ front ++ trees_misfits (first_place (map view fs)) [] read
+  misfits-are =
+      ap (λ gs. fault_places (faults_of (input_forms (sections_of gs).sections)) ++ places_of (sections_of gs).front ++ trees_misfits (first_place gs) [] (sections_of gs).sections) (items_of-forms_of (map view fs))
+      ∙ ap (λ (t : Sections). fault_places (faults_of (input_forms t.sections)) ++ places_of t.front ++ trees_misfits (first_place (map view fs)) [] t.sections) (sym is_cut)
+      ∙ ap (λ gs. fault_places (faults_from [] gs) ++ front ++ trees_misfits (first_place (map view fs)) [] cut.sections) (items_of-forms_of (forms_in cut.sections))
+      ∙ ap (λ ss. fault_places (faults_from [] (forms_in ss)) ++ front ++ trees_misfits (first_place (map view fs)) [] ss) (sym is_read)
+
+  -- The first of the misfits in front of the input and in trees, and then of the faults of the input, is the first of all.
+  pub misfit-found : (start : Place) (o p q all : Option Place) (f g : Option Refusal) → start ≡ first_place (map view fs) → o ≡ None → f ≡ None → p ≡ first_onto o front
+      → q ≡ first_onto p (trees_misfits start [] read) → g ≡ faults.first_onto f (faults_from [] (forms_in read)) → all ≡ merged q (option_map (λ r. r.place) g)
+      → all ≡ first_onto None (misfits (views fs))
+  misfit-found start o p q all f g is_start new none at_front at_trees at_input noted =
+      let rs = faults_from [] (forms_in read) in
+      let behind = trees_misfits (first_place (map view fs)) [] read in
+      gathered rs front behind g q all (at_input ∙ ap (λ x. faults.first_onto x rs) none)
+      (first_then o p q front behind at_front (at_trees ∙ ap (λ x. first_onto p (trees_misfits x [] read)) is_start) ∙ ap (λ x. first_onto x (front ++ behind)) new) noted
+      ∙ ap (first_onto None) (sym misfits-are)
+
+pub read-refused : (fs : List program.Form) (o : Option Place) (at : Place) → o ≡ first_onto None (misfits (views fs)) → o ≡ Some at → IsReadBack (views fs) (Err at)
+read-refused fs o at found e = first_found (misfits (views fs)) at (sym found ∙ e)
+
+-- ---- where nothing is misfit
+
+module _ (fs : List program.Form) (o : Option Place) (found : o ≡ first_onto None (misfits (views fs))) (e : o ≡ None) where
+  abbrev sections : List Section
+  sections = (sections_of (map view fs)).sections
+
+  no-misfits : misfits (views fs) ≡ []
+  no-misfits = none_found (misfits (views fs)) (sym found ∙ e)
+
+  none-here : ((fault_places (faults_from [] (forms_in sections)) ++ places_of (sections_of (map view fs)).front) ≡ []) × (trees_misfits (first_place (map view fs)) [] sections ≡ [])
+  none-here =
+      none_in_both (fault_places (faults_from [] (forms_in sections)) ++ places_of (sections_of (map view fs)).front) (trees_misfits (first_place (map view fs)) [] sections)
+      (sym (misfits-are fs (sections_of (map view fs)) refl sections refl) ∙ no-misfits)
+
+  input-fits : faults_from [] (forms_in sections) ≡ []
+  input-fits = no_faults (faults_from [] (forms_in sections)) (none_in_both (fault_places (faults_from [] (forms_in sections))) (places_of (sections_of (map view fs)).front) none-here.0).0
+
+  pub trees-fit : (os : List (Option Problem)) (ss : List Section) → os ≡ problems_stated sections → ss ≡ sections → HaveTrees os ss
+  trees-fit os ss stated are = subst (λ ts. HaveTrees os ts) (sym are) (subst (λ qs. HaveTrees qs sections) (sym stated) (have-trees (first_place (map view fs)) [] sections none-here.1))
+
+  pub variables-declared : (os : List (Option Problem)) → os ≡ problems_stated sections → HaveDeclaredVariables os
+  variables-declared os stated = declared-variables (forms_in sections) os input-fits stated
+
+  pub drafts-fit : (ss : List of_program.Section) (ds : List (Option Draft)) → map section_view ss ≡ sections → drafts_view ds ≡ problems_stated sections → HaveSoundSkeletons ds
+  drafts-fit ss ds are stated = sound-drafts ss ds (ap (λ ts. faults_from [] (forms_in ts)) are ∙ input-fits) (stated ∙ ap problems_stated (sym are))
+
+  pub report-read : (entries : List Entry) (trees : List Tree) → entries ≡ entries_from [] (forms_in sections) → trees ≡ trees_from [] sections
+      → IsReadBack (views fs) (Ok (record { entries = entries; trees = trees }))
+  report-read entries trees are_entries are_trees =
+      let whole = ap sections_of (items_of-forms_of (map view fs)) in
+      let entries_are : entries ≡ (report_of (views fs)).entries =
+      are_entries ∙ sym (ap (entries_from []) (items_of-forms_of (forms_in sections))) ∙ sym (ap (λ (t : Sections). input_of (input_forms t.sections)) whole) in
+      let trees_are : trees ≡ (report_of (views fs)).trees = are_trees ∙ sym (ap (λ (t : Sections). trees_from [] t.sections) whole) in
+      (no-misfits, λ i. record { entries = entries_are i; trees = trees_are i })
+
+-- the trees of the problems of the input
+pub trees-are : (ss : List Section) (os : List (Option Problem)) (read : List Section) (trees : List Tree) → os ≡ problems_stated ss → read ≡ ss → trees ≡ trees_by os read → trees ≡ trees_from [] ss
+trees-are ss os read trees stated are made = made ∙ ap (λ qs. trees_by qs read) stated ∙ ap (trees_by (problems_stated ss)) are ∙ trees-same [] ss
+
+-- ---- the forms of the report, with their problems
+
+entries-length : (above : List Protocol) (fs : List Form) → length (map (λ e. e.problem) (entries_from above fs)) ≡ length fs
+entries-length above [] = refl
+entries-length above (f ∷ fs) = ap suc (entries-length (protocols_behind (headed f) above) fs)
+
+module _ (fs gs : List Form) (ds : List (Option Draft)) (ps : List (Option loaded.Problem)) (are : gs ≡ fs) (stated : drafts_view ds ≡ map (λ e. e.problem) (entries_from [] fs)) (finished : map (option_map problem_view) ps ≡ drafts_view ds) where
+  pub entries-are : entries_view gs ps ≡ entries_from [] fs
+  entries-are = ap (λ hs. entries_view hs ps) are ∙ entries-finished ds ps finished fs stated
+
+  pub as-many : length ps ≡ length gs
+  as-many = sym (length-map ps (option_map problem_view)) ∙ ap length (finished ∙ stated) ∙ entries-length [] fs ∙ sym (ap length are)

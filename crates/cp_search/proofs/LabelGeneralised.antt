@@ -1,0 +1,72 @@
+-- A label that is generalised: what comes of it.
+use Rattle.std.proofs.Common.{◌≡◌, ⊎_elim, ℕ, List, length, true, false, Option, Some, None, IfSome, IfNone, sym, ap, subst, ◌∙◌, refl}
+use Rattle.cp_lists.specs.Lists.{item_at}
+use Rattle.cp_lists.proofs.Items.{item_of_push}
+use Rattle.cp_model.specs.Strand.{Declaration, Protocol}
+use Rattle.cp_model.specs.Skeleton.{Skeleton, IsSkeleton}
+use Rattle.cp_model.specs.Problem.{IsPointOfView}
+use Rattle.cp_model.specs.Tree.{by_generalising}
+use Rattle.cp_term.specs.Table.{Declared}
+use Rattle.cp_skel.specs.Data.{SkeletonData}
+use Rattle.cp_skel.specs.View.{skeleton_view}
+use Rattle.cp_skel.specs.Trees.{variables_view}
+use Rattle.cp_general.specs.Generalising.{IsMostGeneral, GeneralisesTo, last_step, next_step}
+use Rattle.cp_tree.specs.Made.{made_of_generalisation}
+use Rattle.cp_tree.specs.Sound.{IsSoundMade, GeneralisesSoundly}
+use Rattle.cp_search.specs.declared.made.Made.{Made}
+use Rattle.cp_search.specs.Making.{made_view, AddsMade, AddsGeneral, AreFound}
+use Rattle.cp_search.specs.Settling.{AreSoundMade}
+use Rattle.cp_search.specs.Generalising.{GeneralisesLabel}
+
+-- No step applies to what a skeleton generalises to.
+pub ends_most_general : {k g : Skeleton} → GeneralisesTo k g → IsMostGeneral g
+ends_most_general (last_step s most) = most
+ends_most_general (next_step s rest) = ends_most_general rest
+
+-- What is true of something is true of what it is.
+pub of_some : (o : Option SkeletonData) (g : SkeletonData) (fact : SkeletonData → Type 0) → IfSome o fact → o ≡ Some g → fact g
+of_some o g fact h e = subst (λ (x : Option SkeletonData). IfSome x fact) e h
+
+-- A label that was made by generalising is its own generalisation.
+pub known_own : (i : ℕ) (ms : List Made) (label : Made) → item_at ms i ≡ Some label → AreFound ms → label.general ≡ true → GeneralisesLabel i ms ms None
+known_own i ms label at found known = (record { label = label; at = at; most_general = (found.each i label at).general known }, refl)
+
+-- So is one of which nothing more general is found.
+pub found_own : (i : ℕ) (ms : List Made) (label : Made) → item_at ms i ≡ Some label → (o : Option SkeletonData) → IfNone o (IsMostGeneral (skeleton_view label.skeleton)) → o ≡ None → GeneralisesLabel i ms ms None
+found_own i ms label at o none e = (record { label = label; at = at; most_general = subst (λ (x : Option SkeletonData). IfNone x (IsMostGeneral (skeleton_view label.skeleton))) e none }, refl)
+
+-- What is made of the generalisation of a label is sound where all labels before are.
+sound_behind : (protocol : Protocol) (i : ℕ) (old new : List Made) (label : Made) (g : Skeleton) → item_at old i ≡ Some label → GeneralisesTo (skeleton_view label.skeleton) g → AddsMade (made_of_generalisation i (variables_view label.skeleton.variables) g) old new
+    → ((variables : List Declaration) (k : Skeleton) → IsSkeleton protocol k → IsPointOfView variables k → GeneralisesSoundly protocol k) → label.dead ≡ false → AreSoundMade protocol old → AreSoundMade protocol new
+sound_behind protocol i old new label g at to a law lives s = record {
+  problem = s.problem;
+  variables = s.variables;
+  skeleton = s.skeleton;
+  own = s.own;
+  each = λ j m there.
+      ⊎_elim
+      (λ (front : item_at old j ≡ Some m). s.each j m front)
+      (λ (last : (j ≡ length old) × (a.added ≡ m)).
+      let same : made_of_generalisation i (variables_view label.skeleton.variables) g ≡ made_view m = sym a.same ∙ ap made_view last.1 in
+      subst (IsSoundMade protocol s.problem) same ((law s.variables s.problem s.skeleton s.own (made_view label) g (s.each i label at) lives to).made i))
+      (item_of_push old a.added j m (ap (λ (xs : List Made). item_at xs j) (sym a.behind) ∙ there));
+}
+
+-- What is made of another that is found.
+pub found_other : (i child : ℕ) (old new : List Made) (label : Made) (g : SkeletonData) → item_at old i ≡ Some label → label.general ≡ false → GeneralisesTo (skeleton_view label.skeleton) (skeleton_view g) → g.variables ≡ label.skeleton.variables
+    → AddsMade (record { parent = Some i; operation = by_generalising; variables = variables_view g.variables; skeleton = skeleton_view g; dead = false }) old new → AddsGeneral true old new
+    → ((protocol : Protocol) (variables : List Declaration) (k : Skeleton) → IsSkeleton protocol k → IsPointOfView variables k → GeneralisesSoundly protocol k) → child ≡ length old → GeneralisesLabel i old new (Some child)
+found_other i child old new label g at unknown to same adds general law last =
+    let made : AddsMade (made_of_generalisation i (variables_view label.skeleton.variables) (skeleton_view g)) old new = subst (λ (ds : List Declared). AddsMade (made_of_generalisation i (variables_view ds) (skeleton_view g)) old new) same adds in (
+      record {
+        label = label;
+        at = at;
+        unknown = unknown;
+        skeleton = skeleton_view g;
+        generalises = to;
+        made = made;
+        general = general;
+        sound = λ protocol lives s. sound_behind protocol i old new label (skeleton_view g) at to made (law protocol) lives s;
+      },
+      last,
+    )
