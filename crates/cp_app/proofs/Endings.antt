@@ -29,6 +29,8 @@ use Rattle.cp_app.specs.declared.stopped.Stopped.{Stopped}
 use Rattle.cp_app.specs.declared.stopped.Stopped.TheVariants as stopped
 use Rattle.cp_app.proofs.Putting.{append-empty}
 use Rattle.cp_app.proofs.ReportsBack.{same_reading, read_back_as}
+use Rattle.cp_app.proofs.ProperAnalyses.{analyses_are_proper}
+use Rattle.cp_proper.proofs.ReadTexts.{read_is_proper}
 
 -- ---- an input is refused or accepted
 
@@ -182,7 +184,8 @@ whole_report command bytes text fs entries trees b short reading loaded analysed
         printed = prints;
       };
       searched = zip_onto (IsAnalysisOf command.limits) (λ p t. IsTreeOf p.protocol p.skeleton p.variables command.limits t) (λ p t h. h.searched) problems trees all;
-      read_back = read_back_as command.name text fs trees prints loaded.0 (zip_onto (IsAnalysisOf command.limits) TreeFits (λ p t h. h.fits) problems trees all);
+      read_back = read_back_as command.name text fs trees prints loaded.0 (zip_onto (IsAnalysisOf command.limits) TreeFits (λ p t h. h.fits) problems trees all)
+          (analyses_are_proper command.limits fs trees (read_is_proper bytes fs reading).0 loaded.0 all);
       outcomes = says;
     }
 

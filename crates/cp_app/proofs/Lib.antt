@@ -1,4 +1,5 @@
 mod ReportsBack
+mod ProperAnalyses
 pub mod Putting
 pub mod Taking
 pub mod Trees

@@ -6,19 +6,21 @@ use Rattle.cp_model.specs.Linking.{ArePaired}
 use Rattle.cp_model.specs.Tree.{Tree}
 use Rattle.cp_sexpr.specs.Syntax.{Form, Forms, forms_of}
 use Rattle.cp_sexpr.specs.Reading.{IsReading}
-use Rattle.cp_sexpr.specs.ReadingBack.{all_unplaced, top_spellings, ReadsAs}
+use Rattle.cp_sexpr.specs.ReadingBack.{top_spellings}
 use Rattle.cp_sexpr.specs.Spelling.{top_spelling}
-use Rattle.cp_sexpr.proofs.ReadBack.{top_forms_read_back}
 use Rattle.cp_sexpr.proofs.Unique.{one_reading_of}
 use Rattle.cp_language.specs.Problems.{Problem}
 use Rattle.cp_language.specs.Input.{Entry, faults_of, input_of}
-use Rattle.cp_language.specs.Report.{report_forms, text_of_forms, report_text}
+use Rattle.cp_language.specs.Report.{report_forms, text_of_forms}
 use Rattle.cp_report.specs.Fitting.{TreeFits, problem_onto, problems_in}
 use Rattle.cp_report.specs.Laws.{CanBeStated}
 use Rattle.cp_report.proofs.Premises.{reads_back}
+use Rattle.cp_proper.specs.Proper.{AreProper}
+use Rattle.cp_proper.proofs.ReadTexts.{read_as_they_are, can_be_read}
 use Rattle.cp_words.specs.declared.command.CommandName.{CommandName}
+use Rattle.cp_words.specs.declared.command.CommandName.TheVariants.{Analyse}
 use Rattle.cp_app.specs.Headline.{HaveTrees, text_by}
-use Rattle.cp_app.specs.ReadBack.{report_over, AreReadBack, IsReadAs, AreReadable, IsReadBackAs}
+use Rattle.cp_app.specs.ReadBack.{AreReadBack, IsReadBackAs}
 
 -- ---- problems with their trees
 
@@ -55,25 +57,22 @@ same_forms fs gs a b is also e = cc
 pub same_reading : (text : List ℕ) (fs gs : Forms) → IsReading text (Ok fs) → IsReading text (Ok gs) → fs ≡ gs
 same_reading text fs gs reading again = same_forms fs gs (Ok fs) (Ok gs) refl refl (one_reading_of text (Ok fs) (Ok gs) reading again)
 
-text_reads : (fs : List Form) → AreReadable (forms_of fs) → ReadsAs (text_of_forms fs) (forms_of fs)
-text_reads fs readable = subst (λ t. ReadsAs t (forms_of fs)) (sym (text_is fs)) (top_forms_read_back (forms_of fs) readable.spelled readable.depth)
-
-read_as : (input : Forms) (trees : List Tree) → AreReadBack input trees → AreReadable (forms_of (report_forms (input_of input) trees)) → IsReadAs (report_text (input_of input) trees) (report_over input trees)
-read_as input trees back readable =
-    let text = report_text (input_of input) trees in
-    let reads = text_reads (report_forms (input_of input) trees) readable in
-    record {
-      forms = (reads.0, reads.1);
-      report = λ fs reading. back fs (ap all_unplaced (same_reading text fs reads.0 reading reads.1) ∙ reads.2);
-    }
+-- what `analyse` prints is top forms
+analyse_prints : (name : CommandName) (text : List ℕ) (input : Forms) (trees : List Tree) → text ≡ text_by name (input_of input) trees → name ≡ Analyse → text ≡ top_spellings (forms_of (report_forms (input_of input) trees))
+analyse_prints name text input trees printed is = printed ∙ ap (λ n. text_by n (input_of input) trees) is ∙ text_is (report_forms (input_of input) trees)
 
 -- ---- what is printed of trees that can be stated
 
 pub read_back_as : (name : CommandName) (text : List ℕ) (input : Forms) (trees : List Tree) → text ≡ text_by name (input_of input) trees → faults_of input ≡ [] → HaveTrees TreeFits (input_of input) trees
-    → IsReadBackAs name text input trees
-read_back_as name text input trees printed well_formed fit =
+    → AreProper (forms_of (report_forms (input_of input) trees)) → IsReadBackAs name text input trees
+read_back_as name text input trees printed well_formed fit proper =
+    let forms = forms_of (report_forms (input_of input) trees) in
     let back : AreReadBack input trees = λ fs same. reads_back input trees fs (can_be_stated input trees well_formed fit) same in
     record {
       forms = back;
-      report = λ is readable. subst (λ t. IsReadAs t (report_over input trees)) (sym (printed ∙ ap (λ n. text_by n (input_of input) trees) is)) (read_as input trees back readable);
+      proper = proper;
+      report = λ is fs reading. back fs (read_as_they_are forms fs proper (subst (λ t. IsReading t (Ok fs)) (analyse_prints name text input trees printed is) reading));
+      readable = λ is within.
+          let reads = can_be_read forms proper within in
+          (reads.0, subst (λ t. IsReading t (Ok reads.0)) (sym (analyse_prints name text input trees printed is)) reads.1);
     }

@@ -201,7 +201,7 @@ in_next None ps p m = inr m
 in_next (Some q) ps _ here = inl refl
 in_next (Some q) ps p (there m) = inr m
 
-entry_of : (es : List Entry) (p : Problem) → IsIn p (filter_map (λ e. e.problem) es) → (e : Entry) × IsIn e es × (e.problem ≡ Some p)
+pub entry_of : (es : List Entry) (p : Problem) → IsIn p (filter_map (λ e. e.problem) es) → (e : Entry) × IsIn e es × (e.problem ≡ Some p)
 entry_of [] p m = elim m [ ]
 entry_of (e ∷ es) p m = ⊎_elim (λ is. (e, here, is)) (λ q. let r = entry_of es p q in (r.0, there r.1, r.2)) (in_next e.problem (filter_map (λ d. d.problem) es) p m)
 

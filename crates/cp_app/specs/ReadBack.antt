@@ -1,15 +1,15 @@
 -- That whoever reads back what was put gets the trees of the report.
-use Rattle.std.specs.Prelude.{◌≡◌, ℕ, ◌≤◌, List, Option, Ok}
+use Rattle.std.specs.Prelude.{◌≡◌, ℕ, List, Option, Ok}
 use Rattle.cp_base.specs.declared.status.Status.{Status}
 use Rattle.cp_model.specs.Tree.{Tree}
 use Rattle.cp_sexpr.specs.Syntax.{Forms, forms_of}
-use Rattle.cp_sexpr.specs.Reading.{max_depth, IsReading}
-use Rattle.cp_sexpr.specs.ReadingBack.{AreSpellable, depth_of}
+use Rattle.cp_sexpr.specs.Reading.{IsReading}
 use Rattle.cp_language.specs.Input.{input_of}
 use Rattle.cp_language.specs.Report.{report_forms}
 use Rattle.cp_report.specs.Laws.{ArePrinted}
 use Rattle.cp_report.specs.ReadBack.{Report}
 use Rattle.cp_report.specs.UpToNames.{IsReport}
+use Rattle.cp_proper.specs.Proper.{AreProper, AreWithinBounds}
 use Rattle.cp_words.specs.Command.{Command}
 use Rattle.cp_words.specs.declared.command.CommandName.{CommandName}
 use Rattle.cp_words.specs.declared.command.CommandName.TheVariants.{Analyse}
@@ -24,23 +24,17 @@ report_over forms trees = record { entries = input_of forms; trees = trees }
 abbrev pub AreReadBack : Forms → List Tree → Type 0
 AreReadBack forms trees = (fs : Forms) → ArePrinted fs forms trees → IsReport fs (report_over forms trees)
 
--- The text can be read, and the forms that it gives are this report.
-pub record IsReadAs (text : List ℕ) (r : Report) : Type 0 where
-  pub forms : (fs : Forms) × IsReading text (Ok fs)
-  pub report : (fs : Forms) → IsReading text (Ok fs) → IsReport fs r
-
--- The forms are such as the reader gives: symbols are tokens that begin with no digit, strings hold bytes of strings, numbers have
--- nine digits at most, and no more than 200 lists stand inside each other.
-pub record AreReadable (fs : Forms) : Type 0 where
-  pub spelled : AreSpellable fs
-  pub depth : depth_of fs ≤ max_depth
-
--- The forms of the report denote these trees; and so does the text that `analyse` prints, where the forms are such as the reader gives.
+-- The forms of the report denote these trees, and their symbols and strings are such as the reader gives. So does the text that
+-- `analyse` prints, where it can be read at all: what reading gives is this report. It can be read where its numbers have nine
+-- digits at most and no more than 200 lists stand inside each other.
 pub record IsReadBackAs (name : CommandName) (text : List ℕ) (input : Forms) (trees : List Tree) : Type 0 where
   pub forms : AreReadBack input trees
-  pub report : name ≡ Analyse → AreReadable (forms_of (report_forms (input_of input) trees)) → IsReadAs text (report_over input trees)
+  pub proper : AreProper (forms_of (report_forms (input_of input) trees))
+  pub report : name ≡ Analyse → (fs : Forms) → IsReading text (Ok fs) → IsReport fs (report_over input trees)
+  pub readable : name ≡ Analyse → AreWithinBounds (forms_of (report_forms (input_of input) trees)) → (fs : Forms) × IsReading text (Ok fs)
 
--- A report was put, whose trees are those of the search, and it is read back as the input and these very trees.
+-- A report was put, whose trees are those of the search; its forms are read back as the input and these very trees, and so is the
+-- text that `analyse` put.
 pub record HasReportedReadBack (command : Command) (input before : List ℕ) (left_new held_new : Option (List ℕ)) (status : Status) : Type 0 where
   pub searched : HasReportedSearch command input before left_new held_new status
   pub read_back : IsReadBackAs command.name searched.reported.text searched.reported.report.forms searched.reported.trees

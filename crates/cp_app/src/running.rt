@@ -177,8 +177,8 @@ fn execute<S: Source, O: Sink>(
 ///
 /// Whoever reads the forms of the report back gets these very trees, each label with its skeleton and its map from the problem, the
 /// same but for the names of variables, the places of forms, and the pairs that generate an order. So does who reads the text
-/// that `analyse` puts, where the forms of the report are such as the reader gives: symbols that are tokens, strings of their
-/// bytes, numbers of at most nine digits, and at most 200 lists inside each other.
+/// that `analyse` puts, where it can be read at all; and it can where its numbers have at most nine digits and at most 200 lists
+/// stand inside each other.
 ///
 /// At `WriteFault` a front of such a text was put, which is shorter than it, and at the other statuses but `Done` and
 /// `Limit` nothing was. Each status but `Done` and `Limit` has a line on the sink for errors. What is said of the input and the output holds where the source tells what it had left and the sink what it
@@ -215,7 +215,7 @@ pub fn run<S: Source, O: Sink, E: Sink>(
         → O.held out.old ≡ Some before → result ≡ WriteFault
         → HasBrokenOffSearch command input before (S.left source.new) (O.held out.new) }
 
-    // Whoever reads back what was put gets the trees of the report.
+    // Whoever reads back the forms of the report, or what `analyse` put, gets the trees of the report.
     ensures read_back { (command : CommandData) (input before : List ℕ)
         → command_of (map string_bytes words.now) ≡ Some command → S.left source.old ≡ Some input
         → O.held out.old ≡ Some before → IsAnalysed result

@@ -1,21 +1,19 @@
 -- Grown skeletons in which an event is to release the critical term.
-use Rattle.std.proofs.Common.{◌≡◌, ◌≢◌, ℕ, zero, suc, ◌+◌, ◌<◌, ◌≤◌, List, [], ◌∷◌, ◌++◌, length, get_or, map, take, Option, Some, None, refl, sym, ap, ◌∙◌, subst, arith, false, inl, inr}
-use Rattle.std.specs.Prelude.{option_map}
-use Rattle.cp_lists.specs.Lists.{item_at, IsIn, Steps, one_step, more_steps}
-use Rattle.cp_lists.proofs.Items.{item_still, item_last, map_of_item, take_of_item, item_below, item_of_map, item_of_take, map_of_read}
+use Rattle.std.proofs.Common.{◌≡◌, ◌≢◌, ℕ, suc, ◌<◌, List, [], ◌∷◌, ◌++◌, length, get_or, map, take, Option, Some, None, refl, sym, ap, ◌∙◌, subst, arith, inl, inr}
+use Rattle.cp_lists.specs.Lists.{item_at, one_step}
+use Rattle.cp_lists.proofs.Items.{item_still, item_last, map_of_item, take_of_item, item_below, map_of_read}
 use Rattle.cp_lists.proofs.Mapped.{map_then}
 use Rattle.cp_lists.proofs.Members.{in_append_left, in_last}
 use Rattle.cp_lists.proofs.Reached.{steps_append}
 use Rattle.cp_model.specs.Term.{Term, Substitution, apply_to}
-use Rattle.cp_model.specs.Strand.{Event, send, recv, event_map, payload, Declaration, Role}
+use Rattle.cp_model.specs.Strand.{Event, send, recv, event_map, Declaration, Role}
 use Rattle.cp_model.specs.Bundle.{node_at}
 use Rattle.cp_model.specs.declared.node.Node.{Node}
-use Rattle.cp_model.specs.declared.node.OrderPair.{OrderPair}
-use Rattle.cp_model.specs.Skeleton.{SkeletonStrand, instance, skeleton_trace, skeleton_trace_or_none, term_event_at, Skeleton, Before, along_pair, IsOrderPair}
+use Rattle.cp_model.specs.Skeleton.{SkeletonStrand, instance, skeleton_trace_or_none, term_event_at, Skeleton, Before, along_pair, IsOrderPair}
 use Rattle.cp_model.specs.Tree.{Operation, by_displacement, by_added_strand}
 use Rattle.cp_model.proofs.LawOrder.{before_wider}
 use Rattle.cp_guard.specs.Critical.{IsTest}
-use Rattle.cp_completeness.specs.Normal.{with_pairs, skeleton_under}
+use Rattle.cp_completeness.specs.Normal.{skeleton_under}
 use Rattle.cp_collapse.specs.Agreeing.{SaysTheSame}
 use Rattle.cp_match.specs.Candidates.{may_equal}
 use Rattle.cp_match.specs.Unifying.{UnifiesMostGenerally, NeverEqual}
@@ -32,16 +30,16 @@ use Rattle.cp_term.specs.declared.path.Step.{Step}
 use Rattle.cp_term.specs.Positions.{term_at, positions_where}
 use Rattle.cp_answers.specs.Covering.{put_before}
 use Rattle.cp_answers.specs.Fresh.{fresh_terms}
-use Rattle.cp_settle.specs.Releasing.{Release, Tried}
+use Rattle.cp_settle.specs.Releasing.{Tried}
 use Rattle.cp_settle.specs.Settling.{Settles, on_the_way}
 use Rattle.cp_settle.specs.Views.{tried_view}
 use Rattle.cp_settle.specs.declared.release.Tried as program
 use Rattle.cp_covering.specs.Listing.{EachGives, nothing_given, then_given}
 use Rattle.cp_covering.specs.Children.{Child, child, declarations_of, HasGrown}
-use Rattle.cp_covering.specs.Cohort.{Question, positions, Releases, cyclic, never_equal, unified, release_at, DisplacesAt, DisplacesEvent, is_displaced, AddsAt, AddsEvent, is_added}
+use Rattle.cp_covering.specs.Cohort.{Question, positions, cyclic, never_equal, unified, release_at, DisplacesAt, DisplacesEvent, is_displaced, AddsAt, AddsEvent, is_added}
 use Rattle.cp_cohort.specs.Growing.{ReleasesAt, ReleasesEach, ReleasesPut}
 use Rattle.cp_cohort.specs.Views.{settled_child}
-use Rattle.cp_cohort.proofs.Putting.{each_nothing}
+use Rattle.cp_cohort.proofs.Putting.{each_nothing, length_of}
 use Rattle.cp_cohort.proofs.Positions.{wider, positions_under}
 
 pub each_other : {A B : Type 0} (P Q : A → List B → Type 0) → ((x : A) (ys : List B) → P x ys → Q x ys) → (xs : List A) (ys : List B) → EachGives P xs ys → EachGives Q xs ys
@@ -210,13 +208,20 @@ released_all q vs op m put grown message ws variables same is cs e =
 
 -- ---- events of roles
 
--- An event that is no transmission is a reception.
-pub reception_else : (e : program_events.Event) → ((t : Term) → e ≡ events.Send t → ⊥) → (t : Term) × (event_view e ≡ recv t)
-reception_else (events.Send t) other = absurd (other t refl)
-reception_else (events.Receive t) other = (t, refl)
+-- The events of a role of the program are those of its trace. What is read of them is a transmission, or else a reception.
+module _ (es : List program_events.Event) (trace : List (Event Term)) (same : map event_view es ≡ trace) (i : ℕ) (reached : i < length trace) where
+  pub is_within : i < length es
+  is_within = let as_long : length es ≡ length trace = length_of event_view es trace same in omega (arith, as_long, reached)
 
-pub event_there : (es : List program_events.Event) (trace : List (Event Term)) → map event_view es ≡ trace → (i : ℕ) (e : program_events.Event) → i < length es → e ≡ get_or es i e → item_at trace i ≡ Some (event_view e)
-event_there es trace same i e lt is = ap (λ (xs : List (Event Term)). item_at xs i) (sym same) ∙ map_of_read event_view es i e lt is
+  event_there : (e : program_events.Event) → e ≡ get_or es i e → item_at trace i ≡ Some (event_view e)
+  event_there e is = ap (λ (xs : List (Event Term)). item_at xs i) (sym same) ∙ map_of_read event_view es i e is_within is
+
+  pub sent_there : (e : program_events.Event) → e ≡ get_or es i e → (t : Term) → e ≡ events.Send t → item_at trace i ≡ Some (send t)
+  sent_there e is t sends = event_there e is ∙ ap (λ (x : program_events.Event). Some (event_view x)) sends
+
+  pub received_there : (e : program_events.Event) → e ≡ get_or es i e → ((t : Term) → e ≡ events.Send t → ⊥) → (t : Term) × (item_at trace i ≡ Some (recv t))
+  received_there (events.Send t) is other = absurd (other t refl)
+  received_there (events.Receive t) is other = (t, event_there (events.Receive t) is)
 
 module _ (q : Question) (role : Role) (j : ℕ) (t : Term) (sent : item_at role.trace j ≡ Some (send t)) (grown : Skeleton)
     (adds : AddsStrand role (suc j) (fresh_terms (length q.variables) (prefix_variables role (suc j))) q.skeleton grown) (n : ℕ) (number : n ≡ length q.skeleton.strands) where

@@ -1,7 +1,8 @@
 // Children of a test.
 ghost use Rattle.std.specs.Prelude.{◌≡◌, ◌++◌, ◌∷◌, [], map, OnOk};
+ghost use Rattle.cp_skel.specs.Data.{SkeletonData};
 ghost use Rattle.cp_skel.specs.Trees.{operation_view};
-ghost use Rattle.cp_cohort.specs.Views.{child_view, made_view, child_of, settled_child};
+ghost use Rattle.cp_cohort.specs.Views.{child_view, made_view, child_of};
 
 use cp_settle::Tried;
 use cp_skel::{Node, Operation, Skeleton};
@@ -59,36 +60,46 @@ fn put_child(
     Ok(())
 }
 
-/// Puts skeletons behind others as children.
-pub(crate) fn put_children(
-    skeletons: Vec<Skeleton>,
-    made: Made,
-    path: &Path,
-    children: &mut Vec<Child>,
-) -> Result<(), AllocError>
-    ensures { OnOk result (map child_view children.new.items ≡ map child_view children.old.items ++ map (child_of (made_view made) path.now) skeletons.items) }
-{
-    let mut rest = skeletons;
-    rest.reverse();
-    while let Some(skeleton) = rest.pop() {
-        put_child(skeleton, made, path, children)?;
-    }
-    Ok(())
+/// What a child is made of.
+pub(crate) trait HasSkeleton {
+    /// The child's skeleton.
+    ghost skeleton: { Self → SkeletonData };
+
+    /// Takes the skeleton out.
+    fn into_skeleton(self) -> Skeleton
+        ensures { result ≡ skeleton self };
 }
 
-/// Puts skeletons that were tried behind others as children.
-pub(crate) fn put_settled(
-    settled: Vec<Tried>,
+impl HasSkeleton for Skeleton {
+    ghost skeleton = { λ k. k };
+
+    fn into_skeleton(self) -> Skeleton {
+        self
+    }
+}
+
+impl HasSkeleton for Tried {
+    ghost skeleton = { λ x. x.skeleton };
+
+    fn into_skeleton(self) -> Skeleton {
+        self.skeleton
+    }
+}
+
+/// Puts skeletons, or what was tried, behind others as children.
+pub(crate) fn put_children<T: HasSkeleton + Drop>(
+    made_of: Vec<T>,
     made: Made,
     path: &Path,
     children: &mut Vec<Child>,
 ) -> Result<(), AllocError>
-    ensures { OnOk result (map child_view children.new.items ≡ map child_view children.old.items ++ map (settled_child (made_view made) path.now) settled.items) }
+    ensures { OnOk result (map child_view children.new.items ≡ map child_view children.old.items
+        ++ map (λ x. child_of (made_view made) path.now (T.skeleton x)) made_of.items) }
 {
-    let mut rest = settled;
+    let mut rest = made_of;
     rest.reverse();
-    while let Some(tried) = rest.pop() {
-        put_child(tried.skeleton, made, path, children)?;
+    while let Some(next) = rest.pop() {
+        put_child(next.into_skeleton(), made, path, children)?;
     }
     Ok(())
 }

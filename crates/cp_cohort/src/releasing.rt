@@ -11,7 +11,7 @@ ghost use Rattle.cp_cohort.specs.Growing.{IsPosition, ReleasesPut, ReleasesEach}
 ghost use Rattle.cp_covering.specs.Listing.{EachGives};
 ghost use Rattle.cp_cohort.specs.Views.{question_view, made_view, PutsChildren};
 
-use crate::child::{Child, Made, put_settled};
+use crate::child::{Child, Made, put_children};
 use crate::question::Question;
 use cp_match::{positions_for, unifier};
 use cp_normal::under;
@@ -68,7 +68,7 @@ fn release_at(
         substitution,
     };
     let settled = settle(alloc, &release, tried)?;
-    put_settled(settled, made, path, children)
+    put_children(settled, made, path, children)
 }
 
 /// Puts what the positions of the message that is sent at a node give behind others, at which the critical term could be,

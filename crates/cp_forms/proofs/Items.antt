@@ -1,4 +1,4 @@
--- Items of lists, and what they lack or have too many.
+-- Items of lists, and what they have too many.
 use Rattle.std.proofs.Common.{◌≡◌, ℕ, zero, suc, ◌+◌, ◌<◌, ◌≤◌, List, [], ◌∷◌, ◌++◌, length, get_or, map, take, drop, refl, sym, ap, ◌∙◌, arith}
 use Rattle.std.specs.Prelude.{Option, Some, None}
 use Rattle.std.proofs.lemmas.List.{take_all, drop_all, length-map}
@@ -12,7 +12,7 @@ use Rattle.cp_sexpr.specs.Syntax.{Form}
 use Rattle.cp_sexpr.specs.View.{view}
 use Rattle.cp_sexpr.specs.declared.form.Form as program
 use Rattle.cp_language.specs.Faults.{fault, place_of}
-use Rattle.cp_language.specs.Terms.{lacks, exceeds, key_faults, last_key_faults}
+use Rattle.cp_language.specs.Terms.{exceeds, key_faults, last_key_faults}
 use Rattle.cp_language.specs.Roles.{last_form, front_of, each_faults}
 use Rattle.cp_forms.specs.FirstFault.{first_onto}
 use Rattle.cp_forms.proofs.Firsts.{first_onto-append}
@@ -49,17 +49,7 @@ pub none-last : (fs : List program.Form) → length fs ≡ 0 → last_form (map 
 none-last [] e = refl
 none-last (f ∷ fs) e = absurd (omega arith)
 
--- ---- too few and too many
-
-pub lacks-fault : (n : ℕ) (at : Place) (fs : List program.Form) → length fs < n → lacks n at (map view fs) ≡ fault at BadShape
-lacks-fault zero at fs h = absurd (omega arith)
-lacks-fault (suc n) at [] h = refl
-lacks-fault (suc n) at (f ∷ fs) h = lacks-fault n at fs (omega arith)
-
-pub lacks-none : (n : ℕ) (at : Place) (fs : List program.Form) → n ≤ length fs → lacks n at (map view fs) ≡ []
-lacks-none zero at fs h = refl
-lacks-none (suc n) at [] h = absurd (omega arith)
-lacks-none (suc n) at (f ∷ fs) h = lacks-none n at fs (omega arith)
+-- ---- too many
 
 pub exceeds-fault : (n : ℕ) (fs : List Form) (f : Form) → Some f ≡ item_at fs n → exceeds n fs ≡ fault (place_of f) BadShape
 exceeds-fault zero [] f e = absurd (cc)

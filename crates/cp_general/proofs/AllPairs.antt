@@ -1,17 +1,14 @@
 -- A skeleton with all pairs of its order.
-use Rattle.std.proofs.Common.{◌≡◌, ◌↔◌, List, refl, sym, ap, ◌∙◌, subst}
-use Rattle.cp_lists.specs.Lists.{IsIn, one_step, more_steps}
-use Rattle.cp_lists.proofs.Reached.{steps_append}
+use Rattle.std.proofs.Common.{◌≡◌, ◌↔◌, List, sym, ap, ◌∙◌, subst}
+use Rattle.cp_lists.specs.Lists.{one_step, more_steps}
 use Rattle.cp_model.specs.Skeleton.{Skeleton, OrderStep, along_strand_of, along_pair, Before, IsOrderPair}
 use Rattle.cp_model.specs.declared.node.Node.{Node}
 use Rattle.cp_model.specs.declared.node.OrderPair.{OrderPair}
-use Rattle.cp_strand.specs.View.{strand_view}
 use Rattle.cp_skel.specs.Data.{SkeletonData}
 use Rattle.cp_skel.specs.View.{skeleton_view}
 use Rattle.cp_skel.specs.Ordered.{IsOrdered, ordered_by, ChangesOrderOnly}
 use Rattle.cp_skel.specs.Sound.{IsSound}
 use Rattle.cp_skel.proofs.SoundSkeletons.{sound_ordered, reordered_sound}
-use Rattle.cp_general.specs.Steps.{IsPairOfOrder}
 use Rattle.cp_general.specs.Listing.{ListsOrder}
 use Rattle.cp_general.proofs.Dropped.{way_back}
 
@@ -59,6 +56,12 @@ module _ (k : Skeleton) (sound : IsSound k) (ps : List OrderPair) (lists : Lists
 pub sound_by : (closed : SkeletonData) (ps order : List OrderPair) → IsSound (skeleton_view closed) → ListsOrder (skeleton_view closed) ps → order ≡ ps → IsSound (ordered_by (skeleton_view closed) order)
 sound_by closed ps order sound lists same = subst (λ qs. IsSound (ordered_by (skeleton_view closed) qs)) (sym same) (whole_sound (skeleton_view closed) sound ps lists)
 
+-- The skeleton, and the same with all pairs of its order.
+pub record HasAllPairs (k h : SkeletonData) : Type 0 where
+  pub same : h ≡ record k { order = h.order }
+  pub before : (x y : Node) → Before (skeleton_view h) x y ↔ Before (skeleton_view k) x y
+  pub lists : ListsOrder (skeleton_view h) h.order
+
 module _ (k copy closed h : SkeletonData) (ps order : List OrderPair) (copied : copy ≡ k) (changes : ChangesOrderOnly copy closed)
     (before : (x y : Node) → Before (skeleton_view closed) x y ↔ Before (skeleton_view copy) x y) (sound : IsSound (skeleton_view closed)) (lists : ListsOrder (skeleton_view closed) ps) (same : order ≡ ps)
     (made : h ≡ record closed { order = order }) where
@@ -68,7 +71,7 @@ module _ (k copy closed h : SkeletonData) (ps order : List OrderPair) (copied : 
   order_is : h.order ≡ ps
   order_is = ap (λ (d : SkeletonData). d.order) made ∙ same
 
-  pub made_same : h ≡ record k { order = h.order }
+  made_same : h ≡ record k { order = h.order }
   made_same =
       let variables = ap (λ (d : SkeletonData). d.variables) made ∙ changes.variables ∙ ap (λ (d : SkeletonData). d.variables) copied in
       let strands = ap (λ (d : SkeletonData). d.strands) made ∙ changes.strands ∙ ap (λ (d : SkeletonData). d.strands) copied in
@@ -76,14 +79,17 @@ module _ (k copy closed h : SkeletonData) (ps order : List OrderPair) (copied : 
       let from_problem = ap (λ (d : SkeletonData). d.from_problem) made ∙ changes.from_problem ∙ ap (λ (d : SkeletonData). d.from_problem) copied in
       λ i. record { variables = variables i; strands = strands i; order = h.order; assumptions = assumptions i; from_problem = from_problem i }
 
-  pub made_before : (x y : Node) → Before (skeleton_view h) x y ↔ Before (skeleton_view k) x y
+  made_before : (x y : Node) → Before (skeleton_view h) x y ↔ Before (skeleton_view k) x y
   made_before x y =
       let w : Before (skeleton_view h) x y ↔ Before (skeleton_view closed) x y =
       subst (λ (z : Skeleton). Before z x y ↔ Before (skeleton_view closed) x y) (sym to_whole) (whole_before (skeleton_view closed) sound ps lists x y) in
       let c : Before (skeleton_view closed) x y ↔ Before (skeleton_view k) x y = subst (λ (d : SkeletonData). Before (skeleton_view closed) x y ↔ Before (skeleton_view d) x y) copied (before x y) in
       (λ b. c.0 (w.0 b), λ b. w.1 (c.1 b))
 
-  pub made_lists : ListsOrder (skeleton_view h) h.order
+  made_lists : ListsOrder (skeleton_view h) h.order
   made_lists =
       subst (ListsOrder (skeleton_view h)) (sym order_is)
       (subst (λ (z : Skeleton). ListsOrder z ps) (sym to_whole) (whole_lists (skeleton_view closed) sound ps lists))
+
+  pub made_whole : HasAllPairs k h
+  made_whole = record { same = made_same; before = made_before; lists = made_lists }

@@ -1,17 +1,18 @@
 -- Among all pairs of an order it can be seen whether something is between the nodes of a pair.
-use Rattle.std.proofs.Common.{◌≡◌, ◌≢◌, ◌↔◌, ◌⊎◌, inl, inr, ℕ, ◌<◌, ◌≤◌, List, [], ◌∷◌, ◌++◌, Bool, true, false, if◌then◌else◌, ◌&&◌, refl, sym, ap, ◌∙◌, subst, arith}
+use Rattle.std.proofs.Common.{◌≡◌, ◌≢◌, ◌↔◌, ◌⊎◌, inl, inr, ℕ, ◌<◌, ◌≤◌, List, [], ◌∷◌, ◌++◌, Bool, true, ◌&&◌, map, refl, sym, ap, ◌∙◌, subst, arith}
 use Rattle.std.specs.Prelude.{◌==◌, nat_lt, Some}
+use Rattle.std.specs.List.{filter}
 use Rattle.std.proofs.lemmas.Bool.{or_cases, or_left, or_right}
 use Rattle.std.proofs.lemmas.Bool.Decides.{nat_tests}
 use Rattle.cp_lists.specs.Lists.{IsIn, here, there}
-use Rattle.cp_lists.proofs.Members.{in_append_left, in_last, in_pushed}
+use Rattle.cp_lists.proofs.Members.{in_append_left, in_last, in_pushed, into_map, from_map, into_filter, from_filter}
 use Rattle.cp_lists.proofs.Reached.{steps_append}
 use Rattle.cp_model.specs.Term.{Term}
 use Rattle.cp_model.specs.Strand.{send, recv}
 use Rattle.cp_model.specs.Same.{same_node}
 use Rattle.cp_model.specs.declared.node.Node.{Node}
 use Rattle.cp_model.specs.declared.node.OrderPair.{OrderPair}
-use Rattle.cp_model.specs.Skeleton.{term_event_at, IsNodeOf, Skeleton, Before, IsOrderPair}
+use Rattle.cp_model.specs.Skeleton.{term_event_at, IsNodeOf, Skeleton, Before}
 use Rattle.cp_model.proofs.SameTests.{node_is, is_node}
 use Rattle.cp_skel.specs.Ordered.{IsOrdered}
 use Rattle.cp_general.specs.Steps.{IsPairOfOrder}
@@ -20,48 +21,25 @@ use Rattle.cp_general.proofs.Ways.{same_or_not, less_or_not, along, rises, arriv
 
 -- ---- nodes that are gathered
 
-if_here : (b : Bool) (y : Node) (ys : List Node) → b ≡ true → IsIn y (if b then y ∷ ys else ys)
-if_here true y ys e = here
-if_here false y ys e = absurd (cc)
-
-if_rest : (b : Bool) (z y : Node) (ys : List Node) → IsIn y ys → IsIn y (if b then z ∷ ys else ys)
-if_rest true z y ys m = there m
-if_rest false z y ys m = m
-
-of_if : (b : Bool) (z y : Node) (ys : List Node) → IsIn y (if b then z ∷ ys else ys) → ((b ≡ true) × (z ≡ y)) ⊎ IsIn y ys
-of_if true z y ys here = inl (refl, refl)
-of_if true z y ys (there m) = inr m
-of_if false z y ys m = inr m
+-- of the pairs that pass a test, which are told by the node at one end
+module _ (test : OrderPair → Bool) (end : OrderPair → Node) (pair_to : Node → OrderPair) (told : (q : OrderPair) → test q ≡ true → pair_to (end q) ≡ q) where
+  from_ends : (ps : List OrderPair) (z : Node) → IsIn z (map end (filter test ps)) → IsIn (pair_to z) ps
+  from_ends ps z m =
+      let r = from_map end (filter test ps) m in
+      let s = from_filter test ps r.1 in
+      subst (λ (y : Node). IsIn (pair_to y) ps) r.2 (subst (λ (q : OrderPair). IsIn q ps) (sym (told r.0 s.1)) s.0)
 
 to_led : (ps : List OrderPair) (q : OrderPair) → IsIn q ps → IsIn q.later (led_to ps q.earlier)
-to_led [] q m = elim m [ ]
-to_led (p ∷ ps) q here = if_here (same_node q.earlier q.earlier) q.later (led_to ps q.earlier) (is_node q.earlier q.earlier refl)
-to_led (p ∷ ps) q (there m) = if_rest (same_node p.earlier q.earlier) p.later q.later (led_to ps q.earlier) (to_led ps q m)
+to_led ps q m = into_map (λ (p : OrderPair). p.later) (into_filter (λ (p : OrderPair). same_node p.earlier q.earlier) ps m (is_node q.earlier q.earlier refl))
 
 from_led : (ps : List OrderPair) (x y : Node) → IsIn y (led_to ps x) → IsIn (record { earlier = x; later = y }) ps
-from_led [] x y m = elim m [ ]
-from_led (p ∷ ps) x y m = elim (of_if (same_node p.earlier x) p.later y (led_to ps x) m) as (λ _. IsIn (record { earlier = x; later = y }) (p ∷ ps)) [
-  | inl h ↦
-      let first : p.earlier ≡ x = node_is p.earlier x h.0 in
-      let same : p ≡ record { earlier = x; later = y } = λ i. record { earlier = first i; later = h.1 i } in
-      subst (λ q. IsIn q (p ∷ ps)) same here
-  | inr i ↦ there (from_led ps x y i)
-]
+from_led ps x = from_ends (λ p. same_node p.earlier x) (λ p. p.later) (λ y. record { earlier = x; later = y }) (λ q e. ap (λ (n : Node). record { earlier = n; later = q.later }) (sym (node_is q.earlier x e))) ps
 
 to_leading : (ps : List OrderPair) (q : OrderPair) → IsIn q ps → IsIn q.earlier (leading_to ps q.later)
-to_leading [] q m = elim m [ ]
-to_leading (p ∷ ps) q here = if_here (same_node q.later q.later) q.earlier (leading_to ps q.later) (is_node q.later q.later refl)
-to_leading (p ∷ ps) q (there m) = if_rest (same_node p.later q.later) p.earlier q.earlier (leading_to ps q.later) (to_leading ps q m)
+to_leading ps q m = into_map (λ (p : OrderPair). p.earlier) (into_filter (λ (p : OrderPair). same_node p.later q.later) ps m (is_node q.later q.later refl))
 
 from_leading : (ps : List OrderPair) (x y : Node) → IsIn x (leading_to ps y) → IsIn (record { earlier = x; later = y }) ps
-from_leading [] x y m = elim m [ ]
-from_leading (p ∷ ps) x y m = elim (of_if (same_node p.later y) p.earlier x (leading_to ps y) m) as (λ _. IsIn (record { earlier = x; later = y }) (p ∷ ps)) [
-  | inl h ↦
-      let last : p.later ≡ y = node_is p.later y h.0 in
-      let same : p ≡ record { earlier = x; later = y } = λ i. record { earlier = h.1 i; later = last i } in
-      subst (λ q. IsIn q (p ∷ ps)) same here
-  | inr i ↦ there (from_leading ps x y i)
-]
+from_leading ps x y = from_ends (λ p. same_node p.later y) (λ p. p.earlier) (λ z. record { earlier = z; later = y }) (λ q e. ap (λ (n : Node). record { earlier = q.earlier; later = n }) (sym (node_is q.later y e))) ps x
 
 -- ---- what is below what
 

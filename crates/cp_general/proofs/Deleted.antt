@@ -1,8 +1,5 @@
 -- What is left without a strand is fit or not, however its pairs are listed.
-use Rattle.std.proofs.Common.{◌≡◌, ◌≢◌, ◌↔◌, ◌⊎◌, inl, inr, ℕ, suc, ◌<◌, ◌≤◌, List, [], ◌∷◌, ◌++◌, Bool, true, false, length, refl, sym, ap, ◌∙◌, subst, arith}
-use Rattle.std.specs.Prelude.{◌==◌}
-use Rattle.std.proofs.lemmas.Bool.Decides.{nat_tests}
-use Rattle.cp_lists.specs.Lists.{IsIn}
+use Rattle.std.proofs.Common.{◌≡◌, ◌≢◌, ◌⊎◌, inl, inr, ℕ, List, [], ◌∷◌, ◌++◌, refl, sym, ap, ◌∙◌, subst}
 use Rattle.cp_model.specs.Bundle.{node_at}
 use Rattle.cp_model.specs.declared.node.Node.{Node}
 use Rattle.cp_model.specs.declared.node.OrderPair.{OrderPair}
@@ -15,8 +12,8 @@ use Rattle.cp_skel.proofs.OrderWithout.{is_ordered, keeps_order}
 use Rattle.cp_general.specs.Fit.{IsFit}
 use Rattle.cp_general.specs.Steps.{Deletes}
 use Rattle.cp_general.specs.Generalising.{DeletesNone}
-use Rattle.cp_general.specs.Stepping.{NeverDeletes}
 use Rattle.cp_general.proofs.Alike.{fit_alike}
+use Rattle.cp_general.proofs.Ways.{same_or_not}
 
 -- ---- what is left is one list
 
@@ -61,15 +58,8 @@ deleted_alike d k h g no_cycle p q =
 
 -- ---- no strand can be deleted once pairs are gone, where none could before
 
-same_or_other : (s t : ℕ) → (s ≡ t) ⊎ (s ≢ t)
-same_or_other s t = by_test (s == t) refl
-  where
-    by_test : (b : Bool) → (s == t) ≡ b → (s ≡ t) ⊎ (s ≢ t)
-    by_test true e = inl (grind (arith, nat_tests))
-    by_test false e = inr (λ h. grind (arith, nat_tests))
-
 on_or_not : (d : ℕ) (p : OrderPair) → IsPairOn d p ⊎ (IsPairOn d p → ⊥)
-on_or_not d p = of (same_or_other p.earlier.strand d) (same_or_other p.later.strand d)
+on_or_not d p = of (same_or_not p.earlier.strand d) (same_or_not p.later.strand d)
   where
     neither : p.earlier.strand ≢ d → p.later.strand ≢ d → IsPairOn d p → ⊥
     neither e l (inl h) = e h

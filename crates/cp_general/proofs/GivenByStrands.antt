@@ -1,8 +1,8 @@
 -- What is gathered from the roles of strands is given by one of the strands.
-use Rattle.std.proofs.Common.{◌≡◌, ℕ, suc, ◌+◌, List, [], ◌∷◌, Some, refl, subst, ⊎_elim, arith}
+use Rattle.std.proofs.Common.{◌≡◌, ℕ, suc, ◌+◌, List, [], ◌∷◌, ◌++◌, Some, refl, subst, ⊎_elim, arith}
 use Rattle.cp_lists.specs.Lists.{item_at, IsIn}
 use Rattle.cp_lists.proofs.Members.{in_append}
-use Rattle.cp_model.specs.Term.{AtomTerm, Substitution}
+use Rattle.cp_model.specs.Term.{AtomTerm, Term, Substitution}
 use Rattle.cp_model.specs.Strand.{Role}
 use Rattle.cp_model.specs.Skeleton.{SkeletonStrand, instance, listener, UniqueAt}
 use Rattle.cp_model.specs.Given.{applying, applying_uniques, given_non, given_penetrator_non, given_uniques}
@@ -35,34 +35,31 @@ unique_given role height terms s stated u i =
     let a = uniques-given role height terms s stated [] in
     a.only_given u (subst (IsIn u) a.behind (onto-takes uniques [] (applying_uniques role height terms s stated) u i))
 
--- A strand gives the value as non-originating, or as one that the penetrator does not originate.
-abbrev GivesNon : AtomTerm → Role → ℕ → Substitution → ℕ → Type 0
-GivesNon v role height terms s = IsGivenFrom role.non_originating role height terms v
-
-abbrev GivesPenetratorNon : AtomTerm → Role → ℕ → Substitution → ℕ → Type 0
-GivesPenetratorNon v role height terms s = IsGivenFrom role.penetrator_non_originating role height terms v
+-- A strand gives the value, as one of those that its role states so.
+abbrev pub GivesAtom : (Role → List AtomTerm) → AtomTerm → Role → ℕ → Substitution → ℕ → Type 0
+GivesAtom stated v role height terms s = IsGivenFrom (stated role) role height terms v
 
 -- A strand, of those that have numbers from n on, gives the unique value.
 abbrev GivesUnique : UniqueAt → ℕ → Role → ℕ → Substitution → ℕ → Type 0
 GivesUnique u n role height terms s = IsOriginFrom role.uniquely_originating role height terms (n + s) u
 
-pub non_given_by : (strands : List SkeletonStrand) (v : AtomTerm) → IsIn v (given_non strands) → IsGivenByOne (GivesNon v) strands
-non_given_by [] v i = elim i [ ]
-non_given_by (listener t ∷ strands) v i = given_later (GivesNon v) (listener t) strands (non_given_by strands v i)
-non_given_by (instance role height terms ∷ strands) v i =
-    ⊎_elim
-    (λ j. given_first (GivesNon v) role height terms strands (atom_given role height terms role.non_originating v j))
-    (λ j. given_later (GivesNon v) (instance role height terms) strands (non_given_by strands v j))
-    (in_append (applying role height terms role.non_originating) (given_non strands) i)
+-- what is gathered from the roles' statements of one kind, strand by strand
+module _ (stated : Role → List AtomTerm) (gathered : List SkeletonStrand → List AtomTerm) (none : gathered [] ≡ []) (of_listener : (t : Term) (strands : List SkeletonStrand) → gathered (listener t ∷ strands) ≡ gathered strands)
+    (of_instance : (role : Role) (height : ℕ) (terms : Substitution) (strands : List SkeletonStrand) → gathered (instance role height terms ∷ strands) ≡ applying role height terms (stated role) ++ gathered strands) where
+  atom_given_by : (strands : List SkeletonStrand) (v : AtomTerm) → IsIn v (gathered strands) → IsGivenByOne (GivesAtom stated v) strands
+  atom_given_by [] v i = let no : IsIn v [] = subst (IsIn v) none i in elim no [ ]
+  atom_given_by (listener t ∷ strands) v i = given_later (GivesAtom stated v) (listener t) strands (atom_given_by strands v (subst (IsIn v) (of_listener t strands) i))
+  atom_given_by (instance role height terms ∷ strands) v i =
+      ⊎_elim
+      (λ j. given_first (GivesAtom stated v) role height terms strands (atom_given role height terms (stated role) v j))
+      (λ j. given_later (GivesAtom stated v) (instance role height terms) strands (atom_given_by strands v j))
+      (in_append (applying role height terms (stated role)) (gathered strands) (subst (IsIn v) (of_instance role height terms strands) i))
 
-pub penetrator_non_given_by : (strands : List SkeletonStrand) (v : AtomTerm) → IsIn v (given_penetrator_non strands) → IsGivenByOne (GivesPenetratorNon v) strands
-penetrator_non_given_by [] v i = elim i [ ]
-penetrator_non_given_by (listener t ∷ strands) v i = given_later (GivesPenetratorNon v) (listener t) strands (penetrator_non_given_by strands v i)
-penetrator_non_given_by (instance role height terms ∷ strands) v i =
-    ⊎_elim
-    (λ j. given_first (GivesPenetratorNon v) role height terms strands (atom_given role height terms role.penetrator_non_originating v j))
-    (λ j. given_later (GivesPenetratorNon v) (instance role height terms) strands (penetrator_non_given_by strands v j))
-    (in_append (applying role height terms role.penetrator_non_originating) (given_penetrator_non strands) i)
+pub non_given_by : (strands : List SkeletonStrand) (v : AtomTerm) → IsIn v (given_non strands) → IsGivenByOne (GivesAtom (λ role. role.non_originating) v) strands
+non_given_by strands v i = atom_given_by (λ role. role.non_originating) given_non refl (λ t ss. refl) (λ role height terms ss. refl) strands v i
+
+pub penetrator_non_given_by : (strands : List SkeletonStrand) (v : AtomTerm) → IsIn v (given_penetrator_non strands) → IsGivenByOne (GivesAtom (λ role. role.penetrator_non_originating) v) strands
+penetrator_non_given_by strands v i = atom_given_by (λ role. role.penetrator_non_originating) given_penetrator_non refl (λ t ss. refl) (λ role height terms ss. refl) strands v i
 
 one_on : (u : UniqueAt) (n : ℕ) (strands : List SkeletonStrand) → IsGivenByOne (GivesUnique u (suc n)) strands → IsGivenByOne (λ role height terms s. GivesUnique u n role height terms (suc s)) strands
 one_on u n strands r = record {

@@ -15,7 +15,7 @@ use Rattle.cp_model.proofs.LawPrefixes.{variables_of_higher}
 use Rattle.cp_model.proofs.LawTerms.{atom_composed}
 use Rattle.cp_skel.specs.Given.{IsGivenFrom, IsOriginFrom}
 use Rattle.cp_skel.proofs.UnderVariables.{applies_at}
-use Rattle.cp_general.proofs.GivenByStrands.{non_given_by, penetrator_non_given_by, unique_given_by}
+use Rattle.cp_general.proofs.GivenByStrands.{IsGivenByOne, GivesAtom, non_given_by, penetrator_non_given_by, unique_given_by}
 
 -- ---- where instances go, what they give goes too
 
@@ -26,15 +26,11 @@ module _ (protocol : Protocol) (g : Skeleton) (sk : IsSkeleton protocol g) (f : 
   image_is : (v : AtomTerm) → Applies role height v → apply_to_atom goes.to_terms v ≡ apply_to_atom f.terms (apply_to_atom terms v)
   image_is v applies = sym (agree_atom (composed terms f.terms) goes.to_terms v (λ x i. goes.equal_terms x (applies x i))) ∙ atom_composed terms f.terms v
 
-  non_goes : (v : AtomTerm) → IsGivenFrom role.non_originating role height terms v → IsIn (apply_to_atom f.terms v) g.assumptions.non_originating
-  non_goes v given =
-      subst (λ (w : AtomTerm). IsIn w g.assumptions.non_originating) (image_is given.atom given.applies ∙ ap (apply_to_atom f.terms) (sym given.same))
-      ((sk.given (f.strands s) role goes.to_height goes.to_terms goes.on_instance).non given.atom given.listed (higher given.atom given.applies))
-
-  penetrator_non_goes : (v : AtomTerm) → IsGivenFrom role.penetrator_non_originating role height terms v → IsIn (apply_to_atom f.terms v) g.assumptions.penetrator_non_originating
-  penetrator_non_goes v given =
-      subst (λ (w : AtomTerm). IsIn w g.assumptions.penetrator_non_originating) (image_is given.atom given.applies ∙ ap (apply_to_atom f.terms) (sym given.same))
-      ((sk.given (f.strands s) role goes.to_height goes.to_terms goes.on_instance).penetrator_non given.atom given.listed (higher given.atom given.applies))
+  -- where the instance stands now gives all that its role states, what it gave goes to one of these
+  atom_goes : (stated listed : List AtomTerm) → ((v : AtomTerm) → IsIn v stated → Applies role goes.to_height v → IsIn (apply_to_atom goes.to_terms v) listed) → (v : AtomTerm) → IsGivenFrom stated role height terms v →
+      IsIn (apply_to_atom f.terms v) listed
+  atom_goes stated listed gives v given =
+      subst (λ (w : AtomTerm). IsIn w listed) (image_is given.atom given.applies ∙ ap (apply_to_atom f.terms) (sym given.same)) (gives given.atom given.listed (higher given.atom given.applies))
 
   -- A unique value where the map takes it.
   abbrev image : UniqueAt → UniqueAt
@@ -54,20 +50,23 @@ module _ (protocol : Protocol) (variables : List Declaration) (problem g : Skele
   abbrev f : SkeletonMap
   f = map_from_problem g
 
+  -- an assumption that the problem states itself is there, and so is one that a strand gives
+  atom_there : (stated : Role → List AtomTerm) (listed : List AtomTerm)
+      → ((s : ℕ) (role : Role) (height : ℕ) (terms : Substitution) → item_at g.strands s ≡ Some (instance role height terms) → (w : AtomTerm) → IsIn w (stated role) → Applies role height w → IsIn (apply_to_atom terms w) listed)
+      → (v : AtomTerm) → IsGivenByOne (GivesAtom stated v) problem.strands → IsIn (apply_to_atom f.terms v) listed
+  atom_there stated listed gives v r =
+      let goes = instances r.strand r.role r.height r.terms r.on_instance in
+      atom_goes protocol g sk f r.strand r.role r.height r.terms goes (stated r.role) listed (gives (f.strands r.strand) r.role goes.to_height goes.to_terms goes.on_instance) v r.given
+
   non_there : (v : AtomTerm) → IsIn v problem.assumptions.non_originating → IsIn (apply_to_atom f.terms v) g.assumptions.non_originating
   non_there v i =
-      ⊎_elim
-      (λ j. stated.assumed.non (apply_to_atom f.terms v) ((stated.non (apply_to_atom f.terms v)).1 (record { item = v; listed = j; image = refl })))
-      (λ j. let r = non_given_by problem.strands v j in
-      non_goes protocol g sk f r.strand r.role r.height r.terms (instances r.strand r.role r.height r.terms r.on_instance) v r.given)
-      (own.no_more.non v i)
+      ⊎_elim (λ j. stated.assumed.non (apply_to_atom f.terms v) ((stated.non (apply_to_atom f.terms v)).1 (record { item = v; listed = j; image = refl })))
+      (λ j. atom_there (λ role. role.non_originating) g.assumptions.non_originating (λ s role height terms at. (sk.given s role height terms at).non) v (non_given_by problem.strands v j)) (own.no_more.non v i)
 
   penetrator_non_there : (v : AtomTerm) → IsIn v problem.assumptions.penetrator_non_originating → IsIn (apply_to_atom f.terms v) g.assumptions.penetrator_non_originating
   penetrator_non_there v i =
-      ⊎_elim
-      (λ j. stated.assumed.penetrator_non (apply_to_atom f.terms v) ((stated.penetrator_non (apply_to_atom f.terms v)).1 (record { item = v; listed = j; image = refl })))
-      (λ j. let r = penetrator_non_given_by problem.strands v j in
-      penetrator_non_goes protocol g sk f r.strand r.role r.height r.terms (instances r.strand r.role r.height r.terms r.on_instance) v r.given)
+      ⊎_elim (λ j. stated.assumed.penetrator_non (apply_to_atom f.terms v) ((stated.penetrator_non (apply_to_atom f.terms v)).1 (record { item = v; listed = j; image = refl })))
+      (λ j. atom_there (λ role. role.penetrator_non_originating) g.assumptions.penetrator_non_originating (λ s role height terms at. (sk.given s role height terms at).penetrator_non) v (penetrator_non_given_by problem.strands v j))
       (own.no_more.penetrator_non v i)
 
   unique_there : (u : UniqueAt) → IsIn u problem.assumptions.uniquely_originating → IsIn (record { value = apply_to_atom f.terms u.value; origin = mapped f u.origin }) g.assumptions.uniquely_originating

@@ -1,6 +1,7 @@
 -- What a skeleton generalises to is sound where the skeleton is, it is fit, it embeds in the skeleton, and no step applies to it.
-use Rattle.std.proofs.Common.{List}
+use Rattle.std.proofs.Common.{ℕ, List}
 use Rattle.cp_model.specs.Strand.{Declaration, Protocol}
+use Rattle.cp_model.specs.declared.node.OrderPair.{OrderPair}
 use Rattle.cp_model.specs.Skeleton.{Skeleton, IsSkeleton}
 use Rattle.cp_model.specs.Homomorphism.{Embeds, CarriesHomomorphism}
 use Rattle.cp_model.specs.Problem.{HasDeclaredVariables, IsPointOfView}
@@ -13,6 +14,7 @@ use Rattle.cp_normal.proofs.Keeping.{normal_keeps_assumptions}
 use Rattle.cp_roots.specs.Roots.{in_report_order}
 use Rattle.cp_roots.proofs.InReportOrder.{skeleton_listed, carries_listed, stated_listed, declared_listed}
 use Rattle.cp_general.specs.Fit.{IsFit}
+use Rattle.cp_general.specs.Steps.{Deletes, Drops}
 use Rattle.cp_general.specs.Generalising.{IsMostGeneral, StepsTo, deletes, drops, GeneralisesTo, last_step, next_step}
 use Rattle.cp_general.proofs.DeletedStrands.{deleted_is_skeleton, deleted_embeds, deleted_declared}
 use Rattle.cp_general.proofs.DroppedPairs.{dropped_is_skeleton, dropped_embeds, dropped_declared}
@@ -44,14 +46,21 @@ pub embeds_back : {k g : Skeleton} → GeneralisesTo k g → Embeds g k
 embeds_back (last_step s most) = step_embeds s
 embeds_back {k} {g} (next_step {h = h} s rest) = embeds_then g h k (embeds_back rest) (step_embeds s)
 
-module _ (protocol : Protocol) where
-  step_is_skeleton : {k g : Skeleton} → StepsTo k g → IsSkeleton protocol k → IsSkeleton protocol g
-  step_is_skeleton {k} (deletes {d = d} {h = h} del fit first) sk = skeleton_listed h protocol (deleted_is_skeleton d k h del protocol sk)
-  step_is_skeleton {k} (drops {p = p} {h = h} none drop fit first) sk = dropped_is_skeleton p k h drop protocol sk
+-- ---- what a step keeps: what is kept when a strand is deleted, when a pair is dropped, and when assumptions are listed in order
 
+module _ (P : Skeleton → Type 0) (in_order : (h : Skeleton) → P h → P (in_report_order h)) (deleted : (d : ℕ) (k h : Skeleton) → Deletes d k h → P k → P h) (dropped : (p : OrderPair) (k h : Skeleton) → Drops p k h → P k → P h) where
+  step_keeps : {k g : Skeleton} → StepsTo k g → P k → P g
+  step_keeps {k} (deletes {d = d} {h = h} del fit first) it = in_order h (deleted d k h del it)
+  step_keeps {k} (drops {p = p} {h = h} none drop fit first) it = dropped p k h drop it
+
+  way_keeps : {k g : Skeleton} → GeneralisesTo k g → P k → P g
+  way_keeps (last_step s most) it = step_keeps s it
+  way_keeps (next_step s rest) it = way_keeps rest (step_keeps s it)
+
+module _ (protocol : Protocol) where
   pub is_skeleton : {k g : Skeleton} → GeneralisesTo k g → IsSkeleton protocol k → IsSkeleton protocol g
-  is_skeleton (last_step s most) sk = step_is_skeleton s sk
-  is_skeleton (next_step s rest) sk = is_skeleton rest (step_is_skeleton s sk)
+  is_skeleton r it =
+      way_keeps (IsSkeleton protocol) (λ h sk. skeleton_listed h protocol sk) (λ d k h del sk. deleted_is_skeleton d k h del protocol sk) (λ p k h drop sk. dropped_is_skeleton p k h drop protocol sk) r it
 
   pub keeps_assumptions : {k g : Skeleton} → GeneralisesTo k g → IsSkeleton protocol k → KeepsAssumptions g
   keeps_assumptions {k} {g} r sk = normal_keeps_assumptions protocol g (is_skeleton r sk) (is_fit r).normal
@@ -62,13 +71,10 @@ module _ (protocol : Protocol) where
 -- ---- declared variables
 
 module _ (variables : List Declaration) where
-  step_declared : {k g : Skeleton} → StepsTo k g → HasDeclaredVariables variables k → HasDeclaredVariables variables g
-  step_declared {k} (deletes {d = d} {h = h} del fit first) declared = declared_listed h variables (deleted_declared d k h del variables declared)
-  step_declared {k} (drops {p = p} {h = h} none drop fit first) declared = dropped_declared p k h drop variables declared
-
   pub are_declared : {k g : Skeleton} → GeneralisesTo k g → HasDeclaredVariables variables k → HasDeclaredVariables variables g
-  are_declared (last_step s most) declared = step_declared s declared
-  are_declared (next_step s rest) declared = are_declared rest (step_declared s declared)
+  are_declared r it =
+      way_keeps (HasDeclaredVariables variables) (λ h declared. declared_listed h variables declared) (λ d k h del declared. deleted_declared d k h del variables declared)
+      (λ p k h drop declared. dropped_declared p k h drop variables declared) r it
 
 -- ---- the way from the problem
 
@@ -79,18 +85,22 @@ pub record IsSoundFrom (protocol : Protocol) (problem k : Skeleton) : Type 0 whe
   pub stated : KeepsStated problem k
 
 module _ (protocol : Protocol) (variables : List Declaration) (problem : Skeleton) (sp : IsSkeleton protocol problem) (own : IsPointOfView variables problem) where
-  step_is_sound : {k g : Skeleton} → StepsTo k g → IsSoundFrom protocol problem k → IsSoundFrom protocol problem g
-  step_is_sound {k} (deletes {d = d} {h = h} del fit first) s = record {
-    skeleton = step_is_skeleton protocol (deletes del fit first) s.skeleton;
-    carries = carries_listed h problem (deleted_carries protocol variables problem k h sp own s.carries s.stated d del s.skeleton);
-    stated = stated_listed h problem (deleted_keeps_stated protocol variables problem k h sp own s.carries s.stated d del);
+  listed_is_sound : (h : Skeleton) → IsSoundFrom protocol problem h → IsSoundFrom protocol problem (in_report_order h)
+  listed_is_sound h s = record { skeleton = skeleton_listed h protocol s.skeleton; carries = carries_listed h problem s.carries; stated = stated_listed h problem s.stated }
+
+  deleted_is_sound : (d : ℕ) (k h : Skeleton) → Deletes d k h → IsSoundFrom protocol problem k → IsSoundFrom protocol problem h
+  deleted_is_sound d k h del s = record {
+    skeleton = deleted_is_skeleton d k h del protocol s.skeleton;
+    carries = deleted_carries protocol variables problem k h sp own s.carries s.stated d del s.skeleton;
+    stated = deleted_keeps_stated protocol variables problem k h sp own s.carries s.stated d del;
   }
-  step_is_sound {k} (drops {p = p} {h = h} none drop fit first) s = record {
-    skeleton = step_is_skeleton protocol (drops none drop fit first) s.skeleton;
+
+  dropped_is_sound : (p : OrderPair) (k h : Skeleton) → Drops p k h → IsSoundFrom protocol problem k → IsSoundFrom protocol problem h
+  dropped_is_sound p k h drop s = record {
+    skeleton = dropped_is_skeleton p k h drop protocol s.skeleton;
     carries = dropped_carries protocol variables problem k h sp own s.carries s.stated p drop s.skeleton;
     stated = dropped_keeps_stated protocol variables problem k h sp own s.carries s.stated p drop;
   }
 
   pub sound_from : {k g : Skeleton} → GeneralisesTo k g → IsSoundFrom protocol problem k → IsSoundFrom protocol problem g
-  sound_from (last_step s most) sound = step_is_sound s sound
-  sound_from (next_step s rest) sound = sound_from rest (step_is_sound s sound)
+  sound_from r it = way_keeps (IsSoundFrom protocol problem) listed_is_sound deleted_is_sound dropped_is_sound r it

@@ -1,21 +1,20 @@
 -- Steps of generalising, one after the other.
-use Rattle.std.proofs.Common.{◌≡◌, ◌↔◌, ◌⊎◌, inl, inr, ℕ, zero, suc, ◌+◌, ◌-◌, ◌<◌, ◌≤◌, List, [], ◌∷◌, Bool, true, false, length, get_or, drop, refl, sym, ap, ◌∙◌, subst, arith}
+use Rattle.std.proofs.Common.{◌≡◌, ◌↔◌, ◌⊎◌, inl, inr, ℕ, zero, suc, ◌+◌, ◌-◌, ◌<◌, ◌≤◌, List, [], ◌∷◌, Bool, true, false, length, get_or, drop, sym, ap, ◌∙◌, subst, arith}
 use Rattle.std.specs.List.{remove}
-use Rattle.cp_lists.specs.Lists.{IsIn, here, there}
-use Rattle.cp_lists.proofs.Members.{drop_read, in_cases, none_left, item_is_in}
+use Rattle.cp_lists.specs.Lists.{IsIn}
+use Rattle.cp_lists.proofs.Members.{drop_read, in_cases, none_left}
 use Rattle.cp_model.specs.declared.node.Node.{Node}
 use Rattle.cp_model.specs.declared.node.OrderPair.{OrderPair}
 use Rattle.cp_model.specs.Skeleton.{Skeleton, Before}
 use Rattle.cp_model.specs.Given.{listed}
 use Rattle.cp_skel.specs.Ordered.{IsOrdered, ordered_by}
 use Rattle.cp_derive.specs.Unrealised.{IsListedBefore}
-use Rattle.cp_roots.specs.Roots.{in_report_order}
 use Rattle.cp_general.specs.Fit.{IsFit}
-use Rattle.cp_general.specs.Steps.{Deletes, IsPairOfOrder, Drops, IsLowerPair}
-use Rattle.cp_general.specs.Generalising.{DeletesNone, DropsNone, IsMostGeneral, StepsTo, deletes, drops, GeneralisesTo, last_step, next_step, IsGeneralisationOf}
+use Rattle.cp_general.specs.Steps.{IsPairOfOrder, Drops, IsLowerPair}
+use Rattle.cp_general.specs.Generalising.{DeletesNone, DropsNone, StepsTo, deletes, drops, GeneralisesTo, last_step, next_step}
 use Rattle.cp_general.specs.Listing.{AreRisingPairs, ListsOrder}
 use Rattle.cp_general.specs.Stepping.{NeverDeletes, NeverDrops, LeavesFit, DropsFirst, ComesBySteps, IsOnTheWay}
-use Rattle.cp_general.proofs.Alike.{fit_alike, fit_listed}
+use Rattle.cp_general.proofs.Alike.{fit_alike}
 use Rattle.cp_general.proofs.Deleted.{deletes_none_still}
 use Rattle.cp_general.proofs.Dropped.{fit_before}
 
@@ -119,38 +118,28 @@ all_passed k ps i l lists so_far p h d f = of (so_far p ((lists.each p).1 d.cove
 
 -- ---- a skeleton, and the same with other pairs that order alike
 
-module _ (k : Skeleton) (ps : List OrderPair) (before : (x y : Node) → Before (ordered_by k ps) x y ↔ Before k x y) where
-  pair_to : (q : OrderPair) → IsPairOfOrder (ordered_by k ps) q → IsPairOfOrder k q
-  pair_to q h = record {
-    pair = record { sent = h.pair.sent; received = h.pair.received; transmission = h.pair.transmission; reception = h.pair.reception; between_strands = h.pair.between_strands };
-    ordered = (before q.earlier q.later).0 h.ordered;
-  }
+pair_alike : (k : Skeleton) (ps : List OrderPair) → ((x y : Node) → Before (ordered_by k ps) x y → Before k x y) → (q : OrderPair) → IsPairOfOrder (ordered_by k ps) q → IsPairOfOrder k q
+pair_alike k ps back q h = record {
+  pair = record { sent = h.pair.sent; received = h.pair.received; transmission = h.pair.transmission; reception = h.pair.reception; between_strands = h.pair.between_strands };
+  ordered = back q.earlier q.later h.ordered;
+}
 
-  pair_from : (q : OrderPair) → IsPairOfOrder k q → IsPairOfOrder (ordered_by k ps) q
-  pair_from q h = record {
-    pair = record { sent = h.pair.sent; received = h.pair.received; transmission = h.pair.transmission; reception = h.pair.reception; between_strands = h.pair.between_strands };
-    ordered = (before q.earlier q.later).1 h.ordered;
-  }
+drops_to : (k : Skeleton) (ps : List OrderPair) → ((x y : Node) → Before (ordered_by k ps) x y ↔ Before k x y) → (p : OrderPair) (h : Skeleton) → Drops p (ordered_by k ps) h → Drops p k h
+drops_to k ps before p h d =
+    let to : (q : OrderPair) → IsPairOfOrder (ordered_by k ps) q → IsPairOfOrder k q = pair_alike k ps (λ x y. (before x y).0) in
+    let from : (q : OrderPair) → IsPairOfOrder k q → IsPairOfOrder (ordered_by k ps) q = pair_alike (ordered_by k ps) k.pairs (λ x y. (before x y).1) in
+    record {
+      covering = record { of_order = to p d.covering.of_order; none_between = λ n a b. d.covering.none_between n ((before p.earlier n).1 a) ((before n p.later).1 b) };
+      not_own = d.not_own;
+      not_added = λ a. d.not_added (record { entry = a.0.entry; listed = a.0.listed; from_origin = a.0.from_origin; received = a.0.received; reception = a.0.reception; carried = a.0.carried }, a.1);
+      same = d.same;
+      pairs = λ q. (λ m. let r = (d.pairs q).0 m in (to q r.0, r.1), λ h. (d.pairs q).1 (from q h.0, h.1));
+      stated = d.stated;
+    }
 
-  pub drops_to : (p : OrderPair) (h : Skeleton) → Drops p (ordered_by k ps) h → Drops p k h
-  drops_to p h d = record {
-    covering = record { of_order = pair_to p d.covering.of_order; none_between = λ n a b. d.covering.none_between n ((before p.earlier n).1 a) ((before n p.later).1 b) };
-    not_own = d.not_own;
-    not_added = λ a. d.not_added (record { entry = a.0.entry; listed = a.0.listed; from_origin = a.0.from_origin; received = a.0.received; reception = a.0.reception; carried = a.0.carried }, a.1);
-    same = d.same;
-    pairs = λ q. (λ m. let r = (d.pairs q).0 m in (pair_to q r.0, r.1), λ h. (d.pairs q).1 (pair_from q h.0, h.1));
-    stated = d.stated;
-  }
-
-  pub drops_from : (p : OrderPair) (h : Skeleton) → Drops p k h → Drops p (ordered_by k ps) h
-  drops_from p h d = record {
-    covering = record { of_order = pair_from p d.covering.of_order; none_between = λ n a b. d.covering.none_between n ((before p.earlier n).0 a) ((before n p.later).0 b) };
-    not_own = d.not_own;
-    not_added = λ a. d.not_added (record { entry = a.0.entry; listed = a.0.listed; from_origin = a.0.from_origin; received = a.0.received; reception = a.0.reception; carried = a.0.carried }, a.1);
-    same = d.same;
-    pairs = λ q. (λ m. let r = (d.pairs q).0 m in (pair_from q r.0, r.1), λ h. (d.pairs q).1 (pair_to q h.0, h.1));
-    stated = d.stated;
-  }
+-- the same the other way: the skeleton has its own pairs in place of those
+drops_from : (k : Skeleton) (ps : List OrderPair) → ((x y : Node) → Before (ordered_by k ps) x y ↔ Before k x y) → (p : OrderPair) (h : Skeleton) → Drops p k h → Drops p (ordered_by k ps) h
+drops_from k ps before p h d = drops_to (ordered_by k ps) k.pairs (λ x y. ((before x y).1, (before x y).0)) p h d
 
 -- ---- steps, one after the other
 
@@ -213,17 +202,3 @@ then_goes_on k h g c t = c.onward g t
 
 pub then_ends : (k h : Skeleton) → ComesBySteps k h → DeletesNone h → DropsNone h → GeneralisesTo k h
 then_ends k h c d p = c.ends (record { deletes_none = d; drops_none = p })
-
--- ---- what the steps lead to
-
-pub ends_general : {k g : Skeleton} → GeneralisesTo k g → IsMostGeneral g
-ends_general (last_step s m) = m
-ends_general (next_step s t) = ends_general t
-
-step_fit : {k g : Skeleton} → StepsTo k g → IsFit g
-step_fit (deletes {h = h} d f higher) = fit_listed h f
-step_fit (drops none d f lower) = f
-
-pub ends_fit : {k g : Skeleton} → GeneralisesTo k g → IsFit g
-ends_fit (last_step s m) = step_fit s
-ends_fit (next_step s t) = ends_fit t

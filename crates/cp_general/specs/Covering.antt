@@ -1,17 +1,16 @@
 -- Whether a pair covers, among all pairs of an order.
-use Rattle.std.specs.Prelude.{◌==◌, ◌&&◌, ◌||◌, nat_lt, if◌then◌else◌, Bool, false, List, [], ◌∷◌, ◌++◌}
+use Rattle.std.specs.Prelude.{◌==◌, ◌&&◌, ◌||◌, nat_lt, map, Bool, false, List, [], ◌∷◌, ◌++◌}
+use Rattle.std.specs.List.{filter}
 use Rattle.cp_model.specs.Same.{same_node}
 use Rattle.cp_model.specs.declared.node.Node.{Node}
 use Rattle.cp_model.specs.declared.node.OrderPair.{OrderPair}
 
 -- The nodes to which pairs lead from x, and those from which pairs lead to y.
 abbrev pub led_to : List OrderPair → Node → List Node
-led_to [] x = []
-led_to (p ∷ ps) x = if same_node p.earlier x then p.later ∷ led_to ps x else led_to ps x
+led_to pairs x = map (λ p. p.later) (filter (λ p. same_node p.earlier x) pairs)
 
 abbrev pub leading_to : List OrderPair → Node → List Node
-leading_to [] y = []
-leading_to (p ∷ ps) y = if same_node p.later y then p.earlier ∷ leading_to ps y else leading_to ps y
+leading_to pairs y = map (λ p. p.earlier) (filter (λ p. same_node p.later y) pairs)
 
 -- x is before y on one strand.
 abbrev pub is_below : Node → Node → Bool

@@ -166,7 +166,9 @@ labels_exchange =
 abbrev tree_exchange : Tree
 tree_exchange = record { labels = labels_exchange; outcome = complete }
 
-report_exchange : report_text (input_of input_exchange) (tree_exchange ∷ []) ≡ line (codes "(defprotocol ns basic")
+-- the lines of the input, those of some labels, those of the shape, and what stands behind them
+abbrev lines_exchange : (List ℕ → List ℕ) → List ℕ → List ℕ
+lines_exchange labels rest = line (codes "(defprotocol ns basic")
     (line (codes "  (defrole init (vars (a b name) (n1 n2 text)) (trace (send (enc n1 a (pubk b))) (recv (enc n1 n2 (pubk a))) (send (enc n2 (pubk b)))))")
     (line (codes "  (defrole resp (vars (a b name) (n1 n2 text)) (trace (recv (enc n1 a (pubk b))) (send (enc n1 n2 (pubk a))) (recv (enc n2 (pubk b))))))")
     (line (codes "(defskeleton ns")
@@ -174,7 +176,21 @@ report_exchange : report_text (input_of input_exchange) (tree_exchange ∷ []) �
     (line (codes "  (defstrand init 3 (a a) (b b) (n1 n1) (n2 n2))")
     (line (codes "  (non-orig (privk a) (privk b))")
     (line (codes "  (uniq-orig n1))")
-    (line (codes "(label 0")
+    (labels
+    (line (codes "(label 3")
+    (line (codes "  (parent 1)")
+    (line (codes "  (by contracted 0 0)")
+    (line (codes "  (vars (a name) (b name) (n1 text) (n2 text))")
+    (line (codes "  (defstrand init 3 (a a) (b b) (n1 n1) (n2 n2))")
+    (line (codes "  (defstrand resp 2 (a a) (b b) (n1 n1) (n2 n2))")
+    (line (codes "  (precedes ((0 0) (1 0)) ((1 1) (0 1)))")
+    (line (codes "  (non-orig (privk a) (privk b))")
+    (line (codes "  (uniq-orig (n1 (0 0)))")
+    (line (codes "  (map (0) (a a) (b b) (n1 n1) (n2 n2))")
+    (line (codes "  (shape))")
+    rest)))))))))))))))))))
+
+report_exchange : report_text (input_of input_exchange) (tree_exchange ∷ []) ≡ lines_exchange (λ shape. line (codes "(label 0")
     (line (codes "  (by problem)")
     (line (codes "  (vars (a name) (b name) (n1 text) (n2 text))")
     (line (codes "  (defstrand init 3 (a a) (b b) (n1 n1) (n2 n2))")
@@ -211,17 +227,7 @@ report_exchange : report_text (input_of input_exchange) (tree_exchange ∷ []) �
     (line (codes "  (test (1 0) n1)")
     (line (codes "  (escape (enc n1 a (pubk b)) (enc n1 (any text 0) (pubk a)))")
     (line (codes "  (dead))")
-    (line (codes "(label 3")
-    (line (codes "  (parent 1)")
-    (line (codes "  (by contracted 0 0)")
-    (line (codes "  (vars (a name) (b name) (n1 text) (n2 text))")
-    (line (codes "  (defstrand init 3 (a a) (b b) (n1 n1) (n2 n2))")
-    (line (codes "  (defstrand resp 2 (a a) (b b) (n1 n1) (n2 n2))")
-    (line (codes "  (precedes ((0 0) (1 0)) ((1 1) (0 1)))")
-    (line (codes "  (non-orig (privk a) (privk b))")
-    (line (codes "  (uniq-orig (n1 (0 0)))")
-    (line (codes "  (map (0) (a a) (b b) (n1 n1) (n2 n2))")
-    (line (codes "  (shape))")
+    shape)))))))))))))))))))))))))))))))))))))
     (line (codes "(label 4")
     (line (codes "  (parent 1)")
     (line (codes "  (by added-listener 2)")
@@ -238,32 +244,12 @@ report_exchange : report_text (input_of input_exchange) (tree_exchange ∷ []) �
     (line (codes "  (escape (enc n1 a (pubk b)) (enc n1 (any text 0) (pubk a)))")
     (line (codes "  (dead))")
     (line (codes "(status complete labels 5 expanded 4 shapes 1)")
-    ([]))))))))))))))))))))))))))))))))))))))))))))))))))))))))))))))))))))))))
+    []))))))))))))))))
 unfolding digits
 report_exchange = refl
 
 -- of its shapes alone
-shapes_exchange : shapes_text (input_of input_exchange) (tree_exchange ∷ []) ≡ line (codes "(defprotocol ns basic")
-    (line (codes "  (defrole init (vars (a b name) (n1 n2 text)) (trace (send (enc n1 a (pubk b))) (recv (enc n1 n2 (pubk a))) (send (enc n2 (pubk b)))))")
-    (line (codes "  (defrole resp (vars (a b name) (n1 n2 text)) (trace (recv (enc n1 a (pubk b))) (send (enc n1 n2 (pubk a))) (recv (enc n2 (pubk b))))))")
-    (line (codes "(defskeleton ns")
-    (line (codes "  (vars (a b name) (n1 n2 text))")
-    (line (codes "  (defstrand init 3 (a a) (b b) (n1 n1) (n2 n2))")
-    (line (codes "  (non-orig (privk a) (privk b))")
-    (line (codes "  (uniq-orig n1))")
-    (line (codes "(label 3")
-    (line (codes "  (parent 1)")
-    (line (codes "  (by contracted 0 0)")
-    (line (codes "  (vars (a name) (b name) (n1 text) (n2 text))")
-    (line (codes "  (defstrand init 3 (a a) (b b) (n1 n1) (n2 n2))")
-    (line (codes "  (defstrand resp 2 (a a) (b b) (n1 n1) (n2 n2))")
-    (line (codes "  (precedes ((0 0) (1 0)) ((1 1) (0 1)))")
-    (line (codes "  (non-orig (privk a) (privk b))")
-    (line (codes "  (uniq-orig (n1 (0 0)))")
-    (line (codes "  (map (0) (a a) (b b) (n1 n1) (n2 n2))")
-    (line (codes "  (shape))")
-    (line (codes "(status complete labels 5 expanded 4 shapes 1)")
-    ([]))))))))))))))))))))
+shapes_exchange : shapes_text (input_of input_exchange) (tree_exchange ∷ []) ≡ lines_exchange (λ shape. shape) (line (codes "(status complete labels 5 expanded 4 shapes 1)") [])
 unfolding digits
 shapes_exchange = refl
 
@@ -385,7 +371,9 @@ tree_many = record {
   outcome = at_strand_limit;
 }
 
-report_many : report_text (input_of input_many) (tree_many ∷ []) ≡ line (codes "(herald " ++ 34 ∷ codes "x" ++ 34 ∷ codes "")
+-- the lines of the input, and what stands behind them
+abbrev input_lines_many : List ℕ → List ℕ
+input_lines_many rest = line (codes "(herald " ++ 34 ∷ codes "x" ++ 34 ∷ codes "")
     (line (codes "  (bound 4))")
     (line (codes "(defprotocol q basic")
     (line (codes "  (defrole s (vars (a b name) (n text) (k skey) (e akey) (d data)) (trace (send (cat " ++ 34 ∷ codes "t" ++ 34 ∷ codes " a (cat n d) (enc (cat a b) n (invk e)))) (recv (enc " ++ 34 ∷ codes "x" ++ 34 ∷ codes " k)) (send (pubk " ++ 34 ∷ codes "p" ++ 34 ∷ codes " a))) (non-orig (privk a)) (pen-non-orig k)))")
@@ -397,6 +385,9 @@ report_many : report_text (input_of input_many) (tree_many ∷ []) ≡ line (cod
     (line (codes "  (non-orig (invk e) (privk " ++ 34 ∷ codes "p" ++ 34 ∷ codes " a) (invk e))")
     (line (codes "  (precedes ((0 0) (1 0)) ((1 1) (2 0)) ((0 0) (2 0)))")
     (line (codes "  (uniq-orig x))")
+    rest)))))))))))
+
+report_many : report_text (input_of input_many) (tree_many ∷ []) ≡ input_lines_many
     (line (codes "(label 0")
     (line (codes "  (by problem)")
     (line (codes "  (vars (a name) (x text) (e akey) (b name) (d data))")
@@ -438,25 +429,14 @@ report_many : report_text (input_of input_many) (tree_many ∷ []) ≡ line (cod
     (line (codes "  (map ())")
     (line (codes "  (limit steps))")
     (line (codes "(status limit strands labels 5 expanded 1 shapes 0)")
-    ([])))))))))))))))))))))))))))))))))))))))))))))))))))))
+    [])))))))))))))))))))))))))))))))))))))))))
 unfolding digits
 report_many = refl
 
 -- no label of which is a shape
-shapes_many : shapes_text (input_of input_many) (tree_many ∷ []) ≡ line (codes "(herald " ++ 34 ∷ codes "x" ++ 34 ∷ codes "")
-    (line (codes "  (bound 4))")
-    (line (codes "(defprotocol q basic")
-    (line (codes "  (defrole s (vars (a b name) (n text) (k skey) (e akey) (d data)) (trace (send (cat " ++ 34 ∷ codes "t" ++ 34 ∷ codes " a (cat n d) (enc (cat a b) n (invk e)))) (recv (enc " ++ 34 ∷ codes "x" ++ 34 ∷ codes " k)) (send (pubk " ++ 34 ∷ codes "p" ++ 34 ∷ codes " a))) (non-orig (privk a)) (pen-non-orig k)))")
-    (line (codes "(defskeleton q")
-    (line (codes "  (vars (a name) (x text) (e akey))")
-    (line (codes "  (defstrand s 1 (a a) (n x) (e (invk e)))")
-    (line (codes "  (deflistener (cat (cat x a) x))")
-    (line (codes "  (deflistener (enc (cat x (cat a x)) (ltk a a)))")
-    (line (codes "  (non-orig (invk e) (privk " ++ 34 ∷ codes "p" ++ 34 ∷ codes " a) (invk e))")
-    (line (codes "  (precedes ((0 0) (1 0)) ((1 1) (2 0)) ((0 0) (2 0)))")
-    (line (codes "  (uniq-orig x))")
+shapes_many : shapes_text (input_of input_many) (tree_many ∷ []) ≡ input_lines_many
     (line (codes "(status limit strands labels 5 expanded 1 shapes 0)")
-    ([])))))))))))))
+    [])
 unfolding digits
 shapes_many = refl
 

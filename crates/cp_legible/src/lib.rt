@@ -1,4 +1,4 @@
-//! Reports of searches can be read back.
+//! The trees of searches can be stated in reports.
 #![tactic(auto)]
 
 mod examples;

@@ -132,10 +132,16 @@ module _ (strands : List SkeletonStrand) (items : List program.Form) (k : ℕ) (
       let rest = pairs_in (map view (drop (k + 1) items)) in
       ap (λ ps. ps ++ rest) added ∙ append_assoc before (pair_of (view f)) rest ∙ sym (ap (λ gs. before ++ pairs_in (map view gs)) (drop_read items k f lt is)) ∙ h
 
-  pub pairs-judged : (o p all : Option Refusal) → p ≡ first_onto o (pair_faults strands before (view f)) → first_onto o (pairs_faults strands before (map view (drop k items))) ≡ all
+  pairs-judged : (o p all : Option Refusal) → p ≡ first_onto o (pair_faults strands before (view f)) → first_onto o (pairs_faults strands before (map view (drop k items))) ≡ all
       → first_onto p (pairs_faults strands after (map view (drop (k + 1) items))) ≡ all
   pairs-judged o p all e h =
       let rest = map view (drop (k + 1) items) in
       ap (λ q. first_onto q (pairs_faults strands after rest)) e ∙ ap (λ ps. first_onto (first_onto o (pair_faults strands before (view f))) (pairs_faults strands ps rest)) added
       ∙ sym (first_onto-append o (pair_faults strands before (view f)) (pairs_faults strands (before ++ pair_of (view f)) rest))
       ∙ sym (ap (λ gs. first_onto o (pairs_faults strands before (map view gs))) (drop_read items k f lt is)) ∙ h
+
+  -- a pair is judged, and goes behind the others
+  pub pair-behind : (o p all : Option Refusal) (whole : List OrderPair) → p ≡ first_onto o (pair_faults strands before (view f))
+      → (first_onto o (pairs_faults strands before (map view (drop k items))) ≡ all) × (before ++ pairs_in (map view (drop k items)) ≡ whole)
+      → (first_onto p (pairs_faults strands after (map view (drop (k + 1) items))) ≡ all) × (after ++ pairs_in (map view (drop (k + 1) items)) ≡ whole)
+  pair-behind o p all whole e h = (pairs-judged o p all e h.0, pairs-taken whole h.1)

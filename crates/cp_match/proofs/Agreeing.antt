@@ -1,7 +1,7 @@
 -- Bindings of a pattern's variables, and the substitutions that agree with them.
 use Rattle.std.proofs.Common.{◌≡◌, ◌⊎◌, ⊎_elim, inl, inr, ℕ, ◌+◌, ◌<◌, ◌≤◌, Bool, true, false, if◌then◌else◌, ◌==◌, List, [], ◌∷◌, map, length, get_or, drop, refl, sym, ap, ap₂, ◌∙◌, subst}
-use Rattle.std.specs.Prelude.{◌↔◌, ◌||◌}
-use Rattle.std.proofs.lemmas.Bool.{eqb-true, eq-eqb}
+use Rattle.std.specs.Prelude.{◌↔◌}
+use Rattle.std.proofs.lemmas.Bool.{eqb-true, eq-eqb, or_cases, or_left, or_right}
 use Rattle.std.proofs.lemmas.List.{drop_all}
 use Rattle.cp_lists.specs.Lists.{IsIn, here, there}
 use Rattle.cp_lists.proofs.Members.{in_cases, not_in_none, only_item, in_append, drop_read}
@@ -70,28 +70,16 @@ module _ (s t : Substitution) where
 
 -- ---- numbers of variables
 
-or_true : (a b : Bool) → (a || b) ≡ true → (a ≡ true) ⊎ (b ≡ true)
-or_true true b e = inl refl
-or_true false b e = inr e
-
-or_left : (a b : Bool) → a ≡ true → (a || b) ≡ true
-or_left true b e = refl
-or_left false b e = absurd (cc)
-
-or_right : (a b : Bool) → b ≡ true → (a || b) ≡ true
-or_right true b e = refl
-or_right false b e = e
-
-abbrev numbers : List Variable → List ℕ
+abbrev pub numbers : List Variable → List ℕ
 numbers xs = map (λ x. x.number) xs
 
-numbered : (xs : List Variable) (m : ℕ) → is_number_of (numbers xs) m ≡ true → (y : Variable) × IsIn y xs × (y.number ≡ m)
+pub numbered : (xs : List Variable) (m : ℕ) → is_number_of (numbers xs) m ≡ true → (y : Variable) × IsIn y xs × (y.number ≡ m)
 numbered [] m e = absurd (cc)
 numbered (x ∷ xs) m e =
     ⊎_elim (λ p. (x, here, eqb-true x.number m p)) (λ q. let r = numbered xs m q in (r.0, there r.1, r.2))
-    (or_true (x.number == m) (is_number_of (numbers xs) m) e)
+    (or_cases (x.number == m) (is_number_of (numbers xs) m) e)
 
-has_number : (xs : List Variable) (y : Variable) → IsIn y xs → is_number_of (numbers xs) y.number ≡ true
+pub has_number : (xs : List Variable) (y : Variable) → IsIn y xs → is_number_of (numbers xs) y.number ≡ true
 has_number [] y i = absurd (not_in_none i)
 has_number (x ∷ xs) y i =
     ⊎_elim (λ e. or_left (x.number == y.number) (is_number_of (numbers xs) y.number) (eq-eqb x.number y.number (ap (λ (z : Variable). z.number) e)))
@@ -109,19 +97,19 @@ mixed test f s = record {
 }
 
 module _ (test : ℕ → Bool) (f s : Substitution) where
+  -- what is given to a number depends on its test alone
+  by_test : (k : Sort) (n : ℕ) (b : Bool) → test n ≡ b → SameFor (mixed test f s) (mixed (λ m. b) f s) (record { sort = k; number = n })
+  by_test text_sort n b e = rw e refl
+  by_test datum_sort n b e = rw e refl
+  by_test name_sort n b e = rw e refl
+  by_test skey_sort n b e = rw e refl
+  by_test akey_sort n b e = rw e refl
+
   second_at : (k : Sort) (n : ℕ) → test n ≡ true → SameFor (mixed test f s) s (record { sort = k; number = n })
-  second_at text_sort n e = rw e refl
-  second_at datum_sort n e = rw e refl
-  second_at name_sort n e = rw e refl
-  second_at skey_sort n e = rw e refl
-  second_at akey_sort n e = rw e refl
+  second_at k n e = by_test k n true e
 
   first_at : (k : Sort) (n : ℕ) → test n ≡ false → SameFor (mixed test f s) f (record { sort = k; number = n })
-  first_at text_sort n e = rw e refl
-  first_at datum_sort n e = rw e refl
-  first_at name_sort n e = rw e refl
-  first_at skey_sort n e = rw e refl
-  first_at akey_sort n e = rw e refl
+  first_at k n e = by_test k n false e
 
 -- ---- what agrees with the bindings that are kept
 

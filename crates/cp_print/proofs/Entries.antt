@@ -78,6 +78,10 @@ module _ (chosen : Label → Bool) (names : List (List ℕ)) (n : ℕ) (ls : Lis
   pub labels_next : (l : TreeNode) → n < length ls → l ≡ get_or ls n l → chosen (label_view l) ≡ true → labels_left ≡ (label_form names n (label_view l) ∷ []) ++ labels_behind
   labels_next l lt e is = first_label l true lt e is
 
+  -- the form of a label of which a test says that it is chosen, and those behind it
+  pub labels_put : (l : TreeNode) (b : Bool) (f : Form) → n < length ls → l ≡ get_or ls n l → b ≡ chosen (label_view l) → b ≡ true → f ≡ label_form names n (label_view l) → labels_left ≡ (f ∷ []) ++ labels_behind
+  labels_put l b f lt e is true_here form = labels_next l lt e (sym is ∙ true_here) ∙ ap (λ g. g ∷ labels_behind) (sym form)
+
   -- a label that is not chosen
   pub labels_skipped : (l : TreeNode) → n < length ls → l ≡ get_or ls n l → chosen (label_view l) ≡ false → labels_left ≡ labels_behind
   labels_skipped l lt e is = first_label l false lt e is

@@ -2,6 +2,8 @@
 ghost use Rattle.std.specs.Prelude.{◌≡◌, ◌++◌, [], ◌∷◌, map, option_map, IfOk, OnOk};
 ghost use Rattle.cp_language.specs.Printed.{plain_list, word, atom_form, term_form, pattern_form};
 ghost use Rattle.cp_language.specs.Report.{named_by, unique_form, value_forms, map_form, test_items};
+ghost use Rattle.cp_model.specs.Term.{Variable};
+ghost use Rattle.cp_sexpr.specs.Syntax.{Form as Plain};
 ghost use Rattle.cp_sexpr.specs.View.{view};
 ghost use Rattle.cp_skel.specs.Trees.{test_view};
 ghost use Rattle.cp_skel.specs.View.{skeleton_view};
@@ -17,41 +19,46 @@ use cp_skel::{Atom, Skeleton, Test, UniqueAt};
 use cp_term::{Pattern, Term, Text};
 use std::alloc::{AllocError, Global};
 
-/// These atoms as forms.
-pub(crate) fn atom_forms(
-    alloc: Global,
-    naming: &Naming<'_>,
-    atoms: &[Atom],
-) -> Result<Vec<Form>, AllocError>
-    ensures { IfOk result (λ fs. map view fs.items ≡ map (atom_form (named_in naming.now)) atoms.now) }
-{
-    let mut forms = Vec::new(alloc);
-    for atom in atoms {
-        forms.push(atom_form(alloc, naming, atom.as_term())?)?;
+/// What is printed as one form.
+pub(crate) trait Printed {
+    /// The form of an item, where variables have these forms.
+    ghost printed: { (Variable → Plain) → Self → Plain };
+
+    /// The item as a form.
+    fn form(&self, alloc: Global, naming: &Naming<'_>) -> Result<Form, AllocError>
+        ensures { IfOk result (λ f. view f ≡ printed (named_in naming.now) self.now) };
+}
+
+impl Printed for Atom {
+    ghost printed = { atom_form };
+
+    fn form(&self, alloc: Global, naming: &Naming<'_>) -> Result<Form, AllocError> {
+        atom_form(alloc, naming, self.as_term())
     }
-    Ok(forms)
 }
 
-/// A unique value with its recorded origin.
-fn unique_form(alloc: Global, naming: &Naming<'_>, unique: &UniqueAt) -> Result<Form, AllocError>
-    ensures { IfOk result (λ f. view f ≡ unique_form (named_in naming.now) unique.now) }
-{
-    let value = atom_form(alloc, naming, unique.value().as_term())?;
-    let origin = node_form(alloc, unique.origin())?;
-    Ok(plain_list(two(alloc, value, origin)?))
+// A unique value stands with its recorded origin.
+impl Printed for UniqueAt {
+    ghost printed = { unique_form };
+
+    fn form(&self, alloc: Global, naming: &Naming<'_>) -> Result<Form, AllocError> {
+        let value = atom_form(alloc, naming, self.value().as_term())?;
+        let origin = node_form(alloc, self.origin())?;
+        Ok(plain_list(two(alloc, value, origin)?))
+    }
 }
 
-/// These unique values as forms.
-pub(crate) fn unique_forms(
+/// These items as forms.
+pub(crate) fn forms_of<T: Printed>(
     alloc: Global,
     naming: &Naming<'_>,
-    uniques: &[UniqueAt],
+    items: &[T],
 ) -> Result<Vec<Form>, AllocError>
-    ensures { IfOk result (λ fs. map view fs.items ≡ map (unique_form (named_in naming.now)) uniques.now) }
+    ensures { IfOk result (λ fs. map view fs.items ≡ map (T.printed (named_in naming.now)) items.now) }
 {
     let mut forms = Vec::new(alloc);
-    for unique in uniques {
-        forms.push(unique_form(alloc, naming, unique)?)?;
+    for item in items {
+        forms.push(item.form(alloc, naming)?)?;
     }
     Ok(forms)
 }

@@ -9,7 +9,7 @@ ghost use Rattle.cp_strand.specs.View.{strand_view};
 ghost use Rattle.cp_skel.specs.View.{skeleton_view};
 ghost use Rattle.cp_print.specs.Named.{named_in};
 
-use crate::assumptions::{add_test, atom_forms, map_form, pattern_forms, unique_forms};
+use crate::assumptions::{add_test, forms_of, map_form, pattern_forms};
 use crate::items::{add_mark, add_parent, add_unless_empty, node_forms, numerals, operation_words};
 use crate::making::{headed_list, numeral};
 use crate::naming::Naming;
@@ -58,11 +58,11 @@ fn add_assumption_items(
     let assumptions = listed(alloc, skeleton)?;
     let precedes = covering_pairs(alloc, skeleton)?;
     add_unless_empty(alloc, "precedes", precedes, items)?;
-    let non = atom_forms(alloc, naming, assumptions.non_originating())?;
+    let non = forms_of(alloc, naming, assumptions.non_originating())?;
     add_unless_empty(alloc, "non-orig", non, items)?;
-    let penetrator_non = atom_forms(alloc, naming, assumptions.penetrator_non_originating())?;
+    let penetrator_non = forms_of(alloc, naming, assumptions.penetrator_non_originating())?;
     add_unless_empty(alloc, "pen-non-orig", penetrator_non, items)?;
-    let uniques = unique_forms(alloc, naming, assumptions.uniquely_originating())?;
+    let uniques = forms_of(alloc, naming, assumptions.uniquely_originating())?;
     add_unless_empty(alloc, "uniq-orig", uniques, items)
 }
 

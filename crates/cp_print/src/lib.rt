@@ -12,4 +12,4 @@ mod report;
 mod strands;
 mod terms;
 
-pub use report::{Report, print, print_pieces, print_shape_pieces, print_shapes};
+pub use report::{print, print_pieces, print_shape_pieces, print_shapes};

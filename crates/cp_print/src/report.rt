@@ -216,13 +216,6 @@ fn put_report(
     Ok(())
 }
 
-/// A report: the forms of the input, and the derivation tree of each problem that they state, in order.
-#[derive(Drop)]
-pub struct Report {
-    pub forms: Vec<Form>,
-    pub trees: Vec<Tree>,
-}
-
 /// Appends the text of the report on the input with these trees, one for each problem in order, and behind the ends the
 /// place in the text at which each of its top forms ends. The error is that memory ran out: a front of the text may have
 /// been appended.

@@ -1,12 +1,10 @@
 // The forms of the input in a report, and what stands behind each.
 ghost use Rattle.std.specs.Prelude.{◌≡◌, map, IfOk};
 ghost use Rattle.cp_sexpr.specs.View.{view};
-ghost use Rattle.cp_report.specs.Heads.{is_of_tree};
 ghost use Rattle.cp_report.specs.ReadBack.{sections_of};
-ghost use Rattle.cp_reading.specs.InFront.{leading};
 ghost use Rattle.cp_readback.specs.Sections.{sections_view};
 
-use cp_reading::is_of_tree;
+use cp_reading::{count_in_front, is_of_tree};
 use cp_sexpr::Form;
 use std::alloc::{AllocError, Global};
 
@@ -24,23 +22,11 @@ pub(crate) struct Sections<'a> {
     pub(crate) sections: Vec<Section<'a>>,
 }
 
-/// How many label forms and status forms stand first.
-fn of_tree_in_front(forms: &[Form]) -> usize
-    ensures { result ≡ leading is_of_tree (map view forms.now) }
-{
-    for (place, form) in forms.iter().enumerate() {
-        if !is_of_tree(form) {
-            return place;
-        }
-    }
-    forms.len()
-}
-
 /// The label forms and status forms that stand first.
 fn tree_in_front(forms: &[Form]) -> &[Form]
     ensures { map view result.now ≡ (sections_of (map view forms.now)).front }
 {
-    let (front, _) = forms.split_at(of_tree_in_front(forms));
+    let (front, _) = forms.split_at(count_in_front(forms, &["label", "status"]));
     front
 }
 

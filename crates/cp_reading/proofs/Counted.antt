@@ -1,10 +1,13 @@
 -- The counts of a tree by its label forms.
 use Rattle.std.proofs.Common.{◌≡◌, ℕ, suc, ◌+◌, Bool, true, false, List, [], ◌∷◌, length, map, refl, sym, ap, ◌∙◌, arith}
-use Rattle.std.specs.Prelude.{Option, Some, None, codes, if◌then◌else◌}
+use Rattle.std.specs.Prelude.{Option, Some, None, codes, if◌then◌else◌, count_by}
+use Rattle.std.proofs.lemmas.List.Recursion.{is_count_by}
 use Rattle.cp_base.specs.declared.place.Place.{Place}
 use Rattle.cp_model.specs.Skeleton.{Skeleton}
 use Rattle.cp_model.specs.Tree.{Mark, shape, dead, seen, instance_of, limit_steps, limit_strands, is_expanded, expanded_count, if_shape, shapes_of, Label}
 use Rattle.cp_sexpr.specs.Syntax.{Form}
+use Rattle.cp_sexpr.specs.View.{view}
+use Rattle.cp_sexpr.specs.declared.form.Form as program
 use Rattle.cp_language.specs.Words.{is_one_of}
 use Rattle.cp_language.specs.Roles.{text_of_symbol}
 use Rattle.cp_language.specs.Problems.{is_known, Problem}
@@ -28,6 +31,14 @@ expanded_by s (Some f) = refl
 more_if : (b : Bool) (n : ℕ) → (if b then 1 else 0) + n ≡ (if b then suc n else n)
 more_if true n = let e : 1 + n ≡ suc n = omega arith in e
 more_if false n = let e : 0 + n ≡ n = omega arith in e
+
+one_more : (b : Bool) (n : ℕ) → (if b then suc n else n) ≡ (if b then 1 + n else n)
+one_more true n = let e : suc n ≡ 1 + n = omega arith in e
+one_more false n = refl
+
+-- how many forms of the program pass the test
+pub counted : (test : Form → Bool) (fs : List program.Form) (n : ℕ) → n ≡ count_by (λ f. test (view f)) fs → n ≡ count_of test (map view fs)
+counted test fs n e = e ∙ sym (is_count_by (λ gs. count_of test (map view gs)) (λ f. test (view f)) refl (λ f gs. one_more (test (view f)) (count_of test (map view gs))) fs)
 
 module _ (p : Problem) where
   tested_are : (fs : List Form) → count_of is_tested fs ≡ expanded_count (map (label_of p) fs)

@@ -1,8 +1,10 @@
 -- What is asked only where other items fit.
-use Rattle.std.proofs.Common.{◌≡◌, ℕ, ◌&&◌, Bool, true, false, List, [], ◌∷◌, ◌++◌, refl}
+use Rattle.std.proofs.Common.{◌≡◌, ℕ, ◌&&◌, Bool, true, false, List, [], ◌∷◌, ◌++◌, map, refl, sym, ap, ◌∙◌}
 use Rattle.std.specs.Prelude.{Option, Some, None, is_none, if◌then◌else◌}
 use Rattle.cp_base.specs.declared.place.Place.{Place}
 use Rattle.cp_sexpr.specs.Syntax.{Form, symbol, string, number, list}
+use Rattle.cp_sexpr.specs.View.{view}
+use Rattle.cp_sexpr.specs.declared.form.Form as program
 use Rattle.cp_language.specs.Faults.{place_of}
 use Rattle.cp_language.specs.Roles.{text_of_symbol}
 use Rattle.cp_report.specs.Misfits.{misfit, misfit_unless, unless_misfit, where_fitting, symbol_misfits, entries_misfits}
@@ -30,6 +32,16 @@ unless-found o [] others = refl
 unless-found o (r ∷ rs) others = refl
 
 -- ---- a symbol in front
+
+-- what is met of the list whose first form is judged with those behind it
+pub first-read : (whole : List Form → List Place) (fs gs : List program.Form) (f : program.Form) (o p : Option Place) (met : List Place) → fs ≡ f ∷ gs → p ≡ first_onto o met → met ≡ whole (view f ∷ map view gs)
+    → p ≡ first_onto o (whole (map view fs))
+first-read whole fs gs f o p met split e is = e ∙ ap (first_onto o) is ∙ sym (ap (λ hs. first_onto o (whole (map view hs))) split)
+
+-- the first form is the misfit
+pub first-refused : (whole : List Form → List Place) (fs gs : List program.Form) (f : program.Form) (o p : Option Place) (at : Place) → fs ≡ f ∷ gs → p ≡ first_onto o (misfit at) → at ≡ place_of (view f)
+    → misfit (place_of (view f)) ≡ whole (view f ∷ map view gs) → p ≡ first_onto o (whole (map view fs))
+first-refused whole fs gs f o p at split e stands is = first-read whole fs gs f o p (misfit (place_of (view f))) split (e ∙ ap (λ q. first_onto o (misfit q)) stands) is
 
 pub symbol-fits : (fits : List ℕ → Bool) (f : Form) (others : List Place) → is_fitting (symbol_misfits fits f) ≡ true → others ≡ unless_misfit (symbol_misfits fits f) others
 symbol-fits fits f others e = by_list (symbol_misfits fits f) e

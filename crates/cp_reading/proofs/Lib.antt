@@ -2,6 +2,7 @@ pub mod InLine
 pub mod Relations
 pub mod InFront
 pub mod InBlocks
+pub mod InKinds
 pub mod Fitting
 pub mod Counted
 pub mod EachAsked

@@ -1,13 +1,12 @@
 -- The counts of a tree, and status forms with them.
 use Rattle.std.specs.Prelude.{◌≡◌, ℕ, suc, List, [], ◌∷◌, ◌++◌, length, Bool, true, false, codes, if◌then◌else◌, Option, Some}
 use Rattle.cp_base.specs.declared.place.Place.{Place}
-use Rattle.cp_model.specs.Tree.{Mark, shape, Outcome, complete, at_step_limit, at_strand_limit, Label, expanded_count, shapes_of}
-use Rattle.cp_model.specs.Same.{same_text}
+use Rattle.cp_model.specs.Tree.{Mark, shape, Outcome, complete, Label, expanded_count, shapes_of}
 use Rattle.cp_sexpr.specs.Syntax.{Form}
 use Rattle.cp_language.specs.Words.{is_one_of}
 use Rattle.cp_language.specs.Faults.{place_of}
 use Rattle.cp_language.specs.Roles.{text_of_symbol}
-use Rattle.cp_language.specs.Problems.{is_known, name_in_front}
+use Rattle.cp_language.specs.Problems.{is_known}
 use Rattle.cp_report.specs.Misfits.{misfit, unless_misfit, entries_misfits, symbol_misfits}
 use Rattle.cp_report.specs.Heads.{entries_of, item_with}
 use Rattle.cp_report.specs.Labels.{items_of_label, mark_in}
@@ -42,15 +41,12 @@ pub record AreCountsIn (labels : List Form) (c : Counts) : Type 0 where
   pub expanded : c.expanded ≡ count_of is_tested labels
   pub shapes : c.shapes ≡ count_of is_shape labels
 
--- The shapes with their number; the labels with a test with theirs, and then the shapes; and all counts.
-abbrev pub shape_kinds : Counts → List (Form → List Place)
-shape_kinds c = word_misfits (codes "shapes") ∷ count_misfits c.shapes ∷ []
-
-abbrev pub expanded_kinds : Counts → List (Form → List Place)
-expanded_kinds c = word_misfits (codes "expanded") ∷ count_misfits c.expanded ∷ shape_kinds c
-
+-- The counts, each behind its word.
 abbrev pub count_kinds : Counts → List (Form → List Place)
-count_kinds c = word_misfits (codes "labels") ∷ count_misfits c.labels ∷ expanded_kinds c
+count_kinds c =
+    word_misfits (codes "labels") ∷ count_misfits c.labels
+    ∷ word_misfits (codes "expanded") ∷ count_misfits c.expanded
+    ∷ word_misfits (codes "shapes") ∷ count_misfits c.shapes ∷ []
 
 abbrev pub status_entries_misfits : Counts → Place → List Form → List Place
 status_entries_misfits c at [] = misfit at
@@ -60,9 +56,6 @@ status_entries_misfits c at (f ∷ fs) =
 -- A status form behind labels with these counts.
 abbrev pub status_form_misfits : Counts → Form → List Place
 status_form_misfits c f = status_entries_misfits c (place_of f) (entries_of f)
-
-abbrev pub limit_outcome : List Form → Outcome
-limit_outcome fs = if same_text (name_in_front fs) (codes "steps") then at_step_limit else at_strand_limit
 
 abbrev pub outcome_in : List Form → Outcome
 outcome_in [] = complete

@@ -2,6 +2,7 @@ pub mod Lines
 pub mod Families
 pub mod Words
 pub mod Parts
+pub mod Kinds
 pub mod Counting
 pub mod InFront
 pub mod Items

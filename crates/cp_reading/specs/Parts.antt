@@ -1,12 +1,11 @@
 -- Parts of label forms, with what they depend on apart.
-use Rattle.std.specs.Prelude.{ℕ, zero, suc, List, [], ◌∷◌, ◌++◌, drop, map, Bool, true, false, not, codes, if◌then◌else◌, Option, Some, None}
+use Rattle.std.specs.Prelude.{ℕ, zero, suc, List, [], ◌∷◌, ◌++◌, drop, map, Bool, true, false, not, codes, Option, Some, None}
 use Rattle.cp_base.specs.declared.place.Place.{Place}
-use Rattle.cp_model.specs.Tree.{Mark, limit_steps, limit_strands}
-use Rattle.cp_model.specs.Same.{same_text}
+use Rattle.cp_model.specs.Tree.{Mark}
 use Rattle.cp_sexpr.specs.Syntax.{Form}
 use Rattle.cp_language.specs.Faults.{place_of}
 use Rattle.cp_language.specs.Roles.{headed, text_of_symbol}
-use Rattle.cp_language.specs.Problems.{name_in_front, number_of}
+use Rattle.cp_language.specs.Problems.{number_of}
 use Rattle.cp_model.specs.Skeleton.{SkeletonStrand}
 use Rattle.cp_model.specs.Strand.{Declaration}
 use Rattle.cp_report.specs.Misfits.{misfit, misfit_unless, unless_misfit, lacking, each_misfits, any_number_misfits, symbol_misfits, entries_misfits}
@@ -25,9 +24,6 @@ mark_item_misfits tree has_children (Some f) = misfit_unless (not has_children) 
 abbrev pub mark_of_item : Option Form → Option Mark
 mark_of_item None = None
 mark_of_item (Some f) = mark_of (headed f)
-
-abbrev pub limit_mark : List Form → Mark
-limit_mark fs = if same_text (name_in_front fs) (codes "steps") then limit_steps else limit_strands
 
 -- ---- operations
 

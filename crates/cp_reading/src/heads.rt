@@ -1,5 +1,5 @@
 // The items of a label form by their heads.
-ghost use Rattle.std.specs.Prelude.{◌≡◌, ◌∷◌, [], codes, map, option_map};
+ghost use Rattle.std.specs.Prelude.{◌≡◌, map, option_map};
 ghost use Rattle.cp_sexpr.specs.View.{view};
 ghost use Rattle.cp_language.specs.Words.{is_one_of};
 ghost use Rattle.cp_language.specs.Problems.{name_in_front};
@@ -10,23 +10,27 @@ use cp_forms::{headed, is_word, items_behind, later_items, symbol_or_empty};
 use cp_sexpr::Form;
 use cp_spelled::has_head;
 
-/// Whether a word is the head of a mark.
-fn is_mark_head(head: &[u8]) -> bool
-    ensures { result ≡ is_one_of head.now mark_heads }
+/// The heads of marks.
+pub(crate) const MARK_HEADS: &[&str] = &["shape", "dead", "seen", "instance-of", "limit"];
+
+/// Whether a word is one of these.
+fn is_one_of(word: &[u8], words: &[&str]) -> bool
+    ensures { result ≡ is_one_of word.now (map (λ w. w.now) words.now) }
 {
-    is_word(head, b"shape")
-        || is_word(head, b"dead")
-        || is_word(head, b"seen")
-        || is_word(head, b"instance-of")
-        || is_word(head, b"limit")
+    for other in words {
+        if is_word(word, other.as_bytes()) {
+            return true;
+        }
+    }
+    false
 }
 
-/// Whether a form is headed as a mark.
-fn is_mark(form: &Form) -> bool
-    ensures { result ≡ has_head mark_heads (view form.now) }
+/// Whether a form is a list with one of these heads.
+pub(crate) fn has_one_of(form: &Form, heads: &[&str]) -> bool
+    ensures { result ≡ has_head (map (λ w. w.now) heads.now) (view form.now) }
 {
     match headed(form) {
-        Some(list) => is_mark_head(list.head),
+        Some(list) => is_one_of(list.head, heads),
         None => false,
     }
 }
@@ -36,7 +40,7 @@ pub(crate) fn mark_item(items: &[Form]) -> Option<&Form>
     ensures { option_map (λ f. view f.now) result ≡ item_with mark_heads (map view items.now) }
 {
     for item in items {
-        if is_mark(item) {
+        if has_one_of(item, MARK_HEADS) {
             return Some(item);
         }
     }
@@ -50,21 +54,11 @@ pub(crate) fn is_label(form: &Form) -> bool
     has_head(form, b"label")
 }
 
-/// Whether a word is the head of a label form or of a status form.
-fn is_tree_head(head: &[u8]) -> bool
-    ensures { result ≡ is_one_of head.now (codes "label" ∷ codes "status" ∷ []) }
-{
-    is_word(head, b"label") || is_word(head, b"status")
-}
-
 /// Whether a form is a label form or a status form.
 pub fn is_of_tree(form: &Form) -> bool
     ensures { result ≡ is_of_tree (view form.now) }
 {
-    match headed(form) {
-        Some(list) => is_tree_head(list.head),
-        None => false,
-    }
+    has_one_of(form, &["label", "status"])
 }
 
 /// The items of a label form, which stand behind its number.

@@ -65,32 +65,6 @@ fn strands_item_misfits(
     Ok(fit)
 }
 
-/// Where the items behind the strands, and all that speak of these, do not fit.
-fn behind_strands_misfits(
-    setting: Setting<'_>,
-    scope: Scope<'_>,
-    label: Labelled<'_>,
-    first: &mut FirstMisfit,
-) -> Result<(), AllocError>
-    requires setting { IsSetting setting }
-    requires scope { scope_view scope ≡ scope_of (map view label.items.now) }
-    ensures { OnOk result (first.new ≡ first_onto first.old
-        (around_strands_misfits (draft_view setting.entry.problem.now) label.entry.place (map view label.entry.items.now)
-        ++ about_strands_misfits (draft_view setting.entry.problem.now) (map view label.entry.items.now))) }
-{
-    let Setting {
-        alloc,
-        problem,
-        names,
-        ..
-    } = setting;
-    let Labelled { place, items, .. } = label;
-    let strands = strands_of(alloc, problem.protocol.roles(), scope, items)?;
-    around_strands_misfits(alloc, problem, names, scope, &strands, place, items, first)?;
-    about_strands_misfits(scope, &strands, items, first);
-    Ok(())
-}
-
 /// Where the items behind the strands, and all that speak of these, do not fit, where it is asked.
 fn behind_strands_if(
     is_asked: bool,
@@ -106,11 +80,20 @@ fn behind_strands_if(
         ++ about_strands_misfits (draft_view setting.entry.problem.now) (map view label.entry.items.now)
         else [])) }
 {
-    if is_asked {
-        behind_strands_misfits(setting, scope, label, first)
-    } else {
-        Ok(())
+    if !is_asked {
+        return Ok(());
     }
+    let Setting {
+        alloc,
+        problem,
+        names,
+        ..
+    } = setting;
+    let Labelled { place, items, .. } = label;
+    let strands = strands_of(alloc, problem.protocol.roles(), scope, items)?;
+    around_strands_misfits(alloc, problem, names, scope, &strands, place, items, first)?;
+    about_strands_misfits(scope, &strands, items, first);
+    Ok(())
 }
 
 /// How many strands the problem has.

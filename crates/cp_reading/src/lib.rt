@@ -18,4 +18,5 @@ mod testing;
 mod trees;
 
 pub use heads::is_of_tree;
+pub use in_front::count_in_front;
 pub use trees::{behind_misfits, none_may_stand, tree_of};

@@ -9,7 +9,7 @@ ghost use Rattle.cp_report.specs.Labels.{is_label_in, mark_kinds, mark_by, mark_
 ghost use Rattle.cp_skel.specs.Trees.{mark_view};
 ghost use Rattle.cp_spelled.specs.FirstMisfit.{first_onto};
 ghost use Rattle.cp_reading.specs.Families.{labels_of};
-ghost use Rattle.cp_reading.specs.Parts.{mark_item_misfits, mark_of_item, limit_mark};
+ghost use Rattle.cp_reading.specs.Parts.{mark_item_misfits, mark_of_item};
 
 use crate::family::{Family, is_label_in};
 use crate::heads::name_in_front;
@@ -125,17 +125,6 @@ pub(crate) fn mark_misfits(
     }
 }
 
-/// The kind of limit that a word in front stands for.
-fn limit_mark(items: &[Form]) -> Mark
-    ensures { mark_view result ≡ limit_mark (map view items.now) }
-{
-    if is_word(name_in_front(items), b"steps") {
-        Mark::LimitSteps
-    } else {
-        Mark::LimitStrands
-    }
-}
-
 /// The mark that a head and what stands behind it name.
 fn mark_by(head: &[u8], items: &[Form]) -> Mark
     ensures { mark_view result ≡ mark_by head.now (map view items.now) }
@@ -148,8 +137,10 @@ fn mark_by(head: &[u8], items: &[Form]) -> Mark
         Mark::Seen(number_stated(items))
     } else if is_word(head, b"instance-of") {
         Mark::InstanceOf(number_stated(items))
+    } else if is_word(name_in_front(items), b"steps") {
+        Mark::LimitSteps
     } else {
-        limit_mark(items)
+        Mark::LimitStrands
     }
 }
 

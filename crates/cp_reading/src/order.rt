@@ -1,12 +1,12 @@
 // The order of the items of a label form.
 ghost use Rattle.std.specs.Prelude.{◌≡◌, map};
 ghost use Rattle.cp_sexpr.specs.View.{view};
-ghost use Rattle.cp_language.specs.Words.{is_one_of};
-ghost use Rattle.cp_report.specs.Heads.{has_head, lines_of_label, lines_from, lines_behind, order_misfits};
+ghost use Rattle.cp_report.specs.Heads.{lines_of_label, lines_from, lines_behind, order_misfits};
 ghost use Rattle.cp_spelled.specs.FirstMisfit.{first_onto};
 ghost use Rattle.cp_reading.specs.Lines.{line_view};
 
-use cp_forms::{headed, is_word, place_of};
+use crate::heads::{MARK_HEADS, has_one_of};
+use cp_forms::place_of;
 use cp_sexpr::Form;
 use cp_spelled::FirstMisfit;
 
@@ -72,39 +72,17 @@ const LINES: &[Line] = &[
         repeats: false,
     },
     Line {
-        heads: &["shape", "dead", "seen", "instance-of", "limit"],
+        heads: MARK_HEADS,
         repeats: false,
     },
 ];
-
-/// Whether a word is one of these.
-fn is_one_of(word: &[u8], words: &[&str]) -> bool
-    ensures { result ≡ is_one_of word.now (map (λ w. w.now) words.now) }
-{
-    for other in words {
-        if is_word(word, other.as_bytes()) {
-            return true;
-        }
-    }
-    false
-}
-
-/// Whether a form is a list with one of these heads.
-fn has_head(form: &Form, heads: &[&str]) -> bool
-    ensures { result ≡ has_head (map (λ w. w.now) heads.now) (view form.now) }
-{
-    match headed(form) {
-        Some(list) => is_one_of(list.head, heads),
-        None => false,
-    }
-}
 
 /// The lines from that of this form on; none where it is an item of none of them.
 fn lines_from<'a>(form: &Form, lines: &'a [Line]) -> &'a [Line]
     ensures { map line_view result.now ≡ lines_from (view form.now) (map line_view lines.now) }
 {
     for (place, line) in lines.iter().enumerate() {
-        if has_head(form, line.heads) {
+        if has_one_of(form, line.heads) {
             let (_, own) = lines.split_at(place);
             return own;
         }

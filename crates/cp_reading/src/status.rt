@@ -7,7 +7,8 @@ ghost use Rattle.cp_report.specs.ReadBack.{word_misfits, count_misfits, behind_o
 ghost use Rattle.cp_skel.specs.Trees.{outcome_view};
 ghost use Rattle.cp_spelled.specs.FirstMisfit.{first_onto};
 ghost use Rattle.cp_reading.specs.Parts.{is_fitting};
-ghost use Rattle.cp_reading.specs.Counting.{AreCountsIn, is_tested, is_shape, count_of, shape_kinds, expanded_kinds, count_kinds, status_entries_misfits, status_form_misfits, limit_outcome, outcome_in};
+ghost use Rattle.cp_reading.specs.Kinds.{kind_misfits};
+ghost use Rattle.cp_reading.specs.Counting.{AreCountsIn, is_tested, is_shape, count_of, count_kinds, status_entries_misfits, status_form_misfits, outcome_in};
 
 use crate::heads::{items_of_label, mark_item, name_in_front};
 use crate::marks::{limit_misfits, mark_of};
@@ -41,29 +42,19 @@ fn is_shape(form: &Form) -> bool
 }
 
 /// How many of the label forms have a test.
+#[tactic(auto, using(crate::proofs::Counted::counted))]
 fn tested_count(labels: &[Form]) -> usize
     ensures { result ≡ count_of is_tested (map view labels.now) }
 {
-    let mut count = 0;
-    for label in labels {
-        if is_tested(label) {
-            count += 1;
-        }
-    }
-    count
+    labels.iter().filter(|label| is_tested(label)).count()
 }
 
 /// How many of the label forms have the mark of a shape.
+#[tactic(auto, using(crate::proofs::Counted::counted))]
 fn shape_count(labels: &[Form]) -> usize
     ensures { result ≡ count_of is_shape (map view labels.now) }
 {
-    let mut count = 0;
-    for label in labels {
-        if is_shape(label) {
-            count += 1;
-        }
-    }
-    count
+    labels.iter().filter(|label| is_shape(label)).count()
 }
 
 /// The counts of a tree with these label forms.
@@ -97,76 +88,52 @@ fn count_misfits(count: usize, form: &Form, first: &mut FirstMisfit)
     }
 }
 
-/// The number of shapes has to stand in a list at this place.
-fn shapes_misfits(counts: Counts, place: Place, items: &[Form], first: &mut FirstMisfit)
-    ensures { first.new ≡ first_onto first.old (entries_misfits (count_misfits counts.shapes ∷ []) place (map view items.now)) }
+/// What has to stand among the counts: this word, or this number.
+#[derive(Clone, Copy)]
+enum Kind {
+    Word(&'static str),
+    Count(usize),
+}
+
+/// What is of this kind has to stand here.
+fn kind_misfits(kind: Kind, form: &Form, first: &mut FirstMisfit)
+    ensures { first.new ≡ first_onto first.old (kind_misfits kind (view form.now)) }
 {
-    let Some((number, rest)) = items.split_first() else {
-        first.note(place);
-        return;
-    };
-    count_misfits(counts.shapes, number, first);
+    match kind {
+        Kind::Word(word) => word_misfits(word.as_bytes(), form, first),
+        Kind::Count(count) => count_misfits(count, form, first),
+    }
+}
+
+/// An entry of each of these kinds has to stand in a list at this place.
+fn kinds_misfits(kinds: &[Kind], place: Place, items: &[Form], first: &mut FirstMisfit)
+    ensures { first.new ≡ first_onto first.old (entries_misfits (map kind_misfits kinds.now) place (map view items.now)) }
+{
+    let mut rest = items;
+    for kind in kinds {
+        let Some((item, behind)) = rest.split_first() else {
+            first.note(place);
+            return;
+        };
+        kind_misfits(*kind, item, first);
+        rest = behind;
+    }
     no_more(rest, first);
-}
-
-/// The shapes with their number have to stand in a list at this place.
-fn shapes_word_misfits(counts: Counts, place: Place, items: &[Form], first: &mut FirstMisfit)
-    ensures { first.new ≡ first_onto first.old (entries_misfits (shape_kinds counts) place (map view items.now)) }
-{
-    let Some((word, rest)) = items.split_first() else {
-        first.note(place);
-        return;
-    };
-    word_misfits(b"shapes", word, first);
-    shapes_misfits(counts, place, rest, first);
-}
-
-/// The number of labels with a test has to stand in a list at this place, and then the shapes.
-fn expanded_misfits(counts: Counts, place: Place, items: &[Form], first: &mut FirstMisfit)
-    ensures { first.new ≡ first_onto first.old (entries_misfits (count_misfits counts.expanded ∷ shape_kinds counts) place (map view items.now)) }
-{
-    let Some((number, rest)) = items.split_first() else {
-        first.note(place);
-        return;
-    };
-    count_misfits(counts.expanded, number, first);
-    shapes_word_misfits(counts, place, rest, first);
-}
-
-/// The labels with a test with their number have to stand in a list at this place, and then the shapes.
-fn expanded_word_misfits(counts: Counts, place: Place, items: &[Form], first: &mut FirstMisfit)
-    ensures { first.new ≡ first_onto first.old (entries_misfits (expanded_kinds counts) place (map view items.now)) }
-{
-    let Some((word, rest)) = items.split_first() else {
-        first.note(place);
-        return;
-    };
-    word_misfits(b"expanded", word, first);
-    expanded_misfits(counts, place, rest, first);
-}
-
-/// The number of labels has to stand in a list at this place, and then the other counts.
-fn labels_misfits(counts: Counts, place: Place, items: &[Form], first: &mut FirstMisfit)
-    ensures { first.new ≡ first_onto first.old (entries_misfits (count_misfits counts.labels ∷ expanded_kinds counts) place (map view items.now)) }
-{
-    let Some((number, rest)) = items.split_first() else {
-        first.note(place);
-        return;
-    };
-    count_misfits(counts.labels, number, first);
-    expanded_word_misfits(counts, place, rest, first);
 }
 
 /// The counts have to stand in a list at this place, each behind its word.
 fn counts_misfits(counts: Counts, place: Place, items: &[Form], first: &mut FirstMisfit)
     ensures { first.new ≡ first_onto first.old (entries_misfits (count_kinds counts) place (map view items.now)) }
 {
-    let Some((word, rest)) = items.split_first() else {
-        first.note(place);
-        return;
-    };
-    word_misfits(b"labels", word, first);
-    labels_misfits(counts, place, rest, first);
+    let kinds = [
+        Kind::Word("labels"),
+        Kind::Count(counts.labels),
+        Kind::Word("expanded"),
+        Kind::Count(counts.expanded),
+        Kind::Word("shapes"),
+        Kind::Count(counts.shapes),
+    ];
+    kinds_misfits(&kinds, place, items, first);
 }
 
 /// The kind of limit and the counts have to stand in a list at this place.
@@ -232,17 +199,6 @@ pub(crate) fn status_misfits(counts: Counts, form: &Form, first: &mut FirstMisfi
     status_entries_misfits(counts, place_of(form), items_behind(form), first);
 }
 
-/// The kind of limit that a word in front stands for.
-fn limit_outcome(items: &[Form]) -> Outcome
-    ensures { outcome_view result ≡ limit_outcome (map view items.now) }
-{
-    if is_word(name_in_front(items), b"steps") {
-        Outcome::LimitSteps
-    } else {
-        Outcome::LimitStrands
-    }
-}
-
 /// The outcome that the entries of a status form state.
 fn outcome_of(items: &[Form]) -> Outcome
     ensures { outcome_view result ≡ outcome_of (map view items.now) }
@@ -252,8 +208,10 @@ fn outcome_of(items: &[Form]) -> Outcome
     };
     if is_word(symbol_or_empty(word), b"complete") {
         Outcome::Complete
+    } else if is_word(name_in_front(rest), b"steps") {
+        Outcome::LimitSteps
     } else {
-        limit_outcome(rest)
+        Outcome::LimitStrands
     }
 }
 

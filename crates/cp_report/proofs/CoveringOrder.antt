@@ -129,32 +129,18 @@ module _ (pairs : List OrderPair) (nodes : List Node) (antisymmetric : IsAntisym
 
   -- fewer nodes stand between x and z, and between z and y, where z stands between x and y
   fewer_in_front : (x y z : Node) → IsIn x nodes → IsIn z nodes → is_between x y z ≡ true → counted (is_between x z) nodes < counted (is_between x y) nodes
-  fewer_in_front x y z i k h = fewer (is_between x z) (is_between x y) z nodes within k none h
-    where
-      two : (is_before pairs x z ≡ true) × (is_before pairs z y ≡ true)
-      two = and_parts (is_before pairs x z) (is_before pairs z y) h
-
-      within : (w : Node) → IsIn w nodes → is_between x z w ≡ true → is_between x y w ≡ true
-      within w m g =
-          let parts = and_parts (is_before pairs x w) (is_before pairs w z) g in
-          and_from (is_before pairs x w) (is_before pairs w y) parts.0 (before_on w z y m k parts.1 two.1)
-
-      none : is_between x z z ≡ false
-      none = false_from_ne_true (is_between x z z) (λ g. both_ways (is_before pairs z z) (not_itself z) (and_parts (is_before pairs x z) (is_before pairs z z) g).1)
+  fewer_in_front x y z i k h =
+      let two = and_parts (is_before pairs x z) (is_before pairs z y) h in
+      fewer (is_between x z) (is_between x y) z nodes
+      (λ w m g. let parts = and_parts (is_before pairs x w) (is_before pairs w z) g in and_from (is_before pairs x w) (is_before pairs w y) parts.0 (before_on w z y m k parts.1 two.1)) k
+      (ap (λ b. b && is_before pairs z z) two.0 ∙ not_itself z) h
 
   fewer_behind : (x y z : Node) → IsIn x nodes → IsIn z nodes → is_between x y z ≡ true → counted (is_between z y) nodes < counted (is_between x y) nodes
-  fewer_behind x y z i k h = fewer (is_between z y) (is_between x y) z nodes within k none h
-    where
-      two : (is_before pairs x z ≡ true) × (is_before pairs z y ≡ true)
-      two = and_parts (is_before pairs x z) (is_before pairs z y) h
-
-      within : (w : Node) → IsIn w nodes → is_between z y w ≡ true → is_between x y w ≡ true
-      within w m g =
-          let parts = and_parts (is_before pairs z w) (is_before pairs w y) g in
-          and_from (is_before pairs x w) (is_before pairs w y) (before_on x z w i k two.0 parts.0) parts.1
-
-      none : is_between z y z ≡ false
-      none = false_from_ne_true (is_between z y z) (λ g. both_ways (is_before pairs z z) (not_itself z) (and_parts (is_before pairs z z) (is_before pairs z y) g).0)
+  fewer_behind x y z i k h =
+      let first : is_before pairs x z ≡ true = (and_parts (is_before pairs x z) (is_before pairs z y) h).0 in
+      fewer (is_between z y) (is_between x y) z nodes
+      (λ w m g. let parts = and_parts (is_before pairs z w) (is_before pairs w y) g in and_from (is_before pairs x w) (is_before pairs w y) (before_on x z w i k first parts.0) parts.1) k
+      (ap (λ b. b && is_before pairs z y) (not_itself z)) h
 
   -- ---- covering pairs lead as far
 

@@ -119,19 +119,21 @@ IsSameKind (Some e) None = ⊥
 IsSameKind (Some (send a)) (Some (recv b)) = ⊥
 IsSameKind (Some (recv a)) (Some (send b)) = ⊥
 
+same_tests : (o u : Option (Event Term)) → IsSameKind o u → (is_transmission o ≡ is_transmission u) × (is_reception o ≡ is_reception u)
+same_tests None None h = (refl, refl)
+same_tests (Some (send a)) (Some (send b)) h = (refl, refl)
+same_tests (Some (recv a)) (Some (recv b)) h = (refl, refl)
+same_tests None (Some e) h = absurd h
+same_tests (Some (send a)) None h = absurd h
+same_tests (Some (recv a)) None h = absurd h
+same_tests (Some (send a)) (Some (recv b)) h = absurd h
+same_tests (Some (recv a)) (Some (send b)) h = absurd h
+
 sent_too : (o u : Option (Event Term)) (a : Term) → IsSameKind o u → o ≡ Some (send a) → is_transmission u ≡ true
-sent_too None u a h e = absurd (cc)
-sent_too (Some (recv b)) u a h e = absurd (cc)
-sent_too (Some (send b)) None a h e = absurd h
-sent_too (Some (send b)) (Some (recv c)) a h e = absurd h
-sent_too (Some (send b)) (Some (send c)) a h e = refl
+sent_too o u a h e = sym (same_tests o u h).0 ∙ ap is_transmission e
 
 received_too : (o u : Option (Event Term)) (a : Term) → IsSameKind o u → o ≡ Some (recv a) → is_reception u ≡ true
-received_too None u a h e = absurd (cc)
-received_too (Some (send b)) u a h e = absurd (cc)
-received_too (Some (recv b)) None a h e = absurd h
-received_too (Some (recv b)) (Some (send c)) a h e = absurd h
-received_too (Some (recv b)) (Some (recv c)) a h e = refl
+received_too o u a h e = sym (same_tests o u h).1 ∙ ap is_reception e
 
 pub there_too : (o u : Option (Event Term)) → IsSameKind o u → (e : Event Term) × (o ≡ Some e) → (e : Event Term) × (u ≡ Some e)
 there_too None u h e = absurd (cc)

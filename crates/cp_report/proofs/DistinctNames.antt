@@ -104,26 +104,17 @@ onto_different taken (d ∷ ds) small (suc i) (suc j) t e f =
     let more : length (taken ++ x ∷ []) ≡ length taken + 1 = length-append taken (x ∷ []) in
     ap suc (onto_different (taken ++ x ∷ []) ds (omega arith) i j t e f)
 
+-- the first of such names stands at no later place
+first_once : (x : List ℕ) (xs ys : List (List ℕ)) → AreDifferent (x ∷ xs) → ((i : ℕ) (t : List ℕ) → item_at ys i ≡ Some t → IsIn t (x ∷ xs) → ⊥) → (t : List ℕ) → Some x ≡ Some t → IsIn t xs ⊎ IsIn t ys → ⊥
+first_once x xs ys p new t e (inl m) = let r = place_in m in let z : 0 ≡ suc r.0 = p 0 (suc r.0) t e r.1 in absurd (omega arith)
+first_once x xs ys p new t e (inr m) = let r = place_in m in new r.0 t r.1 (subst (λ (u : List ℕ). IsIn u (x ∷ xs)) (some_name e) here)
+
 -- a list of different names, and different ones that are none of them
 both_different : (xs ys : List (List ℕ)) → AreDifferent xs → AreDifferent ys → ((i : ℕ) (t : List ℕ) → item_at ys i ≡ Some t → IsIn t xs → ⊥) → AreDifferent (xs ++ ys)
 both_different [] ys p q new i j t e f = q i j t e f
 both_different (x ∷ xs) ys p q new zero zero t e f = refl
-both_different (x ∷ xs) ys p q new zero (suc j) t e f = absurd (once (in_append xs ys (at_place (xs ++ ys) j t f)))
-  where
-    same : x ≡ t
-    same = some_name e
-
-    once : IsIn t xs ⊎ IsIn t ys → ⊥
-    once (inl m) = let r = place_in m in let z : 0 ≡ suc r.0 = p 0 (suc r.0) t e r.1 in absurd (omega arith)
-    once (inr m) = let r = place_in m in new r.0 t r.1 (subst (λ (u : List ℕ). IsIn u (x ∷ xs)) same here)
-both_different (x ∷ xs) ys p q new (suc i) zero t e f = absurd (once (in_append xs ys (at_place (xs ++ ys) i t e)))
-  where
-    same : x ≡ t
-    same = some_name f
-
-    once : IsIn t xs ⊎ IsIn t ys → ⊥
-    once (inl m) = let r = place_in m in let z : 0 ≡ suc r.0 = p 0 (suc r.0) t f r.1 in absurd (omega arith)
-    once (inr m) = let r = place_in m in new r.0 t r.1 (subst (λ (u : List ℕ). IsIn u (x ∷ xs)) same here)
+both_different (x ∷ xs) ys p q new zero (suc j) t e f = absurd (first_once x xs ys p new t e (in_append xs ys (at_place (xs ++ ys) j t f)))
+both_different (x ∷ xs) ys p q new (suc i) zero t e f = absurd (first_once x xs ys p new t f (in_append xs ys (at_place (xs ++ ys) i t e)))
 both_different (x ∷ xs) ys p q new (suc i) (suc j) t e f =
     ap suc (both_different xs ys (λ a b u g h. less (p (suc a) (suc b) u g h)) q (λ k u g m. new k u g (there m)) i j t e f)
   where

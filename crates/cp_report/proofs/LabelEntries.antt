@@ -30,7 +30,8 @@ module _ (of_problem names : List (List ℕ)) (l : Label) where
   abbrev groups : List Group
   groups = label_groups of_problem names l
 
-  found : (heads : List (List ℕ)) → is_alone heads groups ≡ true → item_with heads items ≡ item_with heads (forms_for heads groups)
+  -- An item of the label is that of its group.
+  pub found : (heads : List (List ℕ)) → is_alone heads groups ≡ true → item_with heads items ≡ item_with heads (forms_for heads groups)
   found heads alone = ap (item_with heads) (label_in_groups of_problem names l) ∙ item_found heads groups (label_groups_are of_problem names l) alone
 
   -- ---- items
@@ -61,17 +62,21 @@ module _ (of_problem names : List (List ℕ)) (l : Label) where
 
   -- ---- what they list
 
+  -- Under a head stands what its group lists, whether the item is left out or not.
+  pub are_listed : (head : List ℕ) (fs : List Form) → is_alone (head ∷ []) groups ≡ true → forms_for (head ∷ []) groups ≡ item_unless_empty head fs → entries_under head items ≡ fs
+  are_listed head fs alone is = ap entries_or_none (found (head ∷ []) alone ∙ ap (item_with (head ∷ [])) is) ∙ listed_under head fs
+
   pub operation_are : entries_under (codes "by") items ≡ operation_words l.operation
   operation_are = ap entries_or_none by_found ∙ items_back (operation_words l.operation)
 
   pub unrealised_are : entries_under (codes "unrealised") items ≡ map node_form l.unrealised
-  unrealised_are = ap entries_or_none unrealised_found ∙ listed_under (codes "unrealised") (map node_form l.unrealised)
+  unrealised_are = are_listed (codes "unrealised") (map node_form l.unrealised) refl refl
 
   pub escape_are : entries_under (codes "escape") items ≡ map (pattern_form named) l.escape
-  escape_are = ap entries_or_none escape_found ∙ listed_under (codes "escape") (map (pattern_form named) l.escape)
+  escape_are = are_listed (codes "escape") (map (pattern_form named) l.escape) refl refl
 
   pub children_are : entries_under (codes "children") items ≡ map numeral l.children
-  children_are = ap entries_or_none children_found ∙ listed_under (codes "children") (map numeral l.children)
+  children_are = are_listed (codes "children") (map numeral l.children) refl refl
 
   pub parent_is : number_in_front (entries_under (codes "parent") items) ≡ l.parent
   parent_is = ap (λ o. number_in_front (entries_or_none o)) parent_found ∙ parent_same l.parent

@@ -11,9 +11,8 @@ use Rattle.cp_model.specs.Tree.{Operation, by_problem, by_collapse, by_contracti
 use Rattle.cp_model.specs.declared.node.Node.{Node}
 use Rattle.cp_sexpr.specs.Syntax.{Form, forms_of}
 use Rattle.cp_language.specs.Faults.{items_of}
-use Rattle.cp_language.specs.Names.{problem_names, label_names}
 use Rattle.cp_language.specs.Printed.{numeral, no_place, pattern_form}
-use Rattle.cp_language.specs.Report.{variables_of_test, occurring, named_by, node_form, parent_items, operation_words, test_items, mark_items, item_unless_empty, label_items, label_form}
+use Rattle.cp_language.specs.Report.{variables_of_test, node_form, parent_items, operation_words, test_items, mark_items, item_unless_empty, label_form}
 use Rattle.cp_language.specs.Problems.{is_known, name_in_front, Problem}
 use Rattle.cp_report.specs.Misfits.{misfit_unless, unless_misfit, where_fitting, lacking, each_misfits}
 use Rattle.cp_report.specs.Heads.{item_with, entries_under, optional_misfits, mark_heads}
@@ -24,10 +23,10 @@ use Rattle.cp_report.specs.Fitting.{IsOperationOn, IsTestOn, HasMarkOrChildren, 
 use Rattle.cp_report.specs.UpToNames.{renamed, renaming}
 use Rattle.cp_report.proofs.SpelledTerms.{StandsFor, none_and, printed_term_fits}
 use Rattle.cp_report.proofs.CoveringSkeletons.{there_too}
-use Rattle.cp_report.proofs.PrintedVariables.{renumbered}
 use Rattle.cp_report.proofs.PrintedStrands.{items_back}
 use Rattle.cp_report.proofs.LabelItems.{label_items_in_order}
 use Rattle.cp_report.proofs.LabelEntries.{parent_found, by_found, map_found, unrealised_found, test_found, escape_found, children_found, mark_found, operation_are}
+use Rattle.cp_report.proofs.LabelWords.{of_problem, names, named, number, items}
 use Rattle.cp_report.proofs.SkeletonRead.{IsUnder}
 use Rattle.cp_report.proofs.LabelSkeleton.{PrintedLabel, stands, strands_same, kinds}
 use Rattle.cp_report.proofs.SkeletonFits.{AppliesWhole, paired_length, optional_fits, vars_fit, all_strands, around_fits}
@@ -97,26 +96,12 @@ no_children_known [] h = refl
 no_children_known (n ∷ ns) h = absurd (cc)
 
 mark_known : (m : Mark) → is_known (item_with mark_heads (mark_items (Some m))) ≡ true
-mark_known shape = refl
-mark_known dead = refl
 mark_known (seen n) = refl
-mark_known (instance_of n) = refl
-mark_known limit_steps = refl
-mark_known limit_strands = refl
+mark_known _ = refl
 
 pub second_true : (a b : Bool) → b ≡ true → (a || b) ≡ true
 second_true true b e = refl
 second_true false b e = e
-
--- the word of an operation is read
-word_back : (o : Operation) → operation_word (name_in_front (operation_words o)) ≡ word_for o
-word_back by_problem = refl
-word_back (by_collapse ps) = refl
-word_back (by_contraction n) = refl
-word_back (by_displacement n) = refl
-word_back (by_added_strand s) = refl
-word_back (by_added_listener s) = refl
-word_back by_generalising = refl
 
 -- a label with a parent is no root
 not_root : (labels : List Label) (i : ℕ) (o : Operation) (n : ℕ) → IsParentOf labels i o (Some n) → makes_root (word_for o) ≡ false
@@ -167,121 +152,109 @@ nothing_mapped : {A B : Type 0} (g : A → B) (xs : List A) → xs ≡ [] → ma
 nothing_mapped g xs e = ap (map g) e
 
 module _ (under : IsUnder) (whole : AppliesWhole) (p : Problem) (l : Label) (h : PrintedLabel p l) (labels : List Label) (i : ℕ) (fit : FitsIn p labels i l) (tree : Option (List Form)) (agrees : AgreesWith tree i l) where
-  abbrev of_problem : List (List ℕ)
-  of_problem = problem_names p.declared p.variables
-
-  abbrev names : List (List ℕ)
-  names = label_names of_problem (occurring l) l.variables
-
-  abbrev named : Variable → Form
-  named = named_by names
-
-  abbrev items : List Form
-  items = label_items of_problem names l
-
   abbrev strands : List SkeletonStrand
-  strands = strands_of_label p items
+  strands = strands_of_label p (items p l)
 
   node_there : (n : Node) → IsNodeOf l.skeleton.strands n → IsNodeOf strands n
   node_there n e = there_too (term_event_at l.skeleton.strands n) (term_event_at strands n) (kinds under p l h n) e
 
   strand_there : (s : ℕ) → s < length l.skeleton.strands → s < length strands
-  strand_there s less = subst (λ (m : ℕ). s < m) (paired_length (renaming (renumbered (occurring l))) l.skeleton.strands strands (strands_same under p l h)) less
+  strand_there s less = subst (λ (m : ℕ). s < m) (paired_length (renaming (number l)) l.skeleton.strands strands (strands_same under p l h)) less
 
-  word_is : word_of_label items ≡ word_for l.operation
-  word_is = ap (λ fs. operation_word (name_in_front fs)) (operation_are of_problem names l) ∙ word_back l.operation
+  word_is : word_of_label (items p l) ≡ word_for l.operation
+  word_is = ap (λ fs. operation_word (name_in_front fs)) (operation_are (of_problem p) (names p l) l)
 
   -- ---- items
 
-  operation_item : optional_misfits (operation_misfits p) (item_with (codes "by" ∷ []) items) ≡ []
+  operation_item : optional_misfits (operation_misfits p) (item_with (codes "by" ∷ []) (items p l)) ≡ []
   operation_item =
-      ap (optional_misfits (operation_misfits p)) (by_found of_problem names l) ∙ ap (operation_misfits p no_place) (items_back (operation_words l.operation))
+      ap (optional_misfits (operation_misfits p)) (by_found (of_problem p) (names p l) l) ∙ ap (operation_misfits p no_place) (items_back (operation_words l.operation))
       ∙ operation_fits p l.skeleton no_place l.operation fit.operation
 
-  parent_item : optional_misfits (parent_misfits tree i) (item_with (codes "parent" ∷ []) items) ≡ []
-  parent_item = ap (optional_misfits (parent_misfits tree i)) (parent_found of_problem names l) ∙ parent_fits tree i l.parent agrees.parent
+  parent_item : optional_misfits (parent_misfits tree i) (item_with (codes "parent" ∷ []) (items p l)) ≡ []
+  parent_item = ap (optional_misfits (parent_misfits tree i)) (parent_found (of_problem p) (names p l) l) ∙ parent_fits tree i l.parent agrees.parent
 
-  root_item : optional_misfits (no_parent_misfits items) (item_with (codes "parent" ∷ []) items) ≡ []
-  root_item = ap (optional_misfits (no_parent_misfits items)) (parent_found of_problem names l) ∙ by l.parent fit.parent
+  root_item : optional_misfits (no_parent_misfits (items p l)) (item_with (codes "parent" ∷ []) (items p l)) ≡ []
+  root_item = ap (optional_misfits (no_parent_misfits (items p l))) (parent_found (of_problem p) (names p l) l) ∙ by l.parent fit.parent
     where
-      by : (o : Option ℕ) → IsParentOf labels i l.operation o → optional_misfits (no_parent_misfits items) (item_with (codes "parent" ∷ []) (parent_items o)) ≡ []
+      by : (o : Option ℕ) → IsParentOf labels i l.operation o → optional_misfits (no_parent_misfits (items p l)) (item_with (codes "parent" ∷ []) (parent_items o)) ≡ []
       by None e = refl
       by (Some n) e = ap (λ w. misfit_unless (not (makes_root w)) no_place) word_is ∙ ap (λ b. misfit_unless (not b) no_place) (not_root labels i l.operation n e)
 
-  unrealised_item : optional_misfits (unrealised_misfits strands) (item_with (codes "unrealised" ∷ []) items) ≡ []
+  unrealised_item : optional_misfits (unrealised_misfits strands) (item_with (codes "unrealised" ∷ []) (items p l)) ≡ []
   unrealised_item =
-      ap (optional_misfits (unrealised_misfits strands)) (unrealised_found of_problem names l)
+      ap (optional_misfits (unrealised_misfits strands)) (unrealised_found (of_problem p) (names p l) l)
       ∙ optional_fits (codes "unrealised") (each_misfits (node_misfits strands)) (map node_form l.unrealised) (nodes_fit strands l.unrealised (λ n m. node_there n (fit.unrealised n m)))
 
-  test_item : optional_misfits (test_misfits (scope_of items) strands) (item_with (codes "test" ∷ []) items) ≡ []
+  test_item : optional_misfits (test_misfits (scope_of (items p l)) strands) (item_with (codes "test" ∷ []) (items p l)) ≡ []
   test_item =
-      ap (optional_misfits (test_misfits (scope_of items) strands)) (test_found of_problem names l)
-      ∙ test_fits (scope_of items) strands named (renumbered (occurring l)) l.test (λ t e. node_there t.node (of_test l.test fit.test t e)) (λ x m. stands under p l h x (in_test under p l h fit.patterns x m))
+      ap (optional_misfits (test_misfits (scope_of (items p l)) strands)) (test_found (of_problem p) (names p l) l)
+      ∙ test_fits (scope_of (items p l)) strands (named p l) (number l) l.test (λ t e. node_there t.node (of_test l.test fit.test t e)) (λ x m. stands under p l h x (in_test under p l h fit.patterns x m))
     where
       of_test : (o : Option Test) → IsTestOn l.skeleton o → (t : Test) → o ≡ Some t → IsNodeOf l.skeleton.strands t.node
       of_test None g t e = absurd (cc)
       of_test (Some u) g t e = let same : u ≡ t = cc in subst (λ (v : Test). IsNodeOf l.skeleton.strands v.node) same g
 
-  operation_place : operation_place_misfits strands (word_of_label items) (drop 1 (entries_under (codes "by") items)) ≡ []
+  operation_place : operation_place_misfits strands (word_of_label (items p l)) (drop 1 (entries_under (codes "by") (items p l))) ≡ []
   operation_place =
-      ap (λ w. operation_place_misfits strands w (drop 1 (entries_under (codes "by") items))) word_is
-      ∙ ap (λ fs. operation_place_misfits strands (word_for l.operation) (drop 1 fs)) (operation_are of_problem names l)
+      ap (λ w. operation_place_misfits strands w (drop 1 (entries_under (codes "by") (items p l)))) word_is
+      ∙ ap (λ fs. operation_place_misfits strands (word_for l.operation) (drop 1 fs)) (operation_are (of_problem p) (names p l) l)
       ∙ operation_there strands l.operation (named_there p l.skeleton strands l.operation node_there strand_there fit.operation)
 
-  about_fits : about_strands_misfits p items ≡ []
+  about_fits : about_strands_misfits p (items p l) ≡ []
   about_fits = none_and _ _ (none_and _ _ operation_place unrealised_item) test_item
 
-  escape_item : optional_misfits (escape_misfits items) (item_with (codes "escape" ∷ []) items) ≡ []
+  escape_item : optional_misfits (escape_misfits (items p l)) (item_with (codes "escape" ∷ []) (items p l)) ≡ []
   escape_item =
-      ap (optional_misfits (escape_misfits items)) (escape_found of_problem names l)
-      ∙ escape_fits items (map (pattern_form named) l.escape) (λ e. ap is_known (test_found of_problem names l) ∙ test_known named l.test (λ t. e (nothing_mapped (pattern_form named) l.escape (fit.escape t)))) (patterns_fit under p l h fit.patterns)
+      ap (optional_misfits (escape_misfits (items p l))) (escape_found (of_problem p) (names p l) l)
+      ∙ escape_fits (items p l) (map (pattern_form (named p l)) l.escape) (λ e. ap is_known (test_found (of_problem p) (names p l) l) ∙ test_known (named p l) l.test (λ t. e (nothing_mapped (pattern_form (named p l)) l.escape (fit.escape t)))) (patterns_fit under p l h fit.patterns)
 
-  children_item : optional_misfits (λ q fs. lacking 1 q fs ++ children_misfits tree i [] fs) (item_with (codes "children" ∷ []) items) ≡ []
+  children_item : optional_misfits (λ q fs. lacking 1 q fs ++ children_misfits tree i [] fs) (item_with (codes "children" ∷ []) (items p l)) ≡ []
   children_item =
-      ap (optional_misfits (λ q fs. lacking 1 q fs ++ children_misfits tree i [] fs)) (children_found of_problem names l)
+      ap (optional_misfits (λ q fs. lacking 1 q fs ++ children_misfits tree i [] fs)) (children_found (of_problem p) (names p l) l)
       ∙ optional_fits (codes "children") (children_misfits tree i []) (map numeral l.children)
       (children_fit tree i [] l.children agrees.children (are_once [] l.children fit.children.once (λ n m. refl)))
 
-  mark_item : mark_misfits tree items (item_with mark_heads items) ≡ []
-  mark_item = ap (mark_misfits tree items) (mark_found of_problem names l) ∙ by l.mark fit.mark agrees.seen_there agrees.instance_there
+  mark_item : mark_misfits tree (items p l) (item_with mark_heads (items p l)) ≡ []
+  mark_item = ap (mark_misfits tree (items p l)) (mark_found (of_problem p) (names p l) l) ∙ by l.mark fit.mark agrees.seen_there agrees.instance_there
     where
       by : (o : Option Mark) → HasMarkOrChildren labels o l.children → ((n : ℕ) → o ≡ Some (seen n) → is_label_in tree n ≡ true) → ((n : ℕ) → o ≡ Some (instance_of n) → is_label_in tree n ≡ true)
-          → mark_misfits tree items (item_with mark_heads (mark_items o)) ≡ []
+          → mark_misfits tree (items p l) (item_with mark_heads (mark_items o)) ≡ []
       by None g a b = refl
-      by (Some m) g a b = mark_fits tree items m (ap is_known (children_found of_problem names l) ∙ no_children_known l.children g.1) a b
+      by (Some m) g a b = mark_fits tree (items p l) m (ap is_known (children_found (of_problem p) (names p l) l) ∙ no_children_known l.children g.1) a b
 
-  missing : (at : Place) → missing_misfits at items ≡ []
+  missing : (at : Place) → missing_misfits at (items p l) ≡ []
   missing at =
       none_and _ _ (none_and _ _ (none_and _ _
-      (ap (λ o. misfit_unless (is_known o) at) (by_found of_problem names l))
-      (ap (λ o. misfit_unless (is_known o) at) (map_found of_problem names l)))
-      (ap (λ b. misfit_unless b at) (by_mark l.mark fit.mark (mark_found of_problem names l))))
-      (ap (λ b. misfit_unless b at) (by_parent l.parent fit.parent (parent_found of_problem names l)))
+      (ap (λ o. misfit_unless (is_known o) at) (by_found (of_problem p) (names p l) l))
+      (ap (λ o. misfit_unless (is_known o) at) (map_found (of_problem p) (names p l) l)))
+      (ap (λ b. misfit_unless b at) (by_mark l.mark fit.mark (mark_found (of_problem p) (names p l) l))))
+      (ap (λ b. misfit_unless b at) (by_parent l.parent fit.parent (parent_found (of_problem p) (names p l) l)))
     where
-      by_mark : (o : Option Mark) → HasMarkOrChildren labels o l.children → item_with mark_heads items ≡ item_with mark_heads (mark_items o) → (has_children items || has_mark items) ≡ true
-      by_mark None g e = ap (λ b. b || has_mark items) (ap is_known (children_found of_problem names l) ∙ children_known l.children g)
-      by_mark (Some m) g e = second_true (has_children items) (has_mark items) (ap is_known e ∙ mark_known m)
+      by_mark : (o : Option Mark) → HasMarkOrChildren labels o l.children → item_with mark_heads (items p l) ≡ item_with mark_heads (mark_items o) → (has_children (items p l) || has_mark (items p l)) ≡ true
+      by_mark None g e = ap (λ b. b || has_mark (items p l)) (ap is_known (children_found (of_problem p) (names p l) l) ∙ children_known l.children g)
+      by_mark (Some m) g e = second_true (has_children (items p l)) (has_mark (items p l)) (ap is_known e ∙ mark_known m)
 
-      by_parent : (o : Option ℕ) → IsParentOf labels i l.operation o → item_with (codes "parent" ∷ []) items ≡ item_with (codes "parent" ∷ []) (parent_items o)
-          → (not (wants_parent items) || is_known (item_with (codes "parent" ∷ []) items)) ≡ true
-      by_parent None g e = ap (λ w. not (is_operation w && not (makes_root w)) || is_known (item_with (codes "parent" ∷ []) items)) word_is
-          ∙ ap (λ b. not b || is_known (item_with (codes "parent" ∷ []) items)) (is_root labels i l.operation g)
-      by_parent (Some n) g e = second_true (not (wants_parent items)) (is_known (item_with (codes "parent" ∷ []) items)) (ap is_known e)
+      by_parent : (o : Option ℕ) → IsParentOf labels i l.operation o → item_with (codes "parent" ∷ []) (items p l) ≡ item_with (codes "parent" ∷ []) (parent_items o)
+          → (not (wants_parent (items p l)) || is_known (item_with (codes "parent" ∷ []) (items p l))) ≡ true
+      by_parent None g e = ap (λ w. not (is_operation w && not (makes_root w)) || is_known (item_with (codes "parent" ∷ []) (items p l))) word_is
+          ∙ ap (λ b. not b || is_known (item_with (codes "parent" ∷ []) (items p l))) (is_root labels i l.operation g)
+      by_parent (Some n) g e = second_true (not (wants_parent (items p l))) (is_known (item_with (codes "parent" ∷ []) (items p l))) (ap is_known e)
 
   -- ---- the label form
 
-  items_fit : (at : Place) → items_misfits p tree i at items ≡ []
+  items_fit : (at : Place) → items_misfits p tree i at (items p l) ≡ []
   items_fit at =
-      let ordered = label_items_in_order of_problem names l in
+      let ordered = label_items_in_order (of_problem p) (names p l) l in
       let strands_are = all_strands under whole p l h in
       none_and _ _ (none_and _ _ (none_and _ _ (none_and _ _ (none_and _ _ (none_and _ _ (none_and _ _ (none_and _ _ (none_and _ _
-      (ap (λ ps. unless_misfit ps (missing_misfits at items)) ordered ∙ missing at)
+      (ap (λ ps. unless_misfit ps (missing_misfits at (items p l))) ordered ∙ missing at)
       root_item) parent_item) operation_item) (vars_fit under whole p l h)) strands_are)
-      (ap (λ ps. where_fitting ps (around_strands_misfits p at items ++ about_strands_misfits p items)) (none_and _ _ ordered strands_are) ∙ none_and _ _ (around_fits under whole p l h at) about_fits))
+      (ap (λ ps. where_fitting ps (around_strands_misfits p at (items p l) ++ about_strands_misfits p (items p l))) (none_and _ _ ordered strands_are) ∙ none_and _ _ (around_fits under whole p l h at) about_fits))
       escape_item) children_item) mark_item
 
   -- A label form as it is printed fits.
-  pub label_fits : label_misfits p tree i (label_form of_problem i l) ≡ []
+  pub label_fits : label_misfits p tree i (label_form (of_problem p) i l) ≡ []
   label_fits =
-      ap (numbered_misfits p tree i no_place) (items_back (numeral i ∷ items))
-      ∙ ap (λ b. misfit_unless b no_place ++ items_misfits p tree i no_place items) (eq-eqb i i refl) ∙ items_fit no_place
+      ap (numbered_misfits p tree i no_place) (items_back (numeral i ∷ items p l))
+      ∙ ap (λ b. misfit_unless b no_place ++ items_misfits p tree i no_place (items p l)) (eq-eqb i i refl) ∙ items_fit no_place

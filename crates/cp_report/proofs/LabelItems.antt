@@ -110,6 +110,17 @@ all_lack heads (g ∷ gs) are e f m = by (in_append g.forms (all_forms gs) m) (�
 -- ---- items are found
 
 module _ (heads : List (List ℕ)) where
+  -- What goes past forms that lack the heads, in front and at the end, finds in all groups what it finds in its own.
+  of_group : {A : Type 0} (find : List Form → A) → ((fs gs : List Form) → Lack heads fs → find (fs ++ gs) ≡ find gs) → ((fs gs : List Form) → Lack heads gs → find (fs ++ gs) ≡ find fs)
+      → (gs : List Group) → AreGroups gs → is_alone heads gs ≡ true → find (all_forms gs) ≡ find (forms_for heads gs)
+  of_group find skips stays [] are e = refl
+  of_group find skips stays (g ∷ gs) are e = by (are_other heads g.line.heads) refl e (of_group find skips stays gs are.1)
+    where
+      by : (b : Bool) → are_other heads g.line.heads ≡ b → (if b then is_alone heads gs else all_other heads gs) ≡ true → (is_alone heads gs ≡ true → find (all_forms gs) ≡ find (forms_for heads gs))
+          → find (g.forms ++ all_forms gs) ≡ find (if b then forms_for heads gs else g.forms)
+      by true p q rest = skips g.forms (all_forms gs) (group_lacks heads g are.0 p) ∙ rest q
+      by false p q rest = stays g.forms (all_forms gs) (all_lack heads gs are.1 q)
+
   skip_item : (fs gs : List Form) → Lack heads fs → item_with heads (fs ++ gs) ≡ item_with heads gs
   skip_item [] gs l = refl
   skip_item (f ∷ fs) gs l = ap (λ (b : Bool). if b then Some f else item_with heads (fs ++ gs)) (l f here) ∙ skip_item fs gs (λ h m. l h (there m))
@@ -124,13 +135,7 @@ module _ (heads : List (List ℕ)) where
 
   -- The item with these heads is that of its group.
   pub item_found : (gs : List Group) → AreGroups gs → is_alone heads gs ≡ true → item_with heads (all_forms gs) ≡ item_with heads (forms_for heads gs)
-  item_found [] are e = refl
-  item_found (g ∷ gs) are e = by (are_other heads g.line.heads) refl e (item_found gs are.1)
-    where
-      by : (b : Bool) → are_other heads g.line.heads ≡ b → (if b then is_alone heads gs else all_other heads gs) ≡ true → (is_alone heads gs ≡ true → item_with heads (all_forms gs) ≡ item_with heads (forms_for heads gs))
-          → item_with heads (g.forms ++ all_forms gs) ≡ item_with heads (if b then forms_for heads gs else g.forms)
-      by true p q rest = skip_item g.forms (all_forms gs) (group_lacks heads g are.0 p) ∙ rest q
-      by false p q rest = item_stays g.forms (all_forms gs) (all_lack heads gs are.1 q)
+  item_found = of_group (item_with heads) skip_item item_stays
 
   skip_items : (fs gs : List Form) → Lack heads fs → items_with heads (fs ++ gs) ≡ items_with heads gs
   skip_items [] gs l = refl
@@ -146,13 +151,7 @@ module _ (heads : List (List ℕ)) where
 
   -- The items with these heads are those of their group.
   pub items_found : (gs : List Group) → AreGroups gs → is_alone heads gs ≡ true → items_with heads (all_forms gs) ≡ items_with heads (forms_for heads gs)
-  items_found [] are e = refl
-  items_found (g ∷ gs) are e = by (are_other heads g.line.heads) refl e (items_found gs are.1)
-    where
-      by : (b : Bool) → are_other heads g.line.heads ≡ b → (if b then is_alone heads gs else all_other heads gs) ≡ true → (is_alone heads gs ≡ true → items_with heads (all_forms gs) ≡ items_with heads (forms_for heads gs))
-          → items_with heads (g.forms ++ all_forms gs) ≡ items_with heads (if b then forms_for heads gs else g.forms)
-      by true p q rest = skip_items g.forms (all_forms gs) (group_lacks heads g are.0 p) ∙ rest q
-      by false p q rest = items_stay g.forms (all_forms gs) (all_lack heads gs are.1 q)
+  items_found = of_group (items_with heads) skip_items items_stay
 
 -- all of these have the heads
 pub all_with : (heads : List (List ℕ)) (fs : List Form) → ((f : Form) → IsIn f fs → IsHeadedBy heads f) → items_with heads fs ≡ fs

@@ -15,9 +15,8 @@ use Rattle.cp_model.specs.declared.node.Node.{Node}
 use Rattle.cp_model.proofs.SameTests.{variable_in}
 use Rattle.cp_sexpr.specs.Syntax.{Form}
 use Rattle.cp_language.specs.Roles.{headed}
-use Rattle.cp_language.specs.Names.{problem_names, label_names}
 use Rattle.cp_language.specs.Printed.{pattern_form, locals_in_order}
-use Rattle.cp_language.specs.Report.{variables_of_terms, variables_of_test, variables_but, variables_of_patterns, occurring, named_by, node_form, operation_words, test_items, mark_items, label_items, label_form}
+use Rattle.cp_language.specs.Report.{variables_of_terms, variables_of_test, variables_but, variables_of_patterns, occurring, node_form, operation_words, test_items, mark_items, label_form}
 use Rattle.cp_language.specs.Problems.{number_of, name_in_front, option_node, Problem}
 use Rattle.cp_report.specs.Misfits.{each_misfits}
 use Rattle.cp_report.specs.Heads.{entries_under, item_with}
@@ -27,11 +26,12 @@ use Rattle.cp_report.specs.Labels.{operation_word, operation_by, test_of, mark_o
 use Rattle.cp_report.specs.UpToNames.{renamed, renaming, IsSamePattern, IsSameTest, IsSameLabel}
 use Rattle.cp_report.proofs.SpelledTerms.{StandsFor, none_and, printed_term_fits}
 use Rattle.cp_report.proofs.DistinctNames.{as_many_names}
-use Rattle.cp_report.proofs.PrintedVariables.{rank, renumbered, occurring_from, rank_behind, rank_less, number_occurs, one_to_one}
+use Rattle.cp_report.proofs.PrintedVariables.{rank, occurring_from, rank_behind, rank_less, number_occurs, one_to_one}
 use Rattle.cp_report.proofs.PrintedMaps.{numbers_same}
 use Rattle.cp_report.proofs.PatternLocals.{numbered_locals}
 use Rattle.cp_report.proofs.PrintedPatterns.{pattern_fits, pattern_back}
 use Rattle.cp_report.proofs.LabelEntries.{parent_is, operation_are, unrealised_are, test_found, escape_are, children_are, mark_found, items_printed}
+use Rattle.cp_report.proofs.LabelWords.{of_problem, names, named, number, items}
 use Rattle.cp_report.proofs.SkeletonRead.{IsUnder, each_stands}
 use Rattle.cp_report.proofs.LabelSkeleton.{PrintedLabel, variables_are, stands, skeleton_back}
 
@@ -99,21 +99,6 @@ declared_below ds x h = by (item_at ds x.number) refl h
     by (Some d) e g = item_below ds x.number d e
 
 module _ (under : IsUnder) (p : Problem) (l : Label) (h : PrintedLabel p l) (patterns : (q : Pattern) → IsIn q l.escape → IsPattern q) where
-  abbrev of_problem : List (List ℕ)
-  of_problem = problem_names p.declared p.variables
-
-  abbrev names : List (List ℕ)
-  names = label_names of_problem (occurring l) l.variables
-
-  abbrev named : Variable → Form
-  named = named_by names
-
-  abbrev number : Variable → ℕ
-  number = renumbered (occurring l)
-
-  abbrev items : List Form
-  items = label_items of_problem names l
-
   -- ---- test and patterns
 
   pub in_test : (x : Variable) → IsIn x (variables_of_test l.test) → IsIn x (occurring l)
@@ -123,65 +108,65 @@ module _ (under : IsUnder) (p : Problem) (l : Label) (h : PrintedLabel p l) (pat
   in_pattern q m x i other =
       in_append_right (variables_of_skeleton l.skeleton ++ variables_of_terms l.skeleton.from_problem.values ++ variables_of_test l.test) (of_pattern l.escape q x m (not_among q.locals (variables_of q.term) x i other))
 
-  below : (x : Variable) → IsIn x (occurring l) → number x < length (declarations_of_label items)
+  below : (x : Variable) → IsIn x (occurring l) → number l x < length (declarations_of_label (items p l))
   below x m =
       let less : rank (occurring l) x.number < rank (occurring l) (length l.variables) = rank_less (occurring l) x.number (length l.variables) (number_occurs (occurring l) x m) (declared_below l.variables x (h.variables.declared x m)) in
       let z : 0 + length l.variables ≡ length l.variables = omega arith in
-      let all : rank (occurring l) (length l.variables) ≡ 0 + length (occurring_from (occurring l) names 0 l.variables) = sym (ap (rank (occurring l)) z) ∙ rank_behind (occurring l) names 0 l.variables in
-      let same : length (declarations_of_label items) ≡ length (occurring_from (occurring l) names 0 l.variables) = ap length (variables_are under p l h) in
+      let all : rank (occurring l) (length l.variables) ≡ 0 + length (occurring_from (occurring l) (names p l) 0 l.variables) = sym (ap (rank (occurring l)) z) ∙ rank_behind (occurring l) (names p l) 0 l.variables in
+      let same : length (declarations_of_label (items p l)) ≡ length (occurring_from (occurring l) (names p l) 0 l.variables) = ap length (variables_are under p l h) in
       omega (arith, less, all, same)
 
   -- where a pattern stands, each variable of the label stands for itself
   local_scope_stands : (q : Pattern) → IsIn q l.escape → (x : Variable) → IsIn x (variables_of q.term) → (IsIn x q.locals → ⊥) →
-      StandsFor (record { variables = declarations_of_label items; in_pattern = true; locals = numbered_locals 0 (locals_in_order q.locals [] (variables_of q.term)) }) (named x) (renamed number x)
+      StandsFor (record { variables = declarations_of_label (items p l); in_pattern = true; locals = numbered_locals 0 (locals_in_order q.locals [] (variables_of q.term)) }) (named p l x) (renamed (number l) x)
   local_scope_stands q m x i other =
-      each_stands p l h.variables of_problem (as_many_names p.declared p.variables) h.small h.names_differ
-      (record { variables = declarations_of_label items; in_pattern = true; locals = numbered_locals 0 (locals_in_order q.locals [] (variables_of q.term)) }) (variables_are under p l h) x (in_pattern q m x i other)
+      each_stands p l h.variables (of_problem p) (as_many_names p.declared p.variables) h.small h.names_differ
+      (record { variables = declarations_of_label (items p l); in_pattern = true; locals = numbered_locals 0 (locals_in_order q.locals [] (variables_of q.term)) }) (variables_are under p l h) x (in_pattern q m x i other)
 
-  one_pattern : (q : Pattern) → IsIn q l.escape → IsSamePattern number q (pattern_of (declarations_of_label items) (pattern_form named q))
+  one_pattern : (q : Pattern) → IsIn q l.escape → IsSamePattern (number l) q (pattern_of (declarations_of_label (items p l)) (pattern_form (named p l) q))
   one_pattern q m =
-      pattern_back named (λ x. refl) number (declarations_of_label items) q (patterns q m)
+      pattern_back (named p l) (λ x. refl) (number l) (declarations_of_label (items p l)) q (patterns q m)
       (local_scope_stands q m)
       (λ x i other. below x (in_pattern q m x i other))
       (λ x y i j a b e. one_to_one (occurring l) x y (in_pattern q m x i a) (in_pattern q m y j b) e)
 
-  each_pattern_fits : (qs : List Pattern) → ((q : Pattern) → IsIn q qs → pattern_misfits (declarations_of_label items) (pattern_form named q) ≡ []) → each_misfits (pattern_misfits (declarations_of_label items)) (map (pattern_form named) qs) ≡ []
+  each_pattern_fits : (qs : List Pattern) → ((q : Pattern) → IsIn q qs → pattern_misfits (declarations_of_label (items p l)) (pattern_form (named p l) q) ≡ []) → each_misfits (pattern_misfits (declarations_of_label (items p l))) (map (pattern_form (named p l)) qs) ≡ []
   each_pattern_fits [] fit = refl
   each_pattern_fits (q ∷ qs) fit = none_and _ _ (fit q here) (each_pattern_fits qs (λ r m. fit r (there m)))
 
   -- Patterns as they are printed fit.
-  pub patterns_fit : each_misfits (pattern_misfits (declarations_of_label items)) (map (pattern_form named) l.escape) ≡ []
-  patterns_fit = each_pattern_fits l.escape (λ q m. pattern_fits named (λ x. refl) number (declarations_of_label items) q (patterns q m) (local_scope_stands q m))
+  pub patterns_fit : each_misfits (pattern_misfits (declarations_of_label (items p l))) (map (pattern_form (named p l)) l.escape) ≡ []
+  patterns_fit = each_pattern_fits l.escape (λ q m. pattern_fits (named p l) (λ x. refl) (number l) (declarations_of_label (items p l)) q (patterns q m) (local_scope_stands q m))
 
-  patterns_same : ArePaired (IsSamePattern number) l.escape (map (pattern_of (declarations_of_label items)) (entries_under (codes "escape") items))
+  patterns_same : ArePaired (IsSamePattern (number l)) l.escape (map (pattern_of (declarations_of_label (items p l))) (entries_under (codes "escape") (items p l)))
   patterns_same =
-      subst (λ (qs : List Pattern). ArePaired (IsSamePattern number) l.escape qs) (sym (ap (map (pattern_of (declarations_of_label items))) (escape_are of_problem names l) ∙ map_twice (pattern_form named) (pattern_of (declarations_of_label items)) l.escape))
-      (paired_map (IsSamePattern number) (λ q. pattern_of (declarations_of_label items) (pattern_form named q)) l.escape one_pattern)
+      subst (λ (qs : List Pattern). ArePaired (IsSamePattern (number l)) l.escape qs) (sym (ap (map (pattern_of (declarations_of_label (items p l)))) (escape_are (of_problem p) (names p l) l) ∙ map_twice (pattern_form (named p l)) (pattern_of (declarations_of_label (items p l))) l.escape))
+      (paired_map (IsSamePattern (number l)) (λ q. pattern_of (declarations_of_label (items p l)) (pattern_form (named p l) q)) l.escape one_pattern)
 
   -- ---- the label
 
-  label_back : IsSameLabel l (label_by p items)
+  label_back : IsSameLabel l (label_by p (items p l))
   label_back = record {
-    number = number;
+    number = number l;
     one_to_one = one_to_one (occurring l);
-    parent = sym (parent_is of_problem names l);
-    operation = sym (operation_same l.operation (entries_under (codes "by") items) (operation_are of_problem names l));
+    parent = sym (parent_is (of_problem p) (names p l) l);
+    operation = sym (operation_same l.operation (entries_under (codes "by") (items p l)) (operation_are (of_problem p) (names p l) l));
     skeleton = skeleton_back under p l h;
-    unrealised = sym (ap (map (λ g. node_or_first (option_node (Some g)))) (unrealised_are of_problem names l) ∙ nodes_same l.unrealised);
-    test = subst (λ (o : Option Form). IsSameTest (renaming number) l.test (test_of (scope_of items) o)) (sym (test_found of_problem names l))
-        (test_same (scope_of items) named number l.test (λ x m. stands under p l h x (in_test x m)));
+    unrealised = sym (ap (map (λ g. node_or_first (option_node (Some g)))) (unrealised_are (of_problem p) (names p l) l) ∙ nodes_same l.unrealised);
+    test = subst (λ (o : Option Form). IsSameTest (renaming (number l)) l.test (test_of (scope_of (items p l)) o)) (sym (test_found (of_problem p) (names p l) l))
+        (test_same (scope_of (items p l)) (named p l) (number l) l.test (λ x m. stands under p l h x (in_test x m)));
     escape = patterns_same;
-    children = sym (ap (map number_of) (children_are of_problem names l) ∙ numbers_same l.children);
+    children = sym (ap (map number_of) (children_are (of_problem p) (names p l) l) ∙ numbers_same l.children);
     mark = sym (mark_read ∙ mark_same l.mark);
   }
     where
-      mark_read : mark_in items ≡ mark_in (mark_items l.mark)
-      mark_read = ap mark_from_found (mark_found of_problem names l)
+      mark_read : mark_in (items p l) ≡ mark_in (mark_items l.mark)
+      mark_read = ap mark_from_found (mark_found (of_problem p) (names p l) l)
         where
           mark_from_found : Option Form → Option Mark
           mark_from_found None = None
           mark_from_found (Some g) = mark_of (headed g)
 
   -- A label form as it is printed denotes the same label.
-  pub label_form_back : (n : ℕ) → IsSameLabel l (label_of p (label_form of_problem n l))
-  label_form_back n = subst (λ (fs : List Form). IsSameLabel l (label_by p fs)) (sym (items_printed of_problem n l)) label_back
+  pub label_form_back : (n : ℕ) → IsSameLabel l (label_of p (label_form (of_problem p) n l))
+  label_form_back n = subst (λ (fs : List Form). IsSameLabel l (label_by p fs)) (sym (items_printed (of_problem p) n l)) label_back

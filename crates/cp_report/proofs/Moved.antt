@@ -2,6 +2,7 @@
 -- heads, identifiers and numbers are the same.
 use Rattle.std.proofs.Common.{◌≡◌, ℕ, zero, suc, List, [], ◌∷◌, ◌++◌, true, false, refl, sym, ◌∙◌, ap}
 use Rattle.std.specs.Prelude.{Bool, map, option_map}
+use Rattle.std.proofs.lemmas.List.{map-append}
 use Rattle.cp_base.specs.declared.place.Place.{Place}
 use Rattle.cp_sexpr.specs.Syntax.{Form, symbol, string, number, list, Forms, none, more}
 use Rattle.cp_sexpr.specs.Pieces.{start}
@@ -24,13 +25,13 @@ IsMoved kind = (f : Form) → kind (unplaced f) ≡ at_start (kind f)
 
 -- ---- lists of misfits
 
-pub joined : (xs ys : List Place) → at_start (xs ++ ys) ≡ at_start xs ++ at_start ys
-joined [] ys = refl
-joined (x ∷ xs) ys = ap (λ zs. start ∷ zs) (joined xs ys)
+-- two parts, each of them mapped
+pub both_mapped : {A : Type 0} (g : A → A) (xs ys us vs : List A) → us ≡ map g xs → vs ≡ map g ys → us ++ vs ≡ map g (xs ++ ys)
+both_mapped g xs ys us vs e f = ap (λ zs. zs ++ vs) e ∙ ap (λ zs. map g xs ++ zs) f ∙ sym (map-append g xs ys)
 
 -- two parts, each of them moved
 pub both : (xs ys us vs : List Place) → us ≡ at_start xs → vs ≡ at_start ys → us ++ vs ≡ at_start (xs ++ ys)
-both xs ys us vs e f = ap (λ zs. zs ++ vs) e ∙ ap (λ zs. at_start xs ++ zs) f ∙ sym (joined xs ys)
+both = both_mapped (λ p. start)
 
 pub unless_moved : (xs ys us vs : List Place) → us ≡ at_start xs → vs ≡ at_start ys → unless_misfit us vs ≡ at_start (unless_misfit xs ys)
 unless_moved [] ys us vs e f = ap (λ zs. unless_misfit zs vs) e ∙ f

@@ -1,6 +1,6 @@
 -- Where forms of the input stand does not matter for their faults: forms with one place everywhere have the same faults,
 -- all at that place. Here those of terms, and what they stand for.
-use Rattle.std.proofs.Common.{◌≡◌, ℕ, zero, suc, List, [], ◌∷◌, ◌++◌, true, false, refl, sym, ◌∙◌, ap}
+use Rattle.std.proofs.Common.{◌≡◌, ℕ, zero, suc, List, [], ◌∷◌, ◌++◌, true, false, refl, ◌∙◌, ap}
 use Rattle.std.specs.Prelude.{Bool, Option, Some, None, map, drop, ◌||◌}
 use Rattle.cp_base.specs.declared.place.Place.{Place}
 use Rattle.cp_base.specs.declared.place.Code.{Code}
@@ -14,7 +14,7 @@ use Rattle.cp_sexpr.specs.ReadingBack.{unplaced, all_unplaced}
 use Rattle.cp_language.specs.Words.{TermHead, cat, encrypt, long_term_key, public_key, private_key, inverse_key, operation_out_of_profile, no_operation, term_head}
 use Rattle.cp_language.specs.Faults.{fault, fault_unless, place_of, items_of}
 use Rattle.cp_language.specs.Terms.{variable_named, sort_by_head, sort_of, sorts_of, is_sort, is_atom, sort_faults, key_faults, lacks, exceeds, first_faults, all_faults, sorts_faults, last_key_faults, operation_faults, name_faults, applied_faults, undeclared, term_faults, each_term_faults, atom_faults, as_atom, applied, term_of, terms_of}
-use Rattle.cp_report.proofs.Moved.{all_moved, place_moved, items_moved}
+use Rattle.cp_report.proofs.Moved.{all_moved, both_mapped, place_moved, items_moved}
 use Rattle.cp_report.proofs.MovedTerms.{applied_value_moved}
 
 -- As many faults of the same kinds, all at one place.
@@ -27,13 +27,9 @@ IsMovedFault kind = (f : Form) → kind (unplaced f) ≡ faults_at_start (kind f
 
 -- ---- lists of faults
 
-pub faults_joined : (xs ys : List Refusal) → faults_at_start (xs ++ ys) ≡ faults_at_start xs ++ faults_at_start ys
-faults_joined [] ys = refl
-faults_joined (x ∷ xs) ys = ap (λ zs. record { place = start; code = x.code } ∷ zs) (faults_joined xs ys)
-
 -- two parts, each of them moved
 pub two : (xs ys us vs : List Refusal) → us ≡ faults_at_start xs → vs ≡ faults_at_start ys → us ++ vs ≡ faults_at_start (xs ++ ys)
-two xs ys us vs e f = ap (λ zs. zs ++ vs) e ∙ ap (λ zs. faults_at_start xs ++ zs) f ∙ sym (faults_joined xs ys)
+two = both_mapped (λ r. record { place = start; code = r.code })
 
 -- a test that answers the same
 pub fault_moved : (a b : Bool) (p : Place) (c : Code) → a ≡ b → fault_unless a start c ≡ faults_at_start (fault_unless b p c)
@@ -74,14 +70,8 @@ rest_of_map g (x ∷ xs) = refl
 
 mutual
   pub sort_of_moved : (ds : List Declaration) (f : Form) → sort_of ds (unplaced f) ≡ sort_of ds f
-  sort_of_moved ds (symbol at t) = refl
-  sort_of_moved ds (string at t) = refl
-  sort_of_moved ds (number at n) = refl
-  sort_of_moved ds (list at none) = refl
   sort_of_moved ds (list at (more (symbol p t) fs)) = ap (sort_by_head (term_head t)) (sorts_of_moved ds fs)
-  sort_of_moved ds (list at (more (string p t) fs)) = refl
-  sort_of_moved ds (list at (more (number p n) fs)) = refl
-  sort_of_moved ds (list at (more (list p gs) fs)) = refl
+  sort_of_moved ds _ = refl
 
   sorts_of_moved : (ds : List Declaration) (fs : Forms) → sorts_of ds (all_unplaced fs) ≡ sorts_of ds fs
   sorts_of_moved ds none = refl
@@ -140,16 +130,11 @@ undeclared_moved at (Some x) = refl
 mutual
   pub term_faults_moved : (ds : List Declaration) → IsMovedFault (term_faults ds)
   term_faults_moved ds (symbol at t) = undeclared_moved at (variable_named ds t)
-  term_faults_moved ds (string at t) = refl
-  term_faults_moved ds (number at n) = refl
-  term_faults_moved ds (list at none) = refl
   term_faults_moved ds (list at (more (symbol p t) fs)) =
       ap (λ gs. applied_faults ds start (term_head t) gs (each_term_faults ds (all_unplaced fs))) (items_moved fs)
       ∙ ap (applied_faults ds start (term_head t) (all_moved (items_of fs))) (each_faults_moved ds fs)
       ∙ applied_moved ds at (term_head t) (items_of fs) (each_term_faults ds fs)
-  term_faults_moved ds (list at (more (string p t) fs)) = refl
-  term_faults_moved ds (list at (more (number p n) fs)) = refl
-  term_faults_moved ds (list at (more (list p gs) fs)) = refl
+  term_faults_moved ds _ = refl
 
   each_faults_moved : (ds : List Declaration) (fs : Forms) → each_term_faults ds (all_unplaced fs) ≡ map faults_at_start (each_term_faults ds fs)
   each_faults_moved ds none = refl
@@ -162,16 +147,10 @@ atom_faults_moved ds f = two _ _ _ _ (fault_at_form (is_atom (sort_of ds (unplac
 
 mutual
   pub term_of_moved : (ds : List Declaration) (f : Form) → term_of ds (unplaced f) ≡ term_of ds f
-  term_of_moved ds (symbol at t) = refl
-  term_of_moved ds (string at t) = refl
-  term_of_moved ds (number at n) = refl
-  term_of_moved ds (list at none) = refl
   term_of_moved ds (list at (more (symbol p t) fs)) =
       ap (λ gs. applied (term_head t) gs (terms_of ds (all_unplaced fs))) (items_moved fs) ∙ ap (applied (term_head t) (all_moved (items_of fs))) (terms_of_moved ds fs)
       ∙ applied_value_moved (term_head t) (items_of fs) (terms_of ds fs)
-  term_of_moved ds (list at (more (string p t) fs)) = refl
-  term_of_moved ds (list at (more (number p n) fs)) = refl
-  term_of_moved ds (list at (more (list p gs) fs)) = refl
+  term_of_moved ds _ = refl
 
   terms_of_moved : (ds : List Declaration) (fs : Forms) → terms_of ds (all_unplaced fs) ≡ terms_of ds fs
   terms_of_moved ds none = refl

@@ -16,7 +16,7 @@ use Rattle.cp_model.specs.Same.{has_variable}
 use Rattle.cp_sexpr.specs.Syntax.{Form, symbol, string, number, list}
 use Rattle.cp_sexpr.specs.Pieces.{start}
 use Rattle.cp_sexpr.specs.ReadingBack.{unplaced}
-use Rattle.cp_language.specs.Words.{is_one_of, ItemHead, role_item, non_item, penetrator_non_item, unique_item, strand_item, listener_item, precedes_item, comment_item, item_out_of_profile, no_item}
+use Rattle.cp_language.specs.Words.{is_one_of, ItemHead, non_item, penetrator_non_item, unique_item, strand_item, listener_item, precedes_item}
 use Rattle.cp_language.specs.Faults.{fault, items_of}
 use Rattle.cp_language.specs.Terms.{variable_named, lacks, exceeds, atom_faults, as_atom, term_of}
 use Rattle.cp_language.specs.Roles.{headed, text_of_symbol, list_items, items_behind, declarations_of, item_or_none, forms_under, is_non_item, is_penetrator_non_item, is_unique_item}
@@ -154,14 +154,7 @@ strand_by_moved : (roles : List Role) (ds : List Declaration) (next : ℕ) (h : 
 strand_by_moved roles ds next strand_item fs =
     ap (λ t. Some (instance_by (role_named roles t) ds next (all_moved fs))) (name_in_front_moved fs) ∙ ap Some (instance_by_moved (role_named roles (name_in_front fs)) ds next fs)
 strand_by_moved roles ds next listener_item fs = ap (λ t. Some (listener t, [])) (heard_moved ds fs)
-strand_by_moved roles ds next role_item fs = refl
-strand_by_moved roles ds next non_item fs = refl
-strand_by_moved roles ds next penetrator_non_item fs = refl
-strand_by_moved roles ds next unique_item fs = refl
-strand_by_moved roles ds next precedes_item fs = refl
-strand_by_moved roles ds next comment_item fs = refl
-strand_by_moved roles ds next item_out_of_profile fs = refl
-strand_by_moved roles ds next no_item fs = refl
+strand_by_moved roles ds next _ fs = refl
 
 strands_from_moved : (roles : List Role) (ds : List Declaration) (next : ℕ) (fs : List Form) → strands_from roles ds next (all_moved fs) ≡ strands_from roles ds next fs
 strands_from_moved roles ds next [] = refl
@@ -255,10 +248,7 @@ problem_item_moved roles ds strands before stage at non_item fs = misplaced_move
 problem_item_moved roles ds strands before stage at penetrator_non_item fs = misplaced_moved stage.after_strand at _ _ (each_faults_of_moved (atom_faults ds) (atom_faults_moved ds) fs)
 problem_item_moved roles ds strands before stage at unique_item fs = misplaced_moved stage.after_strand at _ _ (each_faults_of_moved (unique_faults strands ds) (unique_faults_moved strands ds) fs)
 problem_item_moved roles ds strands before stage at precedes_item fs = misplaced_moved stage.after_strand at _ _ (pairs_faults_moved strands before fs)
-problem_item_moved roles ds strands before stage at comment_item fs = refl
-problem_item_moved roles ds strands before stage at item_out_of_profile fs = refl
-problem_item_moved roles ds strands before stage at role_item fs = refl
-problem_item_moved roles ds strands before stage at no_item fs = refl
+problem_item_moved roles ds strands before stage at _ fs = refl
 
 pairs_if_moved : (b : Bool) (fs : List Form) → pairs_if b (all_moved fs) ≡ pairs_if b fs
 pairs_if_moved true fs = pairs_in_moved fs

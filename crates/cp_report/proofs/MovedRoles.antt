@@ -1,7 +1,8 @@
 -- Where declarations, events, roles and protocols of the input stand does not matter for their faults, nor for what they
 -- stand for.
-use Rattle.std.proofs.Common.{◌≡◌, ℕ, List, [], ◌∷◌, ◌++◌, true, false, refl, ◌∙◌, ap}
+use Rattle.std.proofs.Common.{◌≡◌, ℕ, List, [], ◌∷◌, ◌++◌, true, false, refl, sym, ◌∙◌, ap}
 use Rattle.std.specs.Prelude.{Bool, Option, Some, None, codes, option_map, if◌then◌else◌}
+use Rattle.std.proofs.lemmas.List.{map-append}
 use Rattle.cp_base.specs.declared.place.Place.{Place}
 use Rattle.cp_base.specs.declared.place.Code.TheVariants.{OutOfProfile, BadShape, DuplicateProtocol, DuplicateRole, MesgVar, DuplicateVar, RoleUniqNoOrigin}
 use Rattle.cp_base.specs.declared.place.Refusal.{Refusal}
@@ -11,7 +12,7 @@ use Rattle.cp_model.specs.Same.{same_text, origin_in}
 use Rattle.cp_sexpr.specs.Syntax.{Form, symbol, string, number, list}
 use Rattle.cp_sexpr.specs.Pieces.{start}
 use Rattle.cp_sexpr.specs.ReadingBack.{unplaced}
-use Rattle.cp_language.specs.Words.{is_one_of, heads_out_of_profile, SortWord, of_sort, of_messages, sort_out_of_profile, no_sort, sort_word, EventHead, sending, receiving, event_out_of_profile, no_event, event_head, ItemHead, role_item, non_item, penetrator_non_item, unique_item, strand_item, listener_item, precedes_item, comment_item, item_out_of_profile, no_item, item_head}
+use Rattle.cp_language.specs.Words.{is_one_of, heads_out_of_profile, SortWord, of_sort, of_messages, sort_out_of_profile, no_sort, sort_word, EventHead, sending, receiving, event_out_of_profile, no_event, event_head, ItemHead, role_item, non_item, penetrator_non_item, unique_item, item_head}
 use Rattle.cp_language.specs.Faults.{fault, place_of, items_of}
 use Rattle.cp_language.specs.Terms.{lacks, atom_faults, as_atom, term_of}
 use Rattle.cp_language.specs.Roles.{Headed, headed, text_of_symbol, fixed_head_faults, fixed_faults, items_behind, front_of, last_form, sort_named, is_of_messages, sort_or_text, sort_word_faults, last_sort_faults, identifier_faults, identifiers_faults, declared_identifiers, list_items, declaration_faults, declarations_faults, vars_faults, declared_of, declarations_in, declarations_of, message_faults, event_head_faults, headed_event_faults, event_faults, events_faults, trace_faults, message_of, is_sending, event_of, events_in, events_of, is_somewhere, unless_faulty, role_unique_faults, each_faults, role_item_faults, headed_item_faults, item_faults, name_faults_at, role_faults, atoms_in, item_or_none, forms_under, is_non_item, is_penetrator_non_item, is_unique_item, role_of, is_role_item, protocol_item_faults, role_name_onto, roles_faults, algebra_faults, protocol_faults, roles_in, protocol_of}
@@ -189,13 +190,7 @@ role_item_moved : (ds : List Declaration) (trace : List (Event Term)) → IsMove
 role_item_moved ds trace at non_item fs = each_faults_of_moved (atom_faults ds) (atom_faults_moved ds) fs
 role_item_moved ds trace at penetrator_non_item fs = each_faults_of_moved (atom_faults ds) (atom_faults_moved ds) fs
 role_item_moved ds trace at unique_item fs = each_faults_of_moved (role_unique_faults ds trace) (role_unique_moved ds trace) fs
-role_item_moved ds trace at comment_item fs = refl
-role_item_moved ds trace at item_out_of_profile fs = refl
-role_item_moved ds trace at role_item fs = refl
-role_item_moved ds trace at strand_item fs = refl
-role_item_moved ds trace at listener_item fs = refl
-role_item_moved ds trace at precedes_item fs = refl
-role_item_moved ds trace at no_item fs = refl
+role_item_moved ds trace at _ fs = refl
 
 headed_item_moved : (kind : Place → ItemHead → List Form → List Refusal) → IsMovedItem kind → (at : Place) (o : Option Headed) → headed_item_faults kind start (option_map headed_at_start o) ≡ faults_at_start (headed_item_faults kind at o)
 headed_item_moved kind m at None = refl
@@ -240,10 +235,6 @@ pub atoms_in_moved : (ds : List Declaration) (fs : List Form) → atoms_in ds (a
 atoms_in_moved ds [] = refl
 atoms_in_moved ds (f ∷ fs) = ap (λ v. v ∷ atoms_in ds (all_moved fs)) (atom_of_moved ds f) ∙ ap (λ vs. as_atom (term_of ds f) ∷ vs) (atoms_in_moved ds fs)
 
-forms_joined : (xs ys : List Form) → all_moved xs ++ all_moved ys ≡ all_moved (xs ++ ys)
-forms_joined [] ys = refl
-forms_joined (x ∷ xs) ys = ap (λ zs. unplaced x ∷ zs) (forms_joined xs ys)
-
 pub forms_under_moved : (test : ItemHead → Bool) (fs : List Form) → forms_under test (all_moved fs) ≡ all_moved (forms_under test fs)
 forms_under_moved test [] = refl
 forms_under_moved test (f ∷ fs) =
@@ -252,7 +243,7 @@ forms_under_moved test (f ∷ fs) =
   where
     by : (b : Bool) → forms_under test (all_moved fs) ≡ all_moved (forms_under test fs) →
         (if b then items_behind (headed (unplaced f)) ++ forms_under test (all_moved fs) else forms_under test (all_moved fs)) ≡ all_moved (if b then items_behind (headed f) ++ forms_under test fs else forms_under test fs)
-    by true rest = ap (λ gs. gs ++ forms_under test (all_moved fs)) (entries_moved f) ∙ ap (λ gs. all_moved (entries_of f) ++ gs) rest ∙ forms_joined (entries_of f) (forms_under test fs)
+    by true rest = ap (λ gs. gs ++ forms_under test (all_moved fs)) (entries_moved f) ∙ ap (λ gs. all_moved (entries_of f) ++ gs) rest ∙ sym (map-append unplaced (entries_of f) (forms_under test fs))
     by false rest = rest
 
 pub atoms_under_head_moved : (ds : List Declaration) (test : ItemHead → Bool) (fs : List Form) → atoms_in ds (forms_under test (all_moved fs)) ≡ atoms_in ds (forms_under test fs)
@@ -281,15 +272,7 @@ role_of_moved (name ∷ vars ∷ trace ∷ items) =
 
 protocol_item_moved : (before : List (List ℕ)) → IsMovedItem (protocol_item_faults before)
 protocol_item_moved before at role_item fs = role_faults_moved before at fs
-protocol_item_moved before at comment_item fs = refl
-protocol_item_moved before at item_out_of_profile fs = refl
-protocol_item_moved before at non_item fs = refl
-protocol_item_moved before at penetrator_non_item fs = refl
-protocol_item_moved before at unique_item fs = refl
-protocol_item_moved before at strand_item fs = refl
-protocol_item_moved before at listener_item fs = refl
-protocol_item_moved before at precedes_item fs = refl
-protocol_item_moved before at no_item fs = refl
+protocol_item_moved before at _ fs = refl
 
 role_name_moved : (o : Option Headed) (before : List (List ℕ)) → role_name_onto (option_map headed_at_start o) before ≡ role_name_onto o before
 role_name_moved None before = refl

@@ -11,10 +11,10 @@ use Rattle.cp_model.specs.Tree.{Operation, by_problem, by_collapse, by_contracti
 use Rattle.cp_model.specs.declared.node.Node.{Node}
 use Rattle.cp_language.specs.Printed.{numeral, no_place}
 use Rattle.cp_language.specs.Report.{node_form, operation_words}
-use Rattle.cp_language.specs.Problems.{is_known, Problem}
+use Rattle.cp_language.specs.Problems.{is_known, name_in_front, Problem}
 use Rattle.cp_report.specs.Misfits.{misfit_unless, each_misfits, entries_misfits}
 use Rattle.cp_report.specs.Skeletons.{node_misfits}
-use Rattle.cp_report.specs.Labels.{is_number, OperationWord, problem_word, collapsed_word, contracted_word, displaced_word, added_strand_word, added_listener_word, generalised_word, blocks, operation_misfits, operation_place_misfits}
+use Rattle.cp_report.specs.Labels.{is_number, OperationWord, operation_word, blocks, operation_misfits, operation_place_misfits}
 use Rattle.cp_report.specs.Fitting.{IsOperationOn}
 use Rattle.cp_report.proofs.SpelledTerms.{none_and}
 use Rattle.cp_report.proofs.PrintedMaps.{numbers_same}
@@ -42,15 +42,9 @@ strand_there strands n e = by (item_at strands n.strand) refl e.1
 
 -- ---- operations
 
--- The word for an operation.
+-- The word for an operation, as it is read.
 abbrev pub word_for : Operation → OperationWord
-word_for by_problem = problem_word
-word_for (by_collapse ps) = collapsed_word
-word_for (by_contraction n) = contracted_word
-word_for (by_displacement n) = displaced_word
-word_for (by_added_strand s) = added_strand_word
-word_for (by_added_listener s) = added_listener_word
-word_for by_generalising = generalised_word
+word_for o = operation_word (name_in_front (operation_words o))
 
 lowest_test : (n i : ℕ) → n ≤ i → nat_le n i ≡ true
 lowest_test n i p = grind (arith, nat_tests)

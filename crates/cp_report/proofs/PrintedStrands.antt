@@ -35,11 +35,9 @@ items_back (f ∷ fs) = ap (λ gs. f ∷ gs) (items_back fs)
 -- ---- atoms and sorts
 
 pub sort_kept : (t : Substitution) (v : AtomTerm) → sort_of_atom (apply_to_atom t v) ≡ sort_of_atom v
-sort_kept t (text_variable n) = refl
-sort_kept t (datum_variable n) = refl
-sort_kept t (name_variable n) = refl
 sort_kept t (key_term (symmetric_term k)) = refl
 sort_kept t (key_term (asymmetric_term flag k)) = refl
+sort_kept t _ = refl
 
 -- An atom of the variable's sort at its number is what the substitution gives it.
 pub value_taken : (ts : List Term) (r : Sort) (n : ℕ) (v : AtomTerm) → item_at ts n ≡ Some (atom_term v) → sort_of_atom v ≡ r → apply_to_atom (substitution_by ts) (atom_of_variable (variable r n)) ≡ v

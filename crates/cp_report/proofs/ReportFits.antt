@@ -150,14 +150,7 @@ same_entries : (ds es : List Entry) → map bare ds ≡ map bare es → ArePaire
 same_entries [] [] q = tt
 same_entries [] (e ∷ es) q = absurd (cc)
 same_entries (d ∷ ds) [] q = absurd (cc)
-same_entries (d ∷ ds) (e ∷ es) q = (same_entry (head_same q), same_entries ds es (ap (drop 1) q))
-  where
-    first_or : Entry → List Entry → Entry
-    first_or x [] = x
-    first_or x (y ∷ ys) = y
-
-    head_same : {a b : Entry} {xs ys : List Entry} → a ∷ xs ≡ b ∷ ys → a ≡ b
-    head_same {a = a} p = ap (first_or a) p
+same_entries (d ∷ ds) (e ∷ es) q = let first : bare d ≡ bare e = cc in (same_entry first, same_entries ds es (ap (drop 1) q))
 
 module _ (input : Forms) (trees : List Tree) (well_formed : faults_of input ≡ []) (reads : ArePaired Reads (problems_in (input_of input)) trees) where
   abbrev printed : List Form

@@ -33,14 +33,8 @@ pub terms_covered : (a b : Variable → ℕ) (ts us : List Term) → map (apply_
 terms_covered a b [] us e x m = elim m [ ]
 terms_covered a b (t ∷ ts) [] e x m = absurd (cc)
 terms_covered a b (t ∷ ts) (u ∷ us) e x m =
-    both_covered a b (variables_of t) (variables_of_terms ts) (variables_of u) (variables_of_terms us) (term_covered a b t u (first e)) (terms_covered a b ts us (ap (drop 1) e)) x m
-  where
-    first_or : Term → List Term → Term
-    first_or v [] = v
-    first_or v (w ∷ ws) = w
-
-    first : {v w : Term} {vs ws : List Term} → v ∷ vs ≡ w ∷ ws → v ≡ w
-    first {v = v} p = ap (first_or v) p
+    let first : apply_to (renaming a) t ≡ apply_to (renaming b) u = cc in
+    both_covered a b (variables_of t) (variables_of_terms ts) (variables_of u) (variables_of_terms us) (term_covered a b t u first) (terms_covered a b ts us (ap (drop 1) e)) x m
 
 trace_covered : (a b : Variable → ℕ) (es ds : List (Event Term)) → map (event_map (apply_to (renaming a))) es ≡ map (event_map (apply_to (renaming b))) ds → AreCovered a (variables_of_trace es) b (variables_of_trace ds)
 trace_covered a b es ds e x m =

@@ -3,14 +3,15 @@ use Rattle.std.proofs.Common.{◌≡◌, ℕ, suc, ◌<◌, ◌≤◌, List, [],
 use Rattle.std.specs.Prelude.{Option, Some, None, map, codes}
 use Rattle.cp_base.specs.declared.place.Place.{Place}
 use Rattle.cp_lists.specs.Lists.{IsIn, here}
-use Rattle.cp_lists.proofs.Members.{in_append_left, in_append_right}
+use Rattle.cp_lists.proofs.Members.{in_append_left}
 use Rattle.cp_model.specs.Linking.{ArePaired}
 use Rattle.cp_model.specs.Term.{Variable, AtomTerm, Substitution, apply_to_atom}
 use Rattle.cp_model.specs.Strand.{Role, Applies, AppliesAt}
-use Rattle.cp_model.specs.Problem.{variables_of_atoms, variables_of_uniques, variables_of_assumptions}
-use Rattle.cp_model.specs.Skeleton.{SkeletonStrand, UniqueAt, Skeleton}
+use Rattle.cp_model.specs.Problem.{variables_of_atoms, variables_of_assumptions}
+use Rattle.cp_model.specs.Skeleton.{SkeletonStrand, UniqueAt, Assumptions, Skeleton}
 use Rattle.cp_model.specs.Given.{listed_atoms, listed, given_non, given_penetrator_non, given_uniques}
 use Rattle.cp_model.specs.Tree.{Label}
+use Rattle.cp_model.proofs.Gathered.{atoms, uniques}
 use Rattle.cp_skel.proofs.UnderVariables.{in_atoms}
 use Rattle.cp_sexpr.specs.Syntax.{Form}
 use Rattle.cp_language.specs.Printed.{numeral, headed_list, plain_list, no_place, atom_form}
@@ -29,12 +30,12 @@ use Rattle.cp_report.proofs.ApartIdentifiers.{apart_named}
 use Rattle.cp_report.proofs.PrintedStrands.{items_back}
 use Rattle.cp_report.proofs.PrintedMaps.{strands_fit, named_identifiers, values_fit}
 use Rattle.cp_report.proofs.PrintedAssumptions.{listed_apart, listed_only, atoms_fit, all_atoms}
-use Rattle.cp_report.proofs.PrintedUniques.{uniques_apart, uniques_fit, all_uniques}
+use Rattle.cp_report.proofs.PrintedUniques.{uniques_fit, all_uniques}
 use Rattle.cp_report.proofs.RenamedStrands.{non_among, penetrator_non_among, unique_among}
-use Rattle.cp_report.proofs.LabelItems.{Group, forms_for, is_alone, label_groups, label_in_groups, label_groups_are, item_found}
+use Rattle.cp_report.proofs.LabelEntries.{found}
 use Rattle.cp_report.proofs.SkeletonRead.{IsUnder, names_as_many, names_differ, all_strands_fit}
 use Rattle.cp_report.proofs.LabelWords.{of_problem, names, named, number, items}
-use Rattle.cp_report.proofs.LabelSkeleton.{PrintedLabel, stands, in_skeleton, in_values, in_assumptions, strand_items, strands_same, kinds, non_back, penetrator_non_back, uniques_in_place, unique_back, lists_all}
+use Rattle.cp_report.proofs.LabelSkeleton.{PrintedLabel, stands, in_skeleton, in_values, in_non, in_penetrator_non, strand_items, strands_same, kinds, non_back, penetrator_non_back, uniques_in_place, unique_back, lists_all}
 
 -- ---- items that may be left out
 
@@ -64,22 +65,15 @@ module _ (under : IsUnder) (whole : AppliesWhole) (p : Problem) (l : Label) (h :
   abbrev k : Skeleton
   k = l.skeleton
 
-  abbrev groups : List Group
-  groups = label_groups (of_problem p) (names p l) l
-
   abbrev strands : List SkeletonStrand
   strands = strands_of_label p (items p l)
-
-  -- An item of the label is that of its group.
-  in_group : (head : List ℕ) → is_alone (head ∷ []) groups ≡ true → item_with (head ∷ []) (items p l) ≡ item_with (head ∷ []) (forms_for (head ∷ []) groups)
-  in_group head alone = ap (item_with (head ∷ [])) (label_in_groups (of_problem p) (names p l) l) ∙ item_found (head ∷ []) groups (label_groups_are (of_problem p) (names p l) l) alone
 
   -- ---- variables and strands
 
   pub vars_fit : vars_item_misfits (items p l) ≡ []
   vars_fit =
       let enough : length l.variables ≤ length (names p l) = omega (arith, names_as_many p l h.variables (of_problem p) (as_many_names p.declared p.variables)) in
-      ap (optional_misfits (λ at fs. lacking 1 at fs ++ vars_misfits [] fs)) (in_group (codes "vars") refl)
+      ap (optional_misfits (λ at fs. lacking 1 at fs ++ vars_misfits [] fs)) (found (of_problem p) (names p l) l (codes "vars" ∷ []) refl)
       ∙ optional_fits (codes "vars") (vars_misfits []) (vars_from (names p l) (occurring l) 0 l.variables)
       (variables_fit (occurring l) (names p l) (names_differ p l h.variables (of_problem p) (as_many_names p.declared p.variables) h.small h.names_differ) l.variables enough)
 
@@ -94,47 +88,47 @@ module _ (under : IsUnder) (whole : AppliesWhole) (p : Problem) (l : Label) (h :
 
   precedes_fit : optional_misfits (precedes_misfits strands) (item_with (codes "precedes" ∷ []) (items p l)) ≡ []
   precedes_fit =
-      ap (optional_misfits (precedes_misfits strands)) (in_group (codes "precedes") refl)
+      ap (optional_misfits (precedes_misfits strands)) (found (of_problem p) (names p l) l (codes "precedes" ∷ []) refl)
       ∙ optional_fits (codes "precedes") (pairs_misfits strands []) (covering_pairs k) (covers_fit k h.skeleton.order_pairs h.skeleton.no_cycle strands (kinds under p l h))
 
   -- ---- assumptions
 
   -- An item of atoms fits that lists those of the skeleton, where all that the strands give are among them.
-  atoms_item_fits : (at : Place) (head : List ℕ) (given : List SkeletonStrand → List AtomTerm) (own old : List AtomTerm) →
-      item_with (head ∷ []) (items p l) ≡ item_with (head ∷ []) (item_unless_empty head (map (atom_form (named p l)) (listed_atoms own (given k.strands) old))) →
-      ((x : Variable) → IsIn x (variables_of_atoms old) → IsIn x (variables_of_assumptions k.assumptions)) →
-      atoms_under head (items p l) ≡ map (apply_to_atom (renaming (number l))) (listed_atoms own (given k.strands) old) →
-      ((w : AtomTerm) → IsIn w (given strands) → IsIn w (map (apply_to_atom (renaming (number l))) (listed_atoms own (given k.strands) old))) → values_misfits at head (given strands) (items p l) ≡ []
-  atoms_item_fits at head given own old found occur back among =
+  atoms_item_fits : (at : Place) (head : List ℕ) (given : List SkeletonStrand → List AtomTerm) (of : Assumptions → List AtomTerm) →
+      item_with (head ∷ []) (items p l) ≡ item_with (head ∷ []) (item_unless_empty head (map (atom_form (named p l)) (listed_atoms (of k.from_problem.assumptions) (given k.strands) (of k.assumptions)))) →
+      ((x : Variable) → IsIn x (variables_of_atoms (of k.assumptions)) → IsIn x (occurring l)) →
+      atoms_under head (items p l) ≡ map (apply_to_atom (renaming (number l))) (listed_atoms (of k.from_problem.assumptions) (given k.strands) (of k.assumptions)) →
+      ((w : AtomTerm) → IsIn w (given strands) → IsIn w (map (apply_to_atom (renaming (number l))) (listed_atoms (of k.from_problem.assumptions) (given k.strands) (of k.assumptions)))) → values_misfits at head (given strands) (items p l) ≡ []
+  atoms_item_fits at head given of found occur back among =
+      let own = of k.from_problem.assumptions in
+      let old = of k.assumptions in
       let vs = listed_atoms own (given k.strands) old in
       assumption_fits at (item_with (head ∷ []) (items p l)) (atoms_misfits (scope_of (items p l)) []) (has_atoms (atoms_under head (items p l)) (given strands))
       (ap (optional_misfits (λ q gs. lacking 1 q gs ++ atoms_misfits (scope_of (items p l)) [] gs)) found
       ∙ optional_fits head (atoms_misfits (scope_of (items p l)) []) (map (atom_form (named p l)) vs)
       (atoms_fit (scope_of (items p l)) (named p l) (number l) (occurring l) (one_to_one (occurring l)) (stands under p l h) vs
-      (λ v m x i. in_assumptions under p l h x (occur x (in_atoms old v x (listed_only own (given k.strands) old v m) i))) (listed_apart own (given k.strands) old)))
+      (λ v m x i. occur x (in_atoms old v x (listed_only atoms own (given k.strands) old v m) i)) (listed_apart atoms own (given k.strands) old)))
       (ap (λ (ws : List AtomTerm). has_atoms ws (given strands)) back ∙ all_atoms (map (apply_to_atom (renaming (number l))) vs) (given strands) among)
 
   non_fit : (at : Place) → values_misfits at (codes "non-orig") (given_non strands) (items p l) ≡ []
   non_fit at =
-      atoms_item_fits at (codes "non-orig") given_non k.from_problem.assumptions.non_originating k.assumptions.non_originating (in_group (codes "non-orig") refl)
-      (λ x i. in_append_left (variables_of_uniques k.assumptions.uniquely_originating) (in_append_left (variables_of_atoms k.assumptions.penetrator_non_originating) i)) (non_back under p l h)
+      atoms_item_fits at (codes "non-orig") given_non (λ a. a.non_originating) (found (of_problem p) (names p l) l (codes "non-orig" ∷ []) refl) (in_non under p l h) (non_back under p l h)
       (non_among (renaming (number l)) k.strands strands (strands_same under p l h) (listed k).non_originating
       (λ n role height terms e v m a. (lists_all under p l h).non (apply_to_atom terms v) ((h.skeleton.given n role height terms e).non v m a)))
 
   penetrator_non_fit : (at : Place) → values_misfits at (codes "pen-non-orig") (given_penetrator_non strands) (items p l) ≡ []
   penetrator_non_fit at =
-      atoms_item_fits at (codes "pen-non-orig") given_penetrator_non k.from_problem.assumptions.penetrator_non_originating k.assumptions.penetrator_non_originating (in_group (codes "pen-non-orig") refl)
-      (λ x i. in_append_left (variables_of_uniques k.assumptions.uniquely_originating) (in_append_right (variables_of_atoms k.assumptions.non_originating) i)) (penetrator_non_back under p l h)
+      atoms_item_fits at (codes "pen-non-orig") given_penetrator_non (λ a. a.penetrator_non_originating) (found (of_problem p) (names p l) l (codes "pen-non-orig" ∷ []) refl) (in_penetrator_non under p l h) (penetrator_non_back under p l h)
       (penetrator_non_among (renaming (number l)) k.strands strands (strands_same under p l h) (listed k).penetrator_non_originating
       (λ n role height terms e v m a. (lists_all under p l h).penetrator_non (apply_to_atom terms v) ((h.skeleton.given n role height terms e).penetrator_non v m a)))
 
   unique_fit : (at : Place) → all_uniques_misfits at strands (items p l) ≡ []
   unique_fit at =
       assumption_fits at (item_with (codes "uniq-orig" ∷ []) (items p l)) (uniques_misfits (scope_of (items p l)) strands []) (has_uniques (uniques_under (items p l)) (given_uniques 0 strands))
-      (ap (optional_misfits (λ q gs. lacking 1 q gs ++ uniques_misfits (scope_of (items p l)) strands [] gs)) (in_group (codes "uniq-orig") refl)
+      (ap (optional_misfits (λ q gs. lacking 1 q gs ++ uniques_misfits (scope_of (items p l)) strands [] gs)) (found (of_problem p) (names p l) l (codes "uniq-orig" ∷ []) refl)
       ∙ optional_fits (codes "uniq-orig") (uniques_misfits (scope_of (items p l)) strands []) (map (unique_form (named p l)) (listed k).uniquely_originating)
       (uniques_fit (scope_of (items p l)) strands (named p l) (number l) (occurring l) (one_to_one (occurring l)) (stands under p l h) (listed k).uniquely_originating (uniques_in_place under p l h)
-      (uniques_apart k.from_problem.assumptions.uniquely_originating (given_uniques 0 k.strands) k.assumptions.uniquely_originating)))
+      (listed_apart uniques k.from_problem.assumptions.uniquely_originating (given_uniques 0 k.strands) k.assumptions.uniquely_originating)))
       (ap (λ (us : List UniqueAt). has_uniques us (given_uniques 0 strands)) (unique_back under p l h)
       ∙ all_uniques (map (unique_renamed (renaming (number l))) (listed k).uniquely_originating) (given_uniques 0 strands)
       (unique_among (renaming (number l)) whole k.strands strands (strands_same under p l h) (listed k).uniquely_originating
@@ -144,7 +138,7 @@ module _ (under : IsUnder) (whole : AppliesWhole) (p : Problem) (l : Label) (h :
 
   map_fits : optional_misfits (map_misfits p (scope_of (items p l)) strands) (item_with (codes "map" ∷ []) (items p l)) ≡ []
   map_fits =
-      ap (optional_misfits (map_misfits p (scope_of (items p l)) strands)) (in_group (codes "map") refl)
+      ap (optional_misfits (map_misfits p (scope_of (items p l)) strands)) (found (of_problem p) (names p l) l (codes "map" ∷ []) refl)
       ∙ ap (λ (fs : List Form). map_misfits p (scope_of (items p l)) strands no_place (plain_list (map numeral k.from_problem.strands) ∷ fs)) (items_back (value_forms (named p l) (of_problem p) k.from_problem.values))
       ∙ none_and _ _
       (strands_fit strands p.skeleton.strands k.from_problem.strands h.maps_all.strands (λ n m. as_many n (h.stated.in_range n m)))

@@ -139,6 +139,10 @@ sort_of_named akey_sort n = refl
 of_variable : (s : Scope) (f : Form) (y : Variable) → StandsFor s f y → AtomFits s f (atom_of_variable y)
 of_variable s f y h = record { fits = h.fits; term = h.term; sort = h.sort ∙ ap (λ r. Some (of_atoms r)) (sym (sort_of_named y.sort y.number)); no_cat = h.no_cat }
 
+-- A key of its own head, part by part.
+own_key : {s : Scope} {f : Form} {k : KeyTerm} → term_misfits s f ≡ [] → term_in s f ≡ atom_term (key_term k) → sort_in s f ≡ Some (of_atoms (sort_of_atom (key_term k))) → has_head (codes "cat" ∷ []) f ≡ false → key_misfits s f ≡ [] → KeyFits s f k
+own_key fits term sort no_cat key = record { atom = record { fits = fits; term = term; sort = sort; no_cat = no_cat }; key = key }
+
 key_of_skey : (s : Scope) (f : Form) (n : ℕ) → StandsFor s f (variable skey_sort n) → KeyFits s f (symmetric_term (skey_variable n))
 key_of_skey s f n h = record { atom = of_variable s f (variable skey_sort n) h; key = rw h.sort refl }
 
@@ -165,24 +169,10 @@ module _ (s : Scope) (named : Variable → Form) (number : Variable → ℕ) whe
 
   named_key_fits : (flag : Bool) (a : ℕ) → StandsFor s (named (variable name_sort a)) (renamed number (variable name_sort a)) →
       KeyFits s (asymmetric_form named flag (pubk_term None a)) (apply_to_key (renaming number) (asymmetric_term flag (pubk_term None a)))
-  named_key_fits false a x = record {
-    atom = record {
-      fits = x.name no_place ∙ none_and _ _ x.as_variable refl;
-      term = x.key_of false (term_in s (named (variable name_sort a))) ∙ ap (λ u. key_as_term (asymmetric_term false (pubk_term None (as_name u)))) x.term;
-      sort = refl;
-      no_cat = refl;
-    };
-    key = refl;
-  }
-  named_key_fits true a x = record {
-    atom = record {
-      fits = x.name no_place ∙ none_and _ _ x.as_variable refl;
-      term = x.key_of true (term_in s (named (variable name_sort a))) ∙ ap (λ u. key_as_term (asymmetric_term true (pubk_term None (as_name u)))) x.term;
-      sort = refl;
-      no_cat = refl;
-    };
-    key = refl;
-  }
+  named_key_fits false a x =
+      own_key (x.name no_place ∙ none_and _ _ x.as_variable refl) (x.key_of false (term_in s (named (variable name_sort a))) ∙ ap (λ u. key_as_term (asymmetric_term false (pubk_term None (as_name u)))) x.term) refl refl refl
+  named_key_fits true a x =
+      own_key (x.name no_place ∙ none_and _ _ x.as_variable refl) (x.key_of true (term_in s (named (variable name_sort a))) ∙ ap (λ u. key_as_term (asymmetric_term true (pubk_term None (as_name u)))) x.term) refl refl refl
 
   asymmetric_fits : (flag : Bool) (k : PairTerm) → Stands (variables_of_pair k) → KeyFits s (asymmetric_form named flag k) (apply_to_key (renaming number) (asymmetric_term flag k))
   asymmetric_fits false (akey_variable n) h = key_of_akey s (named (variable akey_sort n)) (number (variable akey_sort n)) (h (variable akey_sort n) here)

@@ -27,6 +27,14 @@ node l c s i = list (p l c) (forms_of (number (p l (c + 1)) s ∷ number (p l (c
 abbrev label : ℕ → ℕ → List Form → Form
 label l n fs = headed l 1 (codes "label") (number (p l 8) n ∷ fs)
 
+-- The status of a tree that is complete: how many labels there are, how many were expanded and how many are shapes, each a
+-- number of one digit.
+abbrev complete_status : ℕ → ℕ → ℕ → ℕ → Form
+complete_status l labels expanded shapes =
+    headed l 1 (codes "status") (
+    symbol (p l 9) (codes "complete") ∷ symbol (p l 18) (codes "labels") ∷ number (p l 25) labels ∷ symbol (p l 27) (codes "expanded") ∷ number (p l 36) expanded ∷ symbol (p l 38) (codes "shapes") ∷ number (p l 45) shapes
+    ∷ [])
+
 -- ---- pieces in the place of others
 
 -- Some forms in front of others.
@@ -60,6 +68,10 @@ bent taken (n ∷ path) new fs = bent_behind taken n path new fs
 
 -- ---- one instance
 
+-- A problem of the protocol, with these items.
+abbrev defskeleton : List Form → Form
+defskeleton fs = headed 4 1 (codes "defskeleton") (symbol (p 4 14) (codes "ns") ∷ fs)
+
 abbrev defprotocol_of_single : Form
 defprotocol_of_single =
     list (p 1 1) (forms_of (
@@ -70,12 +82,11 @@ defprotocol_of_single =
 
 abbrev defskeleton_of_single : Form
 defskeleton_of_single =
-    list (p 4 1) (forms_of (
-    symbol (p 4 2) (codes "defskeleton") ∷ symbol (p 4 14) (codes "ns")
-    ∷ headed 5 3 (codes "vars") (two 5 9 (codes "n1") (codes "text") ∷ [])
+    defskeleton (
+    headed 5 3 (codes "vars") (two 5 9 (codes "n1") (codes "text") ∷ [])
     ∷ headed 6 3 (codes "defstrand") (symbol (p 6 14) (codes "init") ∷ number (p 6 19) 1 ∷ two 6 21 (codes "n1") (codes "n1") ∷ [])
     ∷ two 7 3 (codes "uniq-orig") (codes "n1")
-    ∷ []))
+    ∷ [])
 
 abbrev by_of_single : ℕ → Form
 by_of_single l = two l 3 (codes "by") (codes "problem")
@@ -100,26 +111,19 @@ label_0_of_single =
     ∷ shape_of_single 14
     ∷ [])
 
-abbrev status_of_single : Form
-status_of_single =
-    list (p 15 1) (forms_of (
-    symbol (p 15 2) (codes "status") ∷ symbol (p 15 9) (codes "complete") ∷ symbol (p 15 18) (codes "labels") ∷ number (p 15 25) 1 ∷ symbol (p 15 27) (codes "expanded") ∷ number (p 15 36) 0 ∷ symbol (p 15 38) (codes "shapes") ∷ number (p 15 45) 1
-    ∷ []))
-
 abbrev pub text_single : Forms
-text_single = forms_of (defprotocol_of_single ∷ defskeleton_of_single ∷ label_0_of_single ∷ status_of_single ∷ [])
+text_single = forms_of (defprotocol_of_single ∷ defskeleton_of_single ∷ label_0_of_single ∷ complete_status 15 1 0 1 ∷ [])
 
 -- ---- an initiator and a responder, with a tree of five labels
 
 abbrev defskeleton_of_exchange : Form
 defskeleton_of_exchange =
-    list (p 4 1) (forms_of (
-    symbol (p 4 2) (codes "defskeleton") ∷ symbol (p 4 14) (codes "ns")
-    ∷ headed 5 3 (codes "vars") (headed 5 9 (codes "a") (symbol (p 5 12) (codes "b") ∷ symbol (p 5 14) (codes "name") ∷ []) ∷ headed 5 20 (codes "n1") (symbol (p 5 24) (codes "n2") ∷ symbol (p 5 27) (codes "text") ∷ []) ∷ [])
+    defskeleton (
+    headed 5 3 (codes "vars") (headed 5 9 (codes "a") (symbol (p 5 12) (codes "b") ∷ symbol (p 5 14) (codes "name") ∷ []) ∷ headed 5 20 (codes "n1") (symbol (p 5 24) (codes "n2") ∷ symbol (p 5 27) (codes "text") ∷ []) ∷ [])
     ∷ headed 6 3 (codes "defstrand") (symbol (p 6 14) (codes "init") ∷ number (p 6 19) 3 ∷ two 6 21 (codes "a") (codes "a") ∷ two 6 27 (codes "b") (codes "b") ∷ two 6 33 (codes "n1") (codes "n1") ∷ two 6 41 (codes "n2") (codes "n2") ∷ [])
     ∷ headed 7 3 (codes "non-orig") (two 7 13 (codes "privk") (codes "a") ∷ two 7 23 (codes "privk") (codes "b") ∷ [])
     ∷ two 8 3 (codes "uniq-orig") (codes "n1")
-    ∷ []))
+    ∷ [])
 
 abbrev vars_of_exchange : ℕ → Form
 vars_of_exchange l = headed l 3 (codes "vars") (two l 9 (codes "a") (codes "name") ∷ two l 18 (codes "b") (codes "name") ∷ two l 27 (codes "n1") (codes "text") ∷ two l 37 (codes "n2") (codes "text") ∷ [])
@@ -207,26 +211,19 @@ label_4_of_exchange =
     ∷ headed 69 3 (codes "test") (node 69 9 2 0 ∷ symbol (p 69 15) (codes "n1") ∷ []) ∷ escape_of_exchange 70 ∷ dead_of_exchange 71
     ∷ [])
 
-abbrev status_of_exchange : Form
-status_of_exchange =
-    list (p 72 1) (forms_of (
-    symbol (p 72 2) (codes "status") ∷ symbol (p 72 9) (codes "complete") ∷ symbol (p 72 18) (codes "labels") ∷ number (p 72 25) 5 ∷ symbol (p 72 27) (codes "expanded") ∷ number (p 72 36) 4 ∷ symbol (p 72 38) (codes "shapes") ∷ number (p 72 45) 1
-    ∷ []))
-
 abbrev pub text_exchange : Forms
-text_exchange = forms_of (defprotocol_of_single ∷ defskeleton_of_exchange ∷ label_0_of_exchange ∷ label_1_of_exchange ∷ label_2_of_exchange ∷ label_3_of_exchange ∷ label_4_of_exchange ∷ status_of_exchange ∷ [])
+text_exchange = forms_of (defprotocol_of_single ∷ defskeleton_of_exchange ∷ label_0_of_exchange ∷ label_1_of_exchange ∷ label_2_of_exchange ∷ label_3_of_exchange ∷ label_4_of_exchange ∷ complete_status 72 5 4 1 ∷ [])
 
 -- ---- two instances, and their collapse
 
 abbrev defskeleton_of_twice : Form
 defskeleton_of_twice =
-    list (p 4 1) (forms_of (
-    symbol (p 4 2) (codes "defskeleton") ∷ symbol (p 4 14) (codes "ns")
-    ∷ headed 5 3 (codes "vars") (two 5 9 (codes "n1") (codes "text") ∷ [])
+    defskeleton (
+    headed 5 3 (codes "vars") (two 5 9 (codes "n1") (codes "text") ∷ [])
     ∷ headed 6 3 (codes "defstrand") (symbol (p 6 14) (codes "init") ∷ number (p 6 19) 1 ∷ two 6 21 (codes "n1") (codes "n1") ∷ [])
     ∷ headed 7 3 (codes "defstrand") (symbol (p 7 14) (codes "init") ∷ number (p 7 19) 1 ∷ two 7 21 (codes "n1") (codes "n1") ∷ [])
     ∷ two 8 3 (codes "uniq-orig") (codes "n1")
-    ∷ []))
+    ∷ [])
 
 abbrev label_0_of_twice : Form
 label_0_of_twice =
@@ -249,14 +246,8 @@ label_1_of_twice =
     ∷ shape_of_single 23
     ∷ [])
 
-abbrev status_of_twice : Form
-status_of_twice =
-    list (p 24 1) (forms_of (
-    symbol (p 24 2) (codes "status") ∷ symbol (p 24 9) (codes "complete") ∷ symbol (p 24 18) (codes "labels") ∷ number (p 24 25) 2 ∷ symbol (p 24 27) (codes "expanded") ∷ number (p 24 36) 0 ∷ symbol (p 24 38) (codes "shapes") ∷ number (p 24 45) 1
-    ∷ []))
-
 abbrev pub text_twice : Forms
-text_twice = forms_of (defprotocol_of_single ∷ defskeleton_of_twice ∷ label_0_of_twice ∷ label_1_of_twice ∷ status_of_twice ∷ [])
+text_twice = forms_of (defprotocol_of_single ∷ defskeleton_of_twice ∷ label_0_of_twice ∷ label_1_of_twice ∷ complete_status 24 2 0 1 ∷ [])
 
 -- ---- keys, tags and inverses, and assumptions that roles give
 
@@ -299,12 +290,6 @@ text_keys = forms_of (defprotocol_of_keys ∷ defskeleton_of_keys ∷ label_0_of
 
 -- ---- less
 
-abbrev status_of_no_labels : Form
-status_of_no_labels =
-    list (p 8 1) (forms_of (
-    symbol (p 8 2) (codes "status") ∷ symbol (p 8 9) (codes "complete") ∷ symbol (p 8 18) (codes "labels") ∷ number (p 8 25) 0 ∷ symbol (p 8 27) (codes "expanded") ∷ number (p 8 36) 0 ∷ symbol (p 8 38) (codes "shapes") ∷ number (p 8 45) 0
-    ∷ []))
-
 -- no form at all
 abbrev pub text_nothing : Forms
 text_nothing = none
@@ -315,4 +300,4 @@ text_protocol_alone = forms_of (defprotocol_of_single ∷ [])
 
 -- a problem without labels
 abbrev pub text_no_labels : Forms
-text_no_labels = forms_of (defprotocol_of_single ∷ defskeleton_of_single ∷ status_of_no_labels ∷ [])
+text_no_labels = forms_of (defprotocol_of_single ∷ defskeleton_of_single ∷ complete_status 8 0 0 0 ∷ [])

@@ -1,5 +1,6 @@
 pub mod Sizes
 pub mod TermSorts
+mod Lacking
 pub mod Judged
 pub mod Pairing
 pub mod Meanings

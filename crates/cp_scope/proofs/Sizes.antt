@@ -30,3 +30,11 @@ pub item_smaller : (fs : List program.Form) (k : ℕ) (f : program.Form) → k <
 item_smaller [] k f h e = absurd (omega arith)
 item_smaller (g ∷ fs) zero f h e = let size = ap (λ x. form_size (view x)) e in omega (arith, size)
 item_smaller (g ∷ fs) (suc k) f h e = let inner = item_smaller fs k f (omega arith) e in omega (arith, inner)
+
+-- so what stands in a list is smaller than the list
+pub inside_smaller : (f : Form) (h : Headed) (fs : List program.Form) (k : ℕ) (g : program.Form) → headed f ≡ Some h → h.items ≡ map view fs → k < length fs → g ≡ get_or fs k g → form_size (view g) < form_size f
+inside_smaller f h fs k g e same less read =
+    let list = headed_smaller f h e in
+    let items = ap forms_size same in
+    let item = item_smaller fs k g less read in
+    omega (arith, list, items, item)

@@ -23,9 +23,7 @@ use cp_term::Sort;
 pub fn lacks(count: usize, place: Place, items: &[Form], first: &mut FirstFault)
     ensures { first.new ≡ first_onto first.old (lacks count place (map view items.now)) }
 {
-    if items.len() < count {
-        first.note(place, Code::BadShape);
-    }
+    first.note_unless(count <= items.len(), place, Code::BadShape);
 }
 
 /// An item behind as many as the count says is one too many.

@@ -1,62 +1,29 @@
 -- Terms as messages, each variable being the atom with its number: so a pattern matches a term where it matches that message.
-use Rattle.std.proofs.Common.{◌≡◌, List, [], ◌∷◌, Bool, true, false, refl, sym, ap, ap₂, ◌∙◌, subst, ◌⊎◌, ⊎_elim}
+use Rattle.std.proofs.Common.{◌≡◌, List, [], ◌∷◌, Bool, true, false, refl, sym, ap, ap₂, ◌∙◌, subst, ⊎_elim}
 use Rattle.cp_lists.specs.Lists.{here, there}
 use Rattle.cp_lists.proofs.Members.{head_or_behind, not_in_none}
-use Rattle.cp_model.specs.Message.{SymmetricKey, skey, ltk, KeyPair, akey, pubk, Key, symmetric, asymmetric, Atom, text, datum, name, key, Message, tag, atom, pair, enc}
-use Rattle.cp_model.specs.Term.{Variable, SymmetricTerm, skey_variable, ltk_term, PairTerm, akey_variable, pubk_term, KeyTerm, symmetric_term, asymmetric_term, AtomTerm, text_variable, datum_variable, name_variable, key_term, Term, tag_term, atom_term, pair_term, enc_term, atom_of_variable, Assignment, value_of_symmetric, value_of_key, value_of_atom, value_of, Substitution, apply_to_symmetric, apply_to_key, apply_to_atom, apply_to, after}
+use Rattle.cp_model.specs.Message.{symmetric, asymmetric, key}
+use Rattle.cp_model.specs.Term.{SymmetricTerm, skey_variable, ltk_term, PairTerm, akey_variable, pubk_term, symmetric_term, asymmetric_term, AtomTerm, text_variable, datum_variable, name_variable, key_term, Term, tag_term, atom_term, pair_term, enc_term, atom_of_variable, Assignment, value_of_atom, value_of, Substitution, apply_to_atom, apply_to, after}
 use Rattle.cp_model.specs.Tree.{Pattern}
-use Rattle.cp_model.proofs.LawTerms.{flag_last, atom_after, value_after}
+use Rattle.cp_model.proofs.LawTerms.{atom_after, value_after}
+use Rattle.cp_term.specs.Code.{own_numbers, atom_from, term_from, atom_back, term_back}
 use Rattle.cp_guard.specs.Matching.{Matches, MatchesMessage}
 use Rattle.cp_guard.proofs.Decided.{dec_matches}
 use Rattle.cp_settle.specs.Candidates.{OneMatches}
 
--- Each variable is the atom with its number.
-abbrev own_atoms : Assignment
-own_atoms = record { texts = λ n. n; datums = λ n. n; names = λ n. n; skeys = skey; akeys = λ n. (false, akey n) }
+-- The key that an atom is, without what says that it is one.
+abbrev symmetric_of : AtomTerm → SymmetricTerm
+symmetric_of (key_term (symmetric_term k)) = k
+symmetric_of _ = skey_variable 0
 
--- Each atom is the variable with its number.
-abbrev symmetric_back : SymmetricKey → SymmetricTerm
-symmetric_back (skey n) = skey_variable n
-symmetric_back (ltk a b) = ltk_term a b
+abbrev pair_of : AtomTerm → PairTerm
+pair_of (key_term (asymmetric_term flag k)) = k
+pair_of _ = akey_variable 0
 
-abbrev pair_back : KeyPair → PairTerm
-pair_back (akey n) = akey_variable n
-pair_back (pubk purpose a) = pubk_term purpose a
-
-abbrev key_back : Key → KeyTerm
-key_back (symmetric k) = symmetric_term (symmetric_back k)
-key_back (asymmetric flag k) = asymmetric_term flag (pair_back k)
-
-abbrev atom_back : Atom → AtomTerm
-atom_back (text n) = text_variable n
-atom_back (datum n) = datum_variable n
-atom_back (name n) = name_variable n
-atom_back (key k) = key_term (key_back k)
-
-abbrev back : Message → Term
-back (tag bytes) = tag_term bytes
-back (atom a) = atom_term (atom_back a)
-back (pair a b) = pair_term (back a) (back b)
-back (enc a k) = enc_term (back a) (key_back k)
-
--- A term as a message, and back, is the term.
-key_same : (k : KeyTerm) → key_back (value_of_key own_atoms k) ≡ k
-key_same (symmetric_term (skey_variable n)) = refl
-key_same (symmetric_term (ltk_term a b)) = refl
-key_same (asymmetric_term flag (akey_variable n)) = ap (λ (e : Bool). asymmetric_term e (akey_variable n)) (flag_last flag)
-key_same (asymmetric_term flag (pubk_term purpose a)) = refl
-
-atom_same : (a : AtomTerm) → atom_back (value_of_atom own_atoms a) ≡ a
-atom_same (text_variable n) = refl
-atom_same (datum_variable n) = refl
-atom_same (name_variable n) = refl
-atom_same (key_term k) = ap key_term (key_same k)
-
-term_same : (t : Term) → back (value_of own_atoms t) ≡ t
-term_same (tag_term bytes) = refl
-term_same (atom_term a) = ap atom_term (atom_same a)
-term_same (pair_term a b) = ap₂ pair_term (term_same a) (term_same b)
-term_same (enc_term a k) = ap₂ enc_term (term_same a) (key_same k)
+-- A term encrypted by it.
+abbrev encrypted_by : Term → AtomTerm → Term
+encrypted_by t (key_term k) = enc_term t k
+encrypted_by t _ = t
 
 -- An assignment as a substitution: each term is the value, as a term.
 abbrev as_substitution : Assignment → Substitution
@@ -64,51 +31,48 @@ as_substitution f = record {
   texts = f.texts;
   datums = f.datums;
   names = f.names;
-  skeys = λ n. symmetric_back (f.skeys n);
-  akeys = λ n. ((f.akeys n).0, pair_back (f.akeys n).1);
+  skeys = λ n. symmetric_of (atom_from (key (symmetric (f.skeys n))));
+  akeys = λ n. ((f.akeys n).0, pair_of (atom_from (key (asymmetric false (f.akeys n).1))));
 }
 
-key_value : (f : Assignment) (k : KeyTerm) → apply_to_key (as_substitution f) k ≡ key_back (value_of_key f k)
-key_value f (symmetric_term (skey_variable n)) = refl
-key_value f (symmetric_term (ltk_term a b)) = refl
-key_value f (asymmetric_term flag (akey_variable n)) = refl
-key_value f (asymmetric_term flag (pubk_term purpose a)) = refl
-
-atom_value : (f : Assignment) (a : AtomTerm) → apply_to_atom (as_substitution f) a ≡ atom_back (value_of_atom f a)
+atom_value : (f : Assignment) (a : AtomTerm) → apply_to_atom (as_substitution f) a ≡ atom_from (value_of_atom f a)
 atom_value f (text_variable n) = refl
 atom_value f (datum_variable n) = refl
 atom_value f (name_variable n) = refl
-atom_value f (key_term k) = ap key_term (key_value f k)
+atom_value f (key_term (symmetric_term (skey_variable n))) = refl
+atom_value f (key_term (symmetric_term (ltk_term a b))) = refl
+atom_value f (key_term (asymmetric_term flag (akey_variable n))) = refl
+atom_value f (key_term (asymmetric_term flag (pubk_term purpose a))) = refl
 
-term_value : (f : Assignment) (t : Term) → apply_to (as_substitution f) t ≡ back (value_of f t)
+term_value : (f : Assignment) (t : Term) → apply_to (as_substitution f) t ≡ term_from (value_of f t)
 term_value f (tag_term bytes) = refl
 term_value f (atom_term a) = ap atom_term (atom_value f a)
 term_value f (pair_term a b) = ap₂ pair_term (term_value f a) (term_value f b)
-term_value f (enc_term a k) = ap₂ enc_term (term_value f a) (key_value f k)
+term_value f (enc_term a k) = ap₂ encrypted_by (term_value f a) (atom_value f (key_term k))
 
 -- Where a pattern matches the term, it matches the message.
-to_message : (p : Pattern) (s : Substitution) (t : Term) → Matches p s t → MatchesMessage p (after own_atoms s) (value_of own_atoms t)
+to_message : (p : Pattern) (s : Substitution) (t : Term) → Matches p s t → MatchesMessage p (after own_numbers s) (value_of own_numbers t)
 to_message p s t m = record {
-  filled = after own_atoms m.filled;
-  as_said = λ x free. atom_after own_atoms m.filled (atom_of_variable x) ∙ ap (value_of_atom own_atoms) (m.as_said x free) ∙ sym (atom_after own_atoms s (atom_of_variable x));
-  same = value_after own_atoms m.filled p.term ∙ ap (value_of own_atoms) m.same;
+  filled = after own_numbers m.filled;
+  as_said = λ x free. atom_after own_numbers m.filled (atom_of_variable x) ∙ ap (value_of_atom own_numbers) (m.as_said x free) ∙ sym (atom_after own_numbers s (atom_of_variable x));
+  same = value_after own_numbers m.filled p.term ∙ ap (value_of own_numbers) m.same;
 }
 
 -- Where it matches the message, it matches the term.
-to_term : (p : Pattern) (s : Substitution) (t : Term) → MatchesMessage p (after own_atoms s) (value_of own_atoms t) → Matches p s t
+to_term : (p : Pattern) (s : Substitution) (t : Term) → MatchesMessage p (after own_numbers s) (value_of own_numbers t) → Matches p s t
 to_term p s t m = record {
   filled = as_substitution m.filled;
-  as_said = λ x free. atom_value m.filled (atom_of_variable x) ∙ ap atom_back (m.as_said x free ∙ atom_after own_atoms s (atom_of_variable x)) ∙ atom_same (apply_to_atom s (atom_of_variable x));
-  same = term_value m.filled p.term ∙ ap back m.same ∙ term_same t;
+  as_said = λ x free. atom_value m.filled (atom_of_variable x) ∙ ap atom_from (m.as_said x free ∙ atom_after own_numbers s (atom_of_variable x)) ∙ atom_back (apply_to_atom s (atom_of_variable x));
+  same = term_value m.filled p.term ∙ ap term_from m.same ∙ term_back t;
 }
 
 -- So it is decidable whether it does.
-dec_from : (p : Pattern) (s : Substitution) (t : Term) → Dec (MatchesMessage p (after own_atoms s) (value_of own_atoms t)) → Dec (Matches p s t)
+dec_from : (p : Pattern) (s : Substitution) (t : Term) → Dec (MatchesMessage p (after own_numbers s) (value_of own_numbers t)) → Dec (Matches p s t)
 dec_from p s t (yes m) = yes (to_term p s t m)
 dec_from p s t (no n) = no (λ m. n (to_message p s t m))
 
 pub dec_match : (p : Pattern) (s : Substitution) (t : Term) → Dec (Matches p s t)
-dec_match p s t = dec_from p s t (dec_matches p (after own_atoms s) (value_of own_atoms t))
+dec_match p s t = dec_from p s t (dec_matches p (after own_numbers s) (value_of own_numbers t))
 
 -- A test of whether one of the patterns matches the term.
 abbrev or_else : {A : Type 0} → Dec A → Bool → Bool

@@ -98,6 +98,11 @@ module _ (r : Release) (x : Tried) (t : Term) (path : List Step) (first : IsFirs
 
 -- ---- in the place of a candidate
 
+-- They stand in the place of what is tried, whether it may not be normal or is.
+pub record PutsBoth (r : Release) (x : program.Tried) (old new : List Candidate) : Type 0 where
+  pub on_the_way : Puts r (OnTheWay x) old new
+  pub normal : Puts r (Normal x) old new
+
 module _ (r : Release) (x : program.Tried) (t : Term) (path : List Step) (outside : IsReleasedInside r (tried_view x) → ⊥) (first : IsFirstOutside r (tried_view x) t path) (es : List Term) (is : es ≡ encryptions_above t path) where
   as_choices : (old new : List Candidate) → PutsBranches (tried_view x) (choices es r.patterns) old new → PutsBranches (tried_view x) (choices (encryptions_above t path) r.patterns) old new
   as_choices old new puts = subst (λ (zs : List Term). PutsBranches (tried_view x) (choices zs r.patterns) old new) is puts
@@ -111,16 +116,18 @@ module _ (r : Release) (x : program.Tried) (t : Term) (path : List Step) (outsid
   falls_normal : (d : Candidate) → IsBranchBy (tried_view x) (choices (encryptions_above t path) r.patterns) d → FallsTo r (Normal x) d
   falls_normal d b = subst (FallsTo r (Normal x)) (sym b.candidate) (matches_more r (tried_view x) t path first d b)
 
-  pub branches_on_the_way : (old new : List Candidate) → PutsBranches (tried_view x) (choices es r.patterns) old new → Puts r (OnTheWay x) old new
-  branches_on_the_way old new puts = let p = as_choices old new puts in record {
-    added = p.added;
-    behind = p.behind;
-    takes_place = record { each = λ d i. falls_on_the_way d (branch_of_choice (tried_view x) p.are d i); leads = leads_by on_the_way p.added p.are };
-  }
-
-  pub branches_normal : (old new : List Candidate) → PutsBranches (tried_view x) (choices es r.patterns) old new → Puts r (Normal x) old new
-  branches_normal old new puts = let p = as_choices old new puts in record {
-    added = p.added;
-    behind = p.behind;
-    takes_place = record { each = λ d i. falls_normal d (branch_of_choice (tried_view x) p.are d i); leads = leads_by normal p.added p.are };
-  }
+  pub branches_put : (old new : List Candidate) → PutsBranches (tried_view x) (choices es r.patterns) old new → PutsBoth r x old new
+  branches_put old new puts =
+      let p = as_choices old new puts in
+      record {
+        on_the_way = record {
+          added = p.added;
+          behind = p.behind;
+          takes_place = record { each = λ d i. falls_on_the_way d (branch_of_choice (tried_view x) p.are d i); leads = leads_by on_the_way p.added p.are };
+        };
+        normal = record {
+          added = p.added;
+          behind = p.behind;
+          takes_place = record { each = λ d i. falls_normal d (branch_of_choice (tried_view x) p.are d i); leads = leads_by normal p.added p.are };
+        };
+      }

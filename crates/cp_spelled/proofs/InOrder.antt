@@ -1,13 +1,15 @@
 -- Entries of lists one after another.
 use Rattle.std.proofs.Common.{◌≡◌, ℕ, zero, suc, ◌+◌, ◌<◌, ◌≤◌, List, [], ◌∷◌, length, get_or, map, drop, Vec, Global, refl, sym, ap, ◌∙◌, Bool, true, false, ◌||◌, arith}
-use Rattle.std.specs.Prelude.{Option}
+use Rattle.std.specs.Prelude.{Option, nat_le}
+use Rattle.std.proofs.Math.Dec.{leb-suc-zero, leb-suc-suc}
+use Rattle.std.proofs.lemmas.Bool.{le-leb}
 use Rattle.std.proofs.lemmas.List.{drop_all}
 use Rattle.cp_lists.proofs.Members.{drop_read}
 use Rattle.cp_base.specs.declared.place.Place.{Place}
 use Rattle.cp_sexpr.specs.Syntax.{Form}
 use Rattle.cp_sexpr.specs.View.{view}
 use Rattle.cp_sexpr.specs.declared.form.Form as program
-use Rattle.cp_report.specs.Misfits.{misfit, lacking, each_misfits, entries_misfits, list_misfits}
+use Rattle.cp_report.specs.Misfits.{misfit, misfit_unless, lacking, each_misfits, entries_misfits, list_misfits}
 use Rattle.cp_forms.proofs.Views.{view-List, items_of-forms_of}
 use Rattle.cp_spelled.specs.FirstMisfit.{first_onto}
 use Rattle.cp_spelled.proofs.Firsts.{first_onto-append}
@@ -18,15 +20,10 @@ or_false false = refl
 
 -- ---- too few
 
-pub lacking-some : (n : ℕ) (at : Place) (fs : List program.Form) → length fs < n → lacking n at (map view fs) ≡ misfit at
-lacking-some zero at fs h = absurd (omega arith)
-lacking-some (suc n) at [] h = refl
-lacking-some (suc n) at (f ∷ fs) h = lacking-some n at fs (omega arith)
-
-pub lacking-none : (n : ℕ) (at : Place) (fs : List program.Form) → n ≤ length fs → lacking n at (map view fs) ≡ []
-lacking-none zero at fs h = refl
-lacking-none (suc n) at [] h = absurd (omega arith)
-lacking-none (suc n) at (f ∷ fs) h = lacking-none n at fs (omega arith)
+pub lacking-is : (n : ℕ) (at : Place) (fs : List program.Form) → misfit_unless (nat_le n (length fs)) at ≡ lacking n at (map view fs)
+lacking-is zero at fs = ap (λ b. misfit_unless b at) (le-leb 0 (length fs) (omega arith))
+lacking-is (suc n) at [] = ap (λ b. misfit_unless b at) (leb-suc-zero n)
+lacking-is (suc n) at (f ∷ fs) = ap (λ b. misfit_unless b at) (leb-suc-suc n (length fs)) ∙ lacking-is n at fs
 
 -- ---- as many as there are kinds
 

@@ -42,9 +42,7 @@ pub fn entries_under<'a>(items: &'a [Form], word: &[u8]) -> &'a [Form]
 pub fn lacking(count: usize, place: Place, items: &[Form], first: &mut FirstMisfit)
     ensures { first.new ≡ first_onto first.old (lacking count place (map view items.now)) }
 {
-    if items.len() < count {
-        first.note(place);
-    }
+    first.note_unless(count <= items.len(), place);
 }
 
 /// What stands behind as many entries as a list may have: the first of it is one too many.

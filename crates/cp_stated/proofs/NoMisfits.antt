@@ -9,6 +9,14 @@ pub none_in_both : (ps qs : List Place) → ps ++ qs ≡ [] → (ps ≡ []) × (
 none_in_both [] qs e = (refl, e)
 none_in_both (p ∷ ps) qs e = absurd (cc)
 
+pub none_in_five : (ps qs rs ss ts : List Place) → ps ++ qs ++ rs ++ ss ++ ts ≡ [] → (ps ≡ []) × (qs ≡ []) × (rs ≡ []) × (ss ≡ []) × (ts ≡ [])
+none_in_five ps qs rs ss ts e =
+    let four = none_in_both (ps ++ qs ++ rs ++ ss) ts e in
+    let three = none_in_both (ps ++ qs ++ rs) ss four.0 in
+    let two = none_in_both (ps ++ qs) rs three.0 in
+    let one = none_in_both ps qs two.0 in
+    (one.0, one.1, two.1, three.1, four.1)
+
 pub none_of_unless : (ps qs : List Place) → unless_misfit ps qs ≡ [] → (ps ≡ []) × (qs ≡ [])
 none_of_unless [] qs e = (refl, e)
 none_of_unless (p ∷ ps) qs e = absurd (cc)

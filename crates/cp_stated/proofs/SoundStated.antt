@@ -21,7 +21,7 @@ use Rattle.cp_wellformed.proofs.Atoms.{given_there, non_given, penetrator_non_gi
 use Rattle.cp_wellformed.proofs.Uniques as wellformed
 use Rattle.cp_wellformed.proofs.Leading.{no_cycle, are_pairs}
 use Rattle.cp_wellformed.proofs.Bodies.{AreBuilt}
-use Rattle.cp_stated.proofs.NoMisfits.{none_in_both}
+use Rattle.cp_stated.proofs.NoMisfits.{none_in_five}
 use Rattle.cp_stated.proofs.FittingStrands.{strands_are_of}
 use Rattle.cp_stated.proofs.FittingOrder.{order_built, in_order}
 use Rattle.cp_stated.proofs.FittingValues as values
@@ -38,16 +38,11 @@ record FitAround (p : Problem) (at : Place) (items : List Form) : Type 0 where
 fit_around : (p : Problem) (at : Place) (items : List Form) → around_strands_misfits p at items ≡ [] → FitAround p at items
 fit_around p at items e =
     let strands = strands_of_label p items in
-    let a = optional_misfits (precedes_misfits strands) (item_with (codes "precedes" ∷ []) items) in
-    let b = values_misfits at (codes "non-orig") (given_non strands) items in
-    let c = values_misfits at (codes "pen-non-orig") (given_penetrator_non strands) items in
-    let d = all_uniques_misfits at strands items in
-    let f = optional_misfits (map_misfits p (scope_of items) strands) (item_with (codes "map" ∷ []) items) in
-    let four = none_in_both (a ++ b ++ c ++ d) f e in
-    let three = none_in_both (a ++ b ++ c) d four.0 in
-    let two = none_in_both (a ++ b) c three.0 in
-    let one = none_in_both a b two.0 in
-    record { order = one.0; non = one.1; penetrator_non = two.1; unique = three.1; way = four.1 }
+    let none =
+    none_in_five (optional_misfits (precedes_misfits strands) (item_with (codes "precedes" ∷ []) items)) (values_misfits at (codes "non-orig") (given_non strands) items)
+    (values_misfits at (codes "pen-non-orig") (given_penetrator_non strands) items) (all_uniques_misfits at strands items)
+    (optional_misfits (map_misfits p (scope_of items) strands) (item_with (codes "map" ∷ []) items)) e in
+    record { order = none.0; non = none.1; penetrator_non = none.2; unique = none.3; way = none.4 }
 
 module _ (p : Problem) (at : Place) (items : List Form) (strands_fit : strands_misfits p items ≡ []) (fit : FitAround p at items) where
   abbrev k : Skeleton

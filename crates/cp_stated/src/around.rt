@@ -7,7 +7,7 @@ ghost use Rattle.cp_load.specs.Drafts.{draft_view};
 ghost use Rattle.cp_report.specs.Skeletons.{scope_of, problem_variables, strands_of_label, around_strands_misfits};
 ghost use Rattle.cp_spelled.specs.FirstMisfit.{first_onto};
 ghost use Rattle.cp_spelled.specs.Views.{scope_view};
-ghost use Rattle.cp_stated.specs.Assuming.{no_assumptions, assumptions_misfits};
+ghost use Rattle.cp_stated.specs.Assuming.{no_assumptions};
 
 use crate::mapping::{Ends, map_misfits};
 use crate::order::order_misfits;
@@ -27,35 +27,6 @@ fn given_by(alloc: Global, strands: &[Strand]) -> Result<Assumptions, AllocError
     let mut given = Assumptions::new(Vec::new(alloc), Vec::new(alloc), Vec::new(alloc));
     add_given(alloc, strands, &mut given)?;
     Ok(given)
-}
-
-/// Where the assumptions among the items of a label form with these strands, which stands at this place, do not fit.
-fn assumptions_misfits(
-    alloc: Global,
-    scope: Scope<'_>,
-    strands: &[Strand],
-    place: Place,
-    items: &[Form],
-    first: &mut FirstMisfit,
-) -> Result<(), AllocError>
-    requires { scope_view scope ≡ scope_of (map view items.now) }
-    ensures { OnOk result (first.new ≡ first_onto first.old (assumptions_misfits place (map strand_view strands.now) (map view items.now))) }
-{
-    let given = given_by(alloc, strands)?;
-    let non = given.non_originating();
-    let penetrator_non = given.penetrator_non_originating();
-    let uniques = given.uniquely_originating();
-    values_misfits(alloc, scope, place, b"non-orig", non, items, first)?;
-    values_misfits(
-        alloc,
-        scope,
-        place,
-        b"pen-non-orig",
-        penetrator_non,
-        items,
-        first,
-    )?;
-    all_uniques_misfits(alloc, scope, strands, place, uniques, items, first)
 }
 
 /// Where the order, the assumptions and the map among the items of a label form, which stands at this place, do not fit.
@@ -82,7 +53,21 @@ pub fn around_strands_misfits(
         strands,
         scope,
     };
+    let given = given_by(alloc, strands)?;
+    let non = given.non_originating();
+    let penetrator_non = given.penetrator_non_originating();
+    let uniques = given.uniquely_originating();
     order_misfits(alloc, strands, items, first)?;
-    assumptions_misfits(alloc, scope, strands, place, items, first)?;
+    values_misfits(alloc, scope, place, b"non-orig", non, items, first)?;
+    values_misfits(
+        alloc,
+        scope,
+        place,
+        b"pen-non-orig",
+        penetrator_non,
+        items,
+        first,
+    )?;
+    all_uniques_misfits(alloc, scope, strands, place, uniques, items, first)?;
     map_misfits(alloc, ends, items, first)
 }

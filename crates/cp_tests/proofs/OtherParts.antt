@@ -4,7 +4,8 @@ use Rattle.std.proofs.lemmas.List.{reverse-append}
 use Rattle.cp_lists.specs.Lists.{IsIn, here, there}
 use Rattle.cp_model.specs.declared.node.Node.{Node}
 use Rattle.cp_model.specs.Term.{AtomTerm}
-use Rattle.cp_model.specs.Skeleton.{UniqueAt, Skeleton, FromProblem, Assumptions, Before}
+use Rattle.cp_model.specs.Strand.{Protocol}
+use Rattle.cp_model.specs.Skeleton.{UniqueAt, Skeleton, FromProblem, Assumptions, Before, IsSkeleton}
 use Rattle.cp_model.specs.declared.node.OrderPair.{OrderPair}
 use Rattle.cp_lists.proofs.Members.{in_append, in_append_right}
 use Rattle.cp_skel.specs.Joining.{joined}
@@ -15,6 +16,7 @@ use Rattle.cp_skel.specs.Ordered.{ordered_by}
 use Rattle.cp_skel.specs.Sound.{IsSound}
 use Rattle.cp_skel.specs.View.{skeleton_view}
 use Rattle.cp_skel.proofs.Carrying.{before_too}
+use Rattle.cp_skel.proofs.Grown.{Grows, pairs-stay, origin-stays, cycles-stay-out}
 use Rattle.cp_skel.proofs.SoundSkeletons.{parts_sound}
 use Rattle.cp_term.specs.Table.{Declared}
 use Rattle.cp_tests.specs.Rebuilt.{HasSame, IsShorterWay}
@@ -23,53 +25,40 @@ abbrev with_other : Skeleton → Assumptions → FromProblem → Skeleton
 with_other k a f = record k { assumptions = a; from_problem = f }
 
 module _ (k : Skeleton) (a : Assumptions) (f : FromProblem) where
-  -- the order is the same
-  path_stays : {x y : Node} → Before (with_other k a f) x y → Before k x y
-  path_stays = before_too (with_other k a f) k (record { events = λ n e h. h; instances = λ s role height terms at. (height, terms, at); pairs = refl })
+  -- the strands and the order are the same
+  grows : Grows k (with_other k a f)
+  grows = record { events = λ n e h. h; instances = λ s role height terms at. (height, terms, at); pairs = refl }
 
   path_too : {x y : Node} → Before k x y → Before (with_other k a f) x y
   path_too = before_too k (with_other k a f) (record { events = λ n e h. h; instances = λ s role height terms at. (height, terms, at); pairs = refl })
 
+  rebuilt_skeleton : (protocol : Protocol) → HasSame k.assumptions a → IsSkeleton protocol k → IsSkeleton protocol (with_other k a f)
+  rebuilt_skeleton protocol same is = record {
+    of_role = is.of_role;
+    heights = is.heights;
+    order_pairs = pairs-stay k (with_other k a f) grows is.order_pairs;
+    no_cycle = cycles-stay-out k (with_other k a f) grows is.order_pairs is.no_cycle;
+    origins = λ u i. origin-stays k (with_other k a f) grows is.order_pairs u (is.origins u (same.no_others u i));
+    given = λ n role height terms at. let g = is.given n role height terms at in record {
+      non = λ v i j. same.non _ (g.non v i j);
+      penetrator_non = λ v i j. same.penetrator_non _ (g.penetrator_non v i j);
+      unique = λ v m i j. same.unique _ (g.unique v m i j);
+    };
+  }
+
   pub rebuilt_sound : HasSame k.assumptions a → IsShorterWay k.from_problem f → IsSound k → IsSound (with_other k a f)
-  rebuilt_sound same way s =
-      let is = s.skeleton in
-      record {
-        protocol = s.protocol;
-        declared = s.declared;
-        skeleton = record {
-          of_role = is.of_role;
-          heights = is.heights;
-          order_pairs = λ p m. let o = is.order_pairs p m in record {
-            sent = o.sent;
-            received = o.received;
-            transmission = o.transmission;
-            reception = o.reception;
-            between_strands = o.between_strands;
-          };
-          no_cycle = λ n b. is.no_cycle n (path_stays b);
-          origins = λ u i. let o = is.origins u (same.no_others u i) in record {
-            role = o.role;
-            height = o.height;
-            terms = o.terms;
-            on_instance = o.on_instance;
-            sent = o.sent;
-            transmission = o.transmission;
-            carried = o.carried;
-          };
-          given = λ n role height terms at. let g = is.given n role height terms at in record {
-            non = λ v i j. same.non _ (g.non v i j);
-            penetrator_non = λ v i j. same.penetrator_non _ (g.penetrator_non v i j);
-            unique = λ v m i j. same.unique _ (g.unique v m i j);
-          };
-        };
-        in_range = λ n i. s.in_range n (way.strands n i);
-        assumed = record {
-          non = λ v i. same.non v (s.assumed.non v (subst (λ (b : Assumptions). IsIn v b.non_originating) way.assumptions i));
-          penetrator_non = λ v i. same.penetrator_non v (s.assumed.penetrator_non v (subst (λ (b : Assumptions). IsIn v b.penetrator_non_originating) way.assumptions i));
-          unique = λ u i. same.unique u (s.assumed.unique u (subst (λ (b : Assumptions). IsIn u b.uniquely_originating) way.assumptions i));
-        };
-        ordered = λ p i. path_too (s.ordered p (way.pairs p i));
-      }
+  rebuilt_sound same way s = record {
+    protocol = s.protocol;
+    declared = s.declared;
+    skeleton = rebuilt_skeleton s.protocol same s.skeleton;
+    in_range = λ n i. s.in_range n (way.strands n i);
+    assumed = record {
+      non = λ v i. same.non v (s.assumed.non v (subst (λ (b : Assumptions). IsIn v b.non_originating) way.assumptions i));
+      penetrator_non = λ v i. same.penetrator_non v (s.assumed.penetrator_non v (subst (λ (b : Assumptions). IsIn v b.penetrator_non_originating) way.assumptions i));
+      unique = λ u i. same.unique u (s.assumed.unique u (subst (λ (b : Assumptions). IsIn u b.uniquely_originating) way.assumptions i));
+    };
+    ordered = λ p i. path_too (s.ordered p (way.pairs p i));
+  }
 
 -- the same way is none that goes further
 pub same_way : (old new : FromProblem) → new ≡ old → IsShorterWay old new

@@ -9,13 +9,12 @@ use std::test::Fail;
 
 /// A protocol and a skeleton; how many of its first strands, variables and pairs come from a problem; and what it generalises
 /// to, if a step applies to it.
-#[derive(Clone, Copy)]
-struct Row {
-    protocol: &'static str,
-    skeleton: &'static str,
-    from_problem: (usize, usize, usize),
-    found: Option<&'static str>,
-}
+type Row = (
+    &'static str,
+    &'static str,
+    (usize, usize, usize),
+    Option<&'static str>,
+);
 
 const SPEAKERS: &str = "(defprotocol g basic \
     (defrole speaker (vars (n text)) (trace (send n))) \
@@ -25,115 +24,81 @@ const SPEAKERS: &str = "(defprotocol g basic \
 const SAYERS: &str = "(defprotocol p basic (defrole s (vars (a text)) (trace (send a))) \
     (defrole t (vars (a text) (b data)) (trace (send (cat a b)))))";
 
-const RESPONDER_ALONE: &str =
+const ANSWERED_OVER: &str =
+    "(defskeleton ns (vars (a b name) (n1 n2 text) (b-0 name)) (defstrand resp 3 (a a) (b b) (n1 n1) (n2 n2)) \
+    (deflistener n2) (defstrand init 3 (a a) (b b-0) (n1 n1) (n2 n2)) \
+    (precedes ((0 1) (2 1)) ((1 1) (0 2)) ((2 2) (1 0))) (non-orig (privk a)) (uniq-orig n2))";
+
+const ANSWERED: &str =
     "(defskeleton ns (vars (a b name) (n1 n2 text) (b-0 name)) (defstrand resp 3 (a a) (b b) (n1 n1) (n2 n2)) \
     (defstrand init 3 (a a) (b b-0) (n1 n1) (n2 n2)) (precedes ((0 1) (1 1)) ((1 2) (0 2))) \
     (non-orig (privk a)) (uniq-orig n2))";
+
+const ENCLOSED_OVER: &str =
+    "(defskeleton p (vars (a text) (b data) (k skey)) (defstrand s 1 (a a)) (defstrand t 1 (a a) (b b)) \
+    (deflistener (enc a b k)) (deflistener (cat a b)) \
+    (precedes ((0 0) (3 0)) ((1 0) (3 0)) ((3 1) (2 0))) (pen-non-orig a b))";
+
+const ENCLOSED: &str =
+    "(defskeleton p (vars (a text) (b data) (k skey)) (defstrand s 1 (a a)) (defstrand t 1 (a a) (b b)) \
+    (deflistener (enc a b k)) (precedes ((1 0) (2 0))) (pen-non-orig a b))";
+
+const HEARD: &str = "(defskeleton g (vars (x text)) (defstrand speaker 1 (n x)) (deflistener x))";
+
+const HEARD_AFTER: &str =
+    "(defskeleton g (vars (x text)) (defstrand speaker 1 (n x)) (deflistener x) \
+    (precedes ((0 0) (1 0))))";
+
+const UNIQUE: &str = "(defskeleton g (vars (x text)) (defstrand speaker 1 (n x)) (deflistener x) \
+    (precedes ((0 0) (1 0))) (uniq-orig x))";
 
 const ONE: &str = "(defskeleton g (vars (x text)) (defstrand speaker 1 (n x)))";
 
 const TWO: &str =
     "(defskeleton g (vars (x y text)) (defstrand speaker 1 (n x)) (defstrand speaker 1 (n y)))";
 
-const HEARD_AFTER: &str =
-    "(defskeleton g (vars (x text)) (defstrand speaker 1 (n x)) (deflistener x) \
-    (precedes ((0 0) (1 0))))";
+const CHOSEN: &str =
+    "(defskeleton g (vars (x y text)) (defstrand speaker 1 (n x)) (defstrand chooser 1 (n y)))";
+
+const EITHER_STRAND: &str =
+    "(defskeleton g (vars (x text)) (deflistener x) (defstrand speaker 1 (n x)) (defstrand caller 1 (n x)) \
+    (precedes ((1 0) (0 0)) ((2 0) (0 0))) (pen-non-orig x))";
+
+const FIRST_STRAND: &str =
+    "(defskeleton g (vars (x text)) (deflistener x) (defstrand speaker 1 (n x)) (precedes ((1 0) (0 0))) \
+    (pen-non-orig x))";
+
+const EITHER_PAIR: &str =
+    "(defskeleton g (vars (x text)) (defstrand speaker 1 (n x)) (defstrand caller 1 (n x)) (deflistener x) \
+    (precedes ((0 0) (2 0)) ((1 0) (2 0))) (pen-non-orig x))";
+
+const LAST_PAIR: &str =
+    "(defskeleton g (vars (x text)) (defstrand speaker 1 (n x)) (defstrand caller 1 (n x)) (deflistener x) \
+    (precedes ((1 0) (2 0))) (pen-non-orig x))";
 
 const ROWS: &[Row] = &[
     // The listener goes, and the order over it stays.
-    Row {
-        protocol: NEEDHAM_SCHROEDER,
-        skeleton: "(defskeleton ns (vars (a b name) (n1 n2 text) (b-0 name)) \
-            (defstrand resp 3 (a a) (b b) (n1 n1) (n2 n2)) (deflistener n2) \
-            (defstrand init 3 (a a) (b b-0) (n1 n1) (n2 n2)) \
-            (precedes ((0 1) (2 1)) ((1 1) (0 2)) ((2 2) (1 0))) (non-orig (privk a)) (uniq-orig n2))",
-        from_problem: (1, 4, 0),
-        found: Some(RESPONDER_ALONE),
-    },
-    Row {
-        protocol: NEEDHAM_SCHROEDER,
-        skeleton: RESPONDER_ALONE,
-        from_problem: (1, 4, 0),
-        found: None,
-    },
+    (NEEDHAM_SCHROEDER, ANSWERED_OVER, (1, 4, 0), Some(ANSWERED)),
+    (NEEDHAM_SCHROEDER, ANSWERED, (1, 4, 0), None),
     // The listener goes, and then the pair from the first strand.
-    Row {
-        protocol: SAYERS,
-        skeleton: "(defskeleton p (vars (a text) (b data) (k skey)) (defstrand s 1 (a a)) (defstrand t 1 (a a) (b b)) \
-            (deflistener (enc a b k)) (deflistener (cat a b)) \
-            (precedes ((0 0) (3 0)) ((1 0) (3 0)) ((3 1) (2 0))) (pen-non-orig a b))",
-        from_problem: (3, 3, 0),
-        found: Some(
-            "(defskeleton p (vars (a text) (b data) (k skey)) (defstrand s 1 (a a)) (defstrand t 1 (a a) (b b)) \
-            (deflistener (enc a b k)) (precedes ((1 0) (2 0))) (pen-non-orig a b))",
-        ),
-    },
+    (SAYERS, ENCLOSED_OVER, (3, 3, 0), Some(ENCLOSED)),
     // A pair that is not needed goes, unless it is the problem's or a unique value adds it.
-    Row {
-        protocol: SPEAKERS,
-        skeleton: HEARD_AFTER,
-        from_problem: (2, 1, 0),
-        found: Some("(defskeleton g (vars (x text)) (defstrand speaker 1 (n x)) (deflistener x))"),
-    },
-    Row {
-        protocol: SPEAKERS,
-        skeleton: HEARD_AFTER,
-        from_problem: (2, 1, 1),
-        found: None,
-    },
-    Row {
-        protocol: SPEAKERS,
-        skeleton: "(defskeleton g (vars (x text)) (defstrand speaker 1 (n x)) (deflistener x) \
-            (precedes ((0 0) (1 0))) (uniq-orig x))",
-        from_problem: (2, 1, 0),
-        found: None,
-    },
+    (SPEAKERS, HEARD_AFTER, (2, 1, 0), Some(HEARD)),
+    (SPEAKERS, HEARD_AFTER, (2, 1, 1), None),
+    (SPEAKERS, UNIQUE, (2, 1, 0), None),
     // A strand goes, with what its role assumes, unless it is the problem's.
-    Row {
-        protocol: SPEAKERS,
-        skeleton: TWO,
-        from_problem: (1, 1, 0),
-        found: Some(ONE),
-    },
-    Row {
-        protocol: SPEAKERS,
-        skeleton: TWO,
-        from_problem: (2, 2, 0),
-        found: None,
-    },
-    Row {
-        protocol: SPEAKERS,
-        skeleton: "(defskeleton g (vars (x y text)) (defstrand speaker 1 (n x)) (defstrand chooser 1 (n y)))",
-        from_problem: (1, 1, 0),
-        found: Some(ONE),
-    },
+    (SPEAKERS, TWO, (1, 1, 0), Some(ONE)),
+    (SPEAKERS, TWO, (2, 2, 0), None),
+    (SPEAKERS, CHOSEN, (1, 1, 0), Some(ONE)),
     // Where either of two strands can go, the last goes; where either of two pairs can, the first.
-    Row {
-        protocol: SPEAKERS,
-        skeleton: "(defskeleton g (vars (x text)) (deflistener x) (defstrand speaker 1 (n x)) (defstrand caller 1 (n x)) \
-            (precedes ((1 0) (0 0)) ((2 0) (0 0))) (pen-non-orig x))",
-        from_problem: (1, 1, 0),
-        found: Some(
-            "(defskeleton g (vars (x text)) (deflistener x) (defstrand speaker 1 (n x)) (precedes ((1 0) (0 0))) \
-            (pen-non-orig x))",
-        ),
-    },
-    Row {
-        protocol: SPEAKERS,
-        skeleton: "(defskeleton g (vars (x text)) (defstrand speaker 1 (n x)) (defstrand caller 1 (n x)) (deflistener x) \
-            (precedes ((0 0) (2 0)) ((1 0) (2 0))) (pen-non-orig x))",
-        from_problem: (3, 1, 0),
-        found: Some(
-            "(defskeleton g (vars (x text)) (defstrand speaker 1 (n x)) (defstrand caller 1 (n x)) (deflistener x) \
-            (precedes ((1 0) (2 0))) (pen-non-orig x))",
-        ),
-    },
+    (SPEAKERS, EITHER_STRAND, (1, 1, 0), Some(FIRST_STRAND)),
+    (SPEAKERS, EITHER_PAIR, (3, 1, 0), Some(LAST_PAIR)),
 ];
 
 /// The skeleton that the text states, of which so much alone is said to come from a problem.
 fn stated(alloc: Global, row: &Row, text: &str) -> Result<Skeleton, Fail> {
-    let k = skeleton_of(alloc, row.protocol, text)?;
-    let (strands, values, pairs) = row.from_problem;
+    let &(protocol, _, (strands, values, pairs), _) = row;
+    let k = skeleton_of(alloc, protocol, text)?;
     Ok(with_way_of(alloc, &k, strands, values, pairs)?)
 }
 
@@ -157,8 +122,9 @@ fn is_generalisation(alloc: Global, k: &Skeleton, wanted: &Skeleton) -> Result<b
 
 /// Whether the row's answers are right.
 fn is_right(alloc: Global, row: &Row) -> Result<bool, Fail> {
-    let k = stated(alloc, row, row.skeleton)?;
-    let Some(text) = row.found else {
+    let &(_, skeleton, _, found) = row;
+    let k = stated(alloc, row, skeleton)?;
+    let Some(text) = found else {
         return Ok(generalised(alloc, &k)?.is_none() && is_generalisation(alloc, &k, &k)?);
     };
     let wanted = stated(alloc, row, text)?;
@@ -168,7 +134,7 @@ fn is_right(alloc: Global, row: &Row) -> Result<bool, Fail> {
 #[test]
 fn generalisations(rt: HostRuntime) -> Result<(), Fail> {
     for row in ROWS {
-        assert!(rt; is_right(rt.alloc(), row)?, "{}", row.skeleton);
+        assert!(rt; is_right(rt.alloc(), row)?, "{}", row.1);
     }
     Ok(())
 }

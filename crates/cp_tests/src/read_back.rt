@@ -9,242 +9,229 @@ use cp_skel::{Outcome, Tree};
 use std::alloc::{AllocError, Global};
 use std::test::Fail;
 
-/// Lines of the challenge, what stands there instead, and the first place at which that is no report.
-const BENT_CHALLENGES: &[(usize, &str, u32, u32)] = &[
+/// Lines of the challenge, what stands there instead, and the column of that line at which it is no report.
+const BENT_CHALLENGES: &[(usize, &str, u32)] = &[
     // Terms that are not in printed spelling.
-    (17, "  (test (0 1) (cat n (cat n n)))", 17, 22),
-    (17, "  (test (0 1) (cat n))", 17, 15),
-    (17, "  (test (0 1) (any text 0))", 17, 15),
-    (17, "  (test (0 1) (hash n))", 17, 15),
-    (17, "  (test (0 1) m)", 17, 15),
-    (17, "  (test (0 1) 5)", 17, 15),
-    (18, "  (escape (enc (cat n n) k))", 18, 16),
-    (18, "  (escape (enc n (cat n k)))", 18, 18),
-    (18, "  (escape (enc n n))", 18, 18),
-    (18, "  (escape (enc n))", 18, 11),
-    (18, "  (escape (cat n k))", 18, 11),
-    (18, "  (escape (enc (any text 0) (any data 0) k))", 18, 29),
-    (18, "  (escape (enc (any mesg 0) k))", 18, 21),
-    (18, "  (escape (enc (any text) k))", 18, 16),
+    (17, "  (test (0 1) (cat n (cat n n)))", 22),
+    (17, "  (test (0 1) (cat n))", 15),
+    (17, "  (test (0 1) (any text 0))", 15),
+    (17, "  (test (0 1) (hash n))", 15),
+    (17, "  (test (0 1) m)", 15),
+    (17, "  (test (0 1) 5)", 15),
+    (18, "  (escape (enc (cat n n) k))", 16),
+    (18, "  (escape (enc n (cat n k)))", 18),
+    (18, "  (escape (enc n n))", 18),
+    (18, "  (escape (enc n))", 11),
+    (18, "  (escape (cat n k))", 11),
+    (18, "  (escape (enc (any text 0) (any data 0) k))", 29),
+    (18, "  (escape (enc (any mesg 0) k))", 21),
+    (18, "  (escape (enc (any text) k))", 16),
     // Items that list nothing, and items with an entry too few or too many.
-    (11, "  (vars)", 11, 3),
-    (13, "  (non-orig)", 13, 3),
-    (13, "  (pen-non-orig)", 13, 3),
-    (14, "  (uniq-orig)", 14, 3),
-    (15, "  (map)", 15, 3),
-    (16, "  (unrealised)", 16, 3),
-    (17, "  (test (0 1))", 17, 3),
-    (17, "  (test (0 1) n n)", 17, 17),
-    (18, "  (escape)", 18, 3),
-    (19, "  (children))", 19, 3),
-    (26, "  (precedes)", 26, 3),
-    (30, "  (shape 1))", 30, 10),
-    (30, "  (seen))", 30, 3),
-    (30, "  (limit))", 30, 3),
-    (22, "  (by)", 22, 3),
-    (22, "  (by added-strand 1 1)", 22, 22),
+    (11, "  (vars)", 3),
+    (13, "  (non-orig)", 3),
+    (13, "  (pen-non-orig)", 3),
+    (14, "  (uniq-orig)", 3),
+    (15, "  (map)", 3),
+    (16, "  (unrealised)", 3),
+    (17, "  (test (0 1))", 3),
+    (17, "  (test (0 1) n n)", 17),
+    (18, "  (escape)", 3),
+    (19, "  (children))", 3),
+    (26, "  (precedes)", 3),
+    (30, "  (shape 1))", 10),
+    (30, "  (seen))", 3),
+    (30, "  (limit))", 3),
+    (22, "  (by)", 3),
+    (22, "  (by added-strand 1 1)", 22),
     // Items in another order, twice, or of no kind.
-    (10, "  (vars (k skey) (n text)) (by problem)", 10, 28),
+    (10, "  (vars (k skey) (n text)) (by problem)", 28),
     (
         12,
         "  (map (0) (k k) (n n)) (defstrand asks 2 (k k) (n n))",
-        12,
         25,
     ),
-    (13, "  (non-orig k) (non-orig n)", 13, 16),
-    (13, "  (non-origin k)", 13, 3),
-    (13, "  k", 13, 3),
-    (30, "  (shape) (dead))", 30, 11),
+    (13, "  (non-orig k) (non-orig n)", 16),
+    (13, "  (non-origin k)", 3),
+    (13, "  k", 3),
+    (30, "  (shape) (dead))", 11),
     // Items that want others, or are not there.
-    (17, "", 18, 3),
-    (19, "  (children 1) (shape))", 19, 16),
-    (19, "  )", 9, 1),
-    (22, "", 20, 1),
-    (29, "", 20, 1),
+    (19, "  (children 1) (shape))", 16),
     // Variables and strands.
-    (11, "  (vars (k skey) (n text) (n text))", 11, 28),
-    (11, "  (vars (k skey) (n txt))", 11, 21),
-    (11, "  (vars (k skey) n)", 11, 18),
-    (11, "  (vars (n text))", 12, 24),
-    (12, "  (defstrand asker 2 (k k) (n n))", 12, 14),
-    (12, "  (defstrand asks 3 (k k) (n n))", 12, 19),
-    (12, "  (defstrand asks 0 (k k) (n n))", 12, 19),
-    (12, "  (defstrand asks)", 12, 3),
-    (12, "  (defstrand asks 2 (k k))", 12, 3),
-    (12, "  (defstrand asks 2 (k k) (n n) (m n))", 12, 34),
-    (12, "  (defstrand asks 2 (k k) (n n) (n n))", 12, 34),
-    (12, "  (defstrand asks 2 (k n) (n n))", 12, 24),
-    (
-        12,
-        "  (defstrand asks 2 (k k) (n n)) (deflistener n n)",
-        12,
-        49,
-    ),
+    (11, "  (vars (k skey) (n text) (n text))", 28),
+    (11, "  (vars (k skey) (n txt))", 21),
+    (11, "  (vars (k skey) n)", 18),
+    (12, "  (defstrand asker 2 (k k) (n n))", 14),
+    (12, "  (defstrand asks 3 (k k) (n n))", 19),
+    (12, "  (defstrand asks 0 (k k) (n n))", 19),
+    (12, "  (defstrand asks)", 3),
+    (12, "  (defstrand asks 2 (k k))", 3),
+    (12, "  (defstrand asks 2 (k k) (n n) (m n))", 34),
+    (12, "  (defstrand asks 2 (k k) (n n) (n n))", 34),
+    (12, "  (defstrand asks 2 (k n) (n n))", 24),
+    (12, "  (defstrand asks 2 (k k) (n n)) (deflistener n n)", 49),
     // Order.
-    (26, "  (precedes ((0 0) (0 1)))", 26, 13),
-    (26, "  (precedes ((0 0) (1 0)) ((0 0) (1 0)))", 26, 27),
-    (26, "  (precedes ((1 0) (0 1)))", 26, 13),
-    (26, "  (precedes ((0 0) (1 2)))", 26, 20),
-    (26, "  (precedes ((0 0)))", 26, 13),
+    (26, "  (precedes ((0 0) (0 1)))", 13),
+    (26, "  (precedes ((0 0) (1 0)) ((0 0) (1 0)))", 27),
+    (26, "  (precedes ((1 0) (0 1)))", 13),
+    (26, "  (precedes ((0 0) (1 2)))", 20),
+    (26, "  (precedes ((0 0)))", 13),
     (
         26,
         "  (defstrand answers 2 (k k) (n n)) (precedes ((1 1) (2 0)) ((2 1) (1 0)))",
-        26,
         61,
     ),
     // Assumptions.
-    (13, "  (non-orig k k)", 13, 15),
-    (13, "  (non-orig (enc n k))", 13, 13),
-    (13, "  (non-orig m)", 13, 13),
-    (14, "  (uniq-orig (n (0 0)) (n (0 0)))", 14, 24),
-    (14, "  (uniq-orig (n (0 1)))", 14, 17),
-    (14, "  (uniq-orig (k (0 0)))", 14, 17),
-    (14, "  (uniq-orig (n (1 0)))", 14, 17),
-    (14, "  (uniq-orig n)", 14, 14),
+    (13, "  (non-orig k k)", 15),
+    (13, "  (non-orig (enc n k))", 13),
+    (13, "  (non-orig m)", 13),
+    (14, "  (uniq-orig (n (0 0)) (n (0 0)))", 24),
+    (14, "  (uniq-orig (n (0 1)))", 17),
+    (14, "  (uniq-orig (k (0 0)))", 17),
+    (14, "  (uniq-orig (n (1 0)))", 17),
+    (14, "  (uniq-orig n)", 14),
     // The way from the problem.
-    (15, "  (map (0) (k k) (n n) (n n))", 15, 25),
-    (15, "  (map (0) (k k))", 15, 3),
-    (15, "  (map (0) (k k) (m n))", 15, 19),
-    (15, "  (map (0) (k n) (n n))", 15, 15),
-    (15, "  (map (1) (k k) (n n))", 15, 9),
-    (15, "  (map () (k k) (n n))", 15, 8),
-    (15, "  (map (0 0) (k k) (n n))", 15, 11),
-    (15, "  (map 0 (k k) (n n))", 15, 8),
+    (15, "  (map (0) (k k) (n n) (n n))", 25),
+    (15, "  (map (0) (k k))", 3),
+    (15, "  (map (0) (k k) (m n))", 19),
+    (15, "  (map (0) (k n) (n n))", 15),
+    (15, "  (map (1) (k k) (n n))", 9),
+    (15, "  (map () (k k) (n n))", 8),
+    (15, "  (map (0 0) (k k) (n n))", 11),
+    (15, "  (map 0 (k k) (n n))", 8),
     // Nodes.
-    (16, "  (unrealised (0 2))", 16, 15),
-    (16, "  (unrealised (1 0))", 16, 15),
-    (16, "  (unrealised (0 1 0))", 16, 20),
-    (16, "  (unrealised n)", 16, 15),
-    (17, "  (test (0 2) n)", 17, 9),
+    (16, "  (unrealised (0 2))", 15),
+    (16, "  (unrealised (1 0))", 15),
+    (16, "  (unrealised (0 1 0))", 20),
+    (16, "  (unrealised n)", 15),
+    (17, "  (test (0 2) n)", 9),
     // Operations, parents and children.
-    (22, "  (by added-strand 2)", 22, 20),
-    (22, "  (by added-listener 2)", 22, 22),
-    (22, "  (by contracted 0 2)", 22, 20),
-    (22, "  (by displaced 2 0)", 22, 17),
-    (22, "  (by contracted 0)", 22, 3),
-    (22, "  (by magic 1)", 22, 7),
-    (10, "  (parent 1) (by problem)", 10, 3),
-    (19, "  (shape))", 21, 11),
-    (21, "  (parent 1)", 19, 13),
-    (21, "", 19, 13),
-    (19, "  (children 1 1))", 19, 15),
-    (19, "  (children 1 2))", 19, 15),
-    (19, "  (children 0 1))", 19, 13),
-    (20, "(label 2", 20, 8),
-    (20, "(label", 19, 13),
+    (22, "  (by added-strand 2)", 20),
+    (22, "  (by added-listener 2)", 22),
+    (22, "  (by contracted 0 2)", 20),
+    (22, "  (by displaced 2 0)", 17),
+    (22, "  (by contracted 0)", 3),
+    (22, "  (by magic 1)", 7),
+    (10, "  (parent 1) (by problem)", 3),
+    (19, "  (children 1 1))", 15),
+    (19, "  (children 1 2))", 15),
+    (19, "  (children 0 1))", 13),
+    (20, "(label 2", 8),
     // Marks.
-    (30, "  (seen 2))", 30, 9),
-    (30, "  (instance-of 2))", 30, 16),
-    (30, "  (limit labels))", 30, 10),
+    (30, "  (seen 2))", 9),
+    (30, "  (instance-of 2))", 16),
+    (30, "  (limit labels))", 10),
     // Status forms.
-    (31, "(status complete labels 3 expanded 1 shapes 1)", 31, 25),
-    (31, "(status complete labels 2 expanded 2 shapes 1)", 31, 36),
-    (31, "(status complete labels 2 expanded 1 shapes 0)", 31, 45),
-    (31, "(status done labels 2 expanded 1 shapes 1)", 31, 9),
-    (31, "(status limit labels 2 expanded 1 shapes 1)", 31, 1),
-    (
-        31,
-        "(status limit labels labels 2 expanded 1 shapes 1)",
-        31,
-        15,
-    ),
-    (
-        31,
-        "(status complete labels 2 expanded 1 shapes 1 1)",
-        31,
-        47,
-    ),
-    (31, "(status complete labels 2)", 31, 1),
+    (31, "(status complete labels 3 expanded 1 shapes 1)", 25),
+    (31, "(status complete labels 2 expanded 2 shapes 1)", 36),
+    (31, "(status complete labels 2 expanded 1 shapes 0)", 45),
+    (31, "(status done labels 2 expanded 1 shapes 1)", 9),
+    (31, "(status limit labels 2 expanded 1 shapes 1)", 1),
+    (31, "(status limit labels labels 2 expanded 1 shapes 1)", 15),
+    (31, "(status complete labels 2 expanded 1 shapes 1 1)", 47),
+    (31, "(status complete labels 2)", 1),
     (
         31,
         "(status complete labels 2 expanded 1 shapes 1) (status complete labels 2 expanded 1 shapes 1)",
-        31,
         48,
     ),
     (
         31,
         "(status complete labels 2 expanded 1 shapes 1) (label 2)",
-        31,
         48,
     ),
     (
         31,
         "(status complete labels 2 expanded 1 shapes 1) (answer)",
-        31,
         48,
     ),
-    (31, "", 1, 1),
-    (31, "(herald x)", 31, 1),
+    (31, "(herald x)", 1),
     // Forms of the input.
     (
         1,
         "(status complete labels 0 expanded 0 shapes 0) (defprotocol challenge basic",
         1,
-        1,
     ),
-    (4, "(label 0) (defskeleton challenge", 4, 1),
-    (4, "(defskeleton challenges", 4, 14),
+    (4, "(label 0) (defskeleton challenge", 1),
+    (4, "(defskeleton challenges", 14),
     (
         2,
         "  (defrole asks (vars (k skey) (n text)) (trace (send (enc n k)) (recv m)))",
-        2,
         72,
     ),
 ];
 
-/// The same of the two initiators.
-const BENT_COLLAPSES: &[(usize, &str, u32, u32)] = &[
-    (18, "  (by collapsed 0 2)", 18, 19),
-    (18, "  (by collapsed 1 1)", 18, 17),
-    (18, "  (by collapsed 0)", 18, 3),
-    (18, "  (by collapsed 0 0 0)", 18, 21),
-    (18, "  (by generalised)", 17, 1),
-    (18, "  (parent 0) (by collapsed 0 0)", 18, 3),
-    (19, "  (vars (n1 text) (a name))", 20, 30),
-    (20, "  (defstrand init 2 (a a) (b b) (n1 n1))", 20, 3),
-    (
-        20,
-        "  (defstrand init 1 (a a) (b b) (n1 n1) (n2 n1))",
-        20,
-        42,
-    ),
-    (20, "  (defstrand init 1 (a \"a\") (b b) (n1 n1))", 20, 24),
+/// The same where the first place at which that is no report is in another line: its line and column.
+const CHALLENGES_ELSEWHERE: &[(usize, &str, u32, u32)] = &[
+    // Items that want others, or are not there.
+    (17, "", 18, 3),
+    (19, "  )", 9, 1),
+    (22, "", 20, 1),
+    (29, "", 20, 1),
+    // Variables and strands.
+    (11, "  (vars (n text))", 12, 24),
+    // Operations, parents and children.
+    (19, "  (shape))", 21, 11),
+    (21, "  (parent 1)", 19, 13),
+    (21, "", 19, 13),
+    (20, "(label", 19, 13),
+    // Status forms.
+    (31, "", 1, 1),
+];
+
+/// Lines of the two initiators.
+const BENT_COLLAPSES: &[(usize, &str, u32)] = &[
+    (18, "  (by collapsed 0 2)", 19),
+    (18, "  (by collapsed 1 1)", 17),
+    (18, "  (by collapsed 0)", 3),
+    (18, "  (by collapsed 0 0 0)", 21),
+    (18, "  (parent 0) (by collapsed 0 0)", 3),
+    (20, "  (defstrand init 2 (a a) (b b) (n1 n1))", 3),
+    (20, "  (defstrand init 1 (a a) (b b) (n1 n1) (n2 n1))", 42),
+    (20, "  (defstrand init 1 (a \"a\") (b b) (n1 n1))", 24),
     (
         21,
         "  (non-orig (invk (pubk a))) (uniq-orig (n1 (0 0)))",
-        21,
         19,
     ),
-    (21, "  (non-orig (pubk n1)) (uniq-orig (n1 (0 0)))", 21, 19),
-    (21, "  (non-orig (ltk a)) (uniq-orig (n1 (0 0)))", 21, 13),
-    (22, "  (map (0 0) (n1 n1) (a a) (b b) (a-0 a))", 22, 3),
+    (21, "  (non-orig (pubk n1)) (uniq-orig (n1 (0 0)))", 19),
+    (21, "  (non-orig (ltk a)) (uniq-orig (n1 (0 0)))", 13),
+    (22, "  (map (0 0) (n1 n1) (a a) (b b) (a-0 a))", 3),
 ];
 
-/// The same of what a role gives.
-const BENT_GIVEN: &[(usize, &str, u32, u32)] = &[
-    (9, "  (defstrand init 1 (a a) (b b) (m m) (n n))", 9, 40),
+/// The same in another line.
+const COLLAPSES_ELSEWHERE: &[(usize, &str, u32, u32)] = &[
+    (18, "  (by generalised)", 17, 1),
+    (19, "  (vars (n1 text) (a name))", 20, 30),
+];
+
+/// Lines of what a role gives.
+const BENT_GIVEN: &[(usize, &str, u32)] = &[
+    (9, "  (defstrand init 1 (a a) (b b) (m m) (n n))", 40),
     (
         9,
         "  (defstrand init 2 (a a) (b b) (m m) (n (cat n m)))",
-        9,
         42,
     ),
-    (10, "", 6, 1),
-    (10, "  (non-orig (privk a))", 10, 3),
-    (10, "  (non-orig (privk b) (privk b \"p\"))", 10, 32),
-    (11, "", 6, 1),
-    (11, "  (pen-non-orig m)", 11, 3),
-    (12, "", 6, 1),
-    (12, "  (uniq-orig (n (0 0)))", 12, 17),
-    (15, "  (limit steps strands))", 15, 16),
-    (16, "(status limit labels 1 expanded 0 shapes 0)", 16, 1),
-    (16, "(status limits labels 1 expanded 0 shapes 0)", 16, 9),
+    (10, "  (non-orig (privk a))", 3),
+    (10, "  (non-orig (privk b) (privk b \"p\"))", 32),
+    (11, "  (pen-non-orig m)", 3),
+    (12, "  (uniq-orig (n (0 0)))", 17),
+    (15, "  (limit steps strands))", 16),
+    (16, "(status limit labels 1 expanded 0 shapes 0)", 1),
+    (16, "(status limits labels 1 expanded 0 shapes 0)", 9),
 ];
 
-/// The same of the report at the strand bound, as if its root were made by identifying strands.
-const BENT_PARTITIONS: &[(usize, &str, u32, u32)] = &[
-    (11, "  (by collapsed 0 0 1)", 11, 21),
-    (11, "  (by collapsed 0 2 2)", 11, 19),
+/// The same in another line.
+const GIVEN_ELSEWHERE: &[(usize, &str, u32, u32)] = &[
+    (10, "", 6, 1),
+    (11, "", 6, 1),
+    (12, "", 6, 1),
+];
+
+/// Lines of the report at the strand bound, as if its root were made by identifying strands.
+const BENT_PARTITIONS: &[(usize, &str, u32)] = &[
+    (11, "  (by collapsed 0 0 1)", 21),
+    (11, "  (by collapsed 0 2 2)", 19),
 ];
 
 /// Lines of reports, and what may as well stand there: unused variables, other orders, other numbers of locals, what a
@@ -317,15 +304,40 @@ fn misfit(alloc: Global, text: &[u8]) -> Result<Option<Place>, Fail> {
     }
 }
 
+/// Whether the report with this line is refused at this place.
+fn is_refused(
+    alloc: Global,
+    report: &[&str],
+    number: usize,
+    instead: &str,
+    line: usize,
+    col: u32,
+) -> Result<bool, Fail> {
+    let text = bent(alloc, report, number, instead)?;
+    match misfit(alloc, &text)? {
+        Some(place) => Ok(place.line as usize == line && place.col == col),
+        None => Ok(false),
+    }
+}
+
+/// Whether the report with each of these lines is refused, in that line at the column that stands beside it.
+fn are_refused(alloc: Global, report: &[&str], rows: &[(usize, &str, u32)]) -> Result<bool, Fail> {
+    for &(number, instead, col) in rows {
+        if !is_refused(alloc, report, number, instead, number, col)? {
+            return Ok(false);
+        }
+    }
+    Ok(true)
+}
+
 /// Whether the report with each of these lines is refused, at the place that stands beside it.
-fn are_refused(
+fn are_refused_elsewhere(
     alloc: Global,
     report: &[&str],
     rows: &[(usize, &str, u32, u32)],
 ) -> Result<bool, Fail> {
     for &(number, instead, line, col) in rows {
-        let text = bent(alloc, report, number, instead)?;
-        if misfit(alloc, &text)? != Some(Place { line, col }) {
+        if !is_refused(alloc, report, number, instead, line as usize, col)? {
             return Ok(false);
         }
     }
@@ -406,6 +418,14 @@ fn bent_reports_fit_nothing(rt: HostRuntime) -> Result<(), Fail> {
     assert!(rt; are_refused(rt.alloc(), TWO_INITIATORS, BENT_COLLAPSES)?);
     assert!(rt; are_refused(rt.alloc(), GIVEN, BENT_GIVEN)?);
     assert!(rt; are_refused(rt.alloc(), DROPPED, BENT_PARTITIONS)?);
+    Ok(())
+}
+
+#[test]
+fn bent_reports_fit_nothing_elsewhere(rt: HostRuntime) -> Result<(), Fail> {
+    assert!(rt; are_refused_elsewhere(rt.alloc(), CHALLENGE, CHALLENGES_ELSEWHERE)?);
+    assert!(rt; are_refused_elsewhere(rt.alloc(), TWO_INITIATORS, COLLAPSES_ELSEWHERE)?);
+    assert!(rt; are_refused_elsewhere(rt.alloc(), GIVEN, GIVEN_ELSEWHERE)?);
     Ok(())
 }
 

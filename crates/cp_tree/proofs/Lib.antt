@@ -14,7 +14,7 @@ mod TreeShapes
 mod TrueTrees
 mod NormalChildren
 pub mod AskedOn
-mod SoundExpansions
+pub mod SoundExpansions
 mod ExampleRoot
 mod ExampleTree
 mod Causes
@@ -23,5 +23,5 @@ mod CandidatesEmbed
 mod NoStep
 mod SoundGeneralisations
 mod GeneralisedOnce
-mod SoundOrGeneralised
+pub mod SoundOrGeneralised
 mod ExampleGeneral

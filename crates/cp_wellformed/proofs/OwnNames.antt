@@ -11,12 +11,13 @@ use Rattle.cp_model.specs.Strand.{Declaration, Role}
 use Rattle.cp_model.specs.Same.{same_text}
 use Rattle.cp_model.proofs.SameTests.{same_text_itself}
 use Rattle.cp_sexpr.specs.Syntax.{Form, symbol, string, number, list}
-use Rattle.cp_language.specs.Words.{is_one_of, ItemHead, role_item, non_item, penetrator_non_item, unique_item, strand_item, listener_item, precedes_item, comment_item, item_out_of_profile, no_item, item_head}
-use Rattle.cp_language.specs.Faults.{fault, place_of}
+use Rattle.cp_language.specs.Words.{is_one_of}
+use Rattle.cp_language.specs.Faults.{fault}
 use Rattle.cp_language.specs.Terms.{variable_from, variable_named}
-use Rattle.cp_language.specs.Roles.{Headed, headed, text_of_symbol, vars_faults, declarations_of, events_of, trace_faults, each_faults, item_faults, role_item_faults, headed_item_faults, name_faults_at, role_faults, item_or_none, items_behind, role_of, is_role_item, protocol_item_faults, role_name_onto, roles_faults, roles_in}
+use Rattle.cp_language.specs.Roles.{text_of_symbol, vars_faults, declarations_of, events_of, trace_faults, each_faults, item_faults, role_item_faults, name_faults_at, role_faults, role_of, roles_faults, roles_in}
 use Rattle.cp_language.specs.Problems.{role_named}
-use Rattle.cp_wellformed.proofs.Terms.{none_before, none_behind, none_of_four}
+use Rattle.cp_wellformed.proofs.Terms.{none_of_four}
+use Rattle.cp_wellformed.proofs.EachRole.{of_roles}
 use Rattle.cp_wellformed.proofs.Names.{AreDistinct, other_way, named_itself}
 
 -- ---- roles
@@ -44,31 +45,9 @@ new_role before at (name ∷ vars ∷ []) e = absurd (cc)
 new_role before at (name ∷ []) e = absurd (cc)
 new_role before at [] e = absurd (cc)
 
--- one more role, where an item is one
-with_item : (before : List (List ℕ)) (at : Place) (k : ItemHead) (fs : List Form) (rs : List Role) → protocol_item_faults before at k fs ≡ [] →
-    HaveOwnNames (if is_role_item k then (role_of fs).name ∷ before else before) rs → HaveOwnNames before (if is_role_item k then role_of fs ∷ rs else rs)
-with_item before at role_item fs rs e h = (new_role before at fs e, h)
-with_item before at non_item fs rs e h = h
-with_item before at penetrator_non_item fs rs e h = h
-with_item before at unique_item fs rs e h = h
-with_item before at strand_item fs rs e h = h
-with_item before at listener_item fs rs e h = h
-with_item before at precedes_item fs rs e h = h
-with_item before at comment_item fs rs e h = h
-with_item before at item_out_of_profile fs rs e h = h
-with_item before at no_item fs rs e h = h
-
-with_headed : (before : List (List ℕ)) (at : Place) (o : Option Headed) (rs : List Role) → headed_item_faults (protocol_item_faults before) at o ≡ [] →
-    HaveOwnNames (role_name_onto o before) rs → HaveOwnNames before (if is_role_item (item_or_none o) then role_of (items_behind o) ∷ rs else rs)
-with_headed before at None rs e h = h
-with_headed before at (Some k) rs e h = with_item before at (item_head k.head) k.items rs e h
-
 -- Roles without faults have names of their own.
 pub roles_named : (before : List (List ℕ)) (fs : List Form) → roles_faults before fs ≡ [] → HaveOwnNames before (roles_in fs)
-roles_named before [] e = tt
-roles_named before (f ∷ fs) e =
-    with_headed before (place_of f) (headed f) (roles_in fs) (none_before (item_faults (protocol_item_faults before) f) (roles_faults (role_name_onto (headed f) before) fs) e)
-    (roles_named (role_name_onto (headed f) before) fs (none_behind (item_faults (protocol_item_faults before) f) (roles_faults (role_name_onto (headed f) before) fs) e))
+roles_named = of_roles HaveOwnNames (λ before. tt) (λ before at fs rs e h. (new_role before at fs e, h))
 
 -- each of them is none of those before
 none_of_those : (before : List (List ℕ)) (rs : List Role) (r : Role) → HaveOwnNames before rs → IsIn r rs → is_one_of r.name before ≡ false

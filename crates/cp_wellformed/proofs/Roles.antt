@@ -11,11 +11,12 @@ use Rattle.cp_sexpr.specs.Syntax.{Form}
 use Rattle.cp_language.specs.Words.{EventHead, sending, receiving, event_out_of_profile, no_event, event_head, ItemHead, role_item, non_item, penetrator_non_item, unique_item, strand_item, listener_item, precedes_item, comment_item, item_out_of_profile, no_item, item_head}
 use Rattle.cp_language.specs.Faults.{fault, place_of}
 use Rattle.cp_language.specs.Terms.{lacks, term_faults, atom_faults}
-use Rattle.cp_language.specs.Roles.{Headed, headed, items_behind, vars_faults, declarations_of, message_faults, event_head_faults, headed_event_faults, event_faults, events_faults, trace_faults, message_of, is_sending, event_of, events_in, events_of, role_unique_faults, each_faults, role_item_faults, headed_item_faults, item_faults, name_faults_at, role_faults, item_or_none, forms_under, is_non_item, is_penetrator_non_item, is_unique_item, role_of, is_role_item, protocol_item_faults, role_name_onto, roles_faults, algebra_faults, protocol_faults, roles_in, protocol_of}
+use Rattle.cp_language.specs.Roles.{Headed, headed, items_behind, vars_faults, declarations_of, message_faults, event_head_faults, headed_event_faults, event_faults, events_faults, trace_faults, message_of, is_sending, event_of, events_in, events_of, role_unique_faults, each_faults, role_item_faults, headed_item_faults, item_faults, name_faults_at, role_faults, item_or_none, forms_under, is_non_item, is_penetrator_non_item, is_unique_item, role_of, roles_faults, algebra_faults, protocol_faults, roles_in, protocol_of}
 use Rattle.cp_wellformed.proofs.Terms.{none_before, none_behind, none_of_three, none_of_four, AreDeclared, none_declared, both_declared, term_variables_declared}
 use Rattle.cp_wellformed.proofs.Items.{under_one}
 use Rattle.cp_wellformed.proofs.Values.{AtomsDeclared, stated_declared, Originate, uniques_originate}
 use Rattle.cp_wellformed.proofs.Names.{AreDistinct, inside_fixed, variables_distinct}
+use Rattle.cp_wellformed.proofs.EachRole.{of_roles}
 use Rattle.cp_wellformed.proofs.OwnNames.{HaveOwnNames, roles_named}
 
 -- A role of well-formed input, in the words of these proofs.
@@ -136,33 +137,12 @@ role_body_sound before at (name ∷ vars ∷ []) e = absurd (cc)
 role_body_sound before at (name ∷ []) e = absurd (cc)
 role_body_sound before at [] e = absurd (cc)
 
--- one more role, where an item is one
-in_one_more : (before : List (List ℕ)) (at : Place) (k : ItemHead) (fs : List Form) (rs : List Role) → protocol_item_faults before at k fs ≡ [] → AreSoundRoles rs → AreSoundRoles (if is_role_item k then role_of fs ∷ rs else rs)
-in_one_more before at role_item fs rs e hs = all
-  where
-    all : AreSoundRoles (role_of fs ∷ rs)
-    all s here = role_body_sound before at fs e
-    all s (there p) = hs s p
-in_one_more before at non_item fs rs e hs = hs
-in_one_more before at penetrator_non_item fs rs e hs = hs
-in_one_more before at unique_item fs rs e hs = hs
-in_one_more before at strand_item fs rs e hs = hs
-in_one_more before at listener_item fs rs e hs = hs
-in_one_more before at precedes_item fs rs e hs = hs
-in_one_more before at comment_item fs rs e hs = hs
-in_one_more before at item_out_of_profile fs rs e hs = hs
-in_one_more before at no_item fs rs e hs = hs
-
-headed_role_sound : (before : List (List ℕ)) (at : Place) (o : Option Headed) (rs : List Role) → headed_item_faults (protocol_item_faults before) at o ≡ [] →
-    AreSoundRoles rs → AreSoundRoles (if is_role_item (item_or_none o) then role_of (items_behind o) ∷ rs else rs)
-headed_role_sound before at None rs e hs = hs
-headed_role_sound before at (Some h) rs e hs = in_one_more before at (item_head h.head) h.items rs e hs
+one_more : (r : Role) (rs : List Role) → IsSoundRole r → AreSoundRoles rs → AreSoundRoles (r ∷ rs)
+one_more r rs h hs s here = h
+one_more r rs h hs s (there p) = hs s p
 
 roles_sound : (before : List (List ℕ)) (fs : List Form) → roles_faults before fs ≡ [] → AreSoundRoles (roles_in fs)
-roles_sound before [] e = λ r p. elim p [ ]
-roles_sound before (f ∷ fs) e =
-    headed_role_sound before (place_of f) (headed f) (roles_in fs) (none_before (item_faults (protocol_item_faults before) f) (roles_faults (role_name_onto (headed f) before) fs) e)
-    (roles_sound (role_name_onto (headed f) before) fs (none_behind (item_faults (protocol_item_faults before) f) (roles_faults (role_name_onto (headed f) before) fs) e))
+roles_sound = of_roles (λ before rs. AreSoundRoles rs) (λ before r p. elim p [ ]) (λ before at fs rs e hs. one_more (role_of fs) rs (role_body_sound before at fs e) hs)
 
 -- The roles of a protocol without faults are sound, and have names of their own.
 pub protocol_sound : (names : List (List ℕ)) (at : Place) (fs : List Form) → protocol_faults names at fs ≡ [] → AreSoundRoles (protocol_of fs).roles × HaveOwnNames [] (protocol_of fs).roles

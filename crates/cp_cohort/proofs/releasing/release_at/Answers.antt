@@ -18,7 +18,7 @@ returns-in_default-2 c =
 pub returns : goal.returns
 returns c =
     let unifies : UnifiesMostGenerally c.in-Some.term.now c.args.question.now.critical.now (as_substitution c.in-Some-2.substitution) = rw c.in-Some-2.is at c.in_ok-substitution.ensures.some in
-    on_ok_weaker c.put_settled.result
+    on_ok_weaker c.put_children.result
     (λ e. record {
       added = _;
       behind = e;
@@ -26,4 +26,4 @@ returns c =
           (as_substitution c.in-Some-2.substitution) (skeleton_view c.in_ok-skeleton.skeleton) (variables_view c.in_ok-skeleton.skeleton.variables) c.in_ok-settled.settled.items c.is_sound.ensures.skeleton.no_cycle (sym c.in-Some.ensures) unifies
           c.in_ok-skeleton.ensures.same (ap variables_view c.in_ok-skeleton.ensures.variables) c.in_ok-settled.ensures;
     })
-    c.put_settled.ensures
+    c.put_children.ensures

@@ -1,4 +1,4 @@
-use Rattle.std.proofs.Common.{◌≡◌, Some, ◌++◌, ◌∷◌, [], ◌+◌, ◌<◌, ◌≤◌, length, map, sym, ap, subst, ◌∙◌, arith}
+use Rattle.std.proofs.Common.{◌≡◌, ℕ, Some, ◌++◌, ◌∷◌, [], ◌+◌, ◌<◌, ◌≤◌, length, map, sym, ap, subst, ◌∙◌, arith}
 use Rattle.std.proofs.lemmas.List.{length-append}
 use Rattle.cp_lists.specs.Lists.{item_at}
 use Rattle.cp_model.specs.Skeleton.{IsSkeleton}
@@ -14,7 +14,24 @@ use Rattle.cp_guard.specs.Guarding.{Guards}
 use Rattle.cp_expansion.specs.Widened.{IsGiven}
 use Rattle.cp_expansion.specs.declared.expansion.Expansion.{Expansion}
 use Rattle.cp_expansion.proofs.OnceMore.{place_below, given_child, IsNext, grown_skeleton, grown_declared, child_declared, table_behind, next_question, if_widened, if_same}
+use Rattle.cp_expansion.proofs.expansion.+widened.Goals.{In_ok-push}
 use Rattle.cp_expansion.proofs.expansion.+widened.Goals as goal
+
+-- one pattern more, that of the first child that gives one, and the table of that child
+next : (t : ℕ) (c : In_ok-push t) → IsNext c.args.k.now c.in_ok-grown.grown c.args.patterns.items c.push.new.self.items c.in_ok-children.children.items c.in-Some.widening.child c.in-Some.widening.pattern c.index.result.now
+next t c =
+    let k = c.args.k.now in
+    let cs = c.in_ok-children.children.items in
+    let place = c.in-Some.widening.child in
+    let p = c.in-Some.widening.pattern in
+    let g : IsGiven (skeleton_view k) (map child_view cs) place p = rw c.deref-2.ensures.value at (rw c.in-Some.is at c.in_ok-widening.ensures) in
+    record {
+      given = g;
+      read = map_of_read child_view cs place c.index.result.now (place_below (skeleton_view k) cs place p g) c.index.ensures;
+      sound = λ d listed. let s = c.in_ok-children.ensures.sound (record { skeleton = c.requires.skeleton; declared = c.requires.declared }) d listed in (s.more, s.declared);
+      grew = c.in_ok-grown.ensures ∙ ap (λ vs. record k { variables = vs }) c.variables.ensures;
+      pushed = c.in_ok-push.ensures.items;
+    }
 
 pub returns-then-len-ge-MOST_PATTERNS-clause-widened : goal.returns-then-len-ge-MOST_PATTERNS-clause-widened
 returns-then-len-ge-MOST_PATTERNS-clause-widened t c =
@@ -57,28 +74,23 @@ widened-requires t c =
     let cs = c.in_ok-children.children.items in
     let place = c.in-Some.widening.child in
     let p = c.in-Some.widening.pattern in
-    let g : IsGiven (skeleton_view k) (map child_view cs) place p = rw c.deref-2.ensures.value at (rw c.in-Some.is at c.in_ok-widening.ensures) in
-    let read : item_at (map child_view cs) place ≡ Some (child_view c.index.result.now) = map_of_read child_view cs place c.index.result.now (place_below (skeleton_view k) cs place p g) c.index.ensures in
-    let grew : c.in_ok-grown.grown ≡ record k { variables = c.index.result.now.skeleton.variables } = c.in_ok-grown.ensures ∙ ap (λ vs. record k { variables = vs }) c.variables.ensures in
-    let pushed : c.push.new.self.items ≡ c.args.patterns.items ++ p ∷ [] = c.in_ok-push.ensures.items in
-    let next : IsNext k c.in_ok-grown.grown c.args.patterns.items c.push.new.self.items cs place p c.index.result.now =
-    record { given = g; read = read; sound = (λ d listed. let s = c.in_ok-children.ensures.sound (record { skeleton = c.requires.skeleton; declared = c.requires.declared }) d listed in (s.more, s.declared)); grew = grew; pushed = pushed } in
-    let same : skeleton_view k ≡ skeleton_view c.in_ok-grown.grown = grown_skeleton k c.in_ok-grown.grown c.index.result.now.skeleton.variables grew in
+    let n = next t (goal.at.widened-requires t c).In_ok-push in
+    let same : skeleton_view k ≡ skeleton_view c.in_ok-grown.grown = grown_skeleton k c.in_ok-grown.grown c.index.result.now.skeleton.variables n.grew in
     let guards : Guards (c.args.patterns.items ++ p ∷ []) (skeleton_view k) c.args.test.now.node c.args.test.now.term =
-    c.widening_keeps_guards.ensures c.args.patterns.items (skeleton_view k) g.child.skeleton c.args.test.now.node c.args.test.now.term g.child.path p g.child.variables
-    (child_declared k c.in_ok-grown.grown c.args.patterns.items c.push.new.self.items cs place p c.index.result.now next) c.requires.guards g.gives.widens in
+    c.widening_keeps_guards.ensures c.args.patterns.items (skeleton_view k) n.given.child.skeleton c.args.test.now.node c.args.test.now.term n.given.child.path p n.given.child.variables
+    (child_declared k c.in_ok-grown.grown c.args.patterns.items c.push.new.self.items cs place p c.index.result.now n) c.requires.guards n.given.gives.widens in
     let few : length c.args.patterns.items < 32 = grind arith in
-    let longer : length c.push.new.self.items ≡ length c.args.patterns.items + 1 = ap length pushed ∙ length-append c.args.patterns.items (p ∷ []) in (
+    let longer : length c.push.new.self.items ≡ length c.args.patterns.items + 1 = ap length n.pushed ∙ length-append c.args.patterns.items (p ∷ []) in (
       omega (arith, few, longer, c.decreases),
       (
         c.requires.roles,
         (
           subst (λ s. IsSkeleton c.args.protocol.now s) same c.requires.skeleton,
           (
-            grown_declared k c.in_ok-grown.grown c.args.patterns.items c.push.new.self.items cs place p c.index.result.now next c.requires.declared,
+            grown_declared k c.in_ok-grown.grown c.args.patterns.items c.push.new.self.items cs place p c.index.result.now n c.requires.declared,
             (
               subst (λ s. IsTest s c.args.test.now.node c.args.test.now.term) same c.requires.test,
-              subst (λ s. Guards c.push.new.self.items s c.args.test.now.node c.args.test.now.term) same (subst (λ ps. Guards ps (skeleton_view k) c.args.test.now.node c.args.test.now.term) (sym pushed) guards),
+              subst (λ s. Guards c.push.new.self.items s c.args.test.now.node c.args.test.now.term) same (subst (λ ps. Guards ps (skeleton_view k) c.args.test.now.node c.args.test.now.term) (sym n.pushed) guards),
             ),
           ),
         ),
@@ -93,14 +105,12 @@ returns-clause-widened t c =
     let cs = c.in_ok-children.children.items in
     let place = c.in-Some.widening.child in
     let p = c.in-Some.widening.pattern in
-    let g : IsGiven (skeleton_view k) (map child_view cs) place p = rw c.deref-2.ensures.value at (rw c.in-Some.is at c.in_ok-widening.ensures) in
-    let read : item_at (map child_view cs) place ≡ Some (child_view c.index.result.now) = map_of_read child_view cs place c.index.result.now (place_below (skeleton_view k) cs place p g) c.index.ensures in
-    let grew : c.in_ok-grown.grown ≡ record k { variables = c.index.result.now.skeleton.variables } = c.in_ok-grown.ensures ∙ ap (λ vs. record k { variables = vs }) c.variables.ensures in
+    let n = next t (goal.at.returns-clause-widened t c).In_ok-push in
     let exact : IsCohort c.args.protocol.now (question_of k node term c.args.patterns.items) (map child_view cs) = rw c.deref.ensures.value at c.in_ok-children.ensures.exact in
     let few : length c.args.patterns.items < 32 = grind arith in
-    let next = next_question k c.in_ok-grown.grown node term c.args.patterns.items c.push.new.self.items p c.index.result.now g.child (given_child (skeleton_view k) cs place p c.index.result.now g read) grew c.in_ok-push.ensures.items in
+    let asked = next_question k c.in_ok-grown.grown node term c.args.patterns.items c.push.new.self.items p c.index.result.now n.given.child (given_child (skeleton_view k) cs place p c.index.result.now n.given n.read) n.grew n.pushed in
     if_widened c.args.protocol.now (question_of k node term c.args.patterns.items) (question_of c.in_ok-grown.grown node term c.push.new.self.items) (last_question c.args.test.now) (λ e. map child_view e.children.items) c.widened.result
-    (λ q children h. widened_once_more c.args.protocol.now (question_of k node term c.args.patterns.items) (question_of c.in_ok-grown.grown node term c.push.new.self.items) q (map child_view cs) children place p g few exact next h) c.widened.ensures.widened
+    (λ q children h. widened_once_more c.args.protocol.now (question_of k node term c.args.patterns.items) (question_of c.in_ok-grown.grown node term c.push.new.self.items) q (map child_view cs) children place p n.given few exact asked h) c.widened.ensures.widened
 
 pub returns-clause-same : goal.returns-clause-same
 returns-clause-same t c =

@@ -4,21 +4,20 @@ use Rattle.cp_model.specs.Homomorphism.{Embeds}
 use Rattle.cp_model.proofs.LawEmbeddings.{embeds_same}
 use Rattle.cp_skel.specs.Data.{SkeletonData}
 use Rattle.cp_skel.specs.View.{skeleton_view}
-use Rattle.cp_general.proofs.SoundGeneralisations.{embeds_back}
-use Rattle.cp_general.proofs.Stepped.{ends_general, ends_fit}
+use Rattle.cp_general.proofs.SoundGeneralisations.{is_fit, is_most_general, embeds_back}
 use Rattle.cp_general.proofs.generalising.generalise.Goals as goal
 
 pub returns-in-Some-clause-exact : goal.returns-in-Some-clause-exact
 returns-in-Some-clause-exact c = inr (rw c.in-Some.is at c.in_ok-general.ensures.some)
 
 pub returns-in-Some-clause-most_general : goal.returns-in-Some-clause-most_general
-returns-in-Some-clause-most_general c = ends_general (rw c.in-Some.is at c.in_ok-general.ensures.some)
+returns-in-Some-clause-most_general c = is_most_general (rw c.in-Some.is at c.in_ok-general.ensures.some)
 
 pub returns-in-Some-clause-embeds : goal.returns-in-Some-clause-embeds
 returns-in-Some-clause-embeds c = embeds_back (rw c.in-Some.is at c.in_ok-general.ensures.some)
 
 pub returns-in-Some-clause-fit : goal.returns-in-Some-clause-fit
-returns-in-Some-clause-fit c = λ _. ends_fit (rw c.in-Some.is at c.in_ok-general.ensures.some)
+returns-in-Some-clause-fit c = λ _. is_fit (rw c.in-Some.is at c.in_ok-general.ensures.some)
 
 pub returns-in-None-clause-embeds : goal.returns-in-None-clause-embeds
 returns-in-None-clause-embeds c =

@@ -4,7 +4,7 @@ use Rattle.cp_language.specs.Problems.{pair_of, pair_faults}
 use Rattle.cp_strand.specs.View.{strand_view}
 use Rattle.cp_model.specs.declared.node.OrderPair.{OrderPair}
 use Rattle.cp_forms.specs.FirstFault.{first_onto}
-use Rattle.cp_load.proofs.Cycles.{pairs-taken, pairs-judged}
+use Rattle.cp_load.proofs.Cycles.{pair-behind}
 use Rattle.cp_load.specs.Acyclic.{IsAcyclicIf}
 use Rattle.cp_load.proofs.NoCycles.{first-pair}
 use Rattle.cp_load.proofs.orders.pairs_faults.Goals as goal
@@ -13,11 +13,9 @@ pub loop-form-preserved : goal.loop-form-preserved
 loop-form-preserved c =
     let strands = map strand_view c.args.strands.now in
     let before = c.loop-form.before.items in
-    let added = c.in_ok-add_pair.ensures ∙ ap (λ ps. before ++ ps) c.pair_of.ensures in
-    let judged = c.in_ok-pair_faults.ensures ∙ ap (λ (ps : List OrderPair). first_onto c.loop-form.first (pair_faults strands ps (view c.form-item.result))) c.deref.ensures.value in (
-      pairs-judged strands c.args.items.now c.loop-form.form-index c.form-item.result c.loop-form-test.true c.form-item.is before c.add_pair.new.pairs.items added c.loop-form.first c.pair_faults.new.first _ judged c.loop-form.invariant.0,
-      pairs-taken strands c.args.items.now c.loop-form.form-index c.form-item.result c.loop-form-test.true c.form-item.is before c.add_pair.new.pairs.items added _ c.loop-form.invariant.1,
-    )
+    pair-behind strands c.args.items.now c.loop-form.form-index c.form-item.result c.loop-form-test.true c.form-item.is before c.add_pair.new.pairs.items (c.in_ok-add_pair.ensures ∙ ap (λ ps. before ++ ps) c.pair_of.ensures)
+    c.loop-form.first c.pair_faults.new.first _ _
+    (c.in_ok-pair_faults.ensures ∙ ap (λ (ps : List OrderPair). first_onto c.loop-form.first (pair_faults strands ps (view c.form-item.result))) c.deref.ensures.value) c.loop-form.invariant
 
 pub pair_faults-requires : goal.pair_faults-requires
 pair_faults-requires c =

@@ -1,11 +1,11 @@
-use Rattle.std.proofs.Common.{◌≡◌, true, false, ◌+◌, [], ◌∷◌, map, sym, ap, ◌∙◌}
+use Rattle.std.proofs.Common.{◌≡◌, true, false, ◌+◌, [], ◌∷◌, map, sym, ◌∙◌}
 use Rattle.cp_language.specs.ShapesText.{chosen_from}
 use Rattle.cp_sexpr.specs.View.{view}
 use Rattle.cp_skel.specs.Trees.{label_view}
 use Rattle.cp_print.specs.Chosen.{chosen_by}
 use Rattle.cp_print.proofs.Writings.{leaves_all, leaves_more, leaves_same, leaves_front, leaves_stop, leaves_none}
 use Rattle.cp_sexpr.proofs.Spelled.{OnErr-from}
-use Rattle.cp_print.proofs.Entries.{labels_left, labels_next, labels_skipped, labels_done}
+use Rattle.cp_print.proofs.Entries.{labels_left, labels_put, labels_skipped, labels_done}
 use Rattle.cp_print.proofs.report.put_labels.Goals as goal
 
 pub loop-number-init : goal.loop-number-init
@@ -27,11 +27,10 @@ loop-number-preserved c =
     let chosen = chosen_by c.args.chosen in
     let labels = c.args.labels.now in
     let l = c.loop-number in
-    let is_chosen : chosen (label_view c.index-labels-number.result) ≡ true = sym c.is_chosen.ensures ∙ c.if-not-is_chosen.false in
-    let next = labels_next chosen names l.number labels c.index-labels-number.result c.loop-number-test.true c.index-labels-number.is is_chosen in
     leaves_more c.args.out.now.items c.args.ends.now.items l.out.items l.ends.items c.put.new.out.items c.put.new.ends.items (chosen_from chosen names 0 (map label_view labels)) (view c.in_ok-form.form ∷ [])
     (labels_left chosen names l.number labels) (labels_left chosen names (l.number + 1) labels)
-    l.invariant (next ∙ ap (λ f. f ∷ labels_left chosen names (l.number + 1) labels) (sym c.in_ok-form.ensures)) c.in_ok-put.ensures.ok
+    l.invariant (labels_put chosen names l.number labels c.index-labels-number.result c.is_chosen.result (view c.in_ok-form.form) c.loop-number-test.true c.index-labels-number.is c.is_chosen.ensures c.if-not-is_chosen.false c.in_ok-form.ensures)
+    c.in_ok-put.ensures.ok
 
 pub returns-in_err-form-clause-err : goal.returns-in_err-form-clause-err
 returns-in_err-form-clause-err c =
@@ -46,11 +45,9 @@ returns-in_err-put-clause-err c =
     let chosen = chosen_by c.args.chosen in
     let labels = c.args.labels.now in
     let l = c.loop-number in
-    let is_chosen : chosen (label_view c.index-labels-number.result) ≡ true = sym c.is_chosen.ensures ∙ c.if-not-is_chosen.false in
-    let next = labels_next chosen names l.number labels c.index-labels-number.result c.loop-number-test.true c.index-labels-number.is is_chosen in
+    let next = labels_put chosen names l.number labels c.index-labels-number.result c.is_chosen.result (view c.in_ok-form.form) c.loop-number-test.true c.index-labels-number.is c.is_chosen.ensures c.if-not-is_chosen.false c.in_ok-form.ensures in
     OnErr-from c.from_residual-in_err-put.result (leaves_front c.args.out.now.items c.args.ends.now.items l.out.items l.ends.items c.put.new.out.items (chosen_from chosen names 0 (map label_view labels)) (view c.in_ok-form.form ∷ [])
-    (labels_left chosen names l.number labels) (labels_left chosen names (l.number + 1) labels)
-    l.invariant (next ∙ ap (λ f. f ∷ labels_left chosen names (l.number + 1) labels) (sym c.in_ok-form.ensures)) c.in_err-put.ensures.err)
+    (labels_left chosen names l.number labels) (labels_left chosen names (l.number + 1) labels) l.invariant next c.in_err-put.ensures.err)
 
 pub returns-clause-ok : goal.returns-clause-ok
 returns-clause-ok c =

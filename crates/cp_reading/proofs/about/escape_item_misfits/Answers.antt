@@ -13,9 +13,7 @@ use Rattle.cp_reading.specs.Parts.{escape_item_misfits}
 use Rattle.cp_reading.proofs.about.escape_item_misfits.Goals as goal
 
 pub returns-in_default : goal.returns-in_default
-returns-in_default c =
-    let its = map view c.args.items.now in
-    item-missing (escape_misfits its) (item_with (codes "escape" ∷ []) its) c.args.first.now c.in_default.ensures
+returns-in_default c = item-missing (escape_misfits (map view c.args.items.now)) _ c.args.first.now c.in_default.ensures
 
 pub returns : goal.returns
 returns c =

@@ -9,9 +9,7 @@ use Rattle.cp_stated.proofs.Entered.{item-asked, item-missing}
 use Rattle.cp_reading.proofs.items.no_parent_misfits.Goals as goal
 
 pub returns-in_default : goal.returns-in_default
-returns-in_default c =
-    let its = map view c.args.items.now in
-    item-missing (no_parent_misfits its) (item_with (codes "parent" ∷ []) its) c.args.first.now c.in_default.ensures
+returns-in_default c = item-missing (no_parent_misfits (map view c.args.items.now)) _ c.args.first.now c.in_default.ensures
 
 pub returns : goal.returns
 returns c =

@@ -2,15 +2,13 @@ use Rattle.std.proofs.Common.{map, refl, sym, ◌∙◌, arith}
 use Rattle.cp_sexpr.specs.View.{view}
 use Rattle.cp_strand.specs.View.{declaration_view}
 use Rattle.cp_forms.specs.Forms.{headed_view}
-use Rattle.cp_scope.proofs.Sizes.{headed_smaller, item_smaller}
+use Rattle.cp_scope.proofs.Sizes.{inside_smaller}
 use Rattle.cp_scope.proofs.TermSorts.{no_item_sort, one_item_sort, more_items_sort}
 use Rattle.cp_scope.proofs.sorts.+sort_of.Goals as goal
 
 pub sort_of-requires : goal.sort_of-requires
 sort_of-requires t c =
-    let list = headed_smaller (view c.args.form.now) (headed_view c.in-Some.list) (sym c.in-Some.ensures) in
-    let item = item_smaller c.in-Some.list.items.now 0 c.item-item.result c.in-len1.len_at_least c.item-item.is in
-    (omega (arith, list, item, c.decreases), tt)
+    (omega (arith, inside_smaller (view c.args.form.now) (headed_view c.in-Some.list) c.in-Some.list.items.now 0 c.item-item.result (sym c.in-Some.ensures) refl c.in-len1.len_at_least c.item-item.is, c.decreases), tt)
 
 pub returns-in-empty : goal.returns-in-empty
 returns-in-empty t c =

@@ -1,8 +1,8 @@
-use Rattle.std.proofs.Common.{sym, ap, ◌∙◌, arith}
+use Rattle.std.proofs.Common.{refl, sym, ap, ◌∙◌, arith}
 use Rattle.std.proofs.lemmas.Result.{IfOk-weaker}
 use Rattle.cp_sexpr.specs.View.{view}
 use Rattle.cp_forms.specs.Forms.{headed_view}
-use Rattle.cp_scope.proofs.Sizes.{headed_smaller, item_smaller}
+use Rattle.cp_scope.proofs.Sizes.{inside_smaller}
 use Rattle.cp_spelled.specs.Own.{headed_term}
 use Rattle.cp_spelled.specs.Views.{scope_view}
 use Rattle.cp_spelled.proofs.Meanings.{term-headed, terms-done}
@@ -10,9 +10,7 @@ use Rattle.cp_spelled.proofs.terms.+term_in.Goals as goal
 
 pub term_in-requires : goal.term_in-requires
 term_in-requires t c =
-    let list = headed_smaller (view c.args.form.now) (headed_view c.in-Some.list) (sym c.in-Some.ensures) in
-    let item = item_smaller c.in-Some.list.items.now c.loop-item.item-index c.item-item.result c.loop-item-test.true c.item-item.is in
-    (omega (arith, list, item, c.decreases), tt)
+    (omega (arith, inside_smaller (view c.args.form.now) (headed_view c.in-Some.list) c.in-Some.list.items.now c.loop-item.item-index c.item-item.result (sym c.in-Some.ensures) refl c.loop-item-test.true c.item-item.is, c.decreases), tt)
 
 pub returns : goal.returns
 returns t c =

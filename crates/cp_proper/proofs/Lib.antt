@@ -1,0 +1,17 @@
+pub mod Numerals
+pub mod Cuts
+pub mod ReadTexts
+pub mod StringTexts
+pub mod ProperWords
+pub mod ProperNames
+pub mod ProperTerms
+pub mod ProperPatterns
+pub mod ProperStrands
+pub mod ProperItems
+pub mod ProperTrees
+pub mod ProperReports
+pub mod SpelledTerms
+pub mod SpelledRoles
+pub mod SpelledStrands
+pub mod SpelledProblems
+pub mod SpelledInput

@@ -1,0 +1,239 @@
+-- The children of a test have no other strings and no other identifiers than its skeleton and the protocol's roles.
+use Rattle.std.proofs.Common.{◌≡◌, ◌⊎◌, inl, inr, ℕ, suc, ◌<◌, ◌≤◌, List, [], ◌∷◌, ◌++◌, length, map, Option, Some, None, refl, sym, ◌∙◌, subst, ⊎_elim, arith}
+use Rattle.cp_lists.specs.Lists.{item_at, IsIn, here, there}
+use Rattle.cp_lists.proofs.Items.{at_place}
+use Rattle.cp_lists.proofs.Members.{not_in_none, only_item, in_append, in_append_left, in_append_right, from_map}
+use Rattle.cp_model.specs.Term.{Variable, KeyTerm, symmetric_term, asymmetric_term, key_term, inverse_term, Term, atom_term, Substitution}
+use Rattle.cp_model.specs.Strand.{send, payload, Declaration, Role, Protocol}
+use Rattle.cp_model.specs.Bundle.{node_at}
+use Rattle.cp_model.specs.Skeleton.{instance, Skeleton, IsSkeleton}
+use Rattle.cp_model.specs.Tree.{Operation, by_contraction, Pattern}
+use Rattle.cp_term.specs.declared.path.Step.{Step}
+use Rattle.cp_completeness.specs.Normal.{skeleton_under}
+use Rattle.cp_strand.specs.Occurring.{prefix_variables, added_variables}
+use Rattle.cp_skel.specs.Sound.{DeclaresItsVariables}
+use Rattle.cp_skel.specs.Changing.{Extends}
+use Rattle.cp_skel.specs.Events.{Occurrence, events_of}
+use Rattle.cp_skel.proofs.EventLists.{listed_event}
+use Rattle.cp_normal.specs.Exact.{HasForms}
+use Rattle.cp_collapse.specs.Agreeing.{SaysTheSame}
+use Rattle.cp_match.specs.Unifying.{UnifiesMostGenerally}
+use Rattle.cp_answers.specs.Covering.{put_before}
+use Rattle.cp_answers.specs.Fresh.{fresh_terms}
+use Rattle.cp_settle.specs.Releasing.{Tried}
+use Rattle.cp_covering.specs.Listing.{terms_onto}
+use Rattle.cp_covering.specs.Children.{Child, child, declaration_onto, declarations_of}
+use Rattle.cp_covering.specs.Cohort.{Question, Contracts, AreContracted, release_at, DisplacesEvent, DisplacesStrand, AddsAt, AddsEvent, FreesCritical, by_key, by_body, by_nothing, OpensPattern, Listens, AreListeners, IsCohort, is_before, is_displaced, is_added, of_listener, of_node, of_role, is_inside, is_critical, cyclic}
+use Rattle.cp_covering.specs.Cohort as cohort
+use Rattle.cp_proper.specs.Strings.{strings_of_key, strings_of}
+use Rattle.cp_proper.specs.Spelled.{IsSpelledTerm, AreSpelledDeclarations, IsSpelledRole, IsSpelledSkeleton}
+use Rattle.cp_strings.proofs.Under.{GivesStrings, under_spelled, same_spelled, event_spelled, part_spelled}
+use Rattle.cp_strings.proofs.NoOtherStrings.{unifier_gives}
+use Rattle.cp_strings.proofs.Forms.{forms_spelled}
+use Rattle.cp_strings.proofs.Changes.{listener_spelled, strand_spelled, extended_spelled, put_spelled}
+use Rattle.cp_strings.proofs.OpenedPatterns.{AreNamed, still_named, both_declared}
+use Rattle.cp_strings.proofs.Settled.{IsSpelledTried, settles_spelled}
+use Rattle.cp_covering.proofs.Listed.{given, those_have, of_terms_onto}
+use Rattle.cp_covering.proofs.EachChild.{each_child}
+
+-- What is asked has admitted strings and identifiers, and so has what names the locals of its patterns as new variables.
+pub record IsSpelledQuestion (S I : List ℕ → Type 0) (q : Question) : Type 0 where
+  pub variables : AreSpelledDeclarations I q.variables
+  pub skeleton : IsSpelledSkeleton S I q.skeleton
+  pub critical : IsSpelledTerm S q.critical
+  pub patterns : (p : Pattern) → IsIn p q.patterns → IsSpelledTerm S p.term
+  pub named : (p : Pattern) → IsIn p q.patterns → AreNamed I q.variables p
+
+pub record IsSpelledChild (S I : List ℕ → Type 0) (c : Child) : Type 0 where
+  pub variables : AreSpelledDeclarations I c.variables
+  pub skeleton : IsSpelledSkeleton S I c.skeleton
+
+-- ---- keys, and declarations of roles
+
+same_key_strings : (key : KeyTerm) → strings_of_key (inverse_term key) ≡ strings_of_key key
+same_key_strings (symmetric_term k) = refl
+same_key_strings (asymmetric_term flag k) = refl
+
+put_declared : (I : List ℕ → Type 0) (all : List Declaration) (n : ℕ) (o : Option Declaration) (ds : List Declaration) → item_at all n ≡ o → AreSpelledDeclarations I all → AreSpelledDeclarations I ds → AreSpelledDeclarations I (declaration_onto o ds)
+put_declared I all n None ds e are rest d i = rest d i
+put_declared I all n (Some f) ds e are rest d here = are d (at_place all n d e)
+put_declared I all n (Some f) ds e are rest d (there i) = rest d i
+
+role_declared : (S I : List ℕ → Type 0) (role : Role) → IsSpelledRole S I role → (xs : List Variable) → AreSpelledDeclarations I (declarations_of role xs)
+role_declared S I role is [] d i = absurd (not_in_none i)
+role_declared S I role is (x ∷ xs) d i = put_declared I role.variables x.number (item_at role.variables x.number) (declarations_of role xs) refl is.variables (role_declared S I role is xs) d i
+
+module _ (S I : List ℕ → Type 0) (decide : (t : List ℕ) → S t ⊎ (S t → ⊥)) (protocol : Protocol) (declares : (role : Role) → IsIn role protocol.roles → DeclaresItsVariables role)
+    (roles : (role : Role) → IsIn role protocol.roles → IsSpelledRole S I role) where
+  module _ (q : Question) (sk : IsSkeleton protocol q.skeleton) (asked : IsSpelledQuestion S I q) where
+    abbrev k : Skeleton
+    k = q.skeleton
+
+    abbrev IsSpelled : Child → Type 0
+    IsSpelled = IsSpelledChild S I
+
+    -- ---- normal forms
+
+    forms_are : (l : Skeleton) (rs : List Skeleton) → IsSpelledSkeleton S I l → HasForms l rs → (operation : Operation) (path : List Step) (d : Child) → IsIn d (map (child q.variables operation path) rs) → IsSpelled d
+    forms_are l rs is has operation path d i =
+        let m = from_map (child q.variables operation path) rs i in
+        subst IsSpelled m.2 (record { variables = asked.variables; skeleton = forms_spelled S I decide has is m.0 m.1 })
+
+    -- A skeleton under a unifier of a term with the critical one.
+    module _ (l m : Skeleton) (is : IsSpelledSkeleton S I l) (u : Term) (of_u : IsSpelledTerm S u) (f : Substitution) (unifies : UnifiesMostGenerally u q.critical f) (same : SaysTheSame (skeleton_under f l) m) where
+      unifier_is : GivesStrings S f
+      unifier_is = unifier_gives S decide u q.critical f of_u asked.critical unifies
+
+      unified_is : IsSpelledSkeleton S I m
+      unified_is = same_spelled S I (skeleton_under f l) m same (under_spelled S I f l unifier_is is)
+
+    -- ---- contracted
+
+    contracts : (o : Occurrence) (path : List Step) (children : List Child) → IsIn o (events_of k) → Contracts q o path children → (d : Child) → IsIn d children → IsSpelled d
+    contracts o path children there_is (is_inside inside) d i = absurd (not_in_none i)
+    contracts o path children there_is (is_critical at) d i = absurd (not_in_none i)
+    contracts o path children there_is (cohort.never_equal at never) d i = absurd (not_in_none i)
+    contracts o path children there_is (cohort.unified {t = t} {s = s} {l = l} {forms = forms} outside at ne unifies same has) d i =
+        let of_event : IsSpelledTerm S (payload o.event) = event_spelled S I k o.node o.event asked.skeleton (listed_event k o there_is) in
+        forms_are l forms (unified_is k l asked.skeleton t (part_spelled S I (payload o.event) path t of_event at) s unifies same) has (by_contraction o.node) path d i
+
+    contracted : (children : List Child) → AreContracted q children → (d : Child) → IsIn d children → IsSpelled d
+    contracted children are d i =
+        let event = given are.each d i in
+        let path = given event.gives_it d event.among in
+        contracts event.giver path.giver path.given (those_have are.before event.giver event.listed).0 path.gives_it d path.among
+
+    -- ---- what is put before the node
+
+    module _ (variables : List Declaration) (declared : AreSpelledDeclarations I variables) (named : (p : Pattern) → IsIn p q.patterns → AreNamed I variables p) (s j : ℕ) (path : List Step) (grown : Skeleton) (is : IsSpelledSkeleton S I grown) where
+      releases : (operation : Operation) (children : List Child) → cohort.Releases q variables operation (release_at q s j path) grown children → (d : Child) → IsIn d children → IsSpelled d
+      releases operation children (cyclic before) d i = absurd (not_in_none i)
+      releases operation children (cohort.never_equal ev at never) d i = absurd (not_in_none i)
+      releases operation children (cohort.unified {t = t} {u = u} {s = f} {l = l} {settled = settled} none ev at m same settles) d i =
+          let node = node_at s j in
+          let put : Skeleton = put_before node q.node grown in
+          let of_u : IsSpelledTerm S u = part_spelled S I t path u (event_spelled S I grown node (send t) is ev) at in
+          let x : Tried = record { variables = variables; substitution = f; skeleton = l } in
+          let first : IsSpelledTried S I x = record {
+            variables = declared;
+            substitution = unifier_is put l (put_spelled S I node q.node grown is) u of_u f m same;
+            skeleton = unified_is put l (put_spelled S I node q.node grown is) u of_u f m same;
+          } in
+          let o = from_map (λ (x : Tried). child x.variables operation path x.skeleton) settled i in
+          let y = settles_spelled S I decide (release_at q s j path) asked.patterns settles first named o.0 o.1 in
+          subst IsSpelled o.2 (record { variables = y.variables; skeleton = y.skeleton })
+
+    -- The variables of a question, and behind them those of a role.
+    module _ (role : Role) (of_role : IsSpelledRole S I role) (xs : List Variable) where
+      more_declared : AreSpelledDeclarations I (q.variables ++ declarations_of role xs)
+      more_declared = both_declared I q.variables (declarations_of role xs) asked.variables (role_declared S I role of_role xs)
+
+      more_named : (p : Pattern) → IsIn p q.patterns → AreNamed I (q.variables ++ declarations_of role xs) p
+      more_named p i = still_named I q.variables (declarations_of role xs) p (role_declared S I role of_role xs) (asked.named p i)
+
+    -- ---- displaced
+
+    module _ (s : ℕ) (role : Role) (height : ℕ) (terms : Substitution) (on : item_at k.strands s ≡ Some (instance role height terms)) where
+      in_roles : IsIn role protocol.roles
+      in_roles = sk.of_role s role height terms on
+
+      abbrev added : ℕ → List Variable
+      added j = added_variables role height (suc j)
+
+      abbrev HowGrown : ℕ → List Declaration → Skeleton → Type 0
+      HowGrown j variables grown = ((j < height) × (variables ≡ q.variables) × (grown ≡ k)) ⊎ ((height ≤ j) × (variables ≡ q.variables ++ declarations_of role (added j)) × Extends s (suc j) (fresh_terms (length q.variables) (added j)) k grown)
+
+      grown_is : (j : ℕ) (grown : Skeleton) → height ≤ j → Extends s (suc j) (fresh_terms (length q.variables) (added j)) k grown → IsSpelledSkeleton S I grown
+      grown_is j grown le ext =
+          let both : Some (instance role height terms) ≡ Some (instance ext.role ext.before ext.old_terms) = sym on ∙ ext.was_instance in
+          let same_role : ext.role ≡ role = cc in
+          let same_height : ext.before ≡ height = cc in
+          extended_spelled S I s role (suc j) height (length q.variables) k grown (declares role in_roles) (omega (arith, le)) ext same_role same_height asked.skeleton
+
+      how_releases : (j : ℕ) (path : List Step) (variables : List Declaration) (grown : Skeleton) → HowGrown j variables grown → (operation : Operation) (children : List Child) → cohort.Releases q variables operation (release_at q s j path) grown children → (d : Child) → IsIn d children → IsSpelled d
+      how_releases j path variables grown (inl r) operation children gives =
+          releases variables (subst (λ (ds : List Declaration). AreSpelledDeclarations I ds) (sym r.1) asked.variables) (λ p i. subst (λ (ds : List Declaration). AreNamed I ds p) (sym r.1) (asked.named p i)) s j path grown
+          (subst (IsSpelledSkeleton S I) (sym r.2) asked.skeleton) operation children gives
+      how_releases j path variables grown (inr r) operation children gives =
+          let of_role : IsSpelledRole S I role = roles role in_roles in
+          releases variables (subst (λ (ds : List Declaration). AreSpelledDeclarations I ds) (sym r.1) (more_declared role of_role (added j))) (λ p i. subst (λ (ds : List Declaration). AreNamed I ds p) (sym r.1) (more_named role of_role (added j) p i)) s j path grown
+          (grown_is j grown r.0 r.2) operation children gives
+
+      displaced_event : (j : ℕ) (children : List Child) → DisplacesEvent q s role height j children → (d : Child) → IsIn d children → IsSpelled d
+      displaced_event j children (cohort.is_reception there_is) d i = absurd (not_in_none i)
+      displaced_event j children (is_before before) d i = absurd (not_in_none i)
+      displaced_event j children (is_displaced there_is none each) d i =
+          let one = given each d i in
+          let a = one.gives_it in
+          how_releases j one.giver a.variables a.grown a.grows.how _ one.given a.releases d one.among
+
+    displaced_strand : (s : ℕ) (children : List Child) → DisplacesStrand q s children → (d : Child) → IsIn d children → IsSpelled d
+    displaced_strand s children (of_listener there_is) d i = absurd (not_in_none i)
+    displaced_strand s children (of_node same) d i = absurd (not_in_none i)
+    displaced_strand s children (of_role {role = role} {height = height} {terms = terms} there_is ne each) d i =
+        let one = given each d i in displaced_event s role height terms there_is one.giver one.given one.gives_it d one.among
+
+    -- ---- added
+
+    module _ (role : Role) (in_roles : IsIn role protocol.roles) (j : ℕ) where
+      added_at : (path : List Step) (children : List Child) → AddsAt q role j path children → (d : Child) → IsIn d children → IsSpelled d
+      added_at path children a d i =
+          let xs = prefix_variables role (suc j) in
+          let of_role : IsSpelledRole S I role = roles role in_roles in
+          releases (q.variables ++ declarations_of role xs) (more_declared role of_role xs) (more_named role of_role xs) (length k.strands) j path a.grown
+          (strand_spelled S I role (suc j) (length q.variables) k a.grown (declares role in_roles) of_role a.adds asked.skeleton) _ children a.releases d i
+
+      added_event : (children : List Child) → AddsEvent q role j children → (d : Child) → IsIn d children → IsSpelled d
+      added_event children (cohort.is_reception there_is) d i = absurd (not_in_none i)
+      added_event children (is_added there_is each) d i = let one = given each d i in added_at one.giver one.given one.gives_it d one.among
+
+    -- ---- listeners
+
+    listens : (t : Term) (children : List Child) → IsSpelledTerm S t → Listens q t children → (d : Child) → IsIn d children → IsSpelled d
+    listens t children of_t l d i =
+        let node = node_at (length k.strands) 1 in
+        let heard : IsSpelledSkeleton S I l.added = listener_spelled S I t k l.added l.adds of_t asked.skeleton in
+        forms_are (put_before node q.node l.added) l.forms (put_spelled S I node q.node l.added heard) l.normal _ [] d (subst (IsIn d) l.are_children i)
+
+    freed : (frees : List Term) → FreesCritical q frees → (t : Term) → IsIn t frees → IsSpelledTerm S t
+    freed frees (by_key {body = body} {key = key} e none) t i s j =
+        asked.critical s (subst (λ (u : Term). IsIn s (strings_of u)) (sym e) (in_append_right (strings_of body) (subst (λ (u : Term). IsIn s (strings_of u)) (only_item i) j)))
+    freed frees (by_body {body = body} {key = key} e some) t i s j =
+        asked.critical s (subst (λ (u : Term). IsIn s (strings_of u)) (sym e) (in_append_left (strings_of_key key) (subst (λ (u : Term). IsIn s (strings_of u)) (only_item i) j)))
+    freed frees (by_nothing none) t i s j = absurd (not_in_none i)
+
+    opens : (p : Pattern) (ts : List Term) → IsIn p q.patterns → OpensPattern p ts → (t : Term) → IsIn t ts → IsSpelledTerm S t
+    opens p ts listed o t i s j =
+        let same : t ≡ atom_term (key_term (inverse_term o.key)) = only_item (subst (IsIn t) o.inverse i) in
+        let in_inverse : IsIn s (strings_of_key (inverse_term o.key)) = subst (λ (u : Term). IsIn s (strings_of u)) same j in
+        let in_key : IsIn s (strings_of_key o.key) = subst (IsIn s) (same_key_strings o.key) in_inverse in
+        asked.patterns p listed s (subst (λ (u : Term). IsIn s (strings_of u)) (sym o.is_pattern) (in_append_right (strings_of o.body) in_key))
+
+    listeners : (children : List Child) → AreListeners q children → (d : Child) → IsIn d children → IsSpelled d
+    listeners children are d i =
+        let one = given are.each d i in
+        listens one.giver one.given (of_term one.giver one.listed) one.gives_it d one.among
+      where
+        opens_term : (t : Term) → IsIn t are.opens → IsSpelledTerm S t
+        opens_term t j = let o = given are.patterns t j in opens o.giver o.given o.listed o.gives_it t o.among
+
+        of_term : (t : Term) → IsIn t (terms_onto [] (are.frees ++ are.opens)) → IsSpelledTerm S t
+        of_term t j =
+            ⊎_elim (λ (none : IsIn t []). absurd (not_in_none none)) (λ m. ⊎_elim (λ f. freed are.frees are.critical t f) (λ o. opens_term t o) (in_append are.frees are.opens m)) (of_terms_onto [] (are.frees ++ are.opens) t j)
+
+    -- ---- all of them
+
+    all_spelled : (children : List Child) → IsCohort protocol q children → (d : Child) → IsIn d children → IsSpelled d
+    all_spelled children is d i =
+        each_child protocol q children is IsSpelled (contracted is.contracted is.are_contracted) displaced_are added_are (listeners is.listeners is.are_listeners) d i
+      where
+        displaced_are : (e : Child) → IsIn e is.displaced → IsSpelled e
+        displaced_are e n = let one = given is.are_displaced e n in displaced_strand one.giver one.given one.gives_it e one.among
+
+        added_are : (e : Child) → IsIn e is.added → IsSpelled e
+        added_are e o =
+            let role = given is.are_added e o in
+            let event = given role.gives_it e role.among in added_event role.giver role.listed event.giver event.given event.gives_it e event.among
+
+  pub cohort_spelled : (q : Question) (children : List Child) → IsSkeleton protocol q.skeleton → IsSpelledQuestion S I q → IsCohort protocol q children → (c : Child) → IsIn c children → IsSpelledChild S I c
+  cohort_spelled q children sk asked is c i = all_spelled q sk asked children is c i
