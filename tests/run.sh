@@ -1,15 +1,18 @@
 #!/bin/sh
-# Runs a built program, whose path is the first word, over all cases beside this file: see README.md.
+# Runs a built program, whose path is the first word, over all cases beside this file: see README.md. The second word, which
+# may be left out, is the path of the program that searches again what a report says, and it runs over the wanted reports.
 # Prints a line for each case that fails, then 'N passed, M failed', and ends with status 0 only where M is 0.
 set -u
 LC_ALL=C
 export LC_ALL
 
-if [ $# -ne 1 ] || [ ! -x "$1" ]; then
-    echo "usage: sh tests/run.sh PROGRAM" >&2
+if [ $# -lt 1 ] || [ $# -gt 2 ] || [ ! -x "$1" ] || [ ! -x "${2-$1}" ]; then
+    echo "usage: sh tests/run.sh PROGRAM [CHECKER]" >&2
     exit 2
 fi
 program=$(CDPATH='' cd -- "$(dirname -- "$1")" && pwd)/$(basename -- "$1")
+checker=
+[ $# -lt 2 ] || checker=$(CDPATH='' cd -- "$(dirname -- "$2")" && pwd)/$(basename -- "$2")
 cd -- "$(dirname -- "$0")" || exit 2
 dir=$(mktemp -d) || exit 2
 trap 'rm -rf "$dir"' EXIT
@@ -232,6 +235,56 @@ judge 'a folder is read' 4 "$dir/nothing" 'read fault'
 status=0
 "$program" analyse --limit 0 <../examples/two-initiators.scm 2>"$dir/error" >/dev/full || status=$?
 judge 'a full device' 5 - 'write fault'
+
+# The report $1 is what the search answers, under the words of the file $2 or, where there is none, those behind it.
+searched() {
+    run_words "$@"
+    echo "as searched: $(grep -c '^(label ' "$1") labels" >"$dir/wanted"
+    judge "searched again: $1" 0 "$dir/wanted" ''
+}
+
+# The report $1 is another than what the search answers: the line $2 says where.
+differs() {
+    run "$1" analyse
+    echo "$2" >"$dir/wanted"
+    judge "searched again: $3" 1 "$dir/wanted" ''
+}
+
+# The report of the challenge, changed so: the line $2 says where it differs.
+changed() {
+    sed "$1" examples/challenge.scm >"$dir/report"
+    differs "$dir/report" "$2" "the challenge, $1"
+}
+
+# The checker on the wanted reports, but for those of shapes alone, and then on reports that the search does not answer.
+if [ -n "$checker" ]; then
+    program=$checker
+    for report in examples/*.scm; do
+        searched "$report" "${report%.scm}.words" analyse
+    done
+    for case in reports/*/; do
+        if [ ! -s "${case}output.scm" ] || [ -f "${case}error" ]; then continue; fi
+        [ "$(line_of "${case}words" analyse | head -n 1)" = analyse ] || continue
+        searched "${case}output.scm" "${case}words" analyse --limit 0
+    done
+
+    changed 's/added-strand 1/added-strand 0/' 'problem 0 label 1 differs'
+    changed 's/(shape)/(dead)/; s/shapes 1/shapes 0/' 'problem 0 label 1 differs'
+    changed 's/(unrealised (0 1))/(unrealised (0 0))/' 'problem 0 label 0 differs'
+    changed '/(escape /d' 'problem 0 label 0 differs'
+    changed 's/(test (0 1) n)/(test (0 1) k)/' 'problem 0 label 0 differs'
+    changed 's/(escape (enc n k))/(escape (enc k k))/' 'problem 0 label 0 differs'
+    changed 's/ ((1 1) (0 1))//' 'problem 0 label 1 differs'
+    differs reports/nonces_agreed_at_limit_1/output.scm 'problem 0 differs' 'a report at a lower limit'
+
+    sed 's/labels 2/labels 3/' examples/challenge.scm >"$dir/report"
+    run "$dir/report" analyse
+    judge 'searched again: another number of labels' 3 "$dir/nothing" 'no report 31:25'
+    run ../examples/challenge.scm analyse
+    judge 'searched again: no tree behind a problem' 3 "$dir/nothing" 'no report 1:1'
+    run examples/challenge.scm shapes
+    judge 'searched again: no command' 2 "$dir/nothing" 'usage: cpsa_check analyse [--limit N] [--bound N]'
+fi
 
 echo "$passed passed, $failed failed"
 [ "$failed" -eq 0 ]

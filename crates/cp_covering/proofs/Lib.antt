@@ -1,6 +1,7 @@
 pub mod Opening
 pub mod Alike
 pub mod OnTheWay
+pub mod EachSettled
 pub mod Settled
 pub mod Listed
 pub mod Putting

@@ -133,10 +133,11 @@ not_in_locked (Plaintext ∷ Plaintext ∷ path) at = cc
 not_in_locked (Left ∷ path) at = cc
 not_in_locked (Right ∷ path) at = cc
 
-key_is_not_carried : CarriesNonOriginating sent_before → ⊥
-key_is_not_carried c =
-    let value : c.value ≡ key_term shared = only_item c.listed in
-    let message = each_locked c.node.strand c.node.index c.carried.event c.carried.there in
+-- Where each event has the encryption none carries the key.
+pub key_is_not_carried : (k : Skeleton) → k.assumptions.non_originating ≡ key_term shared ∷ [] → ((s i : ℕ) (e : Event Term) → term_event_at k.strands (node_at s i) ≡ Some e → payload e ≡ locked) → CarriesNonOriginating k → ⊥
+key_is_not_carried k non each c =
+    let value : c.value ≡ key_term shared = only_item (subst (IsIn c.value) non c.listed) in
+    let message = each c.node.strand c.node.index c.carried.event c.carried.there in
     let carried : IsCarriedByTerm (atom_term (key_term shared)) locked = subst (IsCarriedByTerm (atom_term (key_term shared))) message (subst (λ (v : AtomTerm). IsCarriedByTerm (atom_term v) (payload c.carried.event)) value c.carried.carried) in
     let position = (carried_position locked (atom_term (key_term shared))).0 carried in
     not_in_locked position.0 position.1
@@ -151,7 +152,7 @@ closes_no_cycle : ClosesCycle sent_before → ⊥
 closes_no_cycle c = acyclic (with_pairs sent_before c.pairs) (λ p i. ⊎_elim (own_pairs p) (λ added. absurd (none_added sent_before refl p added)) ((c.normal p).0 i)) c.node c.cycle
 
 consistent : IsContradictory sent_before → ⊥
-consistent (inl carries) = key_is_not_carried carries
+consistent (inl carries) = key_is_not_carried sent_before refl each_locked carries
 consistent (inr (inl two)) = not_in_none two.first_listed
 consistent (inr (inr (inl lost))) = not_in_none lost.listed
 consistent (inr (inr (inr cycle))) = closes_no_cycle cycle

@@ -2,14 +2,14 @@
 use Rattle.std.proofs.Common.{◌≡◌, ℕ, suc, ◌≤◌, List, [], ◌∷◌, ◌++◌, length, Some, refl, sym, ap, ◌∙◌, subst, ⊎_elim, arith}
 use Rattle.std.specs.Prelude.{◌≢◌}
 use Rattle.cp_lists.specs.Lists.{item_at, IsIn, one_step}
-use Rattle.cp_lists.proofs.Members.{not_in_none, only_item, in_append, in_append_left, in_last, from_map}
+use Rattle.cp_lists.proofs.Members.{not_in_none, in_append_left, in_last, from_map}
 use Rattle.cp_model.specs.Term.{Term, Substitution, apply_to, composed}
 use Rattle.cp_model.specs.Strand.{Event, send, payload, Declaration, Role, Protocol}
 use Rattle.cp_model.specs.Bundle.{node_at}
 use Rattle.cp_model.specs.declared.node.Node.{Node}
 use Rattle.cp_model.specs.declared.node.OrderPair.{OrderPair}
 use Rattle.cp_model.specs.Skeleton.{instance, listener, term_event_at, Skeleton, along_pair, Before}
-use Rattle.cp_model.specs.Tree.{Operation, by_contraction, by_displacement, by_added_strand, by_added_listener, Pattern}
+use Rattle.cp_model.specs.Tree.{Operation, by_contraction, by_displacement, by_added_strand, by_added_listener}
 use Rattle.cp_model.proofs.LawTerms.{term_composed}
 use Rattle.cp_term.specs.declared.path.Step.{Step}
 use Rattle.cp_term.specs.Positions.{term_at}
@@ -29,13 +29,11 @@ use Rattle.cp_answers.specs.Fresh.{fresh_terms}
 use Rattle.cp_answers.proofs.Places.{term_at_under}
 use Rattle.cp_match.specs.Unifying.{UnifiesMostGenerally}
 use Rattle.cp_settle.specs.Releasing.{Tried, MeetsBoth}
-use Rattle.cp_covering.specs.Listing.{terms_onto}
 use Rattle.cp_covering.specs.Children.{Child, child, IsSentBefore, HasGrown}
 use Rattle.cp_covering.specs.Cohort.{Question, Contracts, AreContracted, release_at, DisplacesAt, DisplacesEvent, DisplacesStrand, AddsAt, AddsEvent, FreesCritical, by_key, by_body, by_nothing, OpensPattern, Listens, AreListeners, IsCohort, is_before, is_displaced, is_added, of_listener, of_node, of_role, is_inside, is_critical, cyclic}
 use Rattle.cp_covering.specs.Cohort as cohort
-use Rattle.cp_covering.specs.Released.{ComesFrom, ReleasesCritical, ReleasesFromElsewhere, EndsByReleasing, SetsFree, critical_key, critical_body, pattern_key, Says, IsAsSaid}
+use Rattle.cp_covering.specs.Released.{ComesFrom, ReleasesCritical, ReleasesFromElsewhere, EndsByReleasing, SetsFree, Says, IsAsSaid}
 use Rattle.cp_covering.proofs.EachChild.{each_child}
-use Rattle.cp_covering.proofs.Listed.{given, those_have, of_terms_onto}
 use Rattle.cp_covering.proofs.Leading.{Leads, IsStep, step_alike, step_form, step_event, step_instance, step_listener, step_before, step_leads, more_leads, first_then, more_then}
 use Rattle.cp_covering.proofs.Sending.{IsSending, settles_sending}
 
@@ -107,13 +105,6 @@ module _ (q : Question) where
   contracts_said o path children there_is before (cohort.unified {t = t} {s = s} {l = l} {forms = forms} outside at ne unifies same has) d i =
       let m = from_map (child q.variables (by_contraction o.node) path) forms i in
       subst (IsAsSaid q) m.2 (contracted_child o path there_is before t s l at unifies same m.0 (form_comes l m.0 (are_normal_forms has m.0 m.1)))
-
-  contracted_said : (children : List Child) → AreContracted q children → (d : Child) → IsIn d children → IsAsSaid q d
-  contracted_said children are d i =
-      let event = given are.each d i in
-      let path = given event.gives_it d event.among in
-      let has = those_have are.before event.giver event.listed in
-      contracts_said event.giver path.giver path.given has.0 has.1 path.gives_it d path.among
 
   -- ---- what is put before the node
 
@@ -213,17 +204,6 @@ module _ (q : Question) where
         displaced_said : (c : Child) (by : ComesFrom q c) → ReleasesFromElsewhere q c by (node_at s j) → c.operation ≡ by_displacement (node_at s j) → IsAsSaid q c
         displaced_said c by releases e = record { by = by; is_so = subst (Says q c by) (sym e) releases }
 
-  displaced_event : (s : ℕ) (role : Role) (height : ℕ) (terms : Substitution) → item_at k.strands s ≡ Some (instance role height terms) → s ≢ q.node.strand → (j : ℕ) (children : List Child) → DisplacesEvent q s role height j children → (d : Child) → IsIn d children → IsAsSaid q d
-  displaced_event s role height terms on apart j children (cohort.is_reception there_is) d i = absurd (not_in_none i)
-  displaced_event s role height terms on apart j children (is_before before) d i = absurd (not_in_none i)
-  displaced_event s role height terms on apart j children (is_displaced there_is none each) d i = let one = given each d i in displaced_at s role height terms on apart j none one.giver one.given one.gives_it d one.among
-
-  displaced_strand : (s : ℕ) (children : List Child) → DisplacesStrand q s children → (d : Child) → IsIn d children → IsAsSaid q d
-  displaced_strand s children (of_listener there_is) d i = absurd (not_in_none i)
-  displaced_strand s children (of_node same) d i = absurd (not_in_none i)
-  displaced_strand s children (of_role {role = role} {height = height} {terms = terms} there_is ne each) d i =
-      let one = given each d i in displaced_event s role height terms there_is ne one.giver one.given one.gives_it d one.among
-
   -- ---- added
 
   module _ (role : Role) (j : ℕ) where
@@ -237,10 +217,6 @@ module _ (q : Question) where
       where
         added_said : (c : Child) (by : ComesFrom q c) → EndsByReleasing q c by (length k.strands) → c.operation ≡ by_added_strand (length k.strands) → IsAsSaid q c
         added_said c by ends e = record { by = by; is_so = subst (Says q c by) (sym e) ends }
-
-    added_event : (children : List Child) → AddsEvent q role j children → (d : Child) → IsIn d children → IsAsSaid q d
-    added_event children (cohort.is_reception there_is) d i = absurd (not_in_none i)
-    added_event children (is_added there_is each) d i = let one = given each d i in added_at one.giver one.given one.gives_it d one.among
 
   -- ---- listeners
 
@@ -271,39 +247,15 @@ module _ (q : Question) where
       let m = from_map (child q.variables (by_added_listener (length k.strands)) []) l.forms (subst (IsIn d) l.are_children i) in
       subst (IsAsSaid q) m.2 (listener_child t l.added l.adds sets_free m.0 (form_comes (put_before (node_at (length k.strands) 1) q.node l.added) m.0 (are_normal_forms l.normal m.0 m.1)))
 
-  freed : (frees : List Term) → FreesCritical q frees → (t : Term) → IsIn t frees → SetsFree q t
-  freed frees (by_key e none) t i = subst (SetsFree q) (sym (only_item i)) (critical_key e none)
-  freed frees (by_body e some) t i = subst (SetsFree q) (sym (only_item i)) (critical_body e some)
-  freed frees (by_nothing none) t i = absurd (not_in_none i)
-
-  opens : (p : Pattern) (ts : List Term) → IsIn p q.patterns → OpensPattern p ts → (t : Term) → IsIn t ts → SetsFree q t
-  opens p ts listed o t i = subst (SetsFree q) (sym (only_item (subst (IsIn t) o.inverse i))) (pattern_key listed o.is_pattern)
-
-  listeners_said : (children : List Child) → AreListeners q children → (d : Child) → IsIn d children → IsAsSaid q d
-  listeners_said children are d i =
-      let one = given are.each d i in
-      listens_said one.giver one.given (of_term one.giver one.listed) one.gives_it d one.among
-    where
-      opens_term : (t : Term) → IsIn t are.opens → SetsFree q t
-      opens_term t j = let o = given are.patterns t j in opens o.giver o.given o.listed o.gives_it t o.among
-
-      of_term : (t : Term) → IsIn t (terms_onto [] (are.frees ++ are.opens)) → SetsFree q t
-      of_term t j =
-          ⊎_elim (λ (none : IsIn t []). absurd (not_in_none none)) (λ m. ⊎_elim (λ f. freed are.frees are.critical t f) (λ o. opens_term t o) (in_append are.frees are.opens m)) (of_terms_onto [] (are.frees ++ are.opens) t j)
-
   -- ---- all of them
 
   pub said : (protocol : Protocol) (children : List Child) → IsCohort protocol q children → (d : Child) → IsIn d children → IsAsSaid q d
-  said protocol children is d i =
-      each_child protocol q children is (IsAsSaid q) (contracted_said is.contracted is.are_contracted) displaced_said added_said (listeners_said is.listeners is.are_listeners) d i
-    where
-      displaced_said : (e : Child) → IsIn e is.displaced → IsAsSaid q e
-      displaced_said e n = let one = given is.are_displaced e n in displaced_strand one.giver one.given one.gives_it e one.among
-
-      added_said : (e : Child) → IsIn e is.added → IsAsSaid q e
-      added_said e o =
-          let role = given is.are_added e o in
-          let event = given role.gives_it e role.among in added_event role.giver event.giver event.given event.gives_it e event.among
+  said protocol = each_child protocol q (IsAsSaid q) (record {
+    contracted = λ o there_is before path children. contracts_said o path children there_is before;
+    displaced = λ s role height terms on apart j t sent none. displaced_at s role height terms on apart j none;
+    added = λ role listed j t sent. added_at role j;
+    listened = λ t free children. listens_said t children free;
+  })
 
 pub children_said : (protocol : Protocol) (q : Question) (children : List Child) → IsCohort protocol q children → (d : Child) → IsIn d children → IsAsSaid q d
 children_said protocol q children is d i = said q protocol children is d i

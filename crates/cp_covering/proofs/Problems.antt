@@ -1,7 +1,7 @@
 -- What goes on carrying a homomorphism from a problem, and keeping what the problem states.
-use Rattle.std.proofs.Common.{List, [], ◌∷◌, ◌++◌, map, ⊎_elim, subst}
-use Rattle.cp_lists.specs.Lists.{IsIn, here, there}
-use Rattle.cp_lists.proofs.Members.{not_in_none, in_append_left, in_append, into_map, from_map}
+use Rattle.std.proofs.Common.{List, [], ◌∷◌, ◌++◌, map}
+use Rattle.cp_lists.specs.Lists.{IsIn}
+use Rattle.cp_lists.proofs.Members.{in_append_left, into_map}
 use Rattle.cp_model.specs.Term.{Substitution}
 use Rattle.cp_model.specs.declared.node.Node.{Node}
 use Rattle.cp_model.specs.declared.node.OrderPair.{OrderPair}
@@ -22,8 +22,9 @@ use Rattle.cp_normal.proofs.Homomorphic.{same_carries, form_carries}
 use Rattle.cp_normal.proofs.StatedForms.{form_keeps}
 use Rattle.cp_answers.specs.Covering.{put_before}
 use Rattle.cp_settle.specs.Releasing.{Release, Tried}
-use Rattle.cp_settle.specs.Settling.{Choice, form_of, Stage, Settles, released_inside, branching, normalising, settled, Branches, no_choices, never_matches, matches_by, EachSettles, no_forms, next_form}
+use Rattle.cp_settle.specs.Settling.{Stage, Settles}
 use Rattle.cp_covering.specs.Sound.{KeepsProblems}
+use Rattle.cp_covering.proofs.EachSettled.{settles_each}
 
 pub keeps_itself : (k : Skeleton) → KeepsProblems k k
 keeps_itself k variables problem own carries = (carries, λ stated. stated)
@@ -56,28 +57,10 @@ keeps_put m n k variables problem own carries =
 
 -- ---- what is tried until both conditions hold
 
-module _ (r : Release) where
-  mutual
-    pub settles_keeps : {stage : Stage} {x : Tried} {ys : List Tried} → Settles r stage x ys → (y : Tried) → IsIn y ys → KeepsProblems x.skeleton y.skeleton
-    settles_keeps (released_inside inside) y i = absurd (not_in_none i)
-    settles_keeps (branching outside o branches) y i = branches_keep branches y i
-    settles_keeps (normalising {x = x} {forms = forms} both are each) y i =
-        let s = each_keeps each y i in
-        let m = from_map (form_of x) forms s.1 in
-        let first : KeepsProblems x.skeleton s.0.skeleton = subst (λ (z : Tried). KeepsProblems x.skeleton z.skeleton) m.2 (keeps_forms x.skeleton (map (λ (f : Formed). f.skeleton) forms) are.exact m.0.skeleton (into_map (λ (f : Formed). f.skeleton) m.1)) in
-        keeps_then x.skeleton s.0.skeleton y.skeleton first s.2
-    settles_keeps (settled {x = x} both) y here = keeps_itself x.skeleton
-    settles_keeps (settled {x = x} both) y (there i) = absurd (not_in_none i)
-
-    branches_keep : {x : Tried} {cs : List Choice} {ys : List Tried} → Branches r x cs ys → (y : Tried) → IsIn y ys → KeepsProblems x.skeleton y.skeleton
-    branches_keep no_choices y i = absurd (not_in_none i)
-    branches_keep (never_matches never rest) y i = branches_keep rest y i
-    branches_keep (matches_by {x = x} {u = u} {l = l} {ys = ys} {zs = zs} m same first_settles rest) y i =
-        ⊎_elim
-        (λ j. keeps_then x.skeleton l y.skeleton (keeps_then x.skeleton (skeleton_under u x.skeleton) l (keeps_under u x.skeleton) (keeps_alike (skeleton_under u x.skeleton) l same)) (settles_keeps first_settles y j))
-        (λ j. branches_keep rest y j) (in_append ys zs i)
-
-    each_keeps : {xs ys : List Tried} → EachSettles r xs ys → (y : Tried) → IsIn y ys → (x : Tried) × IsIn x xs × KeepsProblems x.skeleton y.skeleton
-    each_keeps no_forms y i = absurd (not_in_none i)
-    each_keeps (next_form {x = x} {ys = ys} {zs = zs} one rest) y i =
-        ⊎_elim (λ j. (x, here, settles_keeps one y j)) (λ j. let s = each_keeps rest y j in (s.0, there s.1, s.2)) (in_append ys zs i)
+pub settles_keeps : (r : Release) {stage : Stage} {x : Tried} {ys : List Tried} → Settles r stage x ys → (y : Tried) → IsIn y ys → KeepsProblems x.skeleton y.skeleton
+settles_keeps r {x = x} settles y i =
+    let k = x.skeleton in
+    (settles_each r (λ (z : Tried). KeepsProblems k z.skeleton) (record {
+      branch = λ z keeps c choice u m l same. keeps_then k z.skeleton l keeps (keeps_then z.skeleton (skeleton_under u z.skeleton) l (keeps_under u z.skeleton) (keeps_alike (skeleton_under u z.skeleton) l same));
+      form = λ z keeps forms are f listed. keeps_then k z.skeleton f.skeleton keeps (keeps_forms z.skeleton (map (λ (g : Formed). g.skeleton) forms) are.exact f.skeleton (into_map (λ (g : Formed). g.skeleton) listed));
+    }) settles (keeps_itself k) y i).0

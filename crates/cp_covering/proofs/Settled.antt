@@ -2,7 +2,7 @@
 use Rattle.std.proofs.Common.{◌≡◌, ℕ, List, [], ◌∷◌, ◌++◌, length, map, Option, Some, None, refl, sym, ap, ◌∙◌, subst, ◌⊎◌, inl, inr, ⊎_elim, append_assoc}
 use Rattle.cp_lists.specs.Lists.{item_at, IsIn, here, there}
 use Rattle.cp_lists.proofs.Members.{not_in_none, in_append_left, in_append_right, in_append, into_map, from_map}
-use Rattle.cp_model.specs.Term.{Variable, Term, pair_term, enc_term, tag_term, atom_term, atom_of_variable, variables_of, variables_of_atom, variables_of_key, Assignment, value_of, after, Substitution, apply_to, apply_to_atom, composed}
+use Rattle.cp_model.specs.Term.{Variable, KeyTerm, Term, pair_term, enc_term, tag_term, atom_term, atom_of_variable, variables_of, variables_of_atom, variables_of_key, Assignment, value_of, after, Substitution, apply_to, apply_to_atom, composed}
 use Rattle.cp_model.specs.Strand.{Declaration, Event, payload, Protocol}
 use Rattle.cp_model.specs.Bundle.{node_at}
 use Rattle.cp_model.specs.declared.node.Node.{Node}
@@ -34,8 +34,9 @@ use Rattle.cp_answers.proofs.NewValues.{beside, old_values}
 use Rattle.cp_match.specs.Unifying.{UnifiesMostGenerally, NeverEqual}
 use Rattle.cp_match.specs.Opened.{declared_as}
 use Rattle.cp_settle.specs.Releasing.{Release, Tried, IsFirstOutside}
-use Rattle.cp_settle.specs.Settling.{Choice, choices, pattern_in, branch_of, form_of, Stage, Settles, released_inside, branching, normalising, settled, Branches, no_choices, never_matches, matches_by, EachSettles, no_forms, next_form}
+use Rattle.cp_settle.specs.Settling.{Choice, choices, pattern_in, form_of, Stage, Settles, released_inside, branching, normalising, settled, Branches, no_choices, never_matches, matches_by, EachSettles, no_forms, next_form}
 use Rattle.cp_covering.specs.Way.{trial_of, AreUsedVariables, IsOnTheWay, DeclaresMore}
+use Rattle.cp_covering.proofs.EachSettled.{settles_each}
 use Rattle.cp_covering.proofs.Opening.{opened_value, declared_below}
 use Rattle.cp_covering.proofs.Alike.{alike_tried, as_form, formed_keep}
 use Rattle.cp_covering.proofs.OnTheWay.{branch_on_the_way, form_on_the_way, at_index}
@@ -46,21 +47,26 @@ append_none (x ∷ xs) = ap (λ ys. x ∷ ys) (append_none xs)
 
 -- ---- enclosing encryptions, and choices
 
+-- What a term has where one of its parts does, it has where an enclosing encryption does.
+pub above_has : {Has : Term → Type 0} → ((a b : Term) → Has a → Has (pair_term a b)) → ((a b : Term) → Has b → Has (pair_term a b)) → ((a : Term) (k : KeyTerm) → Has a → Has (enc_term a k))
+    → (t : Term) (path : List Step) (e : Term) → IsIn e (encryptions_above t path) → Has e → Has t
+above_has left right body (pair_term a b) (Left ∷ path) e i h = left a b (above_has left right body a path e i h)
+above_has left right body (pair_term a b) (Right ∷ path) e i h = right a b (above_has left right body b path e i h)
+above_has left right body (enc_term a k) (Plaintext ∷ path) e here h = h
+above_has left right body (enc_term a k) (Plaintext ∷ path) e (there i) h = body a k (above_has left right body a path e i h)
+above_has left right body (pair_term a b) (Plaintext ∷ path) e i h = absurd (not_in_none i)
+above_has left right body (pair_term a b) [] e i h = absurd (not_in_none i)
+above_has left right body (enc_term a k) (Left ∷ path) e i h = absurd (not_in_none i)
+above_has left right body (enc_term a k) (Right ∷ path) e i h = absurd (not_in_none i)
+above_has left right body (enc_term a k) [] e i h = absurd (not_in_none i)
+above_has left right body (tag_term bytes) path e i h = absurd (not_in_none i)
+above_has left right body (atom_term a) path e i h = absurd (not_in_none i)
+
 -- The variables of an enclosing encryption are those of the term.
 pub above_variables : (t : Term) (path : List Step) (e : Term) → IsIn e (encryptions_above t path) → (x : Variable) → IsIn x (variables_of e) → IsIn x (variables_of t)
-above_variables (pair_term a b) (Left ∷ path) e i x j = in_append_left (variables_of b) (above_variables a path e i x j)
-above_variables (pair_term a b) (Right ∷ path) e i x j = in_append_right (variables_of a) (above_variables b path e i x j)
-above_variables (enc_term a k) (Plaintext ∷ path) e here x j = j
-above_variables (enc_term a k) (Plaintext ∷ path) e (there i) x j = in_append_left (variables_of_key k) (above_variables a path e i x j)
-above_variables (pair_term a b) (Plaintext ∷ path) e i x j = absurd (not_in_none i)
-above_variables (pair_term a b) [] e i x j = absurd (not_in_none i)
-above_variables (enc_term a k) (Left ∷ path) e i x j = absurd (not_in_none i)
-above_variables (enc_term a k) (Right ∷ path) e i x j = absurd (not_in_none i)
-above_variables (enc_term a k) [] e i x j = absurd (not_in_none i)
-above_variables (tag_term bytes) path e i x j = absurd (not_in_none i)
-above_variables (atom_term a) path e i x j = absurd (not_in_none i)
+above_variables t path e i x j = above_has {Has = λ (u : Term). IsIn x (variables_of u)} (λ a b m. in_append_left (variables_of b) m) (λ a b m. in_append_right (variables_of a) m) (λ a k m. in_append_left (variables_of_key k) m) t path e i j
 
-abbrev choice : Term → Pattern → Choice
+abbrev pub choice : Term → Pattern → Choice
 choice e p = record { encryption = e; pattern = p }
 
 in_choices : (es : List Term) (ps : List Pattern) (e : Term) (p : Pattern) → IsIn e es → IsIn p ps → IsIn (choice e p) (choices es ps)
@@ -68,7 +74,7 @@ in_choices [] ps e p i j = absurd (not_in_none i)
 in_choices (e ∷ es) ps f p here j = in_append_left (choices es ps) (into_map (choice e) j)
 in_choices (d ∷ es) ps e p (there i) j = in_append_right (map (choice d) ps) (in_choices es ps e p i j)
 
-of_choices : (es : List Term) (ps : List Pattern) (c : Choice) → IsIn c (choices es ps) → IsIn c.encryption es × IsIn c.pattern ps
+pub of_choices : (es : List Term) (ps : List Pattern) (c : Choice) → IsIn c (choices es ps) → IsIn c.encryption es × IsIn c.pattern ps
 of_choices [] ps c i = absurd (not_in_none i)
 of_choices (e ∷ es) ps c i =
     ⊎_elim (λ j. let m = from_map (choice e) ps j in subst (λ (d : Choice). IsIn d.encryption (e ∷ es) × IsIn d.pattern ps) m.2 (here, m.1))
@@ -226,30 +232,14 @@ module _ (protocol : Protocol) (first : Skeleton) (r : Release) (used : AreUsedV
   abbrev IsLater : Tried → Tried → Type 0
   IsLater x y = IsOnTheWay protocol first r y × DeclaresMore x.variables y.variables
 
-  later_than_more : (x : Tried) (more : List Declaration) (z y : Tried) → z.variables ≡ x.variables ++ more → IsLater z y → IsLater x y
-  later_than_more x more z y e l =
-      (l.0, record { more = more ++ l.1.more; behind = l.1.behind ∙ ap (λ (ds : List Declaration). ds ++ l.1.more) e ∙ append_assoc x.variables more l.1.more })
-
-  mutual
-    pub settles_later : {stage : Stage} {x : Tried} {ys : List Tried} → Settles r stage x ys → IsOnTheWay protocol first r x → (y : Tried) → IsIn y ys → IsLater x y
-    settles_later (released_inside inside) w y i = absurd (not_in_none i)
-    settles_later (branching {x = x} {t = t} {path = path} outside o branches) w y i = branches_later branches w (are_choices [] x w t path o) y i
-    settles_later (normalising {x = x} {forms = forms} both are each) w y i =
-        let s = each_later each (forms_are_on_the_way x w forms are) y i in
-        let m = from_map (form_of x) forms s.1 in
-        (s.2.0, subst (λ (z : Tried). DeclaresMore z.variables y.variables) (sym m.2) s.2.1)
-    settles_later (settled {x = x} both) w y here = (w, record { more = []; behind = sym (append_none x.variables) })
-    settles_later (settled {x = x} both) w y (there i) = absurd (not_in_none i)
-
-    branches_later : {x : Tried} {cs : List Choice} {ys : List Tried} → Branches r x cs ys → IsOnTheWay protocol first r x → ((c : Choice) → IsIn c cs → IsChoiceOf x c) → (y : Tried) → IsIn y ys → IsLater x y
-    branches_later no_choices w are y i = absurd (not_in_none i)
-    branches_later (never_matches never rest) w are y i = branches_later rest w (λ d j. are d (there j)) y i
-    branches_later (matches_by {x = x} {c = c} {u = u} {l = l} {ys = ys} {zs = zs} m same first_settles rest) w are y i =
-        let a = are c here in
-        ⊎_elim (λ j. later_than_more x (declared_as x.variables c.pattern.locals) (branch_of x c.pattern u l) y refl (settles_later first_settles (branch_on_the_way protocol first r used x w c.encryption c.pattern a.0 a.1 u m l same) y j))
-        (λ j. branches_later rest w (λ d j. are d (there j)) y j) (in_append ys zs i)
-
-    each_later : {xs ys : List Tried} → EachSettles r xs ys → ((x : Tried) → IsIn x xs → IsOnTheWay protocol first r x) → (y : Tried) → IsIn y ys → (x : Tried) × IsIn x xs × IsLater x y
-    each_later no_forms are y i = absurd (not_in_none i)
-    each_later (next_form {x = x} {ys = ys} {zs = zs} one rest) are y i =
-        ⊎_elim (λ j. (x, here, settles_later one (are x here) y j)) (λ j. let s = each_later rest (λ z j. are z (there j)) y j in (s.0, there s.1, s.2)) (in_append ys zs i)
+  pub settles_later : {stage : Stage} {x : Tried} {ys : List Tried} → Settles r stage x ys → IsOnTheWay protocol first r x → (y : Tried) → IsIn y ys → IsLater x y
+  settles_later {x = x} settles w y i =
+      (settles_each r (IsLater x) (record {
+        branch = λ z later c choice u m l same.
+            let new = declared_as z.variables c.pattern.locals in
+            let a = are_choices [] z later.0 choice.term choice.path choice.outside c choice.listed in (
+              branch_on_the_way protocol first r used z later.0 c.encryption c.pattern a.0 a.1 u m l same,
+              record { more = later.1.more ++ new; behind = ap (λ (ds : List Declaration). ds ++ new) later.1.behind ∙ append_assoc x.variables later.1.more new },
+            );
+        form = λ z later forms are f listed. (form_on_the_way protocol first r used z later.0 forms are f listed, later.1);
+      }) settles (w, record { more = []; behind = sym (append_none x.variables) }) y i).0

@@ -1,14 +1,14 @@
 -- The children of a test are sound.
-use Rattle.std.proofs.Common.{◌≡◌, ℕ, suc, ◌<◌, ◌≤◌, List, [], ◌++◌, length, map, Some, refl, sym, ap, ◌∙◌, subst, ◌⊎◌, inl, inr, ⊎_elim, append_assoc, arith}
+use Rattle.std.proofs.Common.{◌≡◌, ℕ, suc, ◌<◌, ◌≤◌, List, [], ◌++◌, length, map, Some, refl, sym, ap, ◌∙◌, subst, ◌⊎◌, inl, inr, append_assoc, arith}
 use Rattle.std.specs.Prelude.{◌≢◌}
 use Rattle.cp_lists.specs.Lists.{item_at, IsIn}
-use Rattle.cp_lists.proofs.Members.{not_in_none, only_item, in_append, in_append_left, in_append_right, from_map}
-use Rattle.cp_model.specs.Term.{Variable, KeyTerm, symmetric_term, asymmetric_term, key_term, inverse_term, Term, atom_term, variables_of, variables_of_key, Substitution}
+use Rattle.cp_lists.proofs.Members.{not_in_none, in_append_left, in_append_right, from_map}
+use Rattle.cp_model.specs.Term.{Variable, KeyTerm, symmetric_term, asymmetric_term, inverse_term, Term, variables_of, variables_of_key, Substitution}
 use Rattle.cp_model.specs.Strand.{send, payload, Declaration, Role, Protocol}
 use Rattle.cp_model.specs.Bundle.{node_at}
 use Rattle.cp_model.specs.Skeleton.{instance, Skeleton, IsSkeleton}
 use Rattle.cp_model.specs.Problem.{IsDeclared, HasDeclaredVariables}
-use Rattle.cp_model.specs.Tree.{Operation, by_contraction, Pattern}
+use Rattle.cp_model.specs.Tree.{Operation, by_contraction}
 use Rattle.cp_term.specs.declared.path.Step.{Step}
 use Rattle.cp_completeness.specs.Normal.{skeleton_under}
 use Rattle.cp_completeness.proofs.Skeletons.{skeleton_under_is_skeleton}
@@ -32,15 +32,14 @@ use Rattle.cp_answers.specs.Covering.{put_before}
 use Rattle.cp_answers.specs.Fresh.{fresh_terms}
 use Rattle.cp_answers.proofs.Places.{position_variables}
 use Rattle.cp_settle.specs.Releasing.{Tried}
-use Rattle.cp_covering.specs.Listing.{terms_onto}
 use Rattle.cp_covering.specs.Children.{Child, child, declarations_of}
 use Rattle.cp_covering.specs.Cohort.{Question, positions, Contracts, AreContracted, release_at, DisplacesAt, DisplacesEvent, DisplacesStrand, AddsAt, AddsEvent, FreesCritical, by_key, by_body, by_nothing, OpensPattern, Listens, AreListeners, IsCohort, is_before, is_displaced, is_added, of_listener, of_node, of_role, is_inside, is_critical, cyclic}
 use Rattle.cp_covering.specs.Cohort as cohort
+use Rattle.cp_covering.specs.Released.{SetsFree, critical_key, critical_body, pattern_key}
 use Rattle.cp_covering.specs.Way.{DeclaresMore}
 use Rattle.cp_covering.specs.Sound.{KeepsProblems, IsSoundChild}
 use Rattle.cp_covering.proofs.OnTheWay.{unifier_keeps}
 use Rattle.cp_covering.proofs.Settled.{append_none, event_declared, settles_later}
-use Rattle.cp_covering.proofs.Listed.{given, those_have, of_terms_onto}
 use Rattle.cp_covering.proofs.EachChild.{each_child}
 use Rattle.cp_covering.proofs.Putting.{listening_is_skeleton}
 use Rattle.cp_covering.proofs.CohortCovers.{IsGrown, put_on_the_way, displaced_grown, added_grown}
@@ -93,12 +92,6 @@ module _ (protocol : Protocol) (q : Question) (sk : IsSkeleton protocol q.skelet
       forms_sound l forms (same_is_skeleton under l same protocol (skeleton_under_is_skeleton protocol s k sk)) (agreeing_declared q.variables under l same (under_declared q.variables s k gives declared))
       (keeps_then k under l (keeps_under s k) (keeps_alike under l same)) has (by_contraction o.node) path d i
 
-  contracted_sound : (children : List Child) → AreContracted q children → (d : Child) → IsIn d children → IsSound d
-  contracted_sound children are d i =
-      let event = given are.each d i in
-      let path = given event.gives_it d event.among in
-      contracts_sound event.giver path.giver path.given (those_have are.before event.giver event.listed).0 path.gives_it d path.among
-
   -- ---- what is put before the node
 
   module _ (variables : List Declaration) (s j : ℕ) (path : List Step) (grown : Skeleton) (is : IsGrown protocol q sk declares declared is_test guards variables s grown) (more : DeclaresMore q.variables variables) (keeps : KeepsProblems k grown) where
@@ -150,18 +143,6 @@ module _ (protocol : Protocol) (q : Question) (sk : IsSkeleton protocol q.skelet
           releases_sound a.variables s j path a.grown (displaced_grown protocol q sk declares declared is_test guards s role height terms on apart j t sent a.variables a.grown a.grows.how) (has_more a.variables a.grown a.grows.how)
           (grown_keeps a.variables a.grown a.grows.how) _ children a.releases d i
 
-    displaced_event : (j : ℕ) (children : List Child) → DisplacesEvent q s role height j children → (d : Child) → IsIn d children → IsSound d
-    displaced_event j children (cohort.is_reception there_is) d i = absurd (not_in_none i)
-    displaced_event j children (is_before before) d i = absurd (not_in_none i)
-    displaced_event j children (is_displaced {t = t} there_is none each) d i =
-        let one = given each d i in displaced_at j t there_is one.giver one.given one.gives_it d one.among
-
-  displaced_strand : (s : ℕ) (children : List Child) → DisplacesStrand q s children → (d : Child) → IsIn d children → IsSound d
-  displaced_strand s children (of_listener there_is) d i = absurd (not_in_none i)
-  displaced_strand s children (of_node same) d i = absurd (not_in_none i)
-  displaced_strand s children (of_role {role = role} {height = height} {terms = terms} there_is ne each) d i =
-      let one = given each d i in displaced_event s role height terms there_is ne one.giver one.given one.gives_it d one.among
-
   -- ---- added
 
   module _ (role : Role) (in_roles : IsIn role protocol.roles) (j : ℕ) where
@@ -169,10 +150,6 @@ module _ (protocol : Protocol) (q : Question) (sk : IsSkeleton protocol q.skelet
     added_at t sent path children a d i =
         releases_sound (q.variables ++ declarations_of role (prefix_variables role (suc j))) (length k.strands) j path a.grown (added_grown protocol q sk declares declared is_test guards role in_roles j t sent a.grown a.adds)
         (record { more = declarations_of role (prefix_variables role (suc j)); behind = refl }) (keeps_more k a.grown (strand_says_more role (suc j) (fresh_terms (length q.variables) (prefix_variables role (suc j))) k a.grown a.adds)) _ children a.releases d i
-
-    added_event : (children : List Child) → AddsEvent q role j children → (d : Child) → IsIn d children → IsSound d
-    added_event children (cohort.is_reception there_is) d i = absurd (not_in_none i)
-    added_event children (is_added {t = t} there_is each) d i = let one = given each d i in added_at t there_is one.giver one.given one.gives_it d one.among
 
   -- ---- listeners
 
@@ -184,48 +161,25 @@ module _ (protocol : Protocol) (q : Question) (sk : IsSkeleton protocol q.skelet
       (ordered_declared q.variables l.added put.pairs (listener_declared q.variables t k l.added l.adds of_t declared))
       (keeps_then k l.added put (keeps_more k l.added (listener_says_more t k l.added l.adds)) (keeps_put node q.node l.added)) l.normal _ [] d (subst (IsIn d) l.are_children i)
 
-  freed_declared : (frees : List Term) → FreesCritical q frees → (t : Term) → IsIn t frees → (x : Variable) → IsIn x (variables_of t) → IsDeclared q.variables x
-  freed_declared frees (by_key {body = body} {key = key} e none) t i x m =
-      critical_declared x (subst (λ (u : Term). IsIn x (variables_of u)) (sym e) (in_append_right (variables_of body) (subst (λ (u : Term). IsIn x (variables_of u)) (only_item i) m)))
-  freed_declared frees (by_body {body = body} {key = key} e some) t i x m =
-      critical_declared x (subst (λ (u : Term). IsIn x (variables_of u)) (sym e) (in_append_left (variables_of_key key) (subst (λ (u : Term). IsIn x (variables_of u)) (only_item i) m)))
-  freed_declared frees (by_nothing none) t i x m = absurd (not_in_none i)
-
-  opened_declared : (p : Pattern) (ts : List Term) → IsIn p q.patterns → OpensPattern p ts → (t : Term) → IsIn t ts → (x : Variable) → IsIn x (variables_of t) → IsDeclared q.variables x
-  opened_declared p ts listed o t i x m =
-      let same : t ≡ atom_term (key_term (inverse_term o.key)) = only_item (subst (IsIn t) o.inverse i) in
-      let in_inverse : IsIn x (variables_of_key (inverse_term o.key)) = subst (λ (u : Term). IsIn x (variables_of u)) same m in
-      let in_key : IsIn x (variables_of_key o.key) = subst (IsIn x) (same_key_variables o.key) in_inverse in
+  heard_declared : (t : Term) → SetsFree q t → (x : Variable) → IsIn x (variables_of t) → IsDeclared q.variables x
+  heard_declared t (critical_key {body = body} e none) x m = critical_declared x (subst (λ (u : Term). IsIn x (variables_of u)) (sym e) (in_append_right (variables_of body) m))
+  heard_declared t (critical_body {key = key} e some) x m = critical_declared x (subst (λ (u : Term). IsIn x (variables_of u)) (sym e) (in_append_left (variables_of_key key) m))
+  heard_declared t (pattern_key {p = p} {body = body} {key = key} listed e) x m =
+      let in_key : IsIn x (variables_of_key key) = subst (IsIn x) (same_key_variables key) m in
       all_declared q.variables k declared x (guards.used_by_patterns p x listed (record {
-        occurs = subst (λ (u : Term). IsIn x (variables_of u)) (sym o.is_pattern) (in_append_right (variables_of o.body) in_key);
-        no_local = λ local. guards.keys p listed o.body o.key x o.is_pattern in_key local;
+        occurs = subst (λ (u : Term). IsIn x (variables_of u)) (sym e) (in_append_right (variables_of body) in_key);
+        no_local = λ local. guards.keys p listed body key x e in_key local;
       }))
-
-  listeners_sound : (children : List Child) → AreListeners q children → (d : Child) → IsIn d children → IsSound d
-  listeners_sound children are d i =
-      let one = given are.each d i in
-      listens_sound one.giver one.given (of_term one.giver one.listed) one.gives_it d one.among
-    where
-      opens_term : (t : Term) → IsIn t are.opens → (x : Variable) → IsIn x (variables_of t) → IsDeclared q.variables x
-      opens_term t j = let o = given are.patterns t j in opened_declared o.giver o.given o.listed o.gives_it t o.among
-
-      of_term : (t : Term) → IsIn t (terms_onto [] (are.frees ++ are.opens)) → (x : Variable) → IsIn x (variables_of t) → IsDeclared q.variables x
-      of_term t j =
-          ⊎_elim (λ (none : IsIn t []). absurd (not_in_none none)) (λ m. ⊎_elim (λ f. freed_declared are.frees are.critical t f) (λ o. opens_term t o) (in_append are.frees are.opens m)) (of_terms_onto [] (are.frees ++ are.opens) t j)
 
   -- ---- all of them
 
   pub sound : (children : List Child) → IsCohort protocol q children → (d : Child) → IsIn d children → IsSound d
-  sound children is d i =
-      each_child protocol q children is IsSound (contracted_sound is.contracted is.are_contracted) displaced_sound added_sound (listeners_sound is.listeners is.are_listeners) d i
-    where
-      displaced_sound : (e : Child) → IsIn e is.displaced → IsSound e
-      displaced_sound e n = let one = given is.are_displaced e n in displaced_strand one.giver one.given one.gives_it e one.among
-
-      added_sound : (e : Child) → IsIn e is.added → IsSound e
-      added_sound e o =
-          let role = given is.are_added e o in
-          let event = given role.gives_it e role.among in added_event role.giver role.listed event.giver event.given event.gives_it e event.among
+  sound = each_child protocol q IsSound (record {
+    contracted = λ o there_is before path children. contracts_sound o path children there_is;
+    displaced = λ s role height terms on apart j t sent none. displaced_at s role height terms on apart j t sent;
+    added = added_at;
+    listened = λ t free children. listens_sound t children (heard_declared t free);
+  })
 
 pub sound_child : (protocol : Protocol) (q : Question) (children : List Child) → IsSkeleton protocol q.skeleton → ((role : Role) → IsIn role protocol.roles → DeclaresItsVariables role) → HasDeclaredVariables q.variables q.skeleton →
     IsTest q.skeleton q.node q.critical → Guards q.patterns q.skeleton q.node q.critical → IsCohort protocol q children → (d : Child) → IsIn d children → IsSoundChild protocol q d

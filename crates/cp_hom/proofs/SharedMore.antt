@@ -1,9 +1,9 @@
 -- Role strands of a skeleton that embeds in another share values there at least as much.
-use Rattle.std.proofs.Common.{◌≡◌, ℕ, suc, ◌+◌, ◌-◌, ◌*◌, ◌^◌, ◌<◌, ◌≤◌, Bool, true, false, if◌then◌else◌, min, List, [], ◌∷◌, map, drop, length, get_or, refl, sym, ap, ◌∙◌, subst, subst₂, arith, ◌⊎◌, inl, inr}
-use Rattle.std.specs.Prelude.{Some}
+use Rattle.std.proofs.Common.{◌≡◌, ℕ, suc, ◌+◌, ◌-◌, ◌*◌, ◌^◌, ◌<◌, ◌≤◌, Bool, true, false, if◌then◌else◌, min, List, [], ◌∷◌, ◌++◌, map, drop, length, get_or, refl, sym, ap, ap₂, ◌∙◌, subst, subst₂, arith, ◌⊎◌, inl, inr}
+use Rattle.std.specs.Prelude.{Some, Vec}
 use Rattle.std.specs.Bool.{Decides}
 use Rattle.std.proofs.lemmas.Bool.{cases_lt}
-use Rattle.std.proofs.Math.Nat.{min-eq_left, min-eq_right, min-le_right, mul-le-mul_left}
+use Rattle.std.proofs.Math.Nat.{min-eq_left, min-eq_right, min-le_right, mul-le-mul_left, mul-le-mul}
 use Rattle.cp_lists.specs.Lists.{item_at, IsIn}
 use Rattle.cp_lists.proofs.Members.{drop_read}
 use Rattle.cp_lists.proofs.Items.{map_of_item}
@@ -16,10 +16,10 @@ use Rattle.cp_model.proofs.LawTerms.{atom_composed}
 use Rattle.cp_model.proofs.LawPrefixes.{variables_of_higher}
 use Rattle.cp_model.proofs.SameTests.{variable_in, in_has_variable}
 use Rattle.cp_term.proofs.SameTerms.{same_Decides, test_is}
-use Rattle.cp_hom.specs.Sharing.{place_weight, text_number, value_slots, declared_variable, declared_slots, strand_slots, strands_slots, slots_of, listened, heard_weight, kept, weight_from, part_of, sharing_from, sharing_of}
+use Rattle.cp_hom.specs.Sharing.{place_weight, text_number, value_slots, declared_variable, declared_slots, strand_slots, strung, slots_of, lists_of, listened, heard_weight, kept, weight_from, part_of, share_from, squared, squares_from, sharing_of}
 use Rattle.cp_hom.specs.declared.slots.Slot.{Slot}
 use Rattle.cp_hom.proofs.Listened.{heard_more, heard_within}
-use Rattle.cp_hom.proofs.StrandSums.{total, sum_of, sum_append, total_map, GoesToMore, GoApart, no_more_in_all}
+use Rattle.cp_hom.proofs.StrandSums.{sum_of, sum_append, total_map, GoesToMore, GoApart, no_more_in_all}
 
 -- ---- numbers that are kept within a bound
 
@@ -92,12 +92,38 @@ weight_is n t (x ∷ xs) l = step (λ k h. weight_is k t xs h) (same_term x.valu
 weight_sum : (n : ℕ) (t : Term) (xs : List Slot) → n ≤ bound → weight_from n t xs ≡ kept (n + sum_of (here t) xs)
 weight_sum n t xs l = weight_is n t xs l ∙ (sym (min-eq_left (bounded_within bound (here t) n xs l)) ∙ bounded_is bound (here t) n xs)
 
-sharing_is : (n : ℕ) (es : List (Event Term)) (all xs : List Slot) → sharing_from n es all xs ≡ bounded_from bound (part_of es all) n xs
-sharing_is n es all [] = refl
-sharing_is n es all (x ∷ xs) = sharing_is (kept (n + part_of es all x)) es all xs
+share_is : (n : ℕ) (es : List (Event Term)) (all xs : List Slot) → share_from n es all xs ≡ bounded_from bound (part_of es all) n xs
+share_is n es all [] = refl
+share_is n es all (x ∷ xs) = share_is (kept (n + part_of es all x)) es all xs
 
-sharing_sum : (es : List (Event Term)) (all : List Slot) → sharing_from 0 es all all ≡ kept (sum_of (part_of es all) all)
-sharing_sum es all = sharing_is 0 es all all ∙ bounded_sum bound (part_of es all) all
+share_sum : (es : List (Event Term)) (all xs : List Slot) → share_from 0 es all xs ≡ kept (sum_of (part_of es all) xs)
+share_sum es all xs = share_is 0 es all xs ∙ bounded_sum bound (part_of es all) xs
+
+share_within : (es : List (Event Term)) (all xs : List Slot) → share_from 0 es all xs ≤ bound
+share_within es all xs =
+    subst (λ (n : ℕ). n ≤ bound) (sym (share_sum es all xs)) (min-le_right (sum_of (part_of es all) xs) bound)
+
+-- The square of what these places share.
+abbrev square_of : List (Event Term) → List Slot → List Slot → ℕ
+square_of es all xs = squared (kept (sum_of (part_of es all) xs))
+
+squares_are : (n : ℕ) (es : List (Event Term)) (all : List Slot) (ss : List SkeletonStrand) →
+    squares_from n es all (map strand_slots ss) ≡ bounded_from bound (λ s. square_of es all (strand_slots s)) n ss
+squares_are n es all [] = refl
+squares_are n es all (s ∷ ss) =
+    ap (λ (k : ℕ). squares_from (kept (n + squared k)) es all (map strand_slots ss)) (share_sum es all (strand_slots s))
+    ∙ squares_are (kept (n + square_of es all (strand_slots s))) es all ss
+
+squares_sum : (n : ℕ) (es : List (Event Term)) (all : List Slot) (ss : List SkeletonStrand) → n ≤ bound →
+    squares_from n es all (map strand_slots ss) ≡ kept (n + sum_of (λ s. square_of es all (strand_slots s)) ss)
+squares_sum n es all ss l =
+    squares_are n es all ss
+    ∙ (sym (min-eq_left (bounded_within bound (λ s. square_of es all (strand_slots s)) n ss l)) ∙ bounded_is bound (λ s. square_of es all (strand_slots s)) n ss)
+
+squared_no_more : (m n : ℕ) → m ≤ n → squared (kept m) ≤ squared (kept n)
+squared_no_more m n l =
+    let h : kept m ≤ kept n = min_no_more bound m n l in
+    min_no_more bound (kept m * kept m) (kept n * kept n) (mul-le-mul h h)
 
 -- ---- loops over places
 
@@ -116,15 +142,31 @@ module _ (t : Term) (xs : List Slot) (i : ℕ) (x : Slot) (l : i < length xs) (i
   weight_left n other =
       sym (ap (λ (c : Bool). weight_from (if c then kept (n + x.weight) else n) t (drop (i + 1) xs)) other) ∙ weight_next n
 
+weight_joined : (n : ℕ) (t : Term) (xs ys : List Slot) → weight_from (weight_from n t xs) t ys ≡ weight_from n t (xs ++ ys)
+weight_joined n t [] ys = refl
+weight_joined n t (x ∷ xs) ys = weight_joined (if same_term x.value t then kept (n + x.weight) else n) t xs ys
+
+pub weight_begun : (first n : ℕ) (t : Term) (given values : List Slot) (lists strands : List (List Slot)) → n ≡ weight_from first t given → given ≡ values → lists ≡ strands →
+    weight_from n t (strung lists) ≡ weight_from first t (values ++ strung strands)
+weight_begun first n t given values lists strands is e u =
+    ap (λ (k : ℕ). weight_from k t (strung lists)) is
+    ∙ (weight_joined first t given (strung lists) ∙ ap₂ (λ (xs : List Slot) (yss : List (List Slot)). weight_from first t (xs ++ strung yss)) e u)
+
+pub weight_of_next : {A : Type 0} (t : Term) (lists : List (Vec Slot A)) (i : ℕ) (next : Vec Slot A) → i < length lists → next ≡ get_or lists i next →
+    (n m : ℕ) (given : List Slot) → m ≡ weight_from n t given → given ≡ next.items → weight_from m t (strung (lists_of (drop (i + 1) lists))) ≡ weight_from n t (strung (lists_of (drop i lists)))
+weight_of_next {A} t lists i next l at n m given is e =
+    ap (λ (k : ℕ). weight_from k t (strung (lists_of (drop (i + 1) lists)))) (is ∙ ap (weight_from n t) e)
+    ∙ (weight_joined n t next.items (strung (lists_of (drop (i + 1) lists))) ∙ sym (ap (λ (yss : List (Vec Slot A)). weight_from n t (strung (lists_of yss))) (drop_read lists i next l at)))
+
 -- ---- what an embedding keeps
 
 -- It is an instance of a role.
 abbrev pub IsRoleStrand : SkeletonStrand → Type 0
 IsRoleStrand st = (role : Role) × ((height : ℕ) × ((terms : Substitution) × (st ≡ instance role height terms)))
 
-sums_of_strands : (w : Slot → ℕ) (ss : List SkeletonStrand) → sum_of w (strands_slots ss) ≡ sum_of (λ s. sum_of w (strand_slots s)) ss
+sums_of_strands : (w : Slot → ℕ) (ss : List SkeletonStrand) → sum_of w (strung (map strand_slots ss)) ≡ sum_of (λ s. sum_of w (strand_slots s)) ss
 sums_of_strands w [] = refl
-sums_of_strands w (s ∷ ss) = sum_append w (strand_slots s) (strands_slots ss) ∙ ap (λ (n : ℕ). sum_of w (strand_slots s) + n) (sums_of_strands w ss)
+sums_of_strands w (s ∷ ss) = sum_append w (strand_slots s) (strung (map strand_slots ss)) ∙ ap (λ (n : ℕ). sum_of w (strand_slots s) + n) (sums_of_strands w ss)
 
 module _ (f : SkeletonMap) where
   abbrev moved : Slot → Slot
@@ -168,40 +210,51 @@ module _ (f : SkeletonMap) where
           (declared_more (suc i) ds)
 
     module _ (a b : Skeleton) (emb : IsEmbedding a b f) where
-      abbrev own : SkeletonStrand → ℕ
-      own s = sum_of u (strand_slots s)
-
-      abbrev others : List ℕ
-      others = map (λ s. sum_of w (strand_slots s)) b.strands
-
-      strand_more : (i : ℕ) (st : SkeletonStrand) → item_at a.strands i ≡ Some st → GoesToMore own IsRoleStrand others (f.strands i) st
-      strand_more i (listener t) at = inl refl
-      strand_more i (instance role height s) at =
-          let g = emb.homomorphism.instances i role height s at in
-          inr (
-            (role, (height, (s, refl))),
-            (
-              sum_of w (strand_slots (instance role g.to_height g.to_terms)),
-              map_of_item (λ st. sum_of w (strand_slots st)) b.strands (f.strands i) (instance role g.to_height g.to_terms) g.on_instance,
-              declared_more (text_number 1 role.name) (variables_of_prefix role height) (variables_of_prefix role g.to_height) s g.to_terms
-                  (variables_of_higher role height g.to_height g.at_least) g.equal_terms 0 role.variables,
-            ),
-          )
+      values_kept : sum_of u (value_slots 0 a.from_problem.values) ≤ sum_of w (value_slots 0 b.from_problem.values)
+      values_kept =
+          subst (λ (ts : List Term). sum_of u (value_slots 0 a.from_problem.values) ≤ sum_of w (value_slots 0 ts)) emb.same_values (values_more 0 a.from_problem.values)
 
       apart : GoApart IsRoleStrand a.strands f.strands
       apart i j x y at au p q e =
           emb.injective i j p.0 p.1.0 p.1.1.0 q.0 q.1.0 q.1.1.0 (at ∙ ap (λ (st : SkeletonStrand). Some st) p.1.1.1) (au ∙ ap (λ (st : SkeletonStrand). Some st) q.1.1.1) e
 
+      -- What a number that does not fall makes of the sums of the strands.
+      module _ (grown : ℕ → ℕ) (none : grown 0 ≡ 0) (grows : (m n : ℕ) → m ≤ n → grown m ≤ grown n) where
+        abbrev own : SkeletonStrand → ℕ
+        own s = grown (sum_of u (strand_slots s))
+
+        abbrev theirs : SkeletonStrand → ℕ
+        theirs s = grown (sum_of w (strand_slots s))
+
+        strand_more : (i : ℕ) (st : SkeletonStrand) → item_at a.strands i ≡ Some st → GoesToMore own IsRoleStrand (map theirs b.strands) (f.strands i) st
+        strand_more i (listener t) at = inl none
+        strand_more i (instance role height s) at =
+            let g = emb.homomorphism.instances i role height s at in
+            inr (
+              (role, (height, (s, refl))),
+              (
+                theirs (instance role g.to_height g.to_terms),
+                map_of_item theirs b.strands (f.strands i) (instance role g.to_height g.to_terms) g.on_instance,
+                grows (sum_of u (strand_slots (instance role height s))) (sum_of w (strand_slots (instance role g.to_height g.to_terms)))
+                    (declared_more (text_number 1 role.name) (variables_of_prefix role height) (variables_of_prefix role g.to_height) s g.to_terms
+                    (variables_of_higher role height g.to_height g.at_least) g.equal_terms 0 role.variables),
+              ),
+            )
+
+        strands_more : sum_of own a.strands ≤ sum_of theirs b.strands
+        strands_more =
+            subst (λ (n : ℕ). sum_of own a.strands ≤ n) (total_map theirs b.strands)
+            (no_more_in_all own IsRoleStrand a.strands f.strands (map theirs b.strands) strand_more apart)
+
       all_more : sum_of u (slots_of a) ≤ sum_of w (slots_of b)
       all_more =
-          let first : sum_of u (value_slots 0 a.from_problem.values) ≤ sum_of w (value_slots 0 b.from_problem.values) =
-          subst (λ (ts : List Term). sum_of u (value_slots 0 a.from_problem.values) ≤ sum_of w (value_slots 0 ts)) emb.same_values (values_more 0 a.from_problem.values) in
-          let strands : sum_of own a.strands ≤ total others = no_more_in_all own IsRoleStrand a.strands f.strands others strand_more apart in
-          let one : sum_of u (slots_of a) ≡ sum_of u (value_slots 0 a.from_problem.values) + sum_of u (strands_slots a.strands) = sum_append u (value_slots 0 a.from_problem.values) (strands_slots a.strands) in
-          let other : sum_of w (slots_of b) ≡ sum_of w (value_slots 0 b.from_problem.values) + sum_of w (strands_slots b.strands) = sum_append w (value_slots 0 b.from_problem.values) (strands_slots b.strands) in
-          let mine : sum_of u (strands_slots a.strands) ≡ sum_of own a.strands = sums_of_strands u a.strands in
-          let theirs : sum_of w (strands_slots b.strands) ≡ total others = sums_of_strands w b.strands ∙ sym (total_map (λ s. sum_of w (strand_slots s)) b.strands) in
-          omega (arith, first, strands, one, other, mine, theirs)
+          let first = values_kept in
+          let strands : sum_of (λ s. sum_of u (strand_slots s)) a.strands ≤ sum_of (λ s. sum_of w (strand_slots s)) b.strands = strands_more (λ n. n) refl (λ m n l. l) in
+          let one : sum_of u (slots_of a) ≡ sum_of u (value_slots 0 a.from_problem.values) + sum_of u (strung (map strand_slots a.strands)) = sum_append u (value_slots 0 a.from_problem.values) (strung (map strand_slots a.strands)) in
+          let other : sum_of w (slots_of b) ≡ sum_of w (value_slots 0 b.from_problem.values) + sum_of w (strung (map strand_slots b.strands)) = sum_append w (value_slots 0 b.from_problem.values) (strung (map strand_slots b.strands)) in
+          let mine : sum_of u (strung (map strand_slots a.strands)) ≡ sum_of (λ s. sum_of u (strand_slots s)) a.strands = sums_of_strands u a.strands in
+          let yours : sum_of w (strung (map strand_slots b.strands)) ≡ sum_of (λ s. sum_of w (strand_slots s)) b.strands = sums_of_strands w b.strands in
+          omega (arith, first, strands, one, other, mine, yours)
 
 module _ (a b : Skeleton) (f : SkeletonMap) (emb : IsEmbedding a b f) where
   here_more : (t : Term) (x : Slot) → here t x ≤ here (apply_to f.terms t) (moved f x)
@@ -238,10 +291,36 @@ module _ (a b : Skeleton) (f : SkeletonMap) (emb : IsEmbedding a b f) where
   part_more : (x : Slot) → part_here x ≤ part_there (moved f x)
   part_more x = min_no_more bound (x.weight * weight_here x.value) (x.weight * weight_there (apply_to f.terms x.value)) (mul-le-mul_left x.weight (weight_more x.value))
 
+  abbrev values_here : ℕ
+  values_here = share_from 0 (listened a.strands) (slots_of a) (value_slots 0 a.from_problem.values)
+
+  abbrev values_there : ℕ
+  values_there = share_from 0 (listened b.strands) (slots_of b) (value_slots 0 b.from_problem.values)
+
+  abbrev squares_here : ℕ
+  squares_here = sum_of (λ s. square_of (listened a.strands) (slots_of a) (strand_slots s)) a.strands
+
+  abbrev squares_there : ℕ
+  squares_there = sum_of (λ s. square_of (listened b.strands) (slots_of b) (strand_slots s)) b.strands
+
+  values_share_less : values_here ≤ values_there
+  values_share_less =
+      subst₂ (λ (m n : ℕ). m ≤ n)
+      (sym (share_sum (listened a.strands) (slots_of a) (value_slots 0 a.from_problem.values)))
+      (sym (share_sum (listened b.strands) (slots_of b) (value_slots 0 b.from_problem.values)))
+      (min_no_more bound (sum_of part_here (value_slots 0 a.from_problem.values)) (sum_of part_there (value_slots 0 b.from_problem.values)) (values_kept f part_here part_there part_more a b emb))
+
+  squares_less : squares_here ≤ squares_there
+  squares_less = strands_more f part_here part_there part_more a b emb (λ n. squared (kept n)) refl squared_no_more
+
   sharing_kept : sharing_of a ≤ sharing_of b
   sharing_kept =
-      subst₂ (λ (m n : ℕ). m ≤ n) (sym (sharing_sum (listened a.strands) (slots_of a))) (sym (sharing_sum (listened b.strands) (slots_of b)))
-      (min_no_more bound (sum_of part_here (slots_of a)) (sum_of part_there (slots_of b)) (all_more f part_here part_there part_more a b emb))
+      let first = values_share_less in
+      let rest = squares_less in
+      subst₂ (λ (m n : ℕ). m ≤ n)
+      (sym (squares_sum values_here (listened a.strands) (slots_of a) a.strands (share_within (listened a.strands) (slots_of a) (value_slots 0 a.from_problem.values))))
+      (sym (squares_sum values_there (listened b.strands) (slots_of b) b.strands (share_within (listened b.strands) (slots_of b) (value_slots 0 b.from_problem.values))))
+      (min_no_more bound (values_here + squares_here) (values_there + squares_there) (let l : values_here + squares_here ≤ values_there + squares_there = omega (arith, first, rest) in l))
 
 -- A skeleton that embeds in another shares no more.
 pub embedded_shares_less : (a b : Skeleton) → Embeds a b → sharing_of a ≤ sharing_of b

@@ -7,7 +7,7 @@ use Rattle.cp_hom.specs.Heights.{heights_of, HaveNoMore}
 use Rattle.cp_hom.specs.Sharing.{sharing_of}
 use Rattle.cp_hom.specs.declared.heights.RoleHeight.{RoleHeight}
 
--- The partition of the problem's strands, the names and heights of role strands, and how much these share.
+-- The partition of the problem's strands, the names and heights of role strands, and a number for how these share values.
 pub record Traits : Type 0 where
   pub partition : List (Option ℕ)
   pub heights : List RoleHeight

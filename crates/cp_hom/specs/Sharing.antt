@@ -1,11 +1,12 @@
 -- A number that tells how the role strands of a skeleton share values. No embedding makes it smaller.
-use Rattle.std.specs.Prelude.{◌+◌, ◌-◌, ◌*◌, ◌%◌, ◌^◌, ℕ, suc, Bool, true, List, [], ◌∷◌, ◌++◌, min, if◌then◌else◌}
+use Rattle.std.specs.Prelude.{◌+◌, ◌-◌, ◌*◌, ◌%◌, ◌^◌, ℕ, suc, Bool, true, List, [], ◌∷◌, ◌++◌, min, map, if◌then◌else◌, Vec}
 use Rattle.cp_model.specs.Term.{text_sort, datum_sort, name_sort, skey_sort, Variable, skey_variable, ltk_term, symmetric_term, asymmetric_term, text_variable, datum_variable, name_variable, key_term, Term, tag_term, atom_term, pair_term, enc_term, Substitution, atom_of_variable, apply_to}
 use Rattle.cp_model.specs.Strand.{Event, recv, Declaration, variables_of_trace, variables_of_prefix}
 use Rattle.cp_model.specs.Skeleton.{SkeletonStrand, instance, listener, Skeleton}
 use Rattle.cp_model.specs.Same.{same_term, has_variable}
 use Rattle.cp_hom.specs.Mixing.{mixed}
 use Rattle.cp_hom.specs.declared.slots.Slot.{Slot}
+use Rattle.cp_hom.specs.declared.slots.Places.{Places}
 
 -- The number of a text.
 abbrev pub text_number : ℕ → List ℕ → ℕ
@@ -37,13 +38,22 @@ abbrev pub strand_slots : SkeletonStrand → List Slot
 strand_slots (instance role height s) = declared_slots (text_number 1 role.name) (variables_of_prefix role height) s 0 role.variables
 strand_slots (listener t) = []
 
-abbrev pub strands_slots : List SkeletonStrand → List Slot
-strands_slots [] = []
-strands_slots (s ∷ ss) = strand_slots s ++ strands_slots ss
+-- Lists of places, strung together.
+abbrev pub strung : List (List Slot) → List Slot
+strung [] = []
+strung (xs ∷ xss) = xs ++ strung xss
 
 -- The values of the problem's variables, and of the role strands' own.
 abbrev pub slots_of : Skeleton → List Slot
-slots_of k = value_slots 0 k.from_problem.values ++ strands_slots k.strands
+slots_of k = value_slots 0 k.from_problem.values ++ strung (map strand_slots k.strands)
+
+-- The places of each strand that the program holds, as lists.
+abbrev pub lists_of : {A : Type 0} → List (Vec Slot A) → List (List Slot)
+lists_of = map (λ v. v.items)
+
+-- All places that the program holds.
+abbrev pub slots_in : Places → List Slot
+slots_in p = p.values.items ++ strung (lists_of p.strands.items)
 
 -- The greatest number that is kept.
 abbrev pub kept : ℕ → ℕ
@@ -80,11 +90,23 @@ heard_weight es t = if is_heard (variables_of_trace es) t then 4099 else 0
 abbrev pub part_of : List (Event Term) → List Slot → Slot → ℕ
 part_of es all x = kept (x.weight * weight_from (heard_weight es x.value) x.value all)
 
-abbrev pub sharing_from : ℕ → List (Event Term) → List Slot → List Slot → ℕ
-sharing_from n es all [] = n
-sharing_from n es all (x ∷ xs) = sharing_from (kept (n + part_of es all x)) es all xs
+-- With n, how much the places xs share with all places: their parts, added up.
+abbrev pub share_from : ℕ → List (Event Term) → List Slot → List Slot → ℕ
+share_from n es all [] = n
+share_from n es all (x ∷ xs) = share_from (kept (n + part_of es all x)) es all xs
 
--- For each two places at which one value stands their weights, multiplied, and for each place whose value is heard its weight as
--- often as that weighs, all added up.
+abbrev pub squared : ℕ → ℕ
+squared n = kept (n * n)
+
+-- With n, for each of these lists how much its places share with all places, squared, added up.
+abbrev pub squares_from : ℕ → List (Event Term) → List Slot → List (List Slot) → ℕ
+squares_from n es all [] = n
+squares_from n es all (xs ∷ xss) = squares_from (kept (n + squared (share_from 0 es all xs))) es all xss
+
+-- How much the places of the problem's variables share, and for each role strand how much its own places share, squared, all
+-- added up. A plain sum would be the same however the places that share are spread over the strands.
 abbrev pub sharing_of : Skeleton → ℕ
-sharing_of k = sharing_from 0 (listened k.strands) (slots_of k) (slots_of k)
+sharing_of k =
+    let es = listened k.strands in
+    let all = slots_of k in
+    squares_from (share_from 0 es all (value_slots 0 k.from_problem.values)) es all (map strand_slots k.strands)

@@ -14,8 +14,8 @@ use std::alloc::{AllocError, Global};
 use std::marker::Model;
 
 /// What every embedding keeps of a skeleton: the partition of its problem's strands; how many strands it has of each role and
-/// height; and a number for how its role strands share values, which tells most apart at once. Listeners are not counted,
-/// since two of them may go to one.
+/// height; and a number for how its role strands share values, in which it counts how much each of them shares by itself, so that
+/// it tells most apart at once. Listeners are not counted, since two of them may go to one.
 #[derive(Drop)]
 pub struct Fingerprint {
     partition: Partition,
@@ -43,6 +43,13 @@ impl Fingerprint {
             heights: heights_of(alloc, k.strands())?,
             sharing: sharing_of(alloc, k)?,
         })
+    }
+
+    /// The number for how role strands share values: equal for isomorphic skeletons, and mostly for no others.
+    pub fn sharing(&self) -> usize
+        ensures { result ≡ self.now.sharing }
+    {
+        self.sharing
     }
 
     /// Whether a skeleton with this fingerprint may embed in one with the other. False only where it does not.

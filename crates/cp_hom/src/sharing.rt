@@ -3,9 +3,9 @@ ghost use Rattle.std.specs.Prelude.{◌≡◌, map, IfOk};
 ghost use Rattle.cp_model.specs.Strand.{variables_of_trace};
 ghost use Rattle.cp_strand.specs.View.{event_view, strand_view};
 ghost use Rattle.cp_skel.specs.View.{skeleton_view};
-ghost use Rattle.cp_hom.specs.Sharing.{listened, is_heard, heard_weight, weight_from, sharing_from, sharing_of};
+ghost use Rattle.cp_hom.specs.Sharing.{lists_of, slots_in, listened, is_heard, heard_weight, weight_from, share_from, squares_from, sharing_of};
 
-use crate::slots::{Slot, slots_of};
+use crate::slots::{Places, Slot, places_of};
 use cp_skel::{Event, Skeleton, Strand, StrandShape, occurs};
 use cp_term::{Shape, Sort, Term};
 use std::alloc::{AllocError, Global};
@@ -42,8 +42,8 @@ fn heard_weight(events: &[Event], value: &Term) -> usize
     if is_heard(events, value) { 4099 } else { 0 }
 }
 
-/// With a first weight, how much the places weigh at which a value stands.
-fn weight_of(first: usize, value: &Term, slots: &[Slot]) -> usize
+/// With a first weight, how much those of these places weigh at which a value stands.
+fn weight_among(first: usize, value: &Term, slots: &[Slot]) -> usize
     ensures { result ≡ weight_from first value.now slots.now }
 {
     let mut weight = first;
@@ -56,25 +56,48 @@ fn weight_of(first: usize, value: &Term, slots: &[Slot]) -> usize
     weight
 }
 
-/// For each two places at which one value stands their weights, multiplied, and for each place whose value is heard its
-/// weight as often as that weighs, all added up.
-fn sharing(heard: &[Event], slots: &[Slot]) -> usize
-    ensures { result ≡ sharing_from 0 (map event_view heard.now) slots.now slots.now }
+/// With a first weight, how much the places weigh at which a value stands.
+fn weight_of(first: usize, value: &Term, places: &Places) -> usize
+    ensures { result ≡ weight_from first value.now (slots_in places.now) }
 {
-    let mut sharing: usize = 0;
+    let mut weight = weight_among(first, value, &places.values);
+    for slots in &places.strands {
+        weight = weight_among(weight, value, slots);
+    }
+    weight
+}
+
+/// How much some of the places share: the weight of each as often as the places of its value weigh and that it is heard, all
+/// added up.
+fn share_of(heard: &[Event], places: &Places, slots: &[Slot]) -> usize
+    ensures { result ≡ share_from 0 (map event_view heard.now) (slots_in places.now) slots.now }
+{
+    let mut share: usize = 0;
     for slot in slots {
         let first = heard_weight(heard, &slot.value);
-        let weight = weight_of(first, &slot.value, slots);
-        sharing = sharing.saturating_add(slot.weight.saturating_mul(weight));
+        let weight = weight_of(first, &slot.value, places);
+        share = share.saturating_add(slot.weight.saturating_mul(weight));
+    }
+    share
+}
+
+/// How much the problem's places share, and for each strand how much its own share, squared, all added up.
+fn sharing(heard: &[Event], places: &Places) -> usize
+    ensures { result ≡ squares_from (share_from 0 (map event_view heard.now) (slots_in places.now) places.now.values.items) (map event_view heard.now) (slots_in places.now) (lists_of places.now.strands.items) }
+{
+    let mut sharing = share_of(heard, places, &places.values);
+    for slots in &places.strands {
+        let share = share_of(heard, places, slots);
+        sharing = sharing.saturating_add(share.saturating_mul(share));
     }
     sharing
 }
 
-/// How the role strands of a skeleton share values.
+/// How the role strands of a skeleton share values, and on which strands the places are that share.
 pub(crate) fn sharing_of(alloc: Global, k: &Skeleton) -> Result<usize, AllocError>
     ensures { IfOk result (λ n. n ≡ sharing_of (skeleton_view k.now)) }
 {
     let heard = listened(alloc, k.strands())?;
-    let slots = slots_of(alloc, k)?;
-    Ok(sharing(&heard, &slots))
+    let places = places_of(alloc, k)?;
+    Ok(sharing(&heard, &places))
 }

@@ -1,23 +1,20 @@
 -- The example's problem has one root: itself.
-use Rattle.std.proofs.Common.{◌≡◌, inl, inr, ℕ, zero, suc, ◌<◌, List, [], ◌∷◌, Some, refl, sym, ap, subst, ⊎_elim, arith}
+use Rattle.std.proofs.Common.{◌≡◌, inl, inr, ℕ, zero, suc, ◌<◌, List, [], ◌∷◌, Some, refl, sym, ap, ⊎_elim, arith}
 use Rattle.cp_lists.specs.Lists.{IsIn, one_step, more_steps}
-use Rattle.cp_lists.proofs.Members.{not_in_none, only_item}
-use Rattle.cp_model.specs.Term.{AtomTerm, key_term, Term, atom_term, IsCarriedByTerm}
+use Rattle.cp_lists.proofs.Members.{not_in_none}
+use Rattle.cp_model.specs.Term.{Term}
 use Rattle.cp_model.specs.Strand.{Event, send, recv, payload}
 use Rattle.cp_model.specs.Bundle.{node_at}
 use Rattle.cp_model.specs.declared.node.Node.{Node}
 use Rattle.cp_model.specs.declared.node.OrderPair.{OrderPair}
 use Rattle.cp_model.specs.Skeleton.{term_event_at, OrderStep, along_strand_of, along_pair, Before}
-use Rattle.cp_term.specs.declared.path.Step.{Step}
-use Rattle.cp_term.specs.declared.path.Step.TheVariants.{Left, Right, Plaintext}
-use Rattle.cp_term.specs.Positions.{term_at}
-use Rattle.cp_term.proofs.PositionLaws.{carried_position}
 use Rattle.cp_completeness.specs.Normal.{with_pairs}
 use Rattle.cp_collapse.specs.Collapsing.{no_collapses, AreCollapses}
 use Rattle.cp_collapse.specs.Partitions.{IsPartition, finest}
-use Rattle.cp_normal.specs.Normalising.{CarriesNonOriginating, IsAddedPair, ClosesCycle, AreNormalPairs, IsContradictory}
+use Rattle.cp_normal.specs.Normalising.{IsAddedPair, ClosesCycle, AreNormalPairs, IsContradictory}
 use Rattle.cp_normal.specs.Exact.{HasForms, normal}
-use Rattle.cp_answers.specs.Example.{shared, locked, heard}
+use Rattle.cp_answers.specs.Example.{locked, heard}
+use Rattle.cp_covering.proofs.OneChild.{key_is_not_carried}
 use Rattle.cp_roots.specs.Roots.{AreRoots}
 use Rattle.cp_roots.specs.Roots as rooting
 use Rattle.cp_tree.specs.Example.{heard_root}
@@ -30,23 +27,6 @@ each_locked zero zero e at = let same : recv locked ≡ e = cc in ap payload (sy
 each_locked zero (suc zero) e at = let same : send locked ≡ e = cc in ap payload (sym same)
 each_locked zero (suc (suc i)) e at = absurd (cc)
 each_locked (suc s) i e at = absurd (cc)
-
-not_in_locked : (path : List Step) → term_at locked path ≡ Some (atom_term (key_term shared)) → ⊥
-not_in_locked [] at = cc
-not_in_locked (Plaintext ∷ []) at = cc
-not_in_locked (Plaintext ∷ Left ∷ path) at = cc
-not_in_locked (Plaintext ∷ Right ∷ path) at = cc
-not_in_locked (Plaintext ∷ Plaintext ∷ path) at = cc
-not_in_locked (Left ∷ path) at = cc
-not_in_locked (Right ∷ path) at = cc
-
-key_is_not_carried : CarriesNonOriginating heard → ⊥
-key_is_not_carried c =
-    let value : c.value ≡ key_term shared = only_item c.listed in
-    let message = each_locked c.node.strand c.node.index c.carried.event c.carried.there in
-    let carried : IsCarriedByTerm (atom_term (key_term shared)) locked = subst (IsCarriedByTerm (atom_term (key_term shared))) message (subst (λ (v : AtomTerm). IsCarriedByTerm (atom_term v) (payload c.carried.event)) value c.carried.carried) in
-    let position = (carried_position locked (atom_term (key_term shared))).0 carried in
-    not_in_locked position.0 position.1
 
 none_added : (p : OrderPair) → IsAddedPair heard p → ⊥
 none_added p added = not_in_none added.0.listed
@@ -68,7 +48,7 @@ closes_no_cycle c =
     omega (arith, l)
 
 consistent : IsContradictory heard → ⊥
-consistent (inl carries) = key_is_not_carried carries
+consistent (inl carries) = key_is_not_carried heard refl each_locked carries
 consistent (inr (inl two)) = not_in_none two.first_listed
 consistent (inr (inr (inl lost))) = not_in_none lost.listed
 consistent (inr (inr (inr cycle))) = closes_no_cycle cycle

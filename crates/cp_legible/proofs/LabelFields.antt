@@ -1,5 +1,5 @@
 -- What stands in each label of a tree: its unrealised receptions, its test, its escape set and its mark.
-use Rattle.std.proofs.Common.{◌≡◌, ℕ, ◌<◌, List, [], ◌∷◌, length, map, Option, Some, None, refl, arith}
+use Rattle.std.proofs.Common.{◌≡◌, ℕ, ◌<◌, List, [], ◌∷◌, length, map, Option, Some, None, refl, sym, subst, ⊎_elim, arith}
 use Rattle.cp_lists.specs.Lists.{item_at, IsIn}
 use Rattle.cp_lists.proofs.Items.{item_below}
 use Rattle.cp_lists.proofs.Members.{not_in_none}
@@ -13,7 +13,8 @@ use Rattle.cp_tree.specs.Candidates.{IsCandidate}
 use Rattle.cp_tree.specs.Made.{Made, Way, way_of}
 use Rattle.cp_tree.specs.Searched.{mark_by, Becomes, is_dead, is_seen, is_realised, is_generalised, above_bound, at_limit, is_tested, IsMarkedAmong, as_shape, as_instance, IsTreeFrom}
 use Rattle.cp_tree.proofs.Picked.{item_of}
-use Rattle.cp_tree.proofs.SoundLabels.{settled_here, becomes_here}
+use Rattle.cp_tree.proofs.Settled.{IsUnexpanded, IsExpanded, IsOfMade, unexpanded}
+use Rattle.cp_tree.proofs.SoundLabels.{settled_here, becomes_here, of_made_here}
 use Rattle.cp_report.specs.Fitting.{IsTestOn, HasMarkOrChildren}
 
 -- ---- in a label that became so
@@ -31,23 +32,14 @@ module _ (protocol : Protocol) (limits : Limits) (ways : List Way) (marks : ℕ 
   unrealised_by i before m l gives (at_limit {nodes = nodes} d new u r b q) n p = listed_node m.skeleton nodes u n p
   unrealised_by i before m l gives (is_tested {nodes = nodes} d new u r b c e s) n p = listed_node m.skeleton nodes u n p
 
-  test_by : (i before : ℕ) (m : Made) (l : Label) (gives : List Made) → Becomes protocol limits ways marks i before m l gives → IsTestOn l.skeleton l.test
-  test_by i before m l gives (is_dead d) = tt
-  test_by i before m l gives (is_seen d u s) = tt
-  test_by i before m l gives (is_realised d n a g s) = tt
-  test_by i before m l gives (is_generalised d n a to) = tt
-  test_by i before m l gives (above_bound d n u r b) = tt
-  test_by i before m l gives (at_limit d n u r b q) = tt
-  test_by i before m l gives (is_tested d n u r b c e s) = (recv e.test.message, e.test.reception)
-
-  escape_by : (i before : ℕ) (m : Made) (l : Label) (gives : List Made) → Becomes protocol limits ways marks i before m l gives → l.test ≡ None → l.escape ≡ []
-  escape_by i before m l gives (is_dead d) none = refl
-  escape_by i before m l gives (is_seen d u s) none = refl
-  escape_by i before m l gives (is_realised d n a g s) none = refl
-  escape_by i before m l gives (is_generalised d n a to) none = refl
-  escape_by i before m l gives (above_bound d n u r b) none = refl
-  escape_by i before m l gives (at_limit d n u r b q) none = refl
-  escape_by i before m l gives (is_tested d n u r b c e s) none = absurd (cc)
+  test_by : (before : ℕ) (m : Made) (l : Label) (gives : List Made) → IsOfMade protocol limits ways marks before m l gives → IsTestOn l.skeleton l.test
+  test_by before m l gives is =
+      ⊎_elim
+      (λ (u : IsUnexpanded protocol limits ways marks m l). subst (IsTestOn l.skeleton) (sym u.test) tt)
+      (λ (e : IsExpanded protocol limits ways marks before m l).
+      let t = e.is_expansion.test in
+      subst (IsTestOn l.skeleton) (sym e.test) (subst (λ (k : Skeleton). IsTestOn k (Some e.expansion.test)) (sym is.skeleton) (recv t.message, t.reception)))
+      is.way
 
   -- An expanded label is dead or has children.
   dead_or_children : (labels : List Label) (children : List ℕ) → HasMarkOrChildren labels (mark_by children) children
@@ -85,10 +77,10 @@ module _ (protocol : Protocol) (variables : List Declaration) (limits : Limits) 
     label_unrealised = let s = settled_here protocol variables limits roots tree from i l at in unrealised_by protocol limits ways (IsMarkedAmong from.candidates) i s.expanded_before s.so l s.gives (becomes_here protocol variables limits roots tree from i l s)
 
     pub label_test : IsTestOn l.skeleton l.test
-    label_test = let s = settled_here protocol variables limits roots tree from i l at in test_by protocol limits ways (IsMarkedAmong from.candidates) i s.expanded_before s.so l s.gives (becomes_here protocol variables limits roots tree from i l s)
+    label_test = let s = settled_here protocol variables limits roots tree from i l at in test_by protocol limits ways (IsMarkedAmong from.candidates) s.expanded_before s.so l s.gives (of_made_here protocol variables limits roots tree from i l s)
 
     pub label_escape : l.test ≡ None → l.escape ≡ []
-    label_escape = let s = settled_here protocol variables limits roots tree from i l at in escape_by protocol limits ways (IsMarkedAmong from.candidates) i s.expanded_before s.so l s.gives (becomes_here protocol variables limits roots tree from i l s)
+    label_escape none = let s = settled_here protocol variables limits roots tree from i l at in (unexpanded protocol limits ways (IsMarkedAmong from.candidates) s.expanded_before s.so l s.gives (of_made_here protocol variables limits roots tree from i l s) none).escape
 
     pub label_mark : HasMarkOrChildren tree.labels l.mark l.children
     label_mark =

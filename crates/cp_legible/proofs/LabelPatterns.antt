@@ -25,8 +25,8 @@ use Rattle.cp_tree.specs.Searched.{IsMarkedAmong, Becomes, is_dead, is_seen, is_
 use Rattle.cp_tree.proofs.AskedOn.{IsWellAsked, last_asked}
 use Rattle.cp_tree.proofs.Numbered.{front_or_behind}
 use Rattle.cp_tree.proofs.Settled.{IsMadeOfChild, IsMadeOfGeneralisation, made_from}
+use Rattle.cp_tree.proofs.OwnVariables.{own_declared}
 use Rattle.cp_tree.proofs.SoundLabels.{made, settled_here, becomes_here, comes_behind, skeleton_here, made_label}
-use Rattle.cp_legible.proofs.ProblemMaps.{own_declared}
 
 module _ (protocol : Protocol) (declares : (role : Role) → IsIn role protocol.roles → DeclaresItsVariables role) where
   -- ---- one expansion

@@ -17,9 +17,9 @@ use Rattle.cp_tree.specs.Made.{Made, made_of_root, made_of_child, Way, way_of}
 use Rattle.cp_tree.specs.Searched.{IsMarkedAmong, IsTreeFrom}
 use Rattle.cp_tree.proofs.MadeChildren.{child_label}
 use Rattle.cp_tree.proofs.Numbered.{front_or_behind}
-use Rattle.cp_tree.proofs.Placed.{same_operation, children_are}
-use Rattle.cp_tree.proofs.Settled.{same_parent, same_skeleton, IsMadeOfChild, IsMadeOfGeneralisation, made_from}
-use Rattle.cp_tree.proofs.SoundLabels.{made, settled_here, becomes_here, parent_here, label_here}
+use Rattle.cp_tree.proofs.Placed.{children_are}
+use Rattle.cp_tree.proofs.Settled.{IsOfMade, IsMadeOfChild, IsMadeOfGeneralisation, made_from}
+use Rattle.cp_tree.proofs.SoundLabels.{made, settled_here, of_made_here, label_here}
 use Rattle.cp_language.specs.Problems.{Problem}
 use Rattle.cp_report.specs.Fitting.{IsPartition, IsOperationOn, HasParent, IsParentOf, AreChildrenOf}
 use Rattle.cp_legible.proofs.NamedChildren.{NamesIn, named_child}
@@ -165,10 +165,8 @@ module _ (p : Problem) (limits : Limits) (roots : List Root) (tree : Tree) (are 
   pub label_placed : (i : ℕ) (l : Label) → item_at tree.labels i ≡ Some l → IsPlaced p tree.labels i l.skeleton l.operation l.parent
   label_placed i l at =
       let s = settled_here p.protocol p.variables limits roots tree from i l at in
-      let b = becomes_here p.protocol p.variables limits roots tree from i l s in
-      let is = made_placed i l at s.so s.at_made (parent_here p.protocol p.variables limits roots tree from i l s) in
-      same_placed (same_skeleton p.protocol limits ways (IsMarkedAmong from.candidates) i s.expanded_before s.so l s.gives b) (same_operation p.protocol limits ways (IsMarkedAmong from.candidates) i s.expanded_before s.so l s.gives b)
-      (same_parent p.protocol limits ways (IsMarkedAmong from.candidates) i s.expanded_before s.so l s.gives b) is
+      let o : IsOfMade p.protocol limits ways (IsMarkedAmong from.candidates) s.expanded_before s.so l s.gives = of_made_here p.protocol p.variables limits roots tree from i l s in
+      same_placed o.skeleton o.operation o.parent (made_placed i l at s.so s.at_made o.parent)
 
   -- ---- children
 

@@ -19,7 +19,6 @@ use Rattle.cp_covering.specs.Children.{Child, child}
 use Rattle.cp_covering.specs.Cohort.{Question, Contracts, AreContracted, release_at, DisplacesAt, DisplacesEvent, DisplacesStrand, AddsAt, AddsEvent, Listens, IsCohort, is_before, is_displaced, is_added, of_listener, of_node, of_role, is_inside, is_critical, cyclic}
 use Rattle.cp_covering.specs.Cohort as cohort
 use Rattle.cp_covering.proofs.EachChild.{each_child}
-use Rattle.cp_covering.proofs.Listed.{given, those_have}
 use Rattle.cp_legible.proofs.KeepingNodes.{nodes_like_under, nodes_forms, nodes_settle}
 
 -- The operation is a step that a test allows, and the node or strand that it names is one of the skeleton.
@@ -60,12 +59,6 @@ module _ (q : Question) where
       let m = from_map (child q.variables (by_contraction o.node) path) forms i in
       subst IsNamed m.2 (nodes_forms l forms has m.0 m.1 o.node (nodes_like_under s q.skeleton l same o.node (o.event, listed_event q.skeleton o there_is)))
 
-  contracted_named : (children : List Child) → AreContracted q children → (d : Child) → IsIn d children → IsNamed d
-  contracted_named children are d i =
-      let event = given are.each d i in
-      let path = given event.gives_it d event.among in
-      contracts_named event.giver path.giver path.given (those_have are.before event.giver event.listed).0 path.gives_it d path.among
-
   -- ---- released
 
   -- The child was made by the operation, and the node is one of its skeleton.
@@ -88,27 +81,11 @@ module _ (q : Question) where
       let h = releases_node a.variables (by_displacement (node_at s j)) (release_at q s j path) a.grown children a.releases d i in
       subst (NamesIn d.skeleton) (sym h.by) h.node
 
-  displaced_event : (s : ℕ) (role : Role) (height j : ℕ) (children : List Child) → DisplacesEvent q s role height j children → (d : Child) → IsIn d children → IsNamed d
-  displaced_event s role height j children (cohort.is_reception there_is) d i = absurd (not_in_none i)
-  displaced_event s role height j children (is_before before) d i = absurd (not_in_none i)
-  displaced_event s role height j children (is_displaced there_is never each) d i =
-      let a = given each d i in displaced_at s role height j a.giver a.given a.gives_it d a.among
-
-  displaced_strand : (s : ℕ) (children : List Child) → DisplacesStrand q s children → (d : Child) → IsIn d children → IsNamed d
-  displaced_strand s children (of_listener there_is) d i = absurd (not_in_none i)
-  displaced_strand s children (of_node same) d i = absurd (not_in_none i)
-  displaced_strand s children (of_role {role = role} {height = height} there_is ne each) d i =
-      let a = given each d i in displaced_event s role height a.giver a.given a.gives_it d a.among
-
   added_at : (role : Role) (j : ℕ) (path : List Step) (children : List Child) → AddsAt q role j path children → (d : Child) → IsIn d children → IsNamed d
   added_at role j path children a d i =
       let s = length q.skeleton.strands in
       let h = releases_node _ (by_added_strand s) (release_at q s j path) a.grown children a.releases d i in
       subst (NamesIn d.skeleton) (sym h.by) (strand_of_node d.skeleton.strands (node_at s j) h.node)
-
-  added_event : (role : Role) (j : ℕ) (children : List Child) → AddsEvent q role j children → (d : Child) → IsIn d children → IsNamed d
-  added_event role j children (cohort.is_reception there_is) d i = absurd (not_in_none i)
-  added_event role j children (is_added there_is each) d i = let a = given each d i in added_at role j a.giver a.given a.gives_it d a.among
 
   -- ---- listeners
 
@@ -122,15 +99,9 @@ module _ (q : Question) where
   -- ---- the cohort
 
   pub named_child : (protocol : Protocol) (children : List Child) → IsCohort protocol q children → (d : Child) → IsIn d children → IsNamed d
-  named_child protocol children is d i = each_child protocol q children is IsNamed (contracted_named is.contracted is.are_contracted) displaced_named added_named listeners_named d i
-    where
-      displaced_named : (e : Child) → IsIn e is.displaced → IsNamed e
-      displaced_named e n = let a = given is.are_displaced e n in displaced_strand a.giver a.given a.gives_it e a.among
-
-      added_named : (e : Child) → IsIn e is.added → IsNamed e
-      added_named e n =
-          let role = given is.are_added e n in
-          let event = given role.gives_it e role.among in added_event role.giver event.giver event.given event.gives_it e event.among
-
-      listeners_named : (e : Child) → IsIn e is.listeners → IsNamed e
-      listeners_named e n = let a = given is.are_listeners.each e n in listens_named a.giver a.given a.gives_it e a.among
+  named_child protocol = each_child protocol q IsNamed (record {
+    contracted = λ o there_is before path children. contracts_named o path children there_is;
+    displaced = λ s role height terms on apart j t sent none. displaced_at s role height j;
+    added = λ role listed j t sent. added_at role j;
+    listened = λ t free. listens_named t;
+  })

@@ -1,4 +1,5 @@
 pub mod InReportOrder
+pub mod EachRoot
 pub mod VariablesOfRoots
 pub mod Firsts
 pub mod CollapseMap

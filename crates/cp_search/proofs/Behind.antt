@@ -1,9 +1,9 @@
 -- Labels that are made behind others.
-use Rattle.std.proofs.Common.{◌≡◌, ◌⊎◌, inl, inr, ◌∙◌, ℕ, ◌<◌, List, [], ◌∷◌, ◌++◌, length, map, take, Bool, true, false, Option, Some, None, IfSome, refl, sym, ap, subst, arith}
+use Rattle.std.proofs.Common.{◌≡◌, ◌⊎◌, inl, inr, ◌∙◌, ℕ, ◌<◌, List, [], ◌∷◌, ◌++◌, length, map, take, true, false, Option, Some, None, IfSome, sym, ap, subst, arith}
 use Rattle.std.proofs.lemmas.List.{map-append, length-map}
 use Rattle.std.proofs.Math.Seq.{take-append_seam}
-use Rattle.cp_lists.specs.Lists.{item_at, IsIn}
-use Rattle.cp_lists.proofs.Items.{item_below, item_there, item_last, item_still, item_of_push, map_of_item, place_of}
+use Rattle.cp_lists.specs.Lists.{item_at}
+use Rattle.cp_lists.proofs.Items.{item_below, item_there, item_last, item_still, item_of_push, map_of_item}
 use Rattle.cp_model.specs.Skeleton.{Skeleton}
 use Rattle.cp_model.specs.Homomorphism.{Embeds}
 use Rattle.cp_skel.specs.View.{skeleton_view}
@@ -14,12 +14,9 @@ use Rattle.cp_general.specs.Generalising.{IsMostGeneral}
 use Rattle.cp_tree.specs.Made.{Way, Reaches, MayPointTo}
 use Rattle.cp_tree.specs.Made as plain
 use Rattle.cp_search.specs.declared.made.Made.{Made}
-use Rattle.cp_search.specs.Finding.{FindsLeast, IsFlagged}
-use Rattle.cp_search.specs.Making.{made_way, made_view, IsFound, AreFound, AreForbidden, MayBeSeenIn, AddsMade}
+use Rattle.cp_search.specs.Finding.{FindsLeast}
+use Rattle.cp_search.specs.Making.{made_way, made_view, IsFound, AreFound, MayBeSeen, AddsMade}
 use Rattle.cp_search.proofs.Ways.{finds_alike, skeleton_of, still_found}
-
-pub fingerprints_of : (given ms : List Made) → given ≡ ms → AreFound ms → (m : Made) → IsIn m given → m.fingerprint ≡ traits_of (skeleton_view m.skeleton)
-fingerprints_of given ms e found m listed = let at = place_of (subst (IsIn m) e listed) in (found.each at.0 m at.1).fingerprint
 
 module _ (ms : List Made) (x : Made) where
   abbrev ways : List Way
@@ -45,62 +42,51 @@ module _ (ms : List Made) (x : Made) where
   own_skeleton : item_at (map skeleton_of after) (length ms) ≡ Some (skeleton_view x.skeleton)
   own_skeleton = map_of_item skeleton_of after (length ms) (made_way x) own_way
 
-  not_allowed : (flags : List Bool) (parent : Option ℕ) (n p : ℕ) → AreForbidden ms parent flags → n < length ms → parent ≡ Some p → Reaches ways n p → IsFlagged flags n
-  not_allowed flags None n p forbidden l e reaches = absurd (cc)
-  not_allowed flags (Some q) n p forbidden l e reaches = let same : p ≡ q = cc in (forbidden n).1 (l, subst (Reaches ways n) same reaches)
+  as_pointing : (n : ℕ) → MayBeSeen ms x.parent (skeleton_view x.skeleton) n → MayPointTo after (length ms) n
+  as_pointing n h = record {
+    earlier = item_below ms n h.other h.at;
+    embeds = record { first = skeleton_view h.other.skeleton; second = skeleton_view x.skeleton; at_first = way_at n h.other h.at; at_second = own_skeleton; embeds = h.isomorphic.0 };
+    embeds_back = record { first = skeleton_view x.skeleton; second = skeleton_view h.other.skeleton; at_first = own_skeleton; at_second = way_at n h.other h.at; embeds = h.isomorphic.1 };
+    no_return = λ w p at parent reaches.
+        let own = own_way in
+        let same : made_way x ≡ w = cc in
+        let from : x.parent ≡ Some p = ap (λ (v : Way). v.parent) same ∙ parent in
+        h.allowed p from (subst (λ (vs : List Way). Reaches vs n p) ways_before reaches);
+  }
 
-  no_return_of : (parent : Option ℕ) (flags : List Bool) (n : ℕ) → AreForbidden ms parent flags → IsFlagged flags n → (p : ℕ) × (parent ≡ Some p) × Reaches ways n p
-  no_return_of None flags n forbidden flagged = absurd (forbidden n flagged)
-  no_return_of (Some p) flags n forbidden flagged = (p, refl, ((forbidden n).0 flagged).1)
+  isomorphic_of : (n : ℕ) (other : Made) → item_at ms n ≡ Some other → (h : EmbedsAt (map skeleton_of after) n (length ms)) → Embeds (skeleton_view other.skeleton) (skeleton_view x.skeleton)
+  isomorphic_of n other at h =
+      let first_is = way_at n other at in
+      let second_is = own_skeleton in
+      let given_first : item_at (map skeleton_of after) n ≡ Some h.first = h.at_first in
+      let given_second : item_at (map skeleton_of after) (length ms) ≡ Some h.second = h.at_second in
+      let first : h.first ≡ skeleton_view other.skeleton = cc in
+      let second : h.second ≡ skeleton_view x.skeleton = cc in
+      subst (λ (k : Skeleton). Embeds k (skeleton_view x.skeleton)) first (subst (Embeds h.first) second h.embeds)
 
-  module _ (flags : List Bool) (forbidden : AreForbidden ms x.parent flags) where
-    as_pointing : (n : ℕ) → MayBeSeenIn ms flags (skeleton_view x.skeleton) n → MayPointTo after (length ms) n
-    as_pointing n h = record {
-      earlier = item_below ms n h.other h.at;
-      embeds = record { first = skeleton_view h.other.skeleton; second = skeleton_view x.skeleton; at_first = way_at n h.other h.at; at_second = own_skeleton; embeds = h.isomorphic.0 };
-      embeds_back = record { first = skeleton_view x.skeleton; second = skeleton_view h.other.skeleton; at_first = own_skeleton; at_second = way_at n h.other h.at; embeds = h.isomorphic.1 };
-      no_return = λ w p at parent reaches.
-          let own = own_way in
-          let same : made_way x ≡ w = cc in
-          let from : x.parent ≡ Some p = ap (λ (v : Way). v.parent) same ∙ parent in
-          h.allowed (not_allowed flags x.parent n p forbidden (item_below ms n h.other h.at) from (subst (λ (vs : List Way). Reaches vs n p) ways_before reaches));
-    }
+  back_of : (n : ℕ) (other : Made) → item_at ms n ≡ Some other → (h : EmbedsAt (map skeleton_of after) (length ms) n) → Embeds (skeleton_view x.skeleton) (skeleton_view other.skeleton)
+  back_of n other at h =
+      let second_is = way_at n other at in
+      let first_is = own_skeleton in
+      let given_first : item_at (map skeleton_of after) (length ms) ≡ Some h.first = h.at_first in
+      let given_second : item_at (map skeleton_of after) n ≡ Some h.second = h.at_second in
+      let first : h.first ≡ skeleton_view x.skeleton = cc in
+      let second : h.second ≡ skeleton_view other.skeleton = cc in
+      subst (λ (k : Skeleton). Embeds k (skeleton_view other.skeleton)) first (subst (Embeds h.first) second h.embeds)
 
-    isomorphic_of : (n : ℕ) (other : Made) → item_at ms n ≡ Some other → (h : EmbedsAt (map skeleton_of after) n (length ms)) → Embeds (skeleton_view other.skeleton) (skeleton_view x.skeleton)
-    isomorphic_of n other at h =
-        let first_is = way_at n other at in
-        let second_is = own_skeleton in
-        let given_first : item_at (map skeleton_of after) n ≡ Some h.first = h.at_first in
-        let given_second : item_at (map skeleton_of after) (length ms) ≡ Some h.second = h.at_second in
-        let first : h.first ≡ skeleton_view other.skeleton = cc in
-        let second : h.second ≡ skeleton_view x.skeleton = cc in
-        subst (λ (k : Skeleton). Embeds k (skeleton_view x.skeleton)) first (subst (Embeds h.first) second h.embeds)
+  as_seen : (n : ℕ) → MayPointTo after (length ms) n → MayBeSeen ms x.parent (skeleton_view x.skeleton) n
+  as_seen n h =
+      let other = item_there ms n h.earlier in
+      record {
+        other = other.0;
+        at = other.1;
+        allowed = λ p from reaches. h.no_return (made_way x) p own_way from (subst (λ (vs : List Way). Reaches vs n p) (sym ways_before) reaches);
+        isomorphic = (isomorphic_of n other.0 other.1 h.embeds, back_of n other.0 other.1 h.embeds_back);
+      }
 
-    back_of : (n : ℕ) (other : Made) → item_at ms n ≡ Some other → (h : EmbedsAt (map skeleton_of after) (length ms) n) → Embeds (skeleton_view x.skeleton) (skeleton_view other.skeleton)
-    back_of n other at h =
-        let second_is = way_at n other at in
-        let first_is = own_skeleton in
-        let given_first : item_at (map skeleton_of after) (length ms) ≡ Some h.first = h.at_first in
-        let given_second : item_at (map skeleton_of after) n ≡ Some h.second = h.at_second in
-        let first : h.first ≡ skeleton_view x.skeleton = cc in
-        let second : h.second ≡ skeleton_view other.skeleton = cc in
-        subst (λ (k : Skeleton). Embeds k (skeleton_view other.skeleton)) first (subst (Embeds h.first) second h.embeds)
-
-    as_seen : (n : ℕ) → MayPointTo after (length ms) n → MayBeSeenIn ms flags (skeleton_view x.skeleton) n
-    as_seen n h =
-        let other = item_there ms n h.earlier in
-        record {
-          other = other.0;
-          at = other.1;
-          allowed = λ flagged.
-              let to = no_return_of x.parent flags n forbidden flagged in
-              h.no_return (made_way x) to.0 own_way to.1 (subst (λ (vs : List Way). Reaches vs n to.0) (sym ways_before) to.2);
-          isomorphic = (isomorphic_of n other.0 other.1 h.embeds, back_of n other.0 other.1 h.embeds_back);
-        }
-
-    -- The first allowed copy is the first label to which one may point.
-    pub points_to_first : (found : Option ℕ) → FindsLeast (MayBeSeenIn ms flags (skeleton_view x.skeleton)) found → FindsLeast (MayPointTo (map made_way (ms ++ x ∷ [])) (length ms)) found
-    points_to_first = finds_alike (MayBeSeenIn ms flags (skeleton_view x.skeleton)) (MayPointTo after (length ms)) as_pointing as_seen
+  -- The first allowed copy is the first label to which one may point.
+  pub points_to_first : (found : Option ℕ) → FindsLeast (MayBeSeen ms x.parent (skeleton_view x.skeleton)) found → FindsLeast (MayPointTo (map made_way (ms ++ x ∷ [])) (length ms)) found
+  points_to_first = finds_alike (MayBeSeen ms x.parent (skeleton_view x.skeleton)) (MayPointTo after (length ms)) as_pointing as_seen
 
   module _ (found : AreFound ms) where
     earlier_found : (i : ℕ) (m : Made) → item_at ms i ≡ Some m → IsFound after i m
@@ -147,14 +133,14 @@ module _ (old : List Made) (x : Made) (new : List Made) (behind : new ≡ old ++
   adds_one own later = record { added = x; behind = behind; same = same; found = subst AreFound (sym behind) (all_found old x found own later) }
 
   -- A label that may live is made.
-  pub makes_one : (given : List Made) (flags : List Bool) → given ≡ old → AreForbidden old x.parent flags → IfSome x.parent (λ p. p < length old) → x.dead ≡ false →
-      FindsLeast (MayBeSeenIn given flags (skeleton_view x.skeleton)) x.seen_in → ListsUnrealised (skeleton_view x.skeleton) x.unrealised.items → (x.general ≡ true → IsMostGeneral (skeleton_view x.skeleton)) → AddsMade m old new
-  makes_one given flags e forbidden later lives least listed general = adds_one (record {
+  pub makes_one : IfSome x.parent (λ p. p < length old) → x.dead ≡ false → FindsLeast (MayBeSeen old x.parent (skeleton_view x.skeleton)) x.seen_in →
+      ListsUnrealised (skeleton_view x.skeleton) x.unrealised.items → (x.general ≡ true → IsMostGeneral (skeleton_view x.skeleton)) → AddsMade m old new
+  makes_one later lives least listed general = adds_one (record {
     fingerprint = fingerprint;
     dead_none = λ dead. absurd (cc);
     dead_unseen = λ dead. absurd (cc);
     listed = λ _. listed;
-    seen = λ _. points_to_first old x flags forbidden x.seen_in (subst (λ (ms : List Made). FindsLeast (MayBeSeenIn ms flags (skeleton_view x.skeleton)) x.seen_in) e least);
+    seen = λ _. points_to_first old x x.seen_in least;
     general = general;
   }) later
 

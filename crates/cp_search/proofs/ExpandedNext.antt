@@ -1,5 +1,5 @@
 -- The next label is settled by its expansion.
-use Rattle.std.proofs.Common.{◌≡◌, ◌≢◌, ◌⊎◌, ⊎_elim, ℕ, ◌+◌, ◌<◌, ◌≤◌, List, [], ◌∷◌, ◌++◌, length, map, false, Option, Some, None, sym, ap, subst, ◌∙◌, refl, arith}
+use Rattle.std.proofs.Common.{◌≡◌, ◌≢◌, ⊎_elim, ℕ, ◌+◌, ◌<◌, ◌≤◌, List, [], ◌∷◌, ◌++◌, length, map, false, Option, Some, None, sym, ap, subst, ◌∙◌, refl, arith}
 use Rattle.std.proofs.lemmas.List.{length-map}
 use Rattle.cp_lists.specs.Lists.{item_at, IsIn}
 use Rattle.cp_lists.proofs.Members.{into_map, from_map}
@@ -24,7 +24,7 @@ use Rattle.cp_search.specs.declared.settled.Settled.TheVariants as settled
 use Rattle.cp_search.specs.declared.settled.Expanded.{Expanded}
 use Rattle.cp_search.specs.Finding.{FindsLeast}
 use Rattle.cp_search.specs.Making.{made_view, made_way, IsFound, AreFound, AddMade}
-use Rattle.cp_search.specs.Settling.{expanded_label, settled_label, IsToExpand, IsOpenMark, IsNextToExpand, AreSoundMade, ExpandsLabel, IsSearched}
+use Rattle.cp_search.specs.Settling.{expanded_label, IsToExpand, IsOpenMark, AreSoundMade, ExpandsLabel, IsSearched}
 use Rattle.cp_search.proofs.OneMoreSettled.{numbers_of_map}
 use Rattle.cp_search.proofs.SettledNext.{settled_next}
 use Rattle.cp_search.proofs.SettledLeaves.{some_unrealised}

@@ -1,5 +1,5 @@
 -- The tree of a search that has settled all labels.
-use Rattle.std.proofs.Common.{◌≡◌, ◌≢◌, ℕ, ◌<◌, ◌≤◌, List, [], ◌∷◌, ◌++◌, length, map, take, Option, Some, None, sym, ap, subst, ◌∙◌, refl, arith}
+use Rattle.std.proofs.Common.{◌≡◌, ◌≢◌, ℕ, ◌<◌, List, ◌++◌, length, map, take, Option, Some, None, sym, ap, subst, ◌∙◌, refl, arith}
 use Rattle.std.proofs.lemmas.List.{length-map, take_all}
 use Rattle.cp_lists.specs.Lists.{item_at, IsIn}
 use Rattle.cp_lists.proofs.Items.{place_of, item_of_map, map_of_item}
@@ -17,14 +17,14 @@ use Rattle.cp_roots.specs.declared.root.Root.{Root}
 use Rattle.cp_tree.specs.Candidates.{Candidate, IsCandidate, CandidatesFrom, AreCandidates}
 use Rattle.cp_tree.specs.Made as plain
 use Rattle.cp_tree.specs.Made.{made_of_root, Way, way_of, seen_in_of}
-use Rattle.cp_tree.specs.Searched.{AreSettled, children_of, IsMarkedAmong, as_shape, as_instance, HasOutcome, IsTreeFrom}
+use Rattle.cp_tree.specs.Searched.{AreSettled, IsMarkedAmong, as_shape, as_instance, HasOutcome, IsTreeFrom}
 use Rattle.cp_search.specs.declared.made.Made.{Made}
 use Rattle.cp_search.specs.declared.settled.Settled.{Settled}
 use Rattle.cp_search.specs.Candidates.{open_from}
 use Rattle.cp_search.specs.Labelling.{labels_with, AreCandidateMarks}
 use Rattle.cp_search.specs.Making.{made_view, made_way}
 use Rattle.cp_search.specs.Roots.{root_made}
-use Rattle.cp_search.specs.Settling.{settled_labels, IsOpenMark, AreSoundRoots, IsSearched}
+use Rattle.cp_search.specs.Settling.{settled_labels, AreSoundRoots, IsSearched}
 use Rattle.cp_search.proofs.FinalLabels.{TakeMarks, marks_taken, children_still, ways_still, settled_marked, candidates_are, open_ones}
 
 -- ---- marks of candidates

@@ -1,8 +1,8 @@
 -- Labels that are made behind others change nothing of what those may point to.
-use Rattle.std.proofs.Common.{◌≡◌, ℕ, ◌<◌, ◌≤◌, List, ◌++◌, length, map, take, Some, sym, ap, subst, ◌∙◌, arith}
+use Rattle.std.proofs.Common.{◌≡◌, ℕ, ◌<◌, List, ◌++◌, length, map, take, Some, sym, ap, subst, ◌∙◌, arith}
 use Rattle.std.proofs.lemmas.List.{take-append-le}
 use Rattle.cp_lists.specs.Lists.{item_at}
-use Rattle.cp_lists.proofs.Items.{map_of_item, item_of_map, item_still, item_in_front, item_below}
+use Rattle.cp_lists.proofs.Items.{map_of_item, item_of_map, item_still, item_in_front}
 use Rattle.cp_model.specs.Skeleton.{Skeleton}
 use Rattle.cp_shapes.specs.Shapes.{IsLeast, EmbedsAt}
 use Rattle.cp_tree.specs.Made.{Way, Reaches, MayPointTo, IsNew}

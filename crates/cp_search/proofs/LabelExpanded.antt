@@ -1,6 +1,6 @@
 -- A label that is expanded: what it is asked for, and what comes of it.
 use Rattle.std.proofs.Common.{◌≡◌, ◌≢◌, ℕ, suc, List, [], ◌∷◌, length, map, false, Some, refl, sym, ap, ◌∙◌, subst}
-use Rattle.cp_lists.specs.Lists.{item_at, IsIn, here}
+use Rattle.cp_lists.specs.Lists.{item_at, here}
 use Rattle.cp_model.specs.Strand.{Declaration, Protocol}
 use Rattle.cp_model.specs.Skeleton.{Skeleton}
 use Rattle.cp_model.specs.Derivable.{IsUnrealised}
@@ -11,7 +11,6 @@ use Rattle.cp_skel.specs.Trees.{variables_view}
 use Rattle.cp_skel.specs.declared.tree.Test.{Test}
 use Rattle.cp_derive.specs.Unrealised.{ListsUnrealised}
 use Rattle.cp_cohort.specs.Views.{child_view}
-use Rattle.cp_cohort.specs.declared.child.Child as children
 use Rattle.cp_expansion.specs.Expansion.{IsExpansionOf}
 use Rattle.cp_expansion.specs.Views.{expansion_view}
 use Rattle.cp_expansion.specs.declared.expansion.Expansion as expansions

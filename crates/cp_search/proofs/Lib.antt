@@ -1,9 +1,8 @@
 pub mod Behind
 pub mod CandidateMarks
-pub mod Copies
+pub mod AllowedCopies
 pub mod ExpandedNext
 pub mod FinalLabels
-pub mod Forbidden
 pub mod FoundTrees
 pub mod GrownWays
 pub mod LabelsSoFar
@@ -20,5 +19,4 @@ pub mod Spreading
 pub mod WayEdges
 pub mod Ways
 pub mod LabelExpanded
-pub mod OwnVariables
 pub mod MadeTrees

@@ -1,5 +1,5 @@
 -- Labels that are made one after the other.
-use Rattle.std.proofs.Common.{◌≡◌, ◌∙◌, ℕ, suc, ◌+◌, ◌<◌, List, [], ◌∷◌, ◌++◌, length, map, reverse, Bool, refl, sym, ap, subst, arith}
+use Rattle.std.proofs.Common.{◌≡◌, ◌∙◌, ℕ, suc, ◌+◌, List, [], ◌∷◌, ◌++◌, length, map, reverse, refl, sym, ap, subst, arith}
 use Rattle.std.proofs.lemmas.List.{append_assoc, append-nil, length-append, length-map, map-append, reverse-append, reverse-reverse}
 use Rattle.cp_model.specs.Problem.{numbers_from}
 use Rattle.cp_cohort.specs.declared.child.Child.{Child}
@@ -8,9 +8,8 @@ use Rattle.cp_roots.specs.declared.root.Root.{Root}
 use Rattle.cp_tree.specs.Made as plain
 use Rattle.cp_tree.specs.Made.{made_of_child}
 use Rattle.cp_search.specs.declared.made.Made.{Made}
-use Rattle.cp_search.specs.Making.{made_view, AreFound, AreReaching, AddsMade, AddMade}
+use Rattle.cp_search.specs.Making.{made_view, AreFound, AddsMade, AddMade}
 use Rattle.cp_search.specs.Roots.{root_made}
-use Rattle.cp_search.proofs.Forbidden.{still_reaching}
 
 -- ---- one more
 
@@ -51,25 +50,22 @@ numbers_push : {A : Type 0} (n : ℕ) (xs : List A) (x : A) → numbers_from n (
 numbers_push n [] x = let e : n ≡ n + 0 = omega arith in ap (λ (k : ℕ). k ∷ []) e
 numbers_push n (y ∷ xs) x = let e : suc n + length xs ≡ n + suc (length xs) = omega arith in ap (λ ys. n ∷ ys) (numbers_push (suc n) xs x ∙ ap (λ (k : ℕ). numbers_from (suc n) xs ++ k ∷ []) e)
 
--- Of the children, which are taken from the end of their reverse, those in front of what is left are made, with these numbers; and
--- the flags are right.
-pub record AreChildrenMade (parent : ℕ) (children left : List Child) (old new : List Made) (flags : List Bool) (numbers : List ℕ) : Type 0 where
+-- Of the children, which are taken from the end of their reverse, those in front of what is left are made, with these numbers.
+pub record AreChildrenMade (parent : ℕ) (children left : List Child) (old new : List Made) (numbers : List ℕ) : Type 0 where
   pub done : List Child
   pub whole : done ++ reverse left ≡ children
   pub made : AddMade (map (made_of_child parent) (map child_view done)) old new
   pub numbered : numbers ≡ numbers_from (length old) done
-  pub reaching : AreReaching new parent flags
 
-pub no_child_made : (parent : ℕ) (children left : List Child) (old : List Made) (flags : List Bool) (numbers : List ℕ) → left ≡ reverse children → AreFound old → AreReaching old parent flags → numbers ≡ [] → AreChildrenMade parent children left old old flags numbers
-no_child_made parent children left old flags numbers e found reaching none = record {
+pub no_child_made : (parent : ℕ) (children left : List Child) (old : List Made) (numbers : List ℕ) → left ≡ reverse children → AreFound old → numbers ≡ [] → AreChildrenMade parent children left old old numbers
+no_child_made parent children left old numbers e found none = record {
   done = [];
   whole = ap reverse e ∙ reverse-reverse children;
   made = none_made old found;
   numbered = none;
-  reaching = reaching;
 }
 
-module _ (parent : ℕ) (children left : List Child) (old mid : List Made) (flags : List Bool) (numbers : List ℕ) (so_far : AreChildrenMade parent children left old mid flags numbers) where
+module _ (parent : ℕ) (children left : List Child) (old mid : List Made) (numbers : List ℕ) (so_far : AreChildrenMade parent children left old mid numbers) where
   count : length mid ≡ length old + length so_far.done
   count =
       let a : length mid ≡ length (old ++ so_far.made.added) = ap length so_far.made.behind in
@@ -80,24 +76,14 @@ module _ (parent : ℕ) (children left : List Child) (old mid : List Made) (flag
       let f : length (map child_view so_far.done) ≡ length so_far.done = length-map so_far.done child_view in
       omega arith
 
-  pub parent_within : parent < length old → parent < length mid
-  parent_within l = let e = count in omega arith
-
-  module _ (rest : List Child) (c : Child) (popped : left ≡ rest ++ c ∷ []) (new : List Made) (next : AddsMade (made_of_child parent (child_view c)) mid new) (l : parent < length old) where
-    flags_stay : AreReaching new parent flags
-    flags_stay =
-        subst (λ (ms : List Made). AreReaching ms parent flags) (sym next.behind)
-        (still_reaching mid next.added so_far.made.found (subst AreFound next.behind next.found) parent (parent_within l)
-        (ap (λ (m : plain.Made). m.parent) next.same) (ap (λ (m : plain.Made). m.dead) next.same) flags so_far.reaching)
-
+  module _ (rest : List Child) (c : Child) (popped : left ≡ rest ++ c ∷ []) (new : List Made) (next : AddsMade (made_of_child parent (child_view c)) mid new) where
     maps_after : map (made_of_child parent) (map child_view (so_far.done ++ c ∷ [])) ≡ map (made_of_child parent) (map child_view so_far.done) ++ made_of_child parent (child_view c) ∷ []
     maps_after = ap (map (made_of_child parent)) (map-append child_view so_far.done (c ∷ [])) ∙ map-append (made_of_child parent) (map child_view so_far.done) (child_view c ∷ [])
 
-    pub next_child : (more : List ℕ) → more ≡ numbers ++ length mid ∷ [] → AreChildrenMade parent children rest old new flags more
+    pub next_child : (more : List ℕ) → more ≡ numbers ++ length mid ∷ [] → AreChildrenMade parent children rest old new more
     next_child more e = record {
       done = so_far.done ++ c ∷ [];
       whole = next_whole children so_far.done left rest c so_far.whole popped;
       made = subst (λ (ms : List plain.Made). AddMade ms old new) (sym maps_after) (one_more_made (map (made_of_child parent) (map child_view so_far.done)) (made_of_child parent (child_view c)) old mid new so_far.made next);
       numbered = e ∙ (ap (λ (ns : List ℕ). ns ++ length mid ∷ []) so_far.numbered ∙ (ap (λ (n : ℕ). numbers_from (length old) so_far.done ++ n ∷ []) count ∙ sym (numbers_push (length old) so_far.done c)));
-      reaching = flags_stay;
     }

@@ -1,5 +1,5 @@
 -- The trees that are made of searches.
-use Rattle.std.proofs.Common.{◌≡◌, ℕ, List, length, map, Result, Ok, Err, IfOk}
+use Rattle.std.proofs.Common.{◌≡◌, List, length, map, Result, Ok, Err, IfOk}
 use Rattle.cp_lists.specs.Lists.{IsIn}
 use Rattle.cp_model.specs.Strand.{Declaration, Protocol}
 use Rattle.cp_model.specs.Tree.{Mark, Tree, Limits}
@@ -15,10 +15,10 @@ use Rattle.cp_search.specs.Roots.{root_made}
 use Rattle.cp_search.specs.Settling.{HasSearched}
 use Rattle.cp_search.proofs.FoundTrees.{is_tree}
 
-pub if_made : {E : Type 0} (protocol : Protocol) (variables : List Declaration) (limits : Limits) (roots : List Root) (s : Search) → HasSearched protocol limits (map root_made roots) s → length s.settled.items ≡ length s.made.items
+pub if_made : {E : Type 0} (protocol : Protocol) (variables : List Declaration) (limits : Limits) (roots : List Root) (s : Search) → HasSearched protocol limits (map root_made roots) s → length s.settled.items ≡ length s.made
     → ((root : Root) → IsIn root roots → variables_view root.skeleton.variables ≡ variables) → (is : Tree → Type 0) → ((t : Tree) → IsTreeFrom protocol variables limits (map root_view roots) t → is t) → (r : Result ProgramTree E)
-    → IfOk r (λ t. (marks : List Mark) × AreCandidateMarks (open_from 0 s.made.items s.settled.items) marks × ((tree_view t).labels ≡ labels_with s.made.items s.settled.items marks)) → IfOk r (λ t. HasOutcome (tree_view t).labels (tree_view t).outcome)
+    → IfOk r (λ t. (marks : List Mark) × AreCandidateMarks (open_from 0 s.made s.settled.items) marks × ((tree_view t).labels ≡ labels_with s.made s.settled.items marks)) → IfOk r (λ t. HasOutcome (tree_view t).labels (tree_view t).outcome)
     → IfOk r (λ t. is (tree_view t))
 if_made protocol variables limits roots s searched all named is law (Ok t) labels outcome =
-    law (tree_view t) (is_tree protocol limits roots s.made.items s.settled.items s.expanded searched all labels.0 labels.1 variables named (tree_view t) labels.2 outcome)
+    law (tree_view t) (is_tree protocol limits roots s.made s.settled.items s.expanded searched all labels.0 labels.1 variables named (tree_view t) labels.2 outcome)
 if_made protocol variables limits roots s searched all named is law (Err e) labels outcome = tt

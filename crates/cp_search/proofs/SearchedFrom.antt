@@ -1,10 +1,9 @@
 -- A search before its first label is settled.
-use Rattle.std.proofs.Common.{◌≡◌, ℕ, ◌≤◌, ◌<◌, ◌-◌, ◌+◌, List, [], ◌∷◌, ◌++◌, length, map, take, Some, sym, ap, subst, ◌∙◌, refl, arith}
+use Rattle.std.proofs.Common.{◌≡◌, List, [], map, sym, ap, subst, ◌∙◌, arith}
 use Rattle.std.proofs.lemmas.List.{append-nil}
 use Rattle.cp_lists.specs.Lists.{item_at}
 use Rattle.cp_lists.proofs.Items.{at_place, item_of_map, map_of_item}
 use Rattle.cp_model.specs.Strand.{Protocol}
-use Rattle.cp_model.specs.Problem.{numbers_from}
 use Rattle.cp_model.specs.Tree.{Label, Limits, expanded_count}
 use Rattle.cp_roots.specs.declared.root.Root.{Root}
 use Rattle.cp_tree.specs.Made as plain
@@ -15,7 +14,7 @@ use Rattle.cp_search.specs.declared.made.Made.{Made}
 use Rattle.cp_search.specs.declared.settled.Settled.{Settled}
 use Rattle.cp_search.specs.Making.{made_view, made_way, AddMade}
 use Rattle.cp_search.specs.Roots.{root_made}
-use Rattle.cp_search.specs.Settling.{settled_labels, IsOpenMark, AreSoundMade, AreSoundRoots, IsSearched}
+use Rattle.cp_search.specs.Settling.{IsOpenMark, AreSoundMade, AreSoundRoots, IsSearched}
 use Rattle.cp_search.proofs.SettledNext.{no_labels}
 
 module _ (protocol : Protocol) (limits : Limits) (roots : List Root) (ms : List Made) (a : AddMade (map root_made roots) [] ms) (sound : AreSoundRoots protocol roots) where

@@ -1,8 +1,7 @@
 -- The next label is settled as a leaf.
-use Rattle.std.proofs.Common.{◌≡◌, ◌≢◌, ⊎_elim, ℕ, ◌+◌, ◌<◌, ◌≤◌, List, [], ◌∷◌, ◌++◌, length, map, get_or, true, false, nat_eq, option_map, Option, Some, None, sym, ap, subst, ◌∙◌, refl, arith, eqb-true}
+use Rattle.std.proofs.Common.{◌≡◌, ◌≢◌, ⊎_elim, ℕ, ◌+◌, ◌<◌, ◌≤◌, List, [], ◌∷◌, ◌++◌, length, map, true, false, nat_eq, option_map, Option, Some, None, sym, ap, subst, ◌∙◌, refl, arith, eqb-true}
 use Rattle.std.proofs.lemmas.List.{append-nil, length-map}
 use Rattle.cp_lists.specs.Lists.{item_at, IsIn, here}
-use Rattle.cp_lists.proofs.Items.{item_of_read}
 use Rattle.cp_lists.proofs.Members.{not_in_none}
 use Rattle.cp_model.specs.Strand.{Protocol}
 use Rattle.cp_model.specs.declared.node.Node.{Node}
@@ -135,5 +134,5 @@ expands_now limits m n o (at_limit d s u b l) none = absurd (none (Some program.
 expands_now limits m n o (no_leaf x) none = x
 
 -- The next label of which something has to become.
-pub next_label : (ms : List Made) (ss : List Settled) (i : ℕ) (m : Made) → i < length ms → m ≡ get_or ms i m → i ≡ length ss → item_at ms (length ss) ≡ Some m
-next_label ms ss i m l is e = ap (item_at ms) (sym e) ∙ item_of_read ms i m l is
+pub next_label : (ms : List Made) (ss : List Settled) (i : ℕ) (m : Made) → item_at ms i ≡ Some m → i ≡ length ss → item_at ms (length ss) ≡ Some m
+next_label ms ss i m at e = ap (item_at ms) (sym e) ∙ at

@@ -45,17 +45,19 @@ pub record AreFound (ms : List Made) : Type 0 where
 abbrev pub AreReaching : List Made → ℕ → List Bool → Type 0
 AreReaching ms p flags = (n : ℕ) → IsFlagged flags n ↔ ((n < length ms) × Reaches (map made_way ms) n p)
 
--- The flags are of the labels in which one that is made from this label may not be seen: of those from which that can be reached;
--- of none where it is made from none.
-abbrev pub AreForbidden : List Made → Option ℕ → List Bool → Type 0
-AreForbidden ms None flags = (n : ℕ) → IsFlagged flags n → ⊥
-AreForbidden ms (Some p) flags = AreReaching ms p flags
-
 -- Label n is not flagged, and is isomorphic to the skeleton.
 pub record MayBeSeenIn (ms : List Made) (flags : List Bool) (k : Skeleton) (n : ℕ) : Type 0 where
   pub other : Made
   pub at : item_at ms n ≡ Some other
   pub allowed : IsFlagged flags n → ⊥
+  pub isomorphic : IsIsomorphic (skeleton_view other.skeleton) k
+
+-- A label that is made from this one, or from none, with this skeleton may be seen in label n: that is isomorphic, and its parent
+-- cannot be reached from there.
+pub record MayBeSeen (ms : List Made) (parent : Option ℕ) (k : Skeleton) (n : ℕ) : Type 0 where
+  pub other : Made
+  pub at : item_at ms n ≡ Some other
+  pub allowed : (p : ℕ) → parent ≡ Some p → Reaches (map made_way ms) n p → ⊥
   pub isomorphic : IsIsomorphic (skeleton_view other.skeleton) k
 
 -- One label more was made, and what is found of it is true.

@@ -70,7 +70,7 @@ IsOpenMark i mark = mark ≡ None
 -- The next label is to be expanded.
 pub record IsNextToExpand (limits : Limits) (s : Search) : Type 0 where
   pub label : Made
-  pub at : item_at s.made.items (length s.settled.items) ≡ Some label
+  pub at : item_at s.made (length s.settled.items) ≡ Some label
   pub expands : IsToExpand limits label s.expanded
 
 -- Each label is sound for one problem, which is a skeleton over the protocol.
@@ -121,4 +121,4 @@ pub record IsSearched (protocol : Protocol) (limits : Limits) (roots : List plai
 
 -- The same of a search.
 abbrev pub HasSearched : Protocol → Limits → List plain.Made → Search → Type 0
-HasSearched protocol limits roots s = IsSearched protocol limits roots s.made.items s.settled.items s.expanded
+HasSearched protocol limits roots s = IsSearched protocol limits roots s.made s.settled.items s.expanded

@@ -3,8 +3,8 @@ ghost use Rattle.std.specs.Prelude.{◌<◌, length, IfOk};
 ghost use Rattle.cp_search.specs.Generalising.{GeneralisesLabel};
 ghost use Rattle.cp_search.specs.Making.{AreFound};
 
-use crate::made::{Made, make};
-use crate::reaching::reaching;
+use crate::labels::Labels;
+use crate::making::make;
 use cp_general::generalised;
 use cp_skel::Operation;
 use cp_tree::generalised_labels_are_sound;
@@ -14,27 +14,25 @@ use std::alloc::{AllocError, Global};
 /// error is that memory ran out.
 pub(crate) fn generalise_label(
     alloc: Global,
-    made: &mut Vec<Made>,
+    made: &mut Labels,
     number: usize,
 ) -> Result<Option<usize>, AllocError>
-    requires found { AreFound made.old.items }
-    requires there { number < length made.old.items }
-    ensures { IfOk result (GeneralisesLabel number made.old.items made.new.items) }
+    requires found { AreFound made.old }
+    requires there { number < length made.old }
+    ensures { IfOk result (GeneralisesLabel number made.old made.new) }
 {
     generalised_labels_are_sound();
-    let label = &made[number];
+    let label = made.label(number);
     if label.general {
         return Ok(None);
     }
     let Some(skeleton) = generalised(alloc, &label.skeleton)? else {
         return Ok(None);
     };
-    let forbidden = reaching(alloc, made, number)?;
     let child = made.len();
     make(
         alloc,
         made,
-        &forbidden,
         Some(number),
         Operation::Generalised,
         skeleton,

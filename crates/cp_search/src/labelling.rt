@@ -181,14 +181,14 @@ fn outcome_of(labels: &[TreeNode]) -> Outcome
 
 /// The tree of a search that has settled all labels. The error is that memory ran out.
 pub(crate) fn tree_of(alloc: Global, search: Search) -> Result<Tree, AllocError>
-    requires all { length search.settled.items ≡ length search.made.items }
-    requires same { AreExpandedOf search.made.items search.settled.items }
-    ensures labels { IfOk result (λ t. (marks : List PlainMark) × AreCandidateMarks (open_from 0 search.made.items search.settled.items) marks × ((tree_view t).labels ≡ labels_with search.made.items search.settled.items marks)) }
+    requires all { length search.settled.items ≡ length search.made }
+    requires same { AreExpandedOf search.made search.settled.items }
+    ensures labels { IfOk result (λ t. (marks : List PlainMark) × AreCandidateMarks (open_from 0 search.made search.settled.items) marks × ((tree_view t).labels ≡ labels_with search.made search.settled.items marks)) }
     ensures outcome { IfOk result (λ t. HasOutcome (tree_view t).labels (tree_view t).outcome) }
 {
     let Search { made, settled, .. } = search;
-    let marks = candidate_marks(alloc, &made, &settled)?;
-    let nodes = labels(alloc, made, settled, marks)?;
+    let marks = candidate_marks(alloc, made.all(), &settled)?;
+    let nodes = labels(alloc, made.into_all(), settled, marks)?;
     let outcome = outcome_of(&nodes);
     Ok(Tree { nodes, outcome })
 }

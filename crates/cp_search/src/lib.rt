@@ -3,10 +3,13 @@
 
 mod candidates;
 mod children;
+mod copies;
 mod generalising;
 mod graph;
 mod labelling;
+mod labels;
 mod made;
+mod making;
 mod reaching;
 mod roots;
 mod searching;

@@ -3,14 +3,15 @@ ghost use Rattle.std.specs.Prelude.{[], map, IfOk, OnOk};
 ghost use Rattle.cp_search.specs.Making.{AreFound, AddsMade, AddMade};
 ghost use Rattle.cp_search.specs.Roots.{root_made};
 
-use crate::made::{Made, make, make_dead};
+use crate::labels::Labels;
+use crate::making::{make, make_dead};
 use cp_roots::Root;
 use std::alloc::{AllocError, Global};
 
 /// Makes the label of a root.
-fn make_root(alloc: Global, made: &mut Vec<Made>, root: Root) -> Result<(), AllocError>
-    requires found { AreFound made.old.items }
-    ensures { OnOk result (AddsMade (root_made root) made.old.items made.new.items) }
+fn make_root(alloc: Global, made: &mut Labels, root: Root) -> Result<(), AllocError>
+    requires found { AreFound made.old }
+    ensures { OnOk result (AddsMade (root_made root) made.old made.new) }
 {
     let Root {
         operation,
@@ -20,16 +21,16 @@ fn make_root(alloc: Global, made: &mut Vec<Made>, root: Root) -> Result<(), Allo
     if dead {
         return make_dead(alloc, made, operation, skeleton);
     }
-    make(alloc, made, &[], None, operation, skeleton, false)
+    make(alloc, made, None, operation, skeleton, false)
 }
 
 /// Makes the labels of the roots, in their order.
-pub(crate) fn make_roots(alloc: Global, roots: Vec<Root>) -> Result<Vec<Made>, AllocError>
-    ensures { IfOk result (λ ms. AddMade (map root_made roots.items) [] ms.items) }
+pub(crate) fn make_roots(alloc: Global, roots: Vec<Root>) -> Result<Labels, AllocError>
+    ensures { IfOk result (λ ms. AddMade (map root_made roots.items) [] ms) }
 {
     let mut rest = roots;
     rest.reverse();
-    let mut made = Vec::new(alloc);
+    let mut made = Labels::new(alloc);
     while let Some(root) = rest.pop() {
         make_root(alloc, &mut made, root)?;
     }

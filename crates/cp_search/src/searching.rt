@@ -13,6 +13,7 @@ ghost use Rattle.cp_search.specs.Settling.{IsLeafOf, IsToExpand, IsNextToExpand,
 
 use crate::children::make_children;
 use crate::generalising::generalise_label;
+use crate::labels::Labels;
 use crate::made::Made;
 use crate::roots::make_roots;
 use crate::settled::{Expanded, Settled};
@@ -25,7 +26,7 @@ use std::alloc::{AllocError, Global};
 /// The labels that were made, what has become of the first of them, and how many of those were expanded.
 #[derive(Drop)]
 pub(crate) struct Search {
-    pub made: Vec<Made>,
+    pub made: Labels,
     pub settled: Vec<Settled>,
     pub expanded: usize,
 }
@@ -57,13 +58,13 @@ fn leaf_of(label: &Made, limits: Limits, expanded: usize) -> Option<Option<Mark>
 /// to the label, the label of what it generalises to is made behind the others.
 fn settle_leaf(
     alloc: Global,
-    made: &mut Vec<Made>,
+    made: &mut Labels,
     number: usize,
     mark: Option<Mark>,
 ) -> Result<Settled, AllocError>
-    requires found { AreFound made.old.items }
-    requires there { number < length made.old.items }
-    ensures { IfOk result (SettlesAs number made.old.items made.new.items mark) }
+    requires found { AreFound made.old }
+    requires there { number < length made.old }
+    ensures { IfOk result (SettlesAs number made.old made.new mark) }
 {
     if mark.is_some() {
         return Ok(Settled::Leaf(mark));
@@ -76,15 +77,15 @@ fn settle_leaf(
 
 /// Settles the labels up to the next one that is to be expanded. Whether there is one.
 fn settle_leaves(alloc: Global, limits: Limits, search: &mut Search) -> Result<bool, AllocError>
-    requires found { AreFound search.old.made.items }
+    requires found { AreFound search.old.made }
     ensures searched { OnOk result ((protocol : PlainProtocol) (made : List plain.Made) → HasSearched protocol (limits_view limits) made search.old → HasSearched protocol (limits_view limits) made search.new) }
     ensures next { IfOk result (λ some. some ≡ true → IsNextToExpand (limits_view limits) search.new) }
-    ensures all { IfOk result (λ some. some ≡ false → length search.old.settled.items ≤ length search.old.made.items → length search.new.settled.items ≡ length search.new.made.items) }
+    ensures all { IfOk result (λ some. some ≡ false → length search.old.settled.items ≤ length search.old.made → length search.new.settled.items ≡ length search.new.made) }
     ensures expanded { search.new.expanded ≡ search.old.expanded }
 {
     while search.settled.len() < search.made.len() {
         let next = search.settled.len();
-        let Some(mark) = leaf_of(&search.made[next], limits, search.expanded) else {
+        let Some(mark) = leaf_of(search.made.label(next), limits, search.expanded) else {
             return Ok(true);
         };
         let settled = settle_leaf(alloc, &mut search.made, next, mark)?;
@@ -97,18 +98,18 @@ fn settle_leaves(alloc: Global, limits: Limits, search: &mut Search) -> Result<b
 fn expand_label(
     alloc: Global,
     protocol: &Protocol,
-    made: &mut Vec<Made>,
+    made: &mut Labels,
     number: usize,
 ) -> Result<Expanded, AllocError>
     requires roles { (role : PlainRole) → IsIn role protocol.now.roles → DeclaresItsVariables role }
-    requires there { number < length made.old.items }
-    requires found { AreFound made.old.items }
-    requires sound { AreSoundMade protocol.now made.old.items }
-    requires unrealised { (m : program.Made) → item_at made.old.items number ≡ Some m → (m.dead ≡ false) × (m.unrealised.items ≢ []) }
-    ensures { IfOk result (ExpandsLabel protocol.now number made.old.items made.new.items) }
+    requires there { number < length made.old }
+    requires found { AreFound made.old }
+    requires sound { AreSoundMade protocol.now made.old }
+    requires unrealised { (m : program.Made) → item_at made.old number ≡ Some m → (m.dead ≡ false) × (m.unrealised.items ≢ []) }
+    ensures { IfOk result (ExpandsLabel protocol.now number made.old made.new) }
 {
     expansions_are_sound();
-    let label = &made[number];
+    let label = made.label(number);
     let Some(test) = test_of(alloc, &label.skeleton, &label.unrealised)? else {
         unreachable!()
     };
@@ -135,8 +136,8 @@ fn expand_next(
 ) -> Result<(), AllocError>
     requires roles { (role : PlainRole) → IsIn role protocol.now.roles → DeclaresItsVariables role }
     requires next { IsNextToExpand (limits_view limits) search.old }
-    requires found { AreFound search.old.made.items }
-    requires sound { AreSoundMade protocol.now search.old.made.items }
+    requires found { AreFound search.old.made }
+    requires sound { AreSoundMade protocol.now search.old.made }
     ensures searched { OnOk result ((made : List plain.Made) → HasSearched protocol.now (limits_view limits) made search.old → HasSearched protocol.now (limits_view limits) made search.new) }
     ensures expanded { OnOk result (search.new.expanded ≡ search.old.expanded + 1) }
 {
@@ -157,7 +158,7 @@ pub(crate) fn search_from(
     requires roles { (role : PlainRole) → IsIn role protocol.now.roles → DeclaresItsVariables role }
     requires sound { AreSoundRoots protocol.now roots.items }
     ensures searched { IfOk result (HasSearched protocol.now (limits_view limits) (map root_made roots.items)) }
-    ensures all { IfOk result (λ s. length s.settled.items ≡ length s.made.items) }
+    ensures all { IfOk result (λ s. length s.settled.items ≡ length s.made) }
 {
     let made = make_roots(alloc, roots)?;
     let mut search = Search {

@@ -1,9 +1,9 @@
 -- The children of a test have no other strings and no other identifiers than its skeleton and the protocol's roles.
-use Rattle.std.proofs.Common.{◌≡◌, ◌⊎◌, inl, inr, ℕ, suc, ◌<◌, ◌≤◌, List, [], ◌∷◌, ◌++◌, length, map, Option, Some, None, refl, sym, ◌∙◌, subst, ⊎_elim, arith}
+use Rattle.std.proofs.Common.{◌≡◌, ◌⊎◌, inl, inr, ℕ, suc, ◌<◌, ◌≤◌, List, [], ◌∷◌, ◌++◌, length, map, Option, Some, None, refl, sym, ◌∙◌, subst, arith}
 use Rattle.cp_lists.specs.Lists.{item_at, IsIn, here, there}
 use Rattle.cp_lists.proofs.Items.{at_place}
-use Rattle.cp_lists.proofs.Members.{not_in_none, only_item, in_append, in_append_left, in_append_right, from_map}
-use Rattle.cp_model.specs.Term.{Variable, KeyTerm, symmetric_term, asymmetric_term, key_term, inverse_term, Term, atom_term, Substitution}
+use Rattle.cp_lists.proofs.Members.{not_in_none, in_append_left, in_append_right, from_map}
+use Rattle.cp_model.specs.Term.{Variable, KeyTerm, symmetric_term, asymmetric_term, inverse_term, Term, Substitution}
 use Rattle.cp_model.specs.Strand.{send, payload, Declaration, Role, Protocol}
 use Rattle.cp_model.specs.Bundle.{node_at}
 use Rattle.cp_model.specs.Skeleton.{instance, Skeleton, IsSkeleton}
@@ -21,10 +21,10 @@ use Rattle.cp_match.specs.Unifying.{UnifiesMostGenerally}
 use Rattle.cp_answers.specs.Covering.{put_before}
 use Rattle.cp_answers.specs.Fresh.{fresh_terms}
 use Rattle.cp_settle.specs.Releasing.{Tried}
-use Rattle.cp_covering.specs.Listing.{terms_onto}
 use Rattle.cp_covering.specs.Children.{Child, child, declaration_onto, declarations_of}
-use Rattle.cp_covering.specs.Cohort.{Question, Contracts, AreContracted, release_at, DisplacesEvent, DisplacesStrand, AddsAt, AddsEvent, FreesCritical, by_key, by_body, by_nothing, OpensPattern, Listens, AreListeners, IsCohort, is_before, is_displaced, is_added, of_listener, of_node, of_role, is_inside, is_critical, cyclic}
+use Rattle.cp_covering.specs.Cohort.{Question, Contracts, AreContracted, release_at, DisplacesAt, DisplacesEvent, DisplacesStrand, AddsAt, AddsEvent, FreesCritical, by_key, by_body, by_nothing, OpensPattern, Listens, AreListeners, IsCohort, is_before, is_displaced, is_added, of_listener, of_node, of_role, is_inside, is_critical, cyclic}
 use Rattle.cp_covering.specs.Cohort as cohort
+use Rattle.cp_covering.specs.Released.{SetsFree, critical_key, critical_body, pattern_key}
 use Rattle.cp_proper.specs.Strings.{strings_of_key, strings_of}
 use Rattle.cp_proper.specs.Spelled.{IsSpelledTerm, AreSpelledDeclarations, IsSpelledRole, IsSpelledSkeleton}
 use Rattle.cp_strings.proofs.Under.{GivesStrings, under_spelled, same_spelled, event_spelled, part_spelled}
@@ -33,7 +33,6 @@ use Rattle.cp_strings.proofs.Forms.{forms_spelled}
 use Rattle.cp_strings.proofs.Changes.{listener_spelled, strand_spelled, extended_spelled, put_spelled}
 use Rattle.cp_strings.proofs.OpenedPatterns.{AreNamed, still_named, both_declared}
 use Rattle.cp_strings.proofs.Settled.{IsSpelledTried, settles_spelled}
-use Rattle.cp_covering.proofs.Listed.{given, those_have, of_terms_onto}
 use Rattle.cp_covering.proofs.EachChild.{each_child}
 
 -- What is asked has admitted strings and identifiers, and so has what names the locals of its patterns as new variables.
@@ -97,12 +96,6 @@ module _ (S I : List ℕ → Type 0) (decide : (t : List ℕ) → S t ⊎ (S t �
         let of_event : IsSpelledTerm S (payload o.event) = event_spelled S I k o.node o.event asked.skeleton (listed_event k o there_is) in
         forms_are l forms (unified_is k l asked.skeleton t (part_spelled S I (payload o.event) path t of_event at) s unifies same) has (by_contraction o.node) path d i
 
-    contracted : (children : List Child) → AreContracted q children → (d : Child) → IsIn d children → IsSpelled d
-    contracted children are d i =
-        let event = given are.each d i in
-        let path = given event.gives_it d event.among in
-        contracts event.giver path.giver path.given (those_have are.before event.giver event.listed).0 path.gives_it d path.among
-
     -- ---- what is put before the node
 
     module _ (variables : List Declaration) (declared : AreSpelledDeclarations I variables) (named : (p : Pattern) → IsIn p q.patterns → AreNamed I variables p) (s j : ℕ) (path : List Step) (grown : Skeleton) (is : IsSpelledSkeleton S I grown) where
@@ -159,19 +152,8 @@ module _ (S I : List ℕ → Type 0) (decide : (t : List ℕ) → S t ⊎ (S t �
           releases variables (subst (λ (ds : List Declaration). AreSpelledDeclarations I ds) (sym r.1) (more_declared role of_role (added j))) (λ p i. subst (λ (ds : List Declaration). AreNamed I ds p) (sym r.1) (more_named role of_role (added j) p i)) s j path grown
           (grown_is j grown r.0 r.2) operation children gives
 
-      displaced_event : (j : ℕ) (children : List Child) → DisplacesEvent q s role height j children → (d : Child) → IsIn d children → IsSpelled d
-      displaced_event j children (cohort.is_reception there_is) d i = absurd (not_in_none i)
-      displaced_event j children (is_before before) d i = absurd (not_in_none i)
-      displaced_event j children (is_displaced there_is none each) d i =
-          let one = given each d i in
-          let a = one.gives_it in
-          how_releases j one.giver a.variables a.grown a.grows.how _ one.given a.releases d one.among
-
-    displaced_strand : (s : ℕ) (children : List Child) → DisplacesStrand q s children → (d : Child) → IsIn d children → IsSpelled d
-    displaced_strand s children (of_listener there_is) d i = absurd (not_in_none i)
-    displaced_strand s children (of_node same) d i = absurd (not_in_none i)
-    displaced_strand s children (of_role {role = role} {height = height} {terms = terms} there_is ne each) d i =
-        let one = given each d i in displaced_event s role height terms there_is one.giver one.given one.gives_it d one.among
+      displaced_at : (j : ℕ) (path : List Step) (children : List Child) → DisplacesAt q s role height j path children → (d : Child) → IsIn d children → IsSpelled d
+      displaced_at j path children a = how_releases j path a.variables a.grown a.grows.how _ children a.releases
 
     -- ---- added
 
@@ -183,10 +165,6 @@ module _ (S I : List ℕ → Type 0) (decide : (t : List ℕ) → S t ⊎ (S t �
           releases (q.variables ++ declarations_of role xs) (more_declared role of_role xs) (more_named role of_role xs) (length k.strands) j path a.grown
           (strand_spelled S I role (suc j) (length q.variables) k a.grown (declares role in_roles) of_role a.adds asked.skeleton) _ children a.releases d i
 
-      added_event : (children : List Child) → AddsEvent q role j children → (d : Child) → IsIn d children → IsSpelled d
-      added_event children (cohort.is_reception there_is) d i = absurd (not_in_none i)
-      added_event children (is_added there_is each) d i = let one = given each d i in added_at one.giver one.given one.gives_it d one.among
-
     -- ---- listeners
 
     listens : (t : Term) (children : List Child) → IsSpelledTerm S t → Listens q t children → (d : Child) → IsIn d children → IsSpelled d
@@ -195,45 +173,21 @@ module _ (S I : List ℕ → Type 0) (decide : (t : List ℕ) → S t ⊎ (S t �
         let heard : IsSpelledSkeleton S I l.added = listener_spelled S I t k l.added l.adds of_t asked.skeleton in
         forms_are (put_before node q.node l.added) l.forms (put_spelled S I node q.node l.added heard) l.normal _ [] d (subst (IsIn d) l.are_children i)
 
-    freed : (frees : List Term) → FreesCritical q frees → (t : Term) → IsIn t frees → IsSpelledTerm S t
-    freed frees (by_key {body = body} {key = key} e none) t i s j =
-        asked.critical s (subst (λ (u : Term). IsIn s (strings_of u)) (sym e) (in_append_right (strings_of body) (subst (λ (u : Term). IsIn s (strings_of u)) (only_item i) j)))
-    freed frees (by_body {body = body} {key = key} e some) t i s j =
-        asked.critical s (subst (λ (u : Term). IsIn s (strings_of u)) (sym e) (in_append_left (strings_of_key key) (subst (λ (u : Term). IsIn s (strings_of u)) (only_item i) j)))
-    freed frees (by_nothing none) t i s j = absurd (not_in_none i)
-
-    opens : (p : Pattern) (ts : List Term) → IsIn p q.patterns → OpensPattern p ts → (t : Term) → IsIn t ts → IsSpelledTerm S t
-    opens p ts listed o t i s j =
-        let same : t ≡ atom_term (key_term (inverse_term o.key)) = only_item (subst (IsIn t) o.inverse i) in
-        let in_inverse : IsIn s (strings_of_key (inverse_term o.key)) = subst (λ (u : Term). IsIn s (strings_of u)) same j in
-        let in_key : IsIn s (strings_of_key o.key) = subst (IsIn s) (same_key_strings o.key) in_inverse in
-        asked.patterns p listed s (subst (λ (u : Term). IsIn s (strings_of u)) (sym o.is_pattern) (in_append_right (strings_of o.body) in_key))
-
-    listeners : (children : List Child) → AreListeners q children → (d : Child) → IsIn d children → IsSpelled d
-    listeners children are d i =
-        let one = given are.each d i in
-        listens one.giver one.given (of_term one.giver one.listed) one.gives_it d one.among
-      where
-        opens_term : (t : Term) → IsIn t are.opens → IsSpelledTerm S t
-        opens_term t j = let o = given are.patterns t j in opens o.giver o.given o.listed o.gives_it t o.among
-
-        of_term : (t : Term) → IsIn t (terms_onto [] (are.frees ++ are.opens)) → IsSpelledTerm S t
-        of_term t j =
-            ⊎_elim (λ (none : IsIn t []). absurd (not_in_none none)) (λ m. ⊎_elim (λ f. freed are.frees are.critical t f) (λ o. opens_term t o) (in_append are.frees are.opens m)) (of_terms_onto [] (are.frees ++ are.opens) t j)
+    heard_spelled : (t : Term) → SetsFree q t → IsSpelledTerm S t
+    heard_spelled t (critical_key {body = body} e none) s j = asked.critical s (subst (λ (u : Term). IsIn s (strings_of u)) (sym e) (in_append_right (strings_of body) j))
+    heard_spelled t (critical_body {key = key} e some) s j = asked.critical s (subst (λ (u : Term). IsIn s (strings_of u)) (sym e) (in_append_left (strings_of_key key) j))
+    heard_spelled t (pattern_key {p = p} {body = body} {key = key} listed e) s j =
+        asked.patterns p listed s (subst (λ (u : Term). IsIn s (strings_of u)) (sym e) (in_append_right (strings_of body) (subst (IsIn s) (same_key_strings key) j)))
 
     -- ---- all of them
 
     all_spelled : (children : List Child) → IsCohort protocol q children → (d : Child) → IsIn d children → IsSpelled d
-    all_spelled children is d i =
-        each_child protocol q children is IsSpelled (contracted is.contracted is.are_contracted) displaced_are added_are (listeners is.listeners is.are_listeners) d i
-      where
-        displaced_are : (e : Child) → IsIn e is.displaced → IsSpelled e
-        displaced_are e n = let one = given is.are_displaced e n in displaced_strand one.giver one.given one.gives_it e one.among
-
-        added_are : (e : Child) → IsIn e is.added → IsSpelled e
-        added_are e o =
-            let role = given is.are_added e o in
-            let event = given role.gives_it e role.among in added_event role.giver role.listed event.giver event.given event.gives_it e event.among
+    all_spelled = each_child protocol q IsSpelled (record {
+      contracted = λ o there_is before path children. contracts o path children there_is;
+      displaced = λ s role height terms on apart j t sent none. displaced_at s role height terms on j;
+      added = λ role listed j t sent. added_at role listed j;
+      listened = λ t free children. listens t children (heard_spelled t free);
+    })
 
   pub cohort_spelled : (q : Question) (children : List Child) → IsSkeleton protocol q.skeleton → IsSpelledQuestion S I q → IsCohort protocol q children → (c : Child) → IsIn c children → IsSpelledChild S I c
   cohort_spelled q children sk asked is c i = all_spelled q sk asked children is c i

@@ -9,6 +9,13 @@ use Rattle.cp_shapes.proofs.Instances.{same_item}
 use Rattle.cp_tree.specs.Candidates.{Candidate, IsCandidate, AreCandidates, skeletons_of, IsLabelAt}
 use Rattle.cp_tree.proofs.Picked.{skeleton_at_place, skeleton_at_number}
 
+-- Two skeletons that stand in two lists embed in the one as in the other.
+embeds_there : (ks ls : List Skeleton) (m n q p : ℕ) (x y : Skeleton) → item_at ks m ≡ Some x → item_at ks n ≡ Some y → item_at ls q ≡ Some x → item_at ls p ≡ Some y → EmbedsAt ks m n → EmbedsAt ls q p
+embeds_there ks ls m n q p x y at_m at_n at_q at_p e =
+    let first : e.first ≡ x = same_item ks m e.first x e.at_first at_m in
+    let second : e.second ≡ y = same_item ks n e.second y e.at_second at_n in
+    record { first = x; second = y; at_first = at_q; at_second = at_p; embeds = subst (λ (a : Skeleton). Embeds a y) first (subst (Embeds e.first) second e.embeds) }
+
 module _ (labels : List Label) (cs : List Candidate) (are : AreCandidates labels cs) where
   abbrev ks : List Skeleton
   ks = map (λ (l : Label). l.skeleton) labels
@@ -20,28 +27,10 @@ module _ (labels : List Label) (cs : List Candidate) (are : AreCandidates labels
   at_number p i a = skeleton_at_number IsCandidate (λ (x : Label). x.skeleton) labels cs are p i a
 
   pub as_labels : (p q i n : ℕ) → IsLabelAt cs p i → IsLabelAt cs q n → EmbedsAt (skeletons_of cs) q p → EmbedsAt ks n i
-  as_labels p q i n a c e =
-      let first : e.first ≡ c.candidate.skeleton = same_item (skeletons_of cs) q e.first c.candidate.skeleton e.at_first (at_place q n c) in
-      let second : e.second ≡ a.candidate.skeleton = same_item (skeletons_of cs) p e.second a.candidate.skeleton e.at_second (at_place p i a) in
-      record {
-        first = c.candidate.skeleton;
-        second = a.candidate.skeleton;
-        at_first = at_number q n c;
-        at_second = at_number p i a;
-        embeds = subst (λ (x : Skeleton). Embeds x a.candidate.skeleton) first (subst (Embeds e.first) second e.embeds);
-      }
+  as_labels p q i n a c e = embeds_there (skeletons_of cs) ks q p n i c.candidate.skeleton a.candidate.skeleton (at_place q n c) (at_place p i a) (at_number q n c) (at_number p i a) e
 
   pub as_candidates : (p q i n : ℕ) → IsLabelAt cs p i → IsLabelAt cs q n → EmbedsAt ks n i → EmbedsAt (skeletons_of cs) q p
-  as_candidates p q i n a c e =
-      let first : e.first ≡ c.candidate.skeleton = same_item ks n e.first c.candidate.skeleton e.at_first (at_number q n c) in
-      let second : e.second ≡ a.candidate.skeleton = same_item ks i e.second a.candidate.skeleton e.at_second (at_number p i a) in
-      record {
-        first = c.candidate.skeleton;
-        second = a.candidate.skeleton;
-        at_first = at_place q n c;
-        at_second = at_place p i a;
-        embeds = subst (λ (x : Skeleton). Embeds x a.candidate.skeleton) first (subst (Embeds e.first) second e.embeds);
-      }
+  as_candidates p q i n a c e = embeds_there ks (skeletons_of cs) n i q p c.candidate.skeleton a.candidate.skeleton (at_number q n c) (at_number p i a) (at_place q n c) (at_place p i a) e
 
   -- A candidate is one label.
   pub one_label : (p q i j : ℕ) → IsLabelAt cs p i → IsLabelAt cs q j → p ≡ q → i ≡ j

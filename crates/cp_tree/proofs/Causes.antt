@@ -23,9 +23,8 @@ use Rattle.cp_tree.proofs.Picked.{item_of, skeleton_at_place, place_of_item, pla
 use Rattle.cp_tree.proofs.CandidatesEmbed.{as_labels, as_candidates, one_label}
 use Rattle.cp_tree.proofs.Settled.{made_from}
 use Rattle.cp_tree.proofs.MarksSay.{only_dead, shape_says, instance_says, seen_says, steps_says, strands_says, candidate_shape}
-use Rattle.cp_tree.proofs.SoundLabels.{made, SettledHere, settled_here, BecomesHere, becomes_here, skeleton_here}
+use Rattle.cp_tree.proofs.SoundLabels.{made, SettledHere, settled_here, BecomesHere, becomes_here, of_made_here, skeleton_here}
 use Rattle.cp_tree.proofs.MadeChildren.{IsLabelOfMade, given_labels}
-use Rattle.cp_tree.proofs.Placed.{same_operation}
 use Rattle.cp_tree.proofs.ReachedLimits.{count_reached}
 
 leaf_of : (l : Label) → l.test ≡ None → l.children ≡ [] → IsLeaf l
@@ -210,7 +209,7 @@ module _ (protocol : Protocol) (variables : List Declaration) (limits : Limits) 
         one_child = g.one_child;
         child = c.made_label.label;
         at = ap (item_at tree.labels) (sym number) ∙ c.made_label.at;
-        operation = same_operation protocol limits ways (IsMarkedAmong from.candidates) c.number t.expanded_before t.so c.made_label.label t.gives (here_is c.number c.made_label.label t) ∙ ap (λ (x : Made). x.operation) so;
+        operation = (of_made_here protocol variables limits roots tree from c.number c.made_label.label t).operation ∙ ap (λ (x : Made). x.operation) so;
         generalises = subst (λ (x : Skeleton). GeneralisesTo l.skeleton x) skeleton (subst (λ (x : Skeleton). GeneralisesTo x g.generalisation) same g.generalises);
       }
 

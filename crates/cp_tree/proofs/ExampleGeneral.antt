@@ -1,16 +1,18 @@
 -- The example's shape is its own generalisation: without the strand that sends, or without the pair from it to the listener, what
 -- is heard could not be derived.
 use Rattle.std.proofs.Common.{◌≡◌, ◌≢◌, ◌<◌, inl, ℕ, zero, suc, List, [], ◌∷◌, Some, refl, sym, ap, ◌∙◌, subst, ⊎_elim, arith}
-use Rattle.cp_lists.specs.Lists.{item_at, IsIn, here, there, one_step, more_steps}
+use Rattle.cp_lists.specs.Lists.{item_at, IsIn, here, there}
 use Rattle.cp_lists.proofs.Members.{not_in_none, in_cases}
 use Rattle.cp_model.specs.Term.{AtomTerm, key_term, Term, atom_term}
 use Rattle.cp_model.specs.Strand.{send, recv}
 use Rattle.cp_model.specs.Bundle.{node_at}
 use Rattle.cp_model.specs.declared.node.Node.{Node}
 use Rattle.cp_model.specs.declared.node.OrderPair.{OrderPair}
-use Rattle.cp_model.specs.Skeleton.{SkeletonStrand, listener, Assumptions, term_event_at, OrderStep, along_strand_of, along_pair, Before, Skeleton}
+use Rattle.cp_model.specs.Skeleton.{SkeletonStrand, listener, Assumptions, term_event_at, Before, Skeleton}
 use Rattle.cp_model.specs.Derivable.{IsOnInstance, DerivableAt, a_tag, an_atom, paired, left_of, right_of, encrypted, decrypted}
 use Rattle.cp_model.specs.Derivable as derivable
+use Rattle.cp_model.specs.Order.{LeadsTo, on_strand, over_pair}
+use Rattle.cp_model.proofs.LawOrder.{before_leads}
 use Rattle.cp_skel.specs.Deleting.{LeavesOut, all_left, is_gone, is_left, as_it_is}
 use Rattle.cp_answers.specs.Example.{shared, locked, reception, sent_before}
 use Rattle.cp_answers.proofs.Heard.{no_instance, IsUnlocked}
@@ -82,14 +84,9 @@ only_pair p is =
     ap (λ (n : Node). record { earlier = n; later = p.later }) earlier ∙ ap (λ (n : Node). record { earlier = node_at 1 0; later = n }) later
 
 -- Without pairs the order keeps to strands.
-module _ (k : Skeleton) (none : (q : OrderPair) → IsIn q k.pairs → ⊥) where
-  step_keeps : {x y : Node} → OrderStep k x y → x.strand ≡ y.strand
-  step_keeps (along_strand_of ev) = refl
-  step_keeps (along_pair {p = p} i) = absurd (none p i)
-
-  keeps_strand : {x y : Node} → Before k x y → x.strand ≡ y.strand
-  keeps_strand (one_step s) = step_keeps s
-  keeps_strand (more_steps s p) = step_keeps s ∙ keeps_strand p
+keeps_strand : {pairs : List OrderPair} → ((q : OrderPair) → IsIn q pairs → ⊥) → {x y : Node} → LeadsTo pairs x y → x.strand ≡ y.strand
+keeps_strand none (on_strand after) = after.0
+keeps_strand none (over_pair {p = p} listed before leads) = absurd (none p listed)
 
 drops_none : (p : OrderPair) (h : Skeleton) → Drops p sent h → IsFit h → ⊥
 drops_none p h without fit =
@@ -98,7 +95,7 @@ drops_none p h without fit =
     let no_pair : (q : OrderPair) → IsIn q h.pairs → ⊥ = (λ q i. let r = (without.pairs q).0 i in r.1 (only_pair q r.0 ∙ sym (only_pair p without.covering.of_order))) in
     let secret : IsIn (key_term shared) h.assumptions.non_originating = subst (λ (a : Assumptions). IsIn (key_term shared) a.non_originating) (sym assumptions) here in
     let on_listener : (m : Node) → IsOnInstance h m → Before h m reception → ⊥ = (λ m on before.
-    let first : m.strand ≡ 0 = keeps_strand h no_pair before in
+    let first : m.strand ≡ 0 = keeps_strand no_pair (before_leads h m reception before) in
     let at : item_at sent.strands 0 ≡ Some _ = ap (item_at sent.strands) (sym first) ∙ (ap (λ (ss : List SkeletonStrand). item_at ss m.strand) (sym strands) ∙ on.on_instance) in
     cc) in
     not_fit h secret on_listener (ap (λ (ss : List SkeletonStrand). term_event_at ss reception) strands) fit

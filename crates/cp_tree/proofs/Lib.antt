@@ -19,6 +19,7 @@ mod ExampleRoot
 mod ExampleTree
 mod Causes
 mod DeclaredLabels
+pub mod OwnVariables
 mod CandidatesEmbed
 mod NoStep
 mod SoundGeneralisations

@@ -1,5 +1,5 @@
 -- Where no step may be made each label is that of a root, or was made by generalising from one of these.
-use Rattle.std.proofs.Common.{◌≡◌, ◌⊎◌, inl, inr, ℕ, ◌<◌, List, map, Option, Some, None, refl, sym, ap, ◌∙◌, subst, ⊎_elim, arith}
+use Rattle.std.proofs.Common.{◌≡◌, ◌⊎◌, inl, inr, ℕ, ◌<◌, List, map, Option, Some, None, sym, ap, ◌∙◌, subst, ⊎_elim, arith}
 use Rattle.cp_lists.specs.Lists.{item_at}
 use Rattle.cp_lists.proofs.Items.{item_of_map}
 use Rattle.cp_model.specs.Strand.{Declaration, Protocol}
@@ -9,23 +9,18 @@ use Rattle.cp_roots.specs.Roots.{Root}
 use Rattle.cp_general.specs.Generalising.{IsMostGeneral, GeneralisesTo}
 use Rattle.cp_general.proofs.SoundGeneralisations.{is_most_general}
 use Rattle.cp_tree.specs.Made.{Made, made_of_root, Way, way_of}
-use Rattle.cp_tree.specs.Searched.{Becomes, is_dead, is_seen, is_realised, is_generalised, above_bound, at_limit, is_tested, IsMarkedAmong, IsTreeFrom}
+use Rattle.cp_tree.specs.Searched.{IsMarkedAmong, IsTreeFrom}
 use Rattle.cp_tree.specs.Placed.{IsGeneralisedRoot, IsOfRoot, AreRootsGeneralised}
 use Rattle.cp_tree.proofs.GeneralisedOnce.{not_further}
 use Rattle.cp_tree.proofs.Numbered.{front_or_behind}
-use Rattle.cp_tree.proofs.Placed.{same_operation, same_variables, label_of_root, roots_are_first}
-use Rattle.cp_tree.proofs.Settled.{IsMadeOfChild, IsMadeOfGeneralisation, IsMadeFromOne, made_from}
-use Rattle.cp_tree.proofs.SoundLabels.{made, SettledHere, settled_here, becomes_here, parent_here, skeleton_here}
+use Rattle.cp_tree.proofs.Placed.{label_of_root, roots_are_first}
+use Rattle.cp_tree.proofs.Settled.{IsUnexpanded, IsExpanded, IsOfMade, IsMadeOfChild, IsMadeOfGeneralisation, IsMadeFromOne, made_from}
+use Rattle.cp_tree.proofs.SoundLabels.{made, SettledHere, settled_here, of_made_here}
 
 module _ (protocol : Protocol) (limits : Limits) (ways : List Way) (marks : ℕ → Option Mark → Type 0) (none : limits.steps ≡ 0) where
-  unexpanded_by : (i before : ℕ) (m : Made) (l : Label) (gives : List Made) → Becomes protocol limits ways marks i before m l gives → l.test ≡ None
-  unexpanded_by i before m l gives (is_dead d) = refl
-  unexpanded_by i before m l gives (is_seen d u s) = refl
-  unexpanded_by i before m l gives (is_realised d n a y s) = refl
-  unexpanded_by i before m l gives (is_generalised d n a w) = refl
-  unexpanded_by i before m l gives (above_bound d n u r c) = refl
-  unexpanded_by i before m l gives (at_limit d n u r c e) = refl
-  unexpanded_by i before m l gives (is_tested d n u r c x y s) = absurd (omega (arith, x, none))
+  unexpanded_way : (before : ℕ) (m : Made) (l : Label) (gives : List Made) → IsOfMade protocol limits ways marks before m l gives → IsUnexpanded protocol limits ways marks m l
+  unexpanded_way before m l gives is =
+      ⊎_elim (λ (u : IsUnexpanded protocol limits ways marks m l). u) (λ (e : IsExpanded protocol limits ways marks before m l). absurd (let a : before < limits.steps = e.allowed in omega (arith, a, none))) is.way
 
   generalised_way : (i : ℕ) (m x : Made) → IsMadeOfChild protocol limits ways marks i m x ⊎ IsMadeOfGeneralisation protocol limits ways marks i m x → IsMadeOfGeneralisation protocol limits ways marks i m x
   generalised_way i m x (inl c) = absurd (let l : 0 < limits.steps = c.allowed in omega (arith, l, none))
@@ -44,10 +39,11 @@ module _ (protocol : Protocol) (variables : List Declaration) (limits : Limits) 
   abbrev Settled : ℕ → Label → Type 0
   Settled = SettledHere protocol variables limits roots tree from
 
+  unexpanded_here : (i : ℕ) (l : Label) (s : Settled i l) → IsUnexpanded protocol limits ways marks s.so l
+  unexpanded_here i l s = unexpanded_way protocol limits ways marks none s.expanded_before s.so l s.gives (of_made_here protocol variables limits roots tree from i l s)
+
   unexpanded : (i : ℕ) (l : Label) → item_at tree.labels i ≡ Some l → l.test ≡ None
-  unexpanded i l at =
-      let s = settled_here protocol variables limits roots tree from i l at in
-      unexpanded_by protocol limits ways marks none i s.expanded_before s.so l s.gives (becomes_here protocol variables limits roots tree from i l s)
+  unexpanded i l at = (unexpanded_here i l (settled_here protocol variables limits roots tree from i l at)).test
 
   -- What is made so is made of root number i.
   record IsRootMade (i : ℕ) (x : Made) : Type 0 where
@@ -84,18 +80,18 @@ module _ (protocol : Protocol) (variables : List Declaration) (limits : Limits) 
 
   generalised_root : (i : ℕ) (l : Label) (s : Settled i l) (f : IsMadeByGeneralising s.so) → IsRootMade f.place f.so ⊎ IsMadeByGeneralising f.so → IsGeneralisedRoot variables roots l
   generalised_root i l s f (inl r) =
-      let b = becomes_here protocol variables limits roots tree from i l s in
+      let is : IsOfMade protocol limits ways marks s.expanded_before s.so l s.gives = of_made_here protocol variables limits roots tree from i l s in
       let g = f.generalised in
       let so : made_of_root variables r.root ≡ f.so = r.is_made in
-      let skeleton : g.skeleton ≡ l.skeleton = ap (λ (m : Made). m.skeleton) g.is_made ∙ sym (skeleton_here protocol variables limits roots tree from i l s) in
+      let skeleton : g.skeleton ≡ l.skeleton = ap (λ (m : Made). m.skeleton) g.is_made ∙ sym is.skeleton in
       let root : f.so.skeleton ≡ r.root.skeleton = ap (λ (m : Made). m.skeleton) (sym so) in
       record {
         number = f.place;
         root = r.root;
         at = r.at;
-        parent = parent_here protocol variables limits roots tree from i l s ∙ f.parent;
-        operation = same_operation protocol limits ways marks i s.expanded_before s.so l s.gives b ∙ ap (λ (m : Made). m.operation) (sym g.is_made);
-        declared = same_variables protocol limits ways marks i s.expanded_before s.so l s.gives b (unexpanded_by protocol limits ways marks none i s.expanded_before s.so l s.gives b) ∙ (ap (λ (m : Made). m.variables) (sym g.is_made) ∙ ap (λ (m : Made). m.variables) (sym so));
+        parent = is.parent ∙ f.parent;
+        operation = is.operation ∙ ap (λ (m : Made). m.operation) (sym g.is_made);
+        declared = (unexpanded_here i l s).variables ∙ (ap (λ (m : Made). m.variables) (sym g.is_made) ∙ ap (λ (m : Made). m.variables) (sym so));
         generalises = subst (λ (x : Skeleton). GeneralisesTo r.root.skeleton x) skeleton (subst (λ (x : Skeleton). GeneralisesTo x g.skeleton) root g.generalises);
       }
   generalised_root i l s f (inr h) =

@@ -8,11 +8,11 @@ use Rattle.cp_model.specs.Problem.{numbers_from}
 use Rattle.cp_model.specs.Tree.{Mark, Label, Tree, Limits, is_expanded}
 use Rattle.cp_roots.specs.Roots.{Root}
 use Rattle.cp_tree.specs.Made.{Made, made_of_root, Way, way_of}
-use Rattle.cp_tree.specs.Searched.{Becomes, is_dead, is_seen, is_realised, is_generalised, above_bound, at_limit, is_tested, AreSettled, all_settled, then_settled, IsMarkedAmong, children_of, IsTreeFrom}
+use Rattle.cp_tree.specs.Searched.{AreSettled, all_settled, then_settled, IsMarkedAmong, children_of, IsTreeFrom}
 use Rattle.cp_tree.specs.Placed.{IsLabelOfRoot, RootsAreFirst}
 use Rattle.cp_tree.proofs.Numbered.{length_of_numbers, numbers_append, same_parts, number_there}
-use Rattle.cp_tree.proofs.Settled.{same_count, made_of}
-use Rattle.cp_tree.proofs.SoundLabels.{made, SettledHere, settled_here, becomes_here, parent_here, skeleton_here, made_label}
+use Rattle.cp_tree.proofs.Settled.{IsOfMade, of_made, unexpanded, made_of}
+use Rattle.cp_tree.proofs.SoundLabels.{made, SettledHere, settled_here, of_made_here, parent_here, made_label}
 use Rattle.cp_tree.proofs.MadeChildren.{child_label}
 
 -- Of two lists, one behind the other, each item is one of the first, or one of the second so many places on.
@@ -22,24 +22,6 @@ item_in_parts (x ∷ xs) ys zero y at = inl at
 item_in_parts (x ∷ xs) ys (suc i) y at = ⊎_elim inl (λ r. inr (r.0, (let e = r.1 in omega (arith, e)), r.2)) (item_in_parts xs ys i y at)
 
 module _ (protocol : Protocol) (limits : Limits) (ways : List Way) (marks : ℕ → Option Mark → Type 0) where
-  pub same_operation : (i before : ℕ) (m : Made) (l : Label) (gives : List Made) → Becomes protocol limits ways marks i before m l gives → l.operation ≡ m.operation
-  same_operation i before m l gives (is_dead d) = refl
-  same_operation i before m l gives (is_seen d u s) = refl
-  same_operation i before m l gives (is_realised d n a y s) = refl
-  same_operation i before m l gives (is_generalised d n a w) = refl
-  same_operation i before m l gives (above_bound d n u r b) = refl
-  same_operation i before m l gives (at_limit d n u r b e) = refl
-  same_operation i before m l gives (is_tested d n u r b c x s) = refl
-
-  pub same_variables : (i before : ℕ) (m : Made) (l : Label) (gives : List Made) → Becomes protocol limits ways marks i before m l gives → l.test ≡ None → l.variables ≡ m.variables
-  same_variables i before m l gives (is_dead d) e = refl
-  same_variables i before m l gives (is_seen d u s) e = refl
-  same_variables i before m l gives (is_realised d n a y s) e = refl
-  same_variables i before m l gives (is_generalised d n a w) e = refl
-  same_variables i before m l gives (above_bound d n u r b) e = refl
-  same_variables i before m l gives (at_limit d n u r b q) e = refl
-  same_variables i before m l gives (is_tested d n u r b c x s) e = absurd (cc)
-
   -- A label of which something made is the child with this number.
   record HasChild (i n : ℕ) (labels : List Label) (x : Made) : Type 0 where
     place : ℕ
@@ -57,7 +39,7 @@ module _ (protocol : Protocol) (limits : Limits) (ways : List Way) (marks : ℕ 
       → (q : ℕ) (x : Made) → item_at given q ≡ Some x → HasChild i (n + q) labels x
   has_child i before n made labels given all_settled e q x at = absurd (cc)
   has_child i before n made labels given (then_settled {m = m} {l = l} {made = ms} {labels = ls} {from_this = fs} {from_others = gs} b s) e q x at =
-      let parts = same_parts l.children (numbers_from n fs) (children_of ls) (numbers_from (n + length fs) gs) (same_count protocol limits ways marks i before m l fs b ∙ sym (length_of_numbers n fs)) (e ∙ numbers_append n (n + length fs) fs gs refl) in
+      let parts = same_parts l.children (numbers_from n fs) (children_of ls) (numbers_from (n + length fs) gs) ((of_made protocol limits ways marks i before m l fs b).count ∙ sym (length_of_numbers n fs)) (e ∙ numbers_append n (n + length fs) fs gs refl) in
       let first : l.children ≡ numbers_from n fs = parts.0 in
       let rest : children_of ls ≡ numbers_from (n + length fs) gs = parts.1 in
       ⊎_elim
@@ -81,12 +63,12 @@ module _ (protocol : Protocol) (variables : List Declaration) (limits : Limits) 
 
   pub label_of_root : (i : ℕ) (root : Root) (l : Label) (s : SettledHere protocol variables limits roots tree from i l) → s.so ≡ made_of_root variables root → IsLabelOfRoot variables root l
   label_of_root i root l s same =
-      let b = becomes_here protocol variables limits roots tree from i l s in
+      let is : IsOfMade protocol limits ways (IsMarkedAmong from.candidates) s.expanded_before s.so l s.gives = of_made_here protocol variables limits roots tree from i l s in
       record {
-        no_parent = parent_here protocol variables limits roots tree from i l s ∙ ap (λ (m : Made). m.parent) same;
-        operation = same_operation protocol limits ways (IsMarkedAmong from.candidates) i s.expanded_before s.so l s.gives b ∙ ap (λ (m : Made). m.operation) same;
-        skeleton = skeleton_here protocol variables limits roots tree from i l s ∙ ap (λ (m : Made). m.skeleton) same;
-        declared = λ e. same_variables protocol limits ways (IsMarkedAmong from.candidates) i s.expanded_before s.so l s.gives b e ∙ ap (λ (m : Made). m.variables) same;
+        no_parent = is.parent ∙ ap (λ (m : Made). m.parent) same;
+        operation = is.operation ∙ ap (λ (m : Made). m.operation) same;
+        skeleton = is.skeleton ∙ ap (λ (m : Made). m.skeleton) same;
+        declared = λ e. (unexpanded protocol limits ways (IsMarkedAmong from.candidates) s.expanded_before s.so l s.gives is e).variables ∙ ap (λ (m : Made). m.variables) same;
       }
 
   pub roots_are_first : RootsAreFirst variables roots tree.labels

@@ -1,51 +1,61 @@
 -- What became of each label, one by one.
-use Rattle.std.proofs.Common.{◌≡◌, ◌⊎◌, inl, inr, ℕ, zero, suc, ◌+◌, ◌<◌, List, ◌∷◌, ◌++◌, length, take, false, Option, Some, refl, sym, ap, ◌∙◌, subst, ⊎_elim, arith}
+use Rattle.std.proofs.Common.{◌≡◌, ◌⊎◌, inl, inr, ℕ, zero, suc, ◌+◌, ◌<◌, List, [], ◌∷◌, ◌++◌, length, take, false, Option, Some, None, refl, sym, ap, ◌∙◌, subst, ⊎_elim, arith}
 use Rattle.std.proofs.lemmas.List.{length-map}
 use Rattle.cp_lists.specs.Lists.{item_at, IsIn}
 use Rattle.cp_lists.proofs.Items.{item_still}
 use Rattle.cp_lists.proofs.Members.{in_append, from_map, not_in_none, only_item}
 use Rattle.cp_model.specs.Strand.{Protocol}
+use Rattle.cp_model.specs.declared.node.Node.{Node}
 use Rattle.cp_model.specs.Skeleton.{Skeleton}
 use Rattle.cp_model.specs.Derivable.{IsUnrealised}
 use Rattle.cp_model.specs.Problem.{numbers_from}
-use Rattle.cp_model.specs.Tree.{Mark, Label, Limits, is_expanded, expanded_count}
+use Rattle.cp_model.specs.Tree.{Mark, dead, seen, limit_steps, limit_strands, Label, Limits, is_expanded, expanded_count}
 use Rattle.cp_covering.specs.Children.{Child}
 use Rattle.cp_expansion.specs.Expansion.{Expansion, IsExpansionOf}
 use Rattle.cp_general.specs.Generalising.{GeneralisesTo}
 use Rattle.cp_tree.specs.Made.{Made, made_of_child, made_of_generalisation, Way}
-use Rattle.cp_tree.specs.Searched.{Becomes, is_dead, is_seen, is_realised, is_generalised, above_bound, at_limit, is_tested, AreSettled, all_settled, then_settled, children_of}
+use Rattle.cp_tree.specs.Searched.{leaf, Becomes, is_dead, is_seen, is_realised, is_generalised, above_bound, at_limit, is_tested, AreSettled, all_settled, then_settled, children_of}
 use Rattle.cp_tree.proofs.Numbered.{item_behind, length_of_numbers, numbers_append, same_parts}
 
 module _ (protocol : Protocol) (limits : Limits) (ways : List Way) (marks : ℕ → Option Mark → Type 0) where
   -- ---- what becomes of one
 
-  -- As many numbers of children as are made from it.
-  pub same_count : (i before : ℕ) (m : Made) (l : Label) (gives : List Made) → Becomes protocol limits ways marks i before m l gives → length l.children ≡ length gives
-  same_count i before m l gives (is_dead d) = refl
-  same_count i before m l gives (is_seen d u s) = refl
-  same_count i before m l gives (is_realised d n a y s) = refl
-  same_count i before m l gives (is_generalised d n a w) = refl
-  same_count i before m l gives (above_bound d n u r b) = refl
-  same_count i before m l gives (at_limit d n u r b e) = refl
-  same_count i before m l gives (is_tested {e = e} {children = children} d n u r b c x s) = s ∙ sym (length-map e.children (made_of_child i))
+  -- A label that is not expanded has the variables with which it was made, and no escape set.
+  pub record IsUnexpanded (m : Made) (l : Label) : Type 0 where
+    pub test : l.test ≡ None
+    pub escape : l.escape ≡ []
+    pub variables : l.variables ≡ m.variables
 
-  pub same_parent : (i before : ℕ) (m : Made) (l : Label) (gives : List Made) → Becomes protocol limits ways marks i before m l gives → l.parent ≡ m.parent
-  same_parent i before m l gives (is_dead d) = refl
-  same_parent i before m l gives (is_seen d u s) = refl
-  same_parent i before m l gives (is_realised d n a y s) = refl
-  same_parent i before m l gives (is_generalised d n a w) = refl
-  same_parent i before m l gives (above_bound d n u r b) = refl
-  same_parent i before m l gives (at_limit d n u r b e) = refl
-  same_parent i before m l gives (is_tested d n u r b c x s) = refl
+  -- An expanded one has the test of its expansion.
+  pub record IsExpanded (before : ℕ) (m : Made) (l : Label) : Type 0 where
+    pub allowed : before < limits.steps
+    pub expansion : Expansion
+    pub is_expansion : IsExpansionOf protocol m.variables m.skeleton expansion
+    pub test : l.test ≡ Some expansion.test
 
-  pub same_skeleton : (i before : ℕ) (m : Made) (l : Label) (gives : List Made) → Becomes protocol limits ways marks i before m l gives → l.skeleton ≡ m.skeleton
-  same_skeleton i before m l gives (is_dead d) = refl
-  same_skeleton i before m l gives (is_seen d u s) = refl
-  same_skeleton i before m l gives (is_realised d n a y s) = refl
-  same_skeleton i before m l gives (is_generalised d n a w) = refl
-  same_skeleton i before m l gives (above_bound d n u r b) = refl
-  same_skeleton i before m l gives (at_limit d n u r b e) = refl
-  same_skeleton i before m l gives (is_tested d n u r b c x s) = refl
+  -- What a label has of what was made; and it has as many numbers of children as are made from it.
+  pub record IsOfMade (before : ℕ) (m : Made) (l : Label) (gives : List Made) : Type 0 where
+    pub parent : l.parent ≡ m.parent
+    pub operation : l.operation ≡ m.operation
+    pub skeleton : l.skeleton ≡ m.skeleton
+    pub count : length l.children ≡ length gives
+    pub way : IsUnexpanded m l ⊎ IsExpanded before m l
+
+  unexpanded_of_made : (before : ℕ) (m : Made) (nodes : List Node) (mark : Option Mark) (children : List ℕ) (gives : List Made) → length children ≡ length gives → IsOfMade before m (record (leaf m nodes mark) { children = children }) gives
+  unexpanded_of_made before m nodes mark children gives e = record { parent = refl; operation = refl; skeleton = refl; count = e; way = inl (record { test = refl; escape = refl; variables = refl }) }
+
+  pub of_made : (i before : ℕ) (m : Made) (l : Label) (gives : List Made) → Becomes protocol limits ways marks i before m l gives → IsOfMade before m l gives
+  of_made i before m l gives (is_dead d) = unexpanded_of_made before m [] (Some dead) [] [] refl
+  of_made i before m l gives (is_seen {nodes = nodes} {n = n} d u s) = unexpanded_of_made before m nodes (Some (seen n)) [] [] refl
+  of_made i before m l gives (is_realised {mark = mark} d n a y s) = unexpanded_of_made before m [] mark [] [] refl
+  of_made i before m l gives (is_generalised {g = g} {child = child} d n a w) = unexpanded_of_made before m [] None (child ∷ []) (made_of_generalisation i m.variables g ∷ []) refl
+  of_made i before m l gives (above_bound {nodes = nodes} d n u r b) = unexpanded_of_made before m nodes (Some limit_strands) [] [] refl
+  of_made i before m l gives (at_limit {nodes = nodes} d n u r b e) = unexpanded_of_made before m nodes (Some limit_steps) [] [] refl
+  of_made i before m l gives (is_tested {e = e} {children = children} d n u r b c x s) =
+      record { parent = refl; operation = refl; skeleton = refl; count = s ∙ sym (length-map e.children (made_of_child i)); way = inr (record { allowed = c; expansion = e; is_expansion = x; test = refl }) }
+
+  pub unexpanded : (before : ℕ) (m : Made) (l : Label) (gives : List Made) → IsOfMade before m l gives → l.test ≡ None → IsUnexpanded m l
+  unexpanded before m l gives is none = ⊎_elim (λ (u : IsUnexpanded m l). u) (λ (e : IsExpanded before m l). absurd (let same : None ≡ Some e.expansion.test = sym none ∙ e.test in cc)) is.way
 
   -- What is made from label i is made of a child of its expansion.
   pub record IsMadeOfChild (i : ℕ) (m x : Made) : Type 0 where
@@ -109,7 +119,7 @@ module _ (protocol : Protocol) (limits : Limits) (ways : List Way) (marks : ℕ 
   settled_at i before n made labels given all_settled e place l at = absurd (cc)
   settled_at i before n made labels given (then_settled {m = m} {l = x} {made = ms} {labels = ls} {from_this = fs} {from_others = gs} b s) e zero l at =
       let same : x ≡ l = cc in
-      let parts = same_parts x.children (numbers_from n fs) (children_of ls) (numbers_from (n + length fs) gs) (same_count i before m x fs b ∙ sym (length_of_numbers n fs)) (e ∙ numbers_append n (n + length fs) fs gs refl) in
+      let parts = same_parts x.children (numbers_from n fs) (children_of ls) (numbers_from (n + length fs) gs) ((of_made i before m x fs b).count ∙ sym (length_of_numbers n fs)) (e ∙ numbers_append n (n + length fs) fs gs refl) in
       let first : x.children ≡ numbers_from n fs = parts.0 in
       let none : n ≡ n + 0 = omega arith in
       let there_first : (q : ℕ) (y : Made) → item_at fs q ≡ Some y → item_at (fs ++ gs) (0 + q) ≡ Some y = (λ q y p. let z : 0 + q ≡ q = omega arith in ap (item_at (fs ++ gs)) z ∙ item_still fs gs q y p) in
@@ -127,7 +137,7 @@ module _ (protocol : Protocol) (limits : Limits) (ways : List Way) (marks : ℕ 
         behind = there_first;
       }
   settled_at i before n made labels given (then_settled {m = m} {l = x} {made = ms} {labels = ls} {from_this = fs} {from_others = gs} b s) e (suc place) l at =
-      let parts = same_parts x.children (numbers_from n fs) (children_of ls) (numbers_from (n + length fs) gs) (same_count i before m x fs b ∙ sym (length_of_numbers n fs)) (e ∙ numbers_append n (n + length fs) fs gs refl) in
+      let parts = same_parts x.children (numbers_from n fs) (children_of ls) (numbers_from (n + length fs) gs) ((of_made i before m x fs b).count ∙ sym (length_of_numbers n fs)) (e ∙ numbers_append n (n + length fs) fs gs refl) in
       let rest : children_of ls ≡ numbers_from (n + length fs) gs = parts.1 in
       let r = settled_at (suc i) (before + is_expanded x.test) (n + length fs) ms ls gs s rest place l at in
       let later : (n + length fs) + r.offset ≡ n + (length fs + r.offset) = omega arith in

@@ -12,7 +12,7 @@ use Rattle.cp_tree.specs.Made.{Made, made_of_root, way_of}
 use Rattle.cp_tree.specs.Searched.{IsMarkedAmong, Becomes, IsTreeFrom}
 use Rattle.cp_tree.specs.Sound.{IsSoundMade, ExpandsSoundly}
 use Rattle.cp_tree.proofs.Numbered.{front_or_behind}
-use Rattle.cp_tree.proofs.Settled.{same_parent, same_skeleton, IsMadeOfChild, IsMadeOfGeneralisation, IsSettledAt, settled_at, label_of_made, made_from}
+use Rattle.cp_tree.proofs.Settled.{IsOfMade, of_made, IsMadeOfChild, IsMadeOfGeneralisation, IsSettledAt, settled_at, label_of_made, made_from}
 use Rattle.cp_tree.proofs.SoundOrGeneralised.{IsSoundLabel, where_unrealised, where_further}
 
 -- What was made of a sound root is sound.
@@ -66,11 +66,14 @@ module _ (protocol : Protocol) (variables : List Declaration) (limits : Limits) 
   pub becomes_here : (i : ℕ) (l : Label) (s : SettledHere i l) → BecomesHere i s.expanded_before s.so l s.gives
   becomes_here i l s = let same : s.number ≡ i = (let w = s.number_is in omega (arith, w)) in subst (λ (n : ℕ). BecomesHere n s.expanded_before s.so l s.gives) same s.becomes
 
+  pub of_made_here : (i : ℕ) (l : Label) (s : SettledHere i l) → IsOfMade protocol limits (map way_of tree.labels) (IsMarkedAmong from.candidates) s.expanded_before s.so l s.gives
+  of_made_here i l s = of_made protocol limits (map way_of tree.labels) (IsMarkedAmong from.candidates) i s.expanded_before s.so l s.gives (becomes_here i l s)
+
   pub skeleton_here : (i : ℕ) (l : Label) (s : SettledHere i l) → l.skeleton ≡ s.so.skeleton
-  skeleton_here i l s = same_skeleton protocol limits (map way_of tree.labels) (IsMarkedAmong from.candidates) i s.expanded_before s.so l s.gives (becomes_here i l s)
+  skeleton_here i l s = (of_made_here i l s).skeleton
 
   pub parent_here : (i : ℕ) (l : Label) (s : SettledHere i l) → l.parent ≡ s.so.parent
-  parent_here i l s = same_parent protocol limits (map way_of tree.labels) (IsMarkedAmong from.candidates) i s.expanded_before s.so l s.gives (becomes_here i l s)
+  parent_here i l s = (of_made_here i l s).parent
 
   -- What was made from a label comes behind it.
   pub comes_behind : (i j : ℕ) (m : Made) → item_at made j ≡ Some m → m.parent ≡ Some i → i < j

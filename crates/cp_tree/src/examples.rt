@@ -11,6 +11,7 @@ ghost use Rattle.cp_tree.specs.Example.{heard_root, heard_tree, one_step_limits}
 /// and the search makes two labels: the root, whose one reception cannot be derived and whose test has one child, under no
 /// patterns; and that child, a shape, in which a strand of the role has sent the encryption before. It meets what the law of
 /// trees asks for, so that the tree is true of the problem: wherever the encryption is heard, a strand of the role has sent it.
+#[tactic(auto, using(crate::proofs::ExampleRoot::heard_own, crate::proofs::ExampleRoot::heard_sound, crate::proofs::ExampleTree::is_tree))]
 pub fn heard_encryption_has_a_tree()
     ensures problem { IsPointOfView locker.variables heard }
     ensures sound { AreSound protocol heard (heard_root ∷ []) }

@@ -6,17 +6,8 @@ use Rattle.cp_legible.proofs.ExampleVariables.{have_variables, are_few}
 use Rattle.cp_legible.proofs.StatedTrees.{tree_fits}
 use Rattle.cp_legible.proofs.examples.heard_encryption_can_be_stated.Goals as goal
 
-pub returns-clause-roots : goal.returns-clause-roots
-returns-clause-roots c = heard_roots
-
 pub returns-clause-searched : goal.returns-clause-searched
 returns-clause-searched c = record { roots = _; are_roots = heard_roots; from_roots = c.heard_encryption_has_a_tree.ensures.tree }
-
-pub returns-clause-variables : goal.returns-clause-variables
-returns-clause-variables c = have_variables
-
-pub returns-clause-few : goal.returns-clause-few
-returns-clause-few c = are_few
 
 pub returns-clause-fits : goal.returns-clause-fits
 returns-clause-fits c =

@@ -1,4 +1,4 @@
-use Rattle.std.proofs.Common.{List, map, sym, ap, subst, slice_index_or, Option, None, ◌∙◌}
+use Rattle.std.proofs.Common.{map, sym, ap, subst, slice_index_or, None, ◌∙◌}
 use Rattle.std.proofs.lemmas.List.{get_or_default}
 use Rattle.cp_skel.specs.View.{skeleton_view}
 use Rattle.cp_shapes.specs.Shapes.{AreMarksOf}

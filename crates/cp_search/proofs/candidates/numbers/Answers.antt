@@ -1,7 +1,6 @@
 use Rattle.std.proofs.Common.{map, refl}
 use Rattle.cp_search.specs.Candidates.{open_from}
 use Rattle.cp_search.proofs.Opened.{passed_here, counted_here}
-use Rattle.cp_search.proofs.FoundTrees.{is_tree}
 use Rattle.cp_search.proofs.candidates.numbers.Goals as goal
 
 pub loop-number-preserved-then-not-is_open : goal.loop-number-preserved-then-not-is_open

@@ -1,45 +1,33 @@
-use Rattle.std.proofs.Common.{◌≡◌, ◌<◌, List, length, Bool, sym, subst, arith}
-use Rattle.cp_lists.proofs.Items.{item_of_read}
+use Rattle.std.proofs.Common.{◌≡◌}
 use Rattle.cp_skel.specs.View.{skeleton_view}
 use Rattle.cp_general.specs.Generalising.{GeneralisesTo}
-use Rattle.cp_search.specs.declared.made.Made.{Made}
-use Rattle.cp_search.specs.Making.{AreFound, AreReaching}
 use Rattle.cp_search.proofs.LabelGeneralised.{ends_most_general, of_some, known_own, found_own, found_other}
 use Rattle.cp_search.proofs.generalising.generalise_label.Goals as goal
 
 pub returns-then-label : goal.returns-then-label
 returns-then-label c =
-    let label = c.index-label.result.now in
-    known_own c.args.number c.args.made.now.items label (item_of_read c.args.made.now.items c.args.number label c.requires.there c.index-label.ensures) c.requires.found c.if-label.true
+    let label = c.label-label.result.now in
+    known_own c.args.number c.args.made.now label c.label-label.ensures c.requires.found c.if-label.true
 
 pub returns-in_default : goal.returns-in_default
 returns-in_default c =
-    let label = c.index-label.result.now in
-    found_own c.args.number c.args.made.now.items label (item_of_read c.args.made.now.items c.args.number label c.requires.there c.index-label.ensures) c.in_ok-skeleton.field-0 c.in_ok-skeleton.ensures.none c.in_default.is
-
-pub reaching-requires : goal.reaching-requires
-reaching-requires c = record {
-  found = subst (λ (ms : List Made). AreFound ms) (sym c.deref.ensures.value) c.requires.found;
-  there = subst (λ (ms : List Made). c.args.number < length ms) (sym c.deref.ensures.value) c.requires.there;
-}
+    let label = c.label-label.result.now in
+    found_own c.args.number c.args.made.now label c.label-label.ensures c.in_ok-skeleton.field-0 c.in_ok-skeleton.ensures.none c.in_default.is
 
 pub make-requires : goal.make-requires
 make-requires c =
-    let label = c.index-label.result.now in
+    let label = c.label-label.result.now in
     record {
       found = c.requires.found;
-      forbidden = subst (λ (flags : List Bool). AreReaching c.args.made.now.items c.args.number flags) (sym c.deref-2.ensures.value) (subst (λ (ms : List Made). AreReaching ms c.args.number c.in_ok-forbidden.forbidden.items) c.deref.ensures.value c.in_ok-forbidden.ensures);
       parent = c.requires.there;
       general = λ _. ends_most_general (of_some c.in_ok-skeleton.field-0 c.in-Some.skeleton (λ g. GeneralisesTo (skeleton_view label.skeleton) (skeleton_view g)) c.in_ok-skeleton.ensures.some c.in-Some.is);
     }
 
 pub returns : goal.returns
 returns c =
-    let label = c.index-label.result.now in
+    let label = c.label-label.result.now in
     let g = c.in-Some.skeleton in
-    let count : c.len-child.result ≡ length c.args.made.now.items = omega (arith, c.args.made.now.ok.0, c.len-child.ensures) in
-    found_other c.args.number c.len-child.result c.args.made.now.items c.make.new.made.items label g
-    (item_of_read c.args.made.now.items c.args.number label c.requires.there c.index-label.ensures) c.if-label.false
+    found_other c.args.number c.len-child.result c.args.made.now c.make.new.made label g c.label-label.ensures c.if-label.false
     (of_some c.in_ok-skeleton.field-0 g (λ g. GeneralisesTo (skeleton_view label.skeleton) (skeleton_view g)) c.in_ok-skeleton.ensures.some c.in-Some.is)
     (of_some c.in_ok-skeleton.field-0 g (λ g. g.variables ≡ label.skeleton.variables) c.in_ok-skeleton.ensures.variables c.in-Some.is)
-    c.in_ok-make.ensures.made c.in_ok-make.ensures.general c.generalised_labels_are_sound.ensures count
+    c.in_ok-make.ensures.made c.in_ok-make.ensures.general c.generalised_labels_are_sound.ensures c.len-child.ensures

@@ -3,4 +3,4 @@ use Rattle.cp_search.proofs.roots.make_roots.Goals as goal
 
 pub loop-root-preserved : goal.loop-root-preserved
 loop-root-preserved c =
-    next_root c.args.roots.items c.loop-root.rest.items c.pop.new.self.items c.in-Some.root c.loop-root.made.items c.make_root.new.made.items c.loop-root.invariant c.in-Some.ensures.items c.in_ok-make_root.ensures
+    next_root c.args.roots.items c.loop-root.rest.items c.pop.new.self.items c.in-Some.root c.loop-root.made c.make_root.new.made c.loop-root.invariant c.in-Some.ensures.items c.in_ok-make_root.ensures

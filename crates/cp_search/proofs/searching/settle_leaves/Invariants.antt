@@ -10,10 +10,10 @@ use Rattle.cp_search.proofs.searching.settle_leaves.Given as goal
 abbrev pub invariant-loop-alloc : goal.invariant-loop-alloc
 invariant-loop-alloc l = record {
   searched : (protocol : Protocol) (made : List plain.Made) → HasSearched protocol (limits_view l.fn.limits) made l.fn.search → HasSearched protocol (limits_view l.fn.limits) made l.search;
-  found : AreFound l.search.made.items;
-  within : length l.fn.search.settled.items ≤ length l.fn.search.made.items → length l.search.settled.items ≤ length l.search.made.items;
+  found : AreFound l.search.made;
+  within : length l.fn.search.settled.items ≤ length l.fn.search.made → length l.search.settled.items ≤ length l.search.made;
   expanded : l.search.expanded ≡ l.fn.search.expanded;
 }
 
 abbrev pub decreases-loop-alloc : goal.decreases-loop-alloc
-decreases-loop-alloc l = steps_waiting (left l.search.made.items l.search.settled.items)
+decreases-loop-alloc l = steps_waiting (left l.search.made l.search.settled.items)

@@ -10,15 +10,6 @@ use Rattle.cp_tree.proofs.ExampleRoot.{heard_own, root_declared, heard_sound}
 use Rattle.cp_tree.proofs.ExampleTree.{is_tree}
 use Rattle.cp_tree.proofs.examples.heard_encryption_has_a_tree.Goals as goal
 
-pub returns-clause-problem : goal.returns-clause-problem
-returns-clause-problem c = heard_own
-
-pub returns-clause-sound : goal.returns-clause-sound
-returns-clause-sound c = heard_sound
-
-pub returns-clause-tree : goal.returns-clause-tree
-returns-clause-tree c = is_tree
-
 pub returns-clause-truth : goal.returns-clause-truth
 returns-clause-truth c =
     true_of protocol locker.variables one_step_limits (heard_root ∷ []) heard_tree is_tree heard heard_sound root_declared

@@ -1,0 +1,82 @@
+// In which label one that is made is seen.
+ghost use Rattle.std.specs.Prelude.{◌≡◌, ◌↔◌, ◌<◌, length, IsTrue, IfOk, IfSome};
+ghost use Rattle.cp_lists.specs.Lists.{IsIn};
+ghost use Rattle.cp_skel.specs.View.{skeleton_view};
+ghost use Rattle.cp_hom.specs.Fingerprints.{traits_of};
+ghost use Rattle.cp_search.specs.Finding.{FindsLeast, IsFlagged};
+ghost use Rattle.cp_search.specs.Making.{MayBeSeenIn, MayBeSeen, AreFound};
+ghost use Rattle.cp_search.specs.declared.made.Made as program;
+
+use crate::labels::Labels;
+use crate::reaching::reaching;
+use cp_hom::{Fingerprint, isomorphic};
+use cp_skel::Skeleton;
+use std::alloc::{AllocError, Global};
+
+/// Whether the number is flagged.
+fn is_flagged(flags: &[bool], number: usize) -> bool
+    ensures { IsTrue result ↔ IsFlagged flags.now number }
+{
+    match flags.get(number) {
+        Some(flag) => *flag,
+        None => false,
+    }
+}
+
+/// The first label that is not flagged and is isomorphic to the skeleton with this fingerprint. The numbers of fingerprints, which
+/// stand beside each other, are compared first.
+fn first_copy(
+    alloc: Global,
+    made: &Labels,
+    forbidden: &[bool],
+    fingerprint: &Fingerprint,
+    skeleton: &Skeleton,
+) -> Result<Option<usize>, AllocError>
+    requires fingerprint { fingerprint.now ≡ traits_of (skeleton_view skeleton.now) }
+    requires fingerprints { (m : program.Made) → IsIn m made.now → m.fingerprint ≡ traits_of (skeleton_view m.skeleton) }
+    ensures { IfOk result (FindsLeast (MayBeSeenIn made.now forbidden.now (skeleton_view skeleton.now))) }
+{
+    let sought = fingerprint.sharing();
+    for (number, sharing) in made.sharings().iter().enumerate() {
+        if *sharing != sought {
+            continue;
+        }
+        if is_flagged(forbidden, number) {
+            continue;
+        }
+        let other = made.label(number);
+        if !other.fingerprint.may_be_isomorphic(fingerprint) {
+            continue;
+        }
+        if isomorphic(alloc, &other.skeleton, skeleton)? {
+            return Ok(Some(number));
+        }
+    }
+    Ok(None)
+}
+
+/// The label in which one is seen that is made from this label, or from none: the first that is isomorphic to it and from which
+/// its parent cannot be reached. Which labels lead to the parent is asked only where one is isomorphic. The error is that memory
+/// ran out.
+pub(crate) fn copied_label(
+    alloc: Global,
+    made: &Labels,
+    parent: Option<usize>,
+    fingerprint: &Fingerprint,
+    skeleton: &Skeleton,
+) -> Result<Option<usize>, AllocError>
+    requires found { AreFound made.now }
+    requires parent { IfSome parent (λ p. p < length made.now) }
+    requires fingerprint { fingerprint.now ≡ traits_of (skeleton_view skeleton.now) }
+    ensures { IfOk result (FindsLeast (MayBeSeen made.now parent (skeleton_view skeleton.now))) }
+{
+    let copy = first_copy(alloc, made, &[], fingerprint, skeleton)?;
+    if copy.is_none() {
+        return Ok(None);
+    }
+    let Some(parent) = parent else {
+        return Ok(copy);
+    };
+    let leading = reaching(alloc, made.all(), parent)?;
+    first_copy(alloc, made, &leading, fingerprint, skeleton)
+}

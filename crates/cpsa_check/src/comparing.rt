@@ -1,0 +1,86 @@
+// Trees that were read beside those that were found.
+use crate::operations::is_same_operation;
+use crate::strands::have_same_shapes;
+use crate::terms::have_same_terms;
+use crate::verdict::Verdict;
+use cp_hom::isomorphic;
+use cp_skel::{Node, Tree, TreeNode};
+use cp_term::Pattern;
+use std::alloc::{AllocError, Global};
+
+/// The node that a label tests, if it has a test.
+fn tested(label: &TreeNode) -> Option<Node> {
+    label.test.as_ref().map(|test| test.node)
+}
+
+/// Whether there are as many patterns, each with as many locals.
+fn have_as_many_locals(ones: &[Pattern], others: &[Pattern]) -> bool {
+    ones.len() == others.len()
+        && ones
+            .iter()
+            .zip(others)
+            .all(|(one, other)| one.locals().len() == other.locals().len())
+}
+
+/// Whether two labels agree in all but their terms, orders and assumptions.
+fn agree(one: &TreeNode, other: &TreeNode) -> bool {
+    one.parent == other.parent
+        && is_same_operation(&one.operation, &other.operation)
+        && one.mark == other.mark
+        && one.children == other.children
+        && tested(one) == tested(other)
+        && one.unrealised == other.unrealised
+        && have_as_many_locals(&one.patterns, &other.patterns)
+        && have_same_shapes(one.skeleton.strands(), other.skeleton.strands())
+}
+
+/// Whether two labels are the same up to the names of their variables: they agree, their terms are the same place by place, and
+/// their skeletons are isomorphic over the problem, by which their orders and assumptions are judged too.
+fn is_same_label(alloc: Global, one: &TreeNode, other: &TreeNode) -> Result<bool, AllocError> {
+    if !agree(one, other) || !have_same_terms(alloc, one, other)? {
+        return Ok(false);
+    }
+    isomorphic(alloc, &one.skeleton, &other.skeleton)
+}
+
+/// The number of the first label that is another.
+fn first_other(
+    alloc: Global,
+    read: &[TreeNode],
+    found: &[TreeNode],
+) -> Result<Option<usize>, AllocError> {
+    for (label, (one, other)) in read.iter().zip(found).enumerate() {
+        if !is_same_label(alloc, one, other)? {
+            return Ok(Some(label));
+        }
+    }
+    Ok(None)
+}
+
+/// How many labels the trees have.
+fn count_labels(trees: &[Tree]) -> usize {
+    trees.iter().fold(
+        0,
+        |count: usize, tree| count.saturating_add(tree.nodes.len()),
+    )
+}
+
+/// The verdict on trees that were read, beside those that were found.
+pub(crate) fn compared(
+    alloc: Global,
+    read: &[Tree],
+    found: &[Tree],
+) -> Result<Verdict, AllocError> {
+    for (problem, (tree, other)) in read.iter().zip(found).enumerate() {
+        if tree.outcome != other.outcome || tree.nodes.len() != other.nodes.len() {
+            return Ok(Verdict::ProblemDiffers(problem));
+        }
+        if let Some(label) = first_other(alloc, &tree.nodes, &other.nodes)? {
+            return Ok(Verdict::LabelDiffers { problem, label });
+        }
+    }
+    if read.len() != found.len() {
+        return Ok(Verdict::ProblemDiffers(read.len().min(found.len())));
+    }
+    Ok(Verdict::AsSearched(count_labels(read)))
+}
