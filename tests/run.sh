@@ -243,6 +243,20 @@ searched() {
     judge "searched again: $1" 0 "$dir/wanted" ''
 }
 
+# The report $1 is the same when what was read of it is printed again; of one in the list renamed.txt, whose names are given
+# anew then, what is printed is what the search answers, as in searched.
+comes_back() {
+    run "$1" print
+    if grep -qxF "$1" renamed.txt; then
+        judge "printed again: $1" 0 - ''
+        mv "$dir/output" "$dir/report"
+        shift
+        searched "$dir/report" "$@"
+    else
+        judge "printed again: $1" 0 "$1" ''
+    fi
+}
+
 # The report $1 is another than what the search answers: the line $2 says where.
 differs() {
     run "$1" analyse
@@ -261,12 +275,28 @@ if [ -n "$checker" ]; then
     program=$checker
     for report in examples/*.scm; do
         searched "$report" "${report%.scm}.words" analyse
+        comes_back "$report" "${report%.scm}.words" analyse
     done
     for case in reports/*/; do
         if [ ! -s "${case}output.scm" ] || [ -f "${case}error" ]; then continue; fi
         [ "$(line_of "${case}words" analyse | head -n 1)" = analyse ] || continue
         searched "${case}output.scm" "${case}words" analyse --limit 0
+        comes_back "${case}output.scm" "${case}words" analyse --limit 0
     done
+
+    # Reports in which one line is another: where that is no report, and, behind '-', what fits as well.
+    while IFS="$tab" read -r report number text place; do
+        [ "$text" != '""' ] || text=
+        awk -v number="$number" -v text="$text" \
+            'NR == number { print text; next } { print } END { if (number > NR) print text }' "$report" >"$dir/report"
+        run "$dir/report" analyse
+        case=$(printf '%s' "$report, line $number: $text")
+        if [ "$place" = - ]; then
+            judge "$case" '0 1' - ''
+        else
+            judge "$case" 3 "$dir/nothing" "no report $place"
+        fi
+    done <bent.tsv
 
     changed 's/added-strand 1/added-strand 0/' 'problem 0 label 1 differs'
     changed 's/(shape)/(dead)/; s/shapes 1/shapes 0/' 'problem 0 label 1 differs'
@@ -283,7 +313,7 @@ if [ -n "$checker" ]; then
     run ../examples/challenge.scm analyse
     judge 'searched again: no tree behind a problem' 3 "$dir/nothing" 'no report 1:1'
     run examples/challenge.scm shapes
-    judge 'searched again: no command' 2 "$dir/nothing" 'usage: cpsa_check analyse [--limit N] [--bound N]'
+    judge 'searched again: no command' 2 "$dir/nothing" 'usage: cpsa_check print, or cpsa_check analyse [--limit N] [--bound N]'
 fi
 
 echo "$passed passed, $failed failed"

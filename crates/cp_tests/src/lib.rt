@@ -34,8 +34,6 @@ mod read_back;
 #[cfg(test)]
 mod rebuilt;
 #[cfg(test)]
-mod reports;
-#[cfg(test)]
 mod searches;
 #[cfg(test)]
 mod skeletons;

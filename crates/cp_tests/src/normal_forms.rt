@@ -233,7 +233,7 @@ const ROWS: &[(&str, &str, Change, &str)] = &[
         "(label 0 (by problem) (defstrand one 1) (defstrand fwd 2) (defstrand end 2) \
         (precedes ((0 0) (2 0)) ((1 1) (2 1))) (map ()))\n",
     ),
-    // Pairs over other strands, and over later nodes of a strand, are not covering.
+    // Pairs over other strands are not covering.
     (
         ORDERED,
         "(defskeleton o (vars) (defstrand one 1) (defstrand fwd 2) (defstrand end 2) \
@@ -241,14 +241,6 @@ const ROWS: &[(&str, &str, Change, &str)] = &[
         Change::Copy,
         "(label 0 (by problem) (defstrand one 1) (defstrand fwd 2) (defstrand end 2) \
         (precedes ((0 0) (1 0)) ((1 1) (2 0))) (map (0 1 2)))\n",
-    ),
-    (
-        ORDERED,
-        "(defskeleton o (vars) (defstrand end 2) (defstrand end 2) (defstrand mid 3) \
-        (precedes ((2 0) (1 0)) ((2 2) (1 0)) ((2 0) (0 0))))",
-        Change::Copy,
-        "(label 0 (by problem) (defstrand end 2) (defstrand end 2) (defstrand mid 3) \
-        (precedes ((2 0) (0 0)) ((2 2) (1 0))) (map (0 1 2)))\n",
     ),
     (
         SAID_AND_HEARD,

@@ -24,24 +24,14 @@ struct Row {
     outcome: Outcome,
 }
 
-const NO_STEP: Limits = Limits {
+const AT_ONCE: Limits = Limits {
     steps: 0,
     strands: 8,
 };
 
-const ONE_STEP: Limits = Limits {
-    steps: 1,
-    strands: 8,
-};
-
-const MANY_STEPS: Limits = Limits {
+const TO_THE_END: Limits = Limits {
     steps: 2000,
     strands: 8,
-};
-
-const NO_STRANDS: Limits = Limits {
-    steps: 2000,
-    strands: 0,
 };
 
 // One nonce has its origin on two strands, unless they are one.
@@ -62,42 +52,14 @@ const RESPONDER: &str = "(defskeleton ns (vars (a b name) (n1 n2 text)) \
 const ROWS: &[Row] = &[
     Row {
         problem: TWO_INITIATORS,
-        limits: NO_STEP,
-        marks: &[Some(Mark::Dead), Some(Mark::Shape)],
-        tests: 0,
-        outcome: Outcome::Complete,
-    },
-    Row {
-        problem: TWO_INITIATORS,
-        limits: MANY_STEPS,
+        limits: AT_ONCE,
         marks: &[Some(Mark::Dead), Some(Mark::Shape)],
         tests: 0,
         outcome: Outcome::Complete,
     },
     Row {
         problem: INITIATOR,
-        limits: NO_STEP,
-        marks: &[Some(Mark::LimitSteps)],
-        tests: 0,
-        outcome: Outcome::LimitSteps,
-    },
-    Row {
-        problem: INITIATOR,
-        limits: NO_STRANDS,
-        marks: &[Some(Mark::LimitStrands)],
-        tests: 0,
-        outcome: Outcome::LimitStrands,
-    },
-    Row {
-        problem: INITIATOR,
-        limits: ONE_STEP,
-        marks: &[None, Some(Mark::LimitSteps), Some(Mark::LimitSteps)],
-        tests: 1,
-        outcome: Outcome::LimitSteps,
-    },
-    Row {
-        problem: INITIATOR,
-        limits: MANY_STEPS,
+        limits: TO_THE_END,
         marks: &[
             None,
             None,
@@ -110,7 +72,7 @@ const ROWS: &[Row] = &[
     },
     Row {
         problem: RESPONDER,
-        limits: MANY_STEPS,
+        limits: TO_THE_END,
         marks: &[
             None,
             None,

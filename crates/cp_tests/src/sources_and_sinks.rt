@@ -138,6 +138,8 @@ const COMMAND: &[&str] = &["cpsa", "analyse", "--limit", "0"];
 
 const SHAPES: &[&str] = &["cpsa", "shapes", "--limit", "3"];
 
+const UNREADABLE: &[&str] = &["cpsa", "analyse", "--limit", "x"];
+
 /// Runs these words over a source that fails at these calls, and a sink with so much room that fails at those.
 fn run_over(
     alloc: Global,
@@ -162,8 +164,14 @@ const REPORT: &str =
     (uniq-orig (n1 (0 0)))\n  (map (0) (n1 n1) (a a) (b b))\n  (shape))\n\
     (status complete labels 1 expanded 0 shapes 1)\n";
 
-// Words, the calls at which the source fails, the room of the sink and the calls at which it fails, the status, what is put
-// (nothing, the protocol's form, or all), and the line.
+const NOTHING: &[&str] = &[];
+
+const PROTOCOL: &[&str] = &[NEEDHAM_SCHROEDER];
+
+const WHOLE: &[&str] = &[NEEDHAM_SCHROEDER, REPORT];
+
+// Words, the calls at which the source fails, the room of the sink and the calls at which it fails, the status, and what is
+// put.
 type Row = (
     &'static [&'static str],
     &'static [u64],
@@ -171,114 +179,43 @@ type Row = (
     &'static [u64],
     Status,
     &'static [&'static str],
-    &'static str,
 );
 
 const RUNS: &[Row] = &[
-    (
-        COMMAND,
-        &[],
-        1_000,
-        &[],
-        Status::Done,
-        &[NEEDHAM_SCHROEDER, REPORT],
-        "",
-    ),
-    (
-        COMMAND,
-        &[0],
-        1_000,
-        &[],
-        Status::ReadFault,
-        &[],
-        "read fault\n",
-    ),
-    (
-        COMMAND,
-        &[1],
-        1_000,
-        &[],
-        Status::ReadFault,
-        &[],
-        "read fault\n",
-    ),
-    (
-        COMMAND,
-        &[],
-        1_000,
-        &[0],
-        Status::WriteFault,
-        &[],
-        "write fault\n",
-    ),
-    (
-        COMMAND,
-        &[],
-        1_000,
-        &[1],
-        Status::WriteFault,
-        &[NEEDHAM_SCHROEDER],
-        "write fault\n",
-    ),
-    (
-        COMMAND,
-        &[],
-        0,
-        &[],
-        Status::WriteFault,
-        &[],
-        "write fault\n",
-    ),
-    (
-        SHAPES,
-        &[],
-        1_000,
-        &[],
-        Status::Done,
-        &[NEEDHAM_SCHROEDER, REPORT],
-        "",
-    ),
-    (
-        SHAPES,
-        &[],
-        1_000,
-        &[1],
-        Status::WriteFault,
-        &[NEEDHAM_SCHROEDER],
-        "write fault\n",
-    ),
-    (
-        &["cpsa", "analyse", "--limit", "x"],
-        &[0],
-        1_000,
-        &[0],
-        Status::Usage,
-        &[],
-        "usage: cpsa COMMAND [--limit N] [--bound N]\n",
-    ),
-    (
-        &[],
-        &[0],
-        1_000,
-        &[0],
-        Status::Usage,
-        &[],
-        "usage: cpsa COMMAND [--limit N] [--bound N]\n",
-    ),
+    (COMMAND, &[], 1_000, &[], Status::Done, WHOLE),
+    (COMMAND, &[0], 1_000, &[], Status::ReadFault, NOTHING),
+    (COMMAND, &[1], 1_000, &[], Status::ReadFault, NOTHING),
+    (COMMAND, &[], 1_000, &[0], Status::WriteFault, NOTHING),
+    (COMMAND, &[], 1_000, &[1], Status::WriteFault, PROTOCOL),
+    (COMMAND, &[], 0, &[], Status::WriteFault, NOTHING),
+    (SHAPES, &[], 1_000, &[], Status::Done, WHOLE),
+    (SHAPES, &[], 1_000, &[1], Status::WriteFault, PROTOCOL),
+    (UNREADABLE, &[0], 1_000, &[0], Status::Usage, NOTHING),
+    (&[], &[0], 1_000, &[0], Status::Usage, NOTHING),
 ];
+
+// The line on the error stream.
+fn line_of(status: Status) -> &'static str {
+    match status {
+        Status::Usage => "usage: cpsa COMMAND [--limit N] [--bound N]\n",
+        Status::ReadFault => "read fault\n",
+        Status::WriteFault => "write fault\n",
+        _ => "",
+    }
+}
 
 // What was put is the whole, or the pieces before the call that failed: the protocol's form is one.
 #[test]
 fn runs_over_failing_streams(rt: HostRuntime) -> Result<(), Fail> {
     let alloc = rt.alloc();
-    for &(line, takes, room, puts, status, pieces, error) in RUNS {
+    for &(line, takes, room, puts, status, pieces) in RUNS {
         let input = joined(alloc, &[NEEDHAM_SCHROEDER, INITIATOR])?;
         let mut source = MemSource::new(input, takes.to_vec(alloc)?);
         let ended = run_over(alloc, line, &mut source, room, puts)?;
         let out = joined(alloc, pieces)?;
         assert_eq!(rt; ended.status, status);
         assert_eq!(rt; ended.out.bytes(), out.as_slice());
-        assert_eq!(rt; ended.errs.bytes(), error.as_bytes());
+        assert_eq!(rt; ended.errs.bytes(), line_of(status).as_bytes());
     }
     Ok(())
 }

@@ -12,11 +12,15 @@
 // - 2: the words are no such command;
 // - 3: `no report LINE:COLUMN`, the first place at which the input fits no report or cannot be read;
 // - 4, 5, 6, 7: a stream failed, memory ran out, or the input is too long, as with `cpsa`.
+//
+// With the word `print` nothing is searched: what was read of the report is printed again on standard output, with status 0.
+// Of a report that `cpsa analyse` printed it is the same text, but for names that a label gives anew.
 #![tactic(auto)]
 
 mod checking;
 mod comparing;
 mod operations;
+mod printing;
 mod reading;
 mod searching;
 mod stopped;
@@ -26,10 +30,12 @@ mod verdict;
 
 use checking::verdict_on;
 use cp_base::Status;
+use printing::printed_again;
 use std::alloc::Global;
-use std::env;
+use std::io::Write;
 use std::process::ExitCode;
 use std::rt::Env;
+use std::{env, io};
 use stopped::Stopped;
 use verdict::Verdict;
 
@@ -41,19 +47,40 @@ fn words(rt: &(impl Env + Alloc<A = Global>)) -> Result<Vec<String>, Stopped> {
     }
 }
 
-// The verdict on the standard input.
-fn answer(rt: &HostRuntime) -> Result<Verdict, Stopped> {
+// What the program answers.
+enum Output {
+    Verdict(Verdict),
+    Report(Vec<u8>),
+}
+
+// The answer to the words and the standard input.
+fn answer(rt: &HostRuntime) -> Result<Output, Stopped> {
     let words = words(rt)?;
-    verdict_on(rt.alloc(), &words, rt.stdin())
+    match words.as_slice() {
+        [_, word] if word.as_str() == "print" => {
+            let report = printed_again(rt.alloc(), rt.stdin())?;
+            Ok(Output::Report(report))
+        }
+        _ => {
+            let verdict = verdict_on(rt.alloc(), &words, rt.stdin())?;
+            Ok(Output::Verdict(verdict))
+        }
+    }
+}
+
+// The number of this status where the answer was put, and else that of a write fault.
+fn put_with(put: io::Result<()>, number: u8) -> u8 {
+    match put {
+        Ok(()) => number,
+        Err(_) => Status::WriteFault.number(),
+    }
 }
 
 // Prints the answer, and gives the status of the program.
-fn end(rt: &(impl Print + Eprint), answer: Result<Verdict, Stopped>) -> u8 {
+fn end(rt: &HostRuntime, answer: Result<Output, Stopped>) -> u8 {
     match answer {
-        Ok(verdict) => match println!(rt; "{verdict}") {
-            Ok(()) => verdict.number(),
-            Err(_) => Status::WriteFault.number(),
-        },
+        Ok(Output::Verdict(verdict)) => put_with(println!(rt; "{verdict}"), verdict.number()),
+        Ok(Output::Report(report)) => put_with(rt.stdout().write_all(&report), 0),
         Err(stopped) => {
             // The status stays as it was where its line cannot be put.
             let _ = eprintln!(rt; "{stopped}");

@@ -12,7 +12,7 @@ use thiserror::Error;
 /// Why there is no verdict.
 #[derive(Clone, Copy, Debug, Drop, Error)]
 pub(crate) enum Stopped {
-    #[error("usage: cpsa_check analyse [--limit N] [--bound N]")]
+    #[error("usage: cpsa_check print, or cpsa_check analyse [--limit N] [--bound N]")]
     Usage,
     #[error("no report {}:{}", .0.line, .0.col)]
     NoReport(Place),
