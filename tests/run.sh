@@ -284,11 +284,11 @@ if [ -n "$checker" ]; then
         comes_back "${case}output.scm" "${case}words" analyse --limit 0
     done
 
-    # Reports in which one line is another: where that is no report, and, behind '-', what fits as well.
+    # Reports in which one line, or several together, are another text: where that is no report, and, behind '-', what fits as well.
     while IFS="$tab" read -r report number text place; do
         [ "$text" != '""' ] || text=
-        awk -v number="$number" -v text="$text" \
-            'NR == number { print text; next } { print } END { if (number > NR) print text }' "$report" >"$dir/report"
+        awk -v first="${number%-*}" -v last="${number#*-}" -v text="$text" \
+            'NR == first + 0 { print text } NR >= first + 0 && NR <= last + 0 { next } { print } END { if (first + 0 > NR) print text }' "$report" >"$dir/report"
         run "$dir/report" analyse
         case=$(printf '%s' "$report, line $number: $text")
         if [ "$place" = - ]; then

@@ -95,6 +95,10 @@ status_line TooLong = line (codes "too long")
 
 -- ---- what a call leaves, where the source tells what it held and the sinks what they hold
 
+-- Whenever the words are this command, this input is left and this stands put before, P holds of the three.
+abbrev pub WheneverGiven : Option Command → Option (List ℕ) → Option (List ℕ) → (Command → List ℕ → List ℕ → Type 0) → Type 0
+WheneverGiven named left held P = (command : Command) (input before : List ℕ) → named ≡ Some command → left ≡ Some input → held ≡ Some before → P command input before
+
 -- At Done and Limit the source was read to its end, and what was put is what the command prints of a report of the whole input.
 pub record HasReported (command : Command) (input before : List ℕ) (left_new held_new : Option (List ℕ)) (status : Status) : Type 0 where
   pub text : List ℕ

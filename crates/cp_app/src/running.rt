@@ -1,6 +1,6 @@
 // The top call.
 ghost use Rattle.std.specs.Prelude.{◌≡◌, ◌≢◌, ◌≤◌, ◌<◌, ◌++◌, ◌⊎◌, ◌↔◌, ℕ, List, [], length, map, string_bytes, true, None, Some, IfOk, IfErr, OnOk, OnErr};
-ghost use Rattle.cp_app.specs.Headline.{most_bytes, IsAccepted, IsRefusedFor, IsAnalysed, puts_nothing, status_line, text_by, HasReported, HasBrokenOff, HasRefused, WasTooLong, TookAtMost, HasLine};
+ghost use Rattle.cp_app.specs.Headline.{most_bytes, IsAccepted, IsRefusedFor, IsAnalysed, puts_nothing, status_line, text_by, WheneverGiven, HasReported, HasBrokenOff, HasRefused, WasTooLong, TookAtMost, HasLine};
 ghost use Rattle.cp_app.specs.Searched.{HasReportedSearch, HasBrokenOffSearch};
 ghost use Rattle.cp_app.specs.ReadBack.{HasReportedReadBack};
 ghost use Rattle.cp_app.specs.Steps.{IsCauseFor, HasStopped, IsWholeReport, outcomes_status, HasPut, HasEnded, HasExecuted};
@@ -196,30 +196,15 @@ pub fn run<S: Source, O: Sink, E: Sink>(
 
     // What was put is what the command prints of a report of the whole input, with trees that are true of its problems; at a
     // write fault a front of it.
-    ensures reported { (command : CommandData) (input before : List ℕ)
-        → command_of (map string_bytes words.now) ≡ Some command → S.left source.old ≡ Some input
-        → O.held out.old ≡ Some before → IsAnalysed result
-        → HasReported command input before (S.left source.new) (O.held out.new) result }
-    ensures broken_off { (command : CommandData) (input before : List ℕ)
-        → command_of (map string_bytes words.now) ≡ Some command → S.left source.old ≡ Some input
-        → O.held out.old ≡ Some before → result ≡ WriteFault
-        → HasBrokenOff command input before (S.left source.new) (O.held out.new) }
+    ensures reported { WheneverGiven (command_of (map string_bytes words.now)) (S.left source.old) (O.held out.old) (λ command input before. IsAnalysed result → HasReported command input before (S.left source.new) (O.held out.new) result) }
+    ensures broken_off { WheneverGiven (command_of (map string_bytes words.now)) (S.left source.old) (O.held out.old) (λ command input before. result ≡ WriteFault → HasBrokenOff command input before (S.left source.new) (O.held out.new)) }
 
     // The same, and the trees of this report are exactly those of the search.
-    ensures searched { (command : CommandData) (input before : List ℕ)
-        → command_of (map string_bytes words.now) ≡ Some command → S.left source.old ≡ Some input
-        → O.held out.old ≡ Some before → IsAnalysed result
-        → HasReportedSearch command input before (S.left source.new) (O.held out.new) result }
-    ensures searched_before_fault { (command : CommandData) (input before : List ℕ)
-        → command_of (map string_bytes words.now) ≡ Some command → S.left source.old ≡ Some input
-        → O.held out.old ≡ Some before → result ≡ WriteFault
-        → HasBrokenOffSearch command input before (S.left source.new) (O.held out.new) }
+    ensures searched { WheneverGiven (command_of (map string_bytes words.now)) (S.left source.old) (O.held out.old) (λ command input before. IsAnalysed result → HasReportedSearch command input before (S.left source.new) (O.held out.new) result) }
+    ensures searched_before_fault { WheneverGiven (command_of (map string_bytes words.now)) (S.left source.old) (O.held out.old) (λ command input before. result ≡ WriteFault → HasBrokenOffSearch command input before (S.left source.new) (O.held out.new)) }
 
     // Whoever reads back the forms of the report, or what `analyse` put, gets the trees of the report.
-    ensures read_back { (command : CommandData) (input before : List ℕ)
-        → command_of (map string_bytes words.now) ≡ Some command → S.left source.old ≡ Some input
-        → O.held out.old ≡ Some before → IsAnalysed result
-        → HasReportedReadBack command input before (S.left source.new) (O.held out.new) result }
+    ensures read_back { WheneverGiven (command_of (map string_bytes words.now)) (S.left source.old) (O.held out.old) (λ command input before. IsAnalysed result → HasReportedReadBack command input before (S.left source.new) (O.held out.new) result) }
 
     // Only accepted input is analysed, and it is read to its end.
     ensures accepted { (input : List ℕ) → S.left source.old ≡ Some input

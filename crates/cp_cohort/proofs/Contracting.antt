@@ -1,8 +1,8 @@
 -- Contracted children.
-use Rattle.std.proofs.Common.{◌≡◌, ◌≢◌, ◌+◌, ℕ, List, [], ◌∷◌, ◌++◌, map, take, Some, refl, sym, ap, ◌∙◌, subst, false, Bool, ◌↔◌, IsTrue}
-use Rattle.cp_lists.specs.Lists.{item_at, IsIn}
+use Rattle.std.proofs.Common.{◌≡◌, ◌≢◌, List, [], ◌∷◌, ◌++◌, map, Some, refl, sym, ap, ◌∙◌, subst, false, Bool, ◌↔◌, IsTrue}
+use Rattle.cp_lists.specs.Lists.{IsIn}
 use Rattle.cp_model.specs.Term.{Term, Substitution, unchanged}
-use Rattle.cp_model.specs.Strand.{Declaration, Event, payload}
+use Rattle.cp_model.specs.Strand.{Declaration, payload}
 use Rattle.cp_model.specs.Skeleton.{Skeleton, IsNodeOf}
 use Rattle.cp_model.specs.Tree.{by_contraction}
 use Rattle.cp_completeness.specs.Normal.{skeleton_under}
@@ -10,7 +10,7 @@ use Rattle.cp_collapse.specs.Agreeing.{SaysTheSame}
 use Rattle.cp_guard.specs.Inside.{IsInside}
 use Rattle.cp_normal.specs.Exact.{HasForms}
 use Rattle.cp_match.specs.Candidates.{may_equal}
-use Rattle.cp_match.specs.Unifying.{UnifiesMostGenerally, NeverEqual}
+use Rattle.cp_match.specs.Unifying.{UnifiesMostGenerally}
 use Rattle.cp_match.proofs.Differing as differing
 use Rattle.cp_skel.proofs.EventLists.{listed_event}
 use Rattle.cp_skel.specs.Data.{SkeletonData}
@@ -23,7 +23,7 @@ use Rattle.cp_term.specs.Positions.{term_at, positions_where}
 use Rattle.cp_lists.proofs.Mapped.{map_then, map_alike}
 use Rattle.cp_covering.specs.Listing.{EachGives, nothing_given, then_given, AreThoseWith, none_left, taken, left_out}
 use Rattle.cp_covering.specs.Children.{Child, child, IsSentBefore}
-use Rattle.cp_covering.specs.Cohort.{Question, positions, Contracts, is_inside, is_critical, never_equal, unified, AreContracted}
+use Rattle.cp_covering.specs.Cohort.{Question, positions, Contracts, never_equal, unified, AreContracted}
 use Rattle.cp_cohort.specs.Growing.{AreForms, ContractsEvent, not_before, is_before}
 use Rattle.cp_cohort.specs.Views.{child_view, child_of, PutsChildren}
 use Rattle.cp_cohort.specs.declared.child.Child as program_child

@@ -1,11 +1,9 @@
 -- Listeners.
-use Rattle.std.proofs.Common.{append_assoc, ◌≡◌, ◌≢◌, ℕ, zero, suc, ◌+◌, ◌<◌, ◌≤◌, List, [], ◌∷◌, ◌++◌, length, get_or, take, drop, refl, sym, ap, ◌∙◌, subst, add-one, Bool, true, false, ◌||◌, ◌↔◌, IsTrue, Some, if◌then◌else◌}
+use Rattle.std.proofs.Common.{append_assoc, ◌≡◌, ◌≢◌, ℕ, ◌+◌, ◌≤◌, List, [], ◌∷◌, ◌++◌, length, take, refl, sym, ap, ◌∙◌, subst, add-one, Bool, true, false, ◌↔◌, IsTrue, Some, if◌then◌else◌}
 use Rattle.std.specs.Borrow.{Bor}
-use Rattle.std.proofs.lemmas.List.{append-nil, drop_all}
+use Rattle.std.proofs.lemmas.List.{append-nil}
 use Rattle.cp_lists.specs.Lists.{item_at}
-use Rattle.cp_lists.proofs.Members.{drop_read}
 use Rattle.cp_model.specs.Term.{KeyTerm, key_term, inverse_term, Term, atom_term, enc_term}
-use Rattle.cp_model.specs.Same.{same_term}
 use Rattle.cp_model.specs.Derivable.{DerivableAt}
 use Rattle.cp_derive.specs.Given.{Given, IsDerivable}
 use Rattle.cp_term.specs.Keys.{key_as_term}
@@ -13,7 +11,6 @@ use Rattle.cp_term.specs.Shapes.{IsShapeOf}
 use Rattle.cp_term.specs.declared.shape.Shape.{Shape}
 use Rattle.cp_term.specs.declared.shape.Shape.TheVariants.{Tag, Variable, Inverse, Ltk, Pubk, Pair, Encryption}
 use Rattle.cp_term.specs.declared.variable.Sort.TheVariants as sorts
-use Rattle.cp_term.proofs.SameTerms.{test_is}
 use Rattle.cp_model.specs.Tree.{Pattern}
 use Rattle.cp_covering.specs.Listing.{EachGives, nothing_given, has_term, terms_onto}
 use Rattle.cp_covering.specs.Cohort.{Question, FreesCritical, by_key, by_body, by_nothing, OpensPattern, Listens, AreListeners}

@@ -1,9 +1,8 @@
 -- The four lists of children, one behind another.
-use Rattle.std.proofs.Common.{append_assoc, ◌≡◌, List, [], ◌∷◌, ◌++◌, map, refl, sym, ap, ◌∙◌}
+use Rattle.std.proofs.Common.{append_assoc, ◌≡◌, List, [], ◌++◌, map, ap, ◌∙◌}
 use Rattle.cp_model.specs.Problem.{numbers_from}
 use Rattle.cp_model.specs.Strand.{Protocol}
 use Rattle.cp_covering.specs.Listing.{EachGives}
-use Rattle.cp_covering.specs.Children.{Child}
 use Rattle.cp_covering.specs.Cohort.{Question, AreContracted, DisplacesStrand, AddsEvent, AreListeners, IsCohort}
 use Rattle.cp_cohort.specs.declared.child.Child as program
 use Rattle.cp_cohort.specs.Views.{child_view, PutsChildren}

@@ -1,5 +1,6 @@
 -- Grown skeletons in which an event is to release the critical term.
 use Rattle.std.proofs.Common.{◌≡◌, ◌≢◌, ℕ, suc, ◌<◌, List, [], ◌∷◌, ◌++◌, length, get_or, map, take, Option, Some, None, refl, sym, ap, ◌∙◌, subst, arith, inl, inr}
+use Rattle.std.specs.Borrow.{Bor}
 use Rattle.cp_lists.specs.Lists.{item_at, one_step}
 use Rattle.cp_lists.proofs.Items.{item_still, item_last, map_of_item, take_of_item, item_below, map_of_read}
 use Rattle.cp_lists.proofs.Mapped.{map_then}
@@ -9,7 +10,7 @@ use Rattle.cp_model.specs.Term.{Term, Substitution, apply_to}
 use Rattle.cp_model.specs.Strand.{Event, send, recv, event_map, Declaration, Role}
 use Rattle.cp_model.specs.Bundle.{node_at}
 use Rattle.cp_model.specs.declared.node.Node.{Node}
-use Rattle.cp_model.specs.Skeleton.{SkeletonStrand, instance, skeleton_trace_or_none, term_event_at, Skeleton, Before, along_pair, IsOrderPair}
+use Rattle.cp_model.specs.Skeleton.{SkeletonStrand, instance, listener, skeleton_trace_or_none, term_event_at, Skeleton, Before, along_pair, IsOrderPair}
 use Rattle.cp_model.specs.Tree.{Operation, by_displacement, by_added_strand}
 use Rattle.cp_model.proofs.LawOrder.{before_wider}
 use Rattle.cp_guard.specs.Critical.{IsTest}
@@ -22,9 +23,12 @@ use Rattle.cp_skel.specs.Changing.{AddsStrand, Extends}
 use Rattle.cp_skel.specs.Data.{SkeletonData}
 use Rattle.cp_skel.specs.Ordered.{ChangesOrderOnly}
 use Rattle.cp_skel.specs.View.{skeleton_view}
+use Rattle.cp_strand.specs.Data.{InstanceData, StrandData}
 use Rattle.cp_strand.specs.View.{event_view, strand_view}
+use Rattle.cp_strand.specs.Shapes.{strand_of_shape}
+use Rattle.cp_strand.specs.declared.strand.StrandShape.{StrandShape}
+use Rattle.cp_strand.specs.declared.strand.StrandShape.TheVariants.{Instance, Listener}
 use Rattle.cp_strand.specs.declared.protocol.Event as program_events
-use Rattle.cp_strand.specs.declared.protocol.Event.TheVariants as events
 use Rattle.cp_strand.specs.Occurring.{prefix_variables, added_variables}
 use Rattle.cp_term.specs.declared.path.Step.{Step}
 use Rattle.cp_term.specs.Positions.{term_at, positions_where}
@@ -208,20 +212,18 @@ released_all q vs op m put grown message ws variables same is cs e =
 
 -- ---- events of roles
 
--- The events of a role of the program are those of its trace. What is read of them is a transmission, or else a reception.
+-- A strand of the program that is no instance is a listener.
+pub listens : (s : StrandShape) (d : StrandData) → strand_of_shape s ≡ d → ((i : Bor InstanceData) → s ≡ Instance i → ⊥) → (t : Term) × (strand_view d ≡ listener t)
+listens (Instance i) d is other = absurd (other i refl)
+listens (Listener t) d is other = (t.now, ap strand_view (sym is))
+
+-- The events of a role of the program are those of its trace.
 module _ (es : List program_events.Event) (trace : List (Event Term)) (same : map event_view es ≡ trace) (i : ℕ) (reached : i < length trace) where
   pub is_within : i < length es
   is_within = let as_long : length es ≡ length trace = length_of event_view es trace same in omega (arith, as_long, reached)
 
-  event_there : (e : program_events.Event) → e ≡ get_or es i e → item_at trace i ≡ Some (event_view e)
-  event_there e is = ap (λ (xs : List (Event Term)). item_at xs i) (sym same) ∙ map_of_read event_view es i e is_within is
-
-  pub sent_there : (e : program_events.Event) → e ≡ get_or es i e → (t : Term) → e ≡ events.Send t → item_at trace i ≡ Some (send t)
-  sent_there e is t sends = event_there e is ∙ ap (λ (x : program_events.Event). Some (event_view x)) sends
-
-  pub received_there : (e : program_events.Event) → e ≡ get_or es i e → ((t : Term) → e ≡ events.Send t → ⊥) → (t : Term) × (item_at trace i ≡ Some (recv t))
-  received_there (events.Send t) is other = absurd (other t refl)
-  received_there (events.Receive t) is other = (t, event_there (events.Receive t) is)
+  pub event_there : (e read : program_events.Event) → read ≡ get_or es i read → read ≡ e → item_at trace i ≡ Some (event_view e)
+  event_there e read is same_event = ap (λ (xs : List (Event Term)). item_at xs i) (sym same) ∙ map_of_read event_view es i read is_within is ∙ ap (λ (x : program_events.Event). Some (event_view x)) same_event
 
 module _ (q : Question) (role : Role) (j : ℕ) (t : Term) (sent : item_at role.trace j ≡ Some (send t)) (grown : Skeleton)
     (adds : AddsStrand role (suc j) (fresh_terms (length q.variables) (prefix_variables role (suc j))) q.skeleton grown) (n : ℕ) (number : n ≡ length q.skeleton.strands) where

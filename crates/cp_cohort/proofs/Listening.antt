@@ -1,13 +1,12 @@
 -- An added listener, whose transmission is put before a node; and events that a strand has, or has not.
-use Rattle.std.proofs.Common.{◌≡◌, ◌≢◌, ℕ, suc, ◌<◌, ◌≤◌, List, [], ◌∷◌, ◌++◌, length, map, take, Option, Some, None, refl, sym, ap, ◌∙◌, subst, arith, ◌↔◌, IsTrue, Bool, true, false}
-use Rattle.cp_lists.specs.Lists.{item_at, IsIn, Steps, one_step, more_steps}
-use Rattle.cp_lists.proofs.Items.{item_still, item_last, item_below, item_there, item_of_map, item_of_take}
+use Rattle.std.proofs.Common.{◌≡◌, ℕ, ◌<◌, ◌≤◌, List, [], ◌∷◌, ◌++◌, length, map, take, Option, Some, refl, sym, ap, ◌∙◌, subst, arith}
+use Rattle.cp_lists.specs.Lists.{item_at, one_step, more_steps}
+use Rattle.cp_lists.proofs.Items.{item_still, item_last, item_there, item_of_map, item_of_take}
 use Rattle.cp_model.specs.Term.{Term, Substitution, apply_to}
-use Rattle.cp_model.specs.Strand.{Event, send, recv, event_map, Declaration, Role, prefix_of}
+use Rattle.cp_model.specs.Strand.{recv, event_map, Declaration, Role}
 use Rattle.cp_model.specs.Bundle.{node_at}
 use Rattle.cp_model.specs.declared.node.Node.{Node}
-use Rattle.cp_model.specs.declared.node.OrderPair.{OrderPair}
-use Rattle.cp_model.specs.Skeleton.{SkeletonStrand, instance, listener, skeleton_trace_or_none, term_event_at, Skeleton, Before, OrderStep, along_strand_of, along_pair, IsNodeOf, IsOrderPair}
+use Rattle.cp_model.specs.Skeleton.{SkeletonStrand, instance, listener, skeleton_trace_or_none, Skeleton, Before, OrderStep, along_strand_of, along_pair, IsNodeOf, IsOrderPair}
 use Rattle.cp_model.specs.Tree.{by_added_listener}
 use Rattle.cp_guard.specs.Critical.{IsTest}
 use Rattle.cp_skel.specs.Changing.{AddsListener}

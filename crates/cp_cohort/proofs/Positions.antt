@@ -1,5 +1,5 @@
 -- What the positions of a term give, where those are left out at which something else stands than what is looked for.
-use Rattle.std.proofs.Common.{append_assoc, ◌≡◌, List, [], ◌∷◌, ◌++◌, map, Some, refl, sym, ap, ap₂, ◌∙◌, subst, Bool, true, false}
+use Rattle.std.proofs.Common.{append_assoc, ◌≡◌, List, [], ◌∷◌, ◌++◌, Some, refl, sym, ap, ap₂, ◌∙◌, subst, Bool, true, false}
 use Rattle.cp_model.specs.Term.{Term, tag_term, atom_term, pair_term, enc_term, Substitution, apply_to}
 use Rattle.cp_lists.specs.Lists.{IsIn}
 use Rattle.cp_term.specs.declared.path.Step.{Step}

@@ -13,7 +13,8 @@ use crate::child::{Child, Made};
 use crate::growing::with_strand;
 use crate::question::Question;
 use crate::releasing::release;
-use cp_skel::{Event, Node, Protocol, Role};
+use crate::sending::is_sent;
+use cp_skel::{Node, Protocol, Role};
 use std::alloc::{AllocError, Global};
 use std::rc::Rc;
 
@@ -30,10 +31,9 @@ fn add_event(
     requires reached { index < length role.now.value.trace }
     ensures { OnOk result (PutsChildren (AddsEvent (question_view question.now) role.now.value index) children.old.items children.new.items) }
 {
-    let events = role.trace();
-    let Event::Send(_) = &events[index] else {
+    if !is_sent(role, index) {
         return Ok(());
-    };
+    }
     let strand = question.skeleton.strands().len();
     let node = Node { strand, index };
     let height = index + 1;

@@ -15,7 +15,8 @@ use crate::child::{Child, Made};
 use crate::growing::with_events;
 use crate::question::Question;
 use crate::releasing::release;
-use cp_skel::{Event, Instance, Node, Strand, StrandShape};
+use crate::sending::is_sent;
+use cp_skel::{Instance, Node, Strand, StrandShape};
 use std::alloc::{AllocError, Global};
 
 /// Whether the event of this index of the instance on this strand is before the node. One that it does not have is not.
@@ -46,10 +47,9 @@ fn displace_event(
     requires reached { index < length instance.now.role.trace }
     ensures { OnOk result (PutsChildren (DisplacesEvent (question_view question.now) strand instance.now.role instance.now.height index) children.old.items children.new.items) }
 {
-    let events = instance.role().trace();
-    let Event::Send(_) = &events[index] else {
+    if !is_sent(instance.role(), index) {
         return Ok(());
-    };
+    }
     let node = Node { strand, index };
     if is_before(question, instance, node) {
         return Ok(());
@@ -66,26 +66,6 @@ fn displace_event(
     )
 }
 
-/// Puts what the events of the role of the instance on this strand give behind others.
-fn displace_instance(
-    alloc: Global,
-    question: &Question,
-    strand: usize,
-    instance: &Instance,
-    children: &mut Vec<Child>,
-) -> Result<(), AllocError>
-    requires test { IsTest (question_view question.now).skeleton (question_view question.now).node (question_view question.now).critical }
-    requires there { IsThere (question_view question.now).skeleton strand instance.now }
-    requires other { strand ≢ (question_view question.now).node.strand }
-    ensures { OnOk result (PutsChildren (EachGives (DisplacesEvent (question_view question.now) strand instance.now.role instance.now.height) (numbers_from 0 instance.now.role.trace)) children.old.items children.new.items) }
-{
-    let events = instance.role().trace();
-    for index in 0..events.len() {
-        displace_event(alloc, question, strand, instance, index, children)?;
-    }
-    Ok(())
-}
-
 /// Puts what a strand gives behind others.
 fn displace_strand(
     alloc: Global,
@@ -98,15 +78,17 @@ fn displace_strand(
     requires there { item_at (question_view question.now).skeleton.strands number ≡ Some (strand_view strand.now) }
     ensures { OnOk result (PutsChildren (DisplacesStrand (question_view question.now) number) children.old.items children.new.items) }
 {
-    match strand.shape() {
-        StrandShape::Instance(instance) => {
-            if number == question.node.strand {
-                return Ok(());
-            }
-            displace_instance(alloc, question, number, instance, children)
-        }
-        StrandShape::Listener(_) => Ok(()),
+    let StrandShape::Instance(instance) = strand.shape() else {
+        return Ok(());
+    };
+    if number == question.node.strand {
+        return Ok(());
     }
+    let events = instance.role().trace();
+    for index in 0..events.len() {
+        displace_event(alloc, question, number, instance, index, children)?;
+    }
+    Ok(())
 }
 
 /// Puts the displaced children behind others.

@@ -28,6 +28,9 @@ use cp_skel::{Node, Protocol, Skeleton};
 use cp_term::{Pattern, Term};
 use std::alloc::{AllocError, Global};
 
+/// For how many children there is room from the start: few tests have more, and a list that grows is moved.
+const ROOM: usize = 8;
+
 /// The children of a test under patterns that guard it, all of them, in their order: contracted, displaced, with a strand added,
 /// with a listener added; within these by strand or role, then by event, then by position, in preorder.
 ///
@@ -75,7 +78,7 @@ pub fn cohort(
         critical,
         patterns,
     };
-    let mut children = Vec::new(alloc);
+    let mut children = Vec::with_capacity(alloc, ROOM)?;
     contract(alloc, &question, &mut children)?;
     displace(alloc, &question, &mut children)?;
     add(alloc, protocol, &question, &mut children)?;

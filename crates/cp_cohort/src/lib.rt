@@ -10,6 +10,7 @@ mod growing;
 mod listeners;
 mod question;
 mod releasing;
+mod sending;
 
 pub use child::Child;
 pub use gathering::cohort;

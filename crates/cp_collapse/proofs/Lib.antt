@@ -30,7 +30,7 @@ pub mod Determined
 pub mod ExactBlocks
 pub mod CyclesByPairs
 pub mod Prefixes
-pub mod Backward
+pub mod Options
 pub mod Joined
 pub mod PartialLists
 pub mod Putting
@@ -38,6 +38,7 @@ pub mod Tallest
 pub mod Collected
 pub mod Ending
 pub mod NoNewVariables
+pub mod StrandsOfCollapses
 pub mod VariablesOfCollapses
 pub mod SoundSkeletons
 pub mod CollapsedFromProblem

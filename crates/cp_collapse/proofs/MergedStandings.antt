@@ -1,5 +1,5 @@
 -- A skeleton whose strands are merged by the partition of a standing stands apart.
-use Rattle.std.proofs.Common.{◌≡◌, ℕ, ◌<◌, List, Option, Some, None, map, [], ◌∷◌, refl, sym, ap, ap₂, ◌∙◌, subst, subst₂}
+use Rattle.std.proofs.Common.{◌≡◌, ℕ, List, Option, Some, None, map, [], ◌∷◌, refl, sym, ap, ap₂, ◌∙◌, subst, subst₂}
 use native.Mathlib.Decide.{ℕ_discrete}
 use Rattle.cp_lists.specs.Lists.{item_at, IsIn, one_step}
 use Rattle.cp_model.specs.Message.{Atom, Message, atom}

@@ -5,8 +5,8 @@ use Rattle.cp_lists.specs.Lists.{item_at, IsIn}
 use Rattle.cp_model.specs.Term.{Sort, text_sort, datum_sort, name_sort, skey_sort, akey_sort, Variable, AtomTerm, atom_of_variable, Term, atom_term, variables_of_atom, variables_of, Assignment, value_of_atom, value_of, after, Substitution, apply_to_atom, apply_to}
 use Rattle.cp_model.specs.Strand.{Declaration}
 use Rattle.cp_model.specs.Problem.{declared_sort, IsDeclared}
-use Rattle.cp_model.proofs.LawTerms.{atom_after, value_after}
-use Rattle.cp_model.proofs.LawAgreement.{agree_atom}
+use Rattle.cp_model.proofs.LawTerms.{value_after}
+use Rattle.cp_model.proofs.LawAgreement.{agree_atom, agree_term}
 use Rattle.cp_unify.specs.Bindings.{Binding, variable_of, put_term}
 use Rattle.cp_unify.proofs.Deciding.{is_variable_tells}
 use Rattle.cp_unify.proofs.Free.{free, same_terms}
@@ -142,18 +142,25 @@ no_new variables = none_new (IsDeclared variables) (declared_or_not variables)
 
 -- ---- most general unifiers of two atoms
 
+-- Terms of such variables that a substitution makes equal have one value under each that agrees with it.
+pub made_equal : (P : Variable → Type 0) (a b : Term) (s : Substitution) → ((x : Variable) → IsIn x (variables_of a) → P x) → ((x : Variable) → IsIn x (variables_of b) → P x) → apply_to s a ≡ apply_to s b →
+    (t : Substitution) → AgreeWithin P t s → value_of (after free t) a ≡ value_of (after free t) b
+made_equal P a b s of_a of_b unifies t agree =
+    let of_first : apply_to t a ≡ apply_to s a = agree_term t s a (λ x i. agree x (of_a x i)) in
+    let of_second : apply_to t b ≡ apply_to s b = agree_term t s b (λ x i. agree x (of_b x i)) in
+    value_after free t a ∙ ap (value_of free) (of_first ∙ unifies ∙ sym of_second) ∙ sym (value_after free t b)
+
 module _ (P : Variable → Type 0) (tells : (x : Variable) → P x ⊎ (P x → ⊥)) (a b : AtomTerm) (s : Substitution) (of_a : (x : Variable) → IsIn x (variables_of_atom a) → P x) (of_b : (x : Variable) → IsIn x (variables_of_atom b) → P x) (m : IsMostGeneralFor a b s) where
-  made_equal : (t : Substitution) → AgreeWithin P t s → value_of_atom (after free t) a ≡ value_of_atom (after free t) b
-  made_equal t agree =
-      let of_first : apply_to_atom t a ≡ apply_to_atom s a = agree_atom t s a (λ x i. agree x (of_a x i)) in
-      let of_second : apply_to_atom t b ≡ apply_to_atom s b = agree_atom t s b (λ x i. agree x (of_b x i)) in
-      atom_after free t a ∙ ap (value_of_atom free) (of_first ∙ m.unifies ∙ sym of_second) ∙ sym (atom_after free t b)
+  atoms_made_equal : (t : Substitution) → AgreeWithin P t s → value_of_atom (after free t) a ≡ value_of_atom (after free t) b
+  atoms_made_equal t agree =
+      let same : value_of (after free t) (atom_term a) ≡ value_of (after free t) (atom_term b) = made_equal P (atom_term a) (atom_term b) s of_a of_b (ap atom_term m.unifies) t agree in
+      cc
 
   pub unifier_none_new : Keeps P s
-  unifier_none_new = none_new P tells (λ g. value_of_atom g a ≡ value_of_atom g b) s made_equal m.general
+  unifier_none_new = none_new P tells (λ g. value_of_atom g a ≡ value_of_atom g b) s atoms_made_equal m.general
 
   pub unifier_leaves : (y : Variable) → (P y → ⊥) → Leaves s y
-  unifier_leaves = leaves_others P tells (λ g. value_of_atom g a ≡ value_of_atom g b) s made_equal m.general m.directed.idempotent
+  unifier_leaves = leaves_others P tells (λ g. value_of_atom g a ≡ value_of_atom g b) s atoms_made_equal m.general m.directed.idempotent
 
 -- ---- terms under such a substitution
 

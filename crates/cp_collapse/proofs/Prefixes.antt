@@ -1,10 +1,11 @@
 -- Unifying the terms of two instances for each variable of a prefix, in the order of their declarations.
-use Rattle.std.proofs.Common.{◌≡◌, ◌⊎◌, inl, inr, ℕ, zero, suc, ◌<◌, ◌≤◌, ◌+◌, Bool, true, false, List, [], ◌∷◌, Some, map, length, get_or, refl, sym, ap, ◌∙◌, subst, arith, eq-or-lt_of_le}
+use Rattle.std.proofs.Common.{◌≡◌, ◌⊎◌, inl, inr, ℕ, zero, suc, ◌<◌, ◌≤◌, ◌+◌, Bool, true, false, List, [], ◌∷◌, Some, map, min, length, get_or, refl, sym, ap, ◌∙◌, subst, arith, eq-or-lt_of_le}
 use Rattle.cp_lists.specs.Lists.{item_at, IsIn}
 use Rattle.cp_model.specs.Term.{Sort, Variable, atom_of_variable, Term, Assignment, value_of_atom, value_of, after, Substitution}
 use Rattle.cp_model.specs.Strand.{Declaration, Role, Event, prefix_of, variables_of_trace, variables_of_prefix}
 use Rattle.cp_model.specs.Homomorphism.{substitution_by}
 use Rattle.cp_model.specs.Problem.{declared_sort, IsDeclared}
+use Rattle.cp_model.proofs.LawPrefixes.{variables_of_higher}
 use Rattle.cp_lists.proofs.Items.{map_of_item, item_of_read}
 use Rattle.cp_unify.specs.Bindings.{Binding, Meets}
 use Rattle.cp_unify.specs.Unifiers.{IsMostGeneral, HasNoUnifier}
@@ -17,7 +18,7 @@ use Rattle.cp_collapse.specs.Extending.{IsExactFor}
 use Rattle.cp_collapse.specs.Partials.{AreSolved}
 use Rattle.cp_collapse.specs.Partitions.{HaveEqualValues}
 use Rattle.cp_collapse.specs.Values.{term_of_variable}
-use Rattle.cp_collapse.proofs.Exact.{exact_same, exact_unified, never_unified, equal_terms, terms_equal, equal_on_shorter, shorter_on_equal}
+use Rattle.cp_collapse.proofs.Exact.{exact_same, exact_unified, never_unified, equal_terms, terms_equal}
 
 -- ---- the variable that is declared at a number
 
@@ -38,6 +39,21 @@ declared_below [] n s e = absurd (cc)
 declared_below (d ∷ ds) zero s e = omega arith
 declared_below (d ∷ ds) (suc n) s e = let r = declared_below ds n s e in omega (arith, r)
 
+-- What is in two prefixes is in the shorter.
+in_lower : (role : Role) (height first second : ℕ) → height ≡ min first second → (x : Variable) → IsIn x (variables_of_prefix role first) → IsIn x (variables_of_prefix role second) → IsIn x (variables_of_prefix role height)
+in_lower role height first second lower x i j = by (one_of_both height first second lower)
+  where
+    one_of_both : (n a b : ℕ) → n ≡ min a b → (n ≡ a) ⊎ (n ≡ b)
+    one_of_both n a b e = grind (arith, e)
+
+    by : (height ≡ first) ⊎ (height ≡ second) → IsIn x (variables_of_prefix role height)
+    by (inl e) = subst (λ n. IsIn x (variables_of_prefix role n)) (sym e) i
+    by (inr e) = subst (λ n. IsIn x (variables_of_prefix role n)) (sym e) j
+
+-- A prefix that is no longer than one whose variables are declared has declared variables.
+pub closed_lower : (role : Role) (first second : ℕ) → IsClosedPrefix role first → IsClosedPrefix role (min first second)
+closed_lower role first second closed x i = closed x (variables_of_higher role (min first second) first (omega arith) x i)
+
 -- ---- the loop
 
 module _ (e : Assignment → Type 0) (role : Role) (height : ℕ) (s t : Substitution) where
@@ -52,8 +68,9 @@ module _ (e : Assignment → Type 0) (role : Role) (height : ℕ) (s t : Substit
   pub below_first : (r : List Binding) → IsExactFor e r → IsExactFor (AgreeBelow 0) r
   below_first r = exact_same e (AgreeBelow 0) r (λ g f. (f, λ x i l. absurd (omega (arith, l)))) (λ g f. f.0)
 
-  pub equal_below : (n height' : ℕ) → height ≤ height' → (g : Assignment) → e g × HaveEqualValues role height s height' t g → AgreeBelow n g
-  equal_below n height' le g f = (f.0, λ x i l. shorter_on_equal role height s height' t g le f.1 x i)
+  -- Equal values are equal in a prefix that is no longer than either.
+  pub equal_below : (n first second : ℕ) → height ≤ first → height ≤ second → (g : Assignment) → e g × HaveEqualValues role first s second t g → AgreeBelow n g
+  equal_below n first second le le' g f = (f.0, λ x i l. f.1 x (variables_of_higher role height first le x i) (variables_of_higher role height second le' x i))
 
   module _ (closed : IsClosedPrefix role height) (n : ℕ) (r : List Binding) (so_far : IsExactFor (AgreeBelow n) r) where
     one_more : (g : Assignment) → AgreeBelow n g → ((x : Variable) → IsIn x (variables_of_prefix role height) → x.number ≡ n → Agree g x) → AgreeBelow (n + 1) g
@@ -95,12 +112,12 @@ module _ (e : Assignment → Type 0) (role : Role) (height : ℕ) (s t : Substit
         pub below_never : HasNoUnifier a b r → (g : Assignment) → AgreeBelow (n + 1) g → ⊥
         below_never none g f = never_unified (AgreeBelow n) a b r so_far none g (one_less g f) (equal g f)
 
-    -- All declarations are done.
-    pub below_last : (height' : ℕ) → height ≤ height' → length role.variables ≤ n → IsExactFor (λ g. e g × HaveEqualValues role height s height' t g) r
-    below_last height' le done =
-        exact_same (AgreeBelow n) (λ g. e g × HaveEqualValues role height s height' t g) r
-        (λ g f. (f.0, equal_on_shorter role height s height' t g le (λ x i. let b = declared_below role.variables x.number x.sort (closed x i) in f.1 x i (omega (arith, b, done)))))
-        (λ g f. equal_below n height' le g f)
+    -- All declarations are done, and the prefix is the shorter of two.
+    pub below_last : (first second : ℕ) → height ≡ min first second → length role.variables ≤ n → IsExactFor (λ g. e g × HaveEqualValues role first s second t g) r
+    below_last first second lower done =
+        exact_same (AgreeBelow n) (λ g. e g × HaveEqualValues role first s second t g) r
+        (λ g f. (f.0, λ x i j. let k = in_lower role height first second lower x i j in let b = declared_below role.variables x.number x.sort (closed x k) in f.1 x k (omega (arith, b, done))))
+        (λ g f. equal_below n first second (omega (arith, lower)) (omega (arith, lower)) g f)
         so_far
 
 -- At first the given bindings.

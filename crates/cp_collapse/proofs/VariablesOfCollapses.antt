@@ -1,10 +1,10 @@
 -- The variables of collapses are declared.
-use Rattle.std.proofs.Common.{◌≡◌, ℕ, List, [], ◌∷◌, ◌++◌, Some, map, sym, ap, ◌∙◌, subst, ⊎_elim}
+use Rattle.std.proofs.Common.{◌≡◌, ℕ, List, [], ◌∷◌, ◌++◌, Some, map, refl, sym, ap, ◌∙◌, subst, ⊎_elim}
 use Rattle.cp_lists.specs.Lists.{item_at, IsIn, here, there}
-use Rattle.cp_model.specs.Term.{Variable, atom_of_variable, AtomTerm, Term, AgreeOnTerms, variables_of_atom, variables_of, value_of_atom, after, Substitution, apply_to_atom, apply_to, composed}
+use Rattle.cp_model.specs.Term.{Variable, atom_of_variable, AtomTerm, Term, variables_of_atom, variables_of, value_of_atom, after, Substitution, apply_to_atom, apply_to, composed}
 use Rattle.cp_model.specs.Strand.{Declaration, Event, send, recv, payload, event_map, Role, prefix_of, variables_of_trace, variables_of_prefix}
 use Rattle.cp_model.specs.Skeleton.{SkeletonStrand, instance, listener, skeleton_trace, UniqueAt, Skeleton}
-use Rattle.cp_model.specs.Problem.{IsDeclared, variables_of_strands, variables_of_atoms, variables_of_uniques, variables_of_assumptions, HasDeclaredVariables}
+use Rattle.cp_model.specs.Problem.{IsDeclared, variables_of_strands, variables_of_atoms, variables_of_uniques, variables_of_assumptions, variables_of_skeleton, HasDeclaredVariables}
 use Rattle.cp_lists.proofs.Members.{in_append, in_append_left, in_append_right, from_map}
 use Rattle.cp_model.proofs.LawTerms.{atom_after, atom_composed}
 use Rattle.cp_model.proofs.LawAgreement.{agree_atom}
@@ -12,11 +12,11 @@ use Rattle.cp_completeness.proofs.Under.{in_trace_under, in_strands, in_atoms, i
 use Rattle.cp_unify.proofs.Free.{free}
 use Rattle.cp_skel.proofs.UnderVariables.{strand_with, atom_with, unique_with}
 use Rattle.cp_collapse.specs.Agreeing.{same_instance}
-use Rattle.cp_collapse.specs.Partitions.{IsPartition, place_in, IdentifiesValues}
+use Rattle.cp_collapse.specs.Partitions.{IsPartition, IdentifiesValues}
 use Rattle.cp_collapse.specs.Collapsing.{IsCollapsed, AreCollapsesBy, no_collapses, collapse_by}
 use Rattle.cp_collapse.proofs.AssumptionImages.{assumptions_are}
-use Rattle.cp_collapse.proofs.Places.{strand_at_place}
 use Rattle.cp_collapse.proofs.SameStrands.{same_trace}
+use Rattle.cp_collapse.proofs.StrandsOfCollapses.{strand_comes}
 use Rattle.cp_collapse.proofs.NoNewVariables.{KeepsDeclared, AgreeOnDeclared, no_new, of_atom, of_term}
 
 -- ---- traces under a substitution that keeps declared variables
@@ -31,6 +31,17 @@ module _ (variables : List Declaration) (s : Substitution) (keeps : KeepsDeclare
   trace_declared (e ∷ es) h y i =
       ⊎_elim (λ j. event_declared e (λ x m. h x (in_append_left (variables_of_trace es) m)) y j) (λ j. trace_declared es (λ x m. h x (in_append_right (variables_of (payload e)) m)) y j)
       (in_append (variables_of (payload (event_map (apply_to s) e))) (variables_of_trace (map (event_map (apply_to s)) es)) i)
+
+-- ---- the parts of a skeleton
+
+-- What is true of the variables of the strands, and of those of each kind of assumption, is true of all variables of a skeleton.
+pub of_each_part : (P : Variable → Type 0) (k : Skeleton) → ((x : Variable) → IsIn x (variables_of_strands k.strands) → P x) → ((x : Variable) → IsIn x (variables_of_atoms k.assumptions.non_originating) → P x)
+    → ((x : Variable) → IsIn x (variables_of_atoms k.assumptions.penetrator_non_originating) → P x) → ((x : Variable) → IsIn x (variables_of_uniques k.assumptions.uniquely_originating) → P x) → (x : Variable) → IsIn x (variables_of_skeleton k) → P x
+of_each_part P k strands nons penetrator_nons uniques x i =
+    let non = variables_of_atoms k.assumptions.non_originating in
+    let penetrator = variables_of_atoms k.assumptions.penetrator_non_originating in
+    let unique = variables_of_uniques k.assumptions.uniquely_originating in
+    ⊎_elim (strands x) (λ a. ⊎_elim (λ b. ⊎_elim (nons x) (penetrator_nons x) (in_append non penetrator b)) (uniques x) (in_append (non ++ penetrator) unique a)) (in_append (variables_of_strands k.strands) (non ++ penetrator ++ unique) i)
 
 -- ---- the parts of a skeleton whose variables are declared
 
@@ -66,7 +77,8 @@ module _ (variables : List Declaration) (k : Skeleton) (h : HasDeclaredVariables
 
 -- ---- collapses
 
-value_composed : (t d : Substitution) (x : Variable) → value_of_atom (after (after free t) d) (atom_of_variable x) ≡ value_of_atom free (apply_to_atom (composed d t) (atom_of_variable x))
+-- The value of a variable under one substitution after another.
+pub value_composed : (t d : Substitution) (x : Variable) → value_of_atom (after (after free t) d) (atom_of_variable x) ≡ value_of_atom free (apply_to_atom (composed d t) (atom_of_variable x))
 value_composed t d x =
     atom_after (after free t) d (atom_of_variable x)
     ∙ atom_after free t (apply_to_atom d (atom_of_variable x))
@@ -98,34 +110,14 @@ module _ (variables : List Declaration) (k : Skeleton) (h : HasDeclaredVariables
   comes_declared st c x i =
       trace_declared variables f keeps (skeleton_trace c.1) (strand_declared variables k h c.0 c.1 c.2) x (subst (λ (es : List (Event Term)). IsIn x (variables_of_trace es)) c.3 i)
 
-  instance_comes : (place : ℕ) (role : Role) (height : ℕ) (terms : Substitution) → item_at l.strands place ≡ Some (instance role height terms) → ComesFrom (instance role height terms)
-  instance_comes place role height terms at =
-      let one = collapsed.tallest place role height terms at in
-      let go = collapsed.instances one.strand role height one.terms one.on_instance in
-      let e : Some (instance role go.to_height go.to_terms) ≡ Some (instance role height terms) = sym go.on_instance ∙ ap (item_at l.strands) one.at_place ∙ at in
-      let same : go.to_terms ≡ terms = cc in
-      let agree : AgreeOnTerms (variables_of_prefix role height) (composed one.terms f) terms = subst (AgreeOnTerms (variables_of_prefix role height) (composed one.terms f)) same go.equal_terms in
-      (one.strand, instance role height one.terms, one.on_instance, sym (same_trace (same_instance {role = role} {height = height} agree)) ∙ trace_under f (instance role height one.terms ∷ []) 0)
-
-  from_strand : (place n : ℕ) (t : Term) (own : SkeletonStrand) → item_at l.strands place ≡ Some (listener t) → place_in p n ≡ place → item_at k.strands n ≡ Some own → ComesFrom (listener t)
-  from_strand place n t (instance role height terms) at there_is own =
-      let go = collapsed.instances n role height terms own in
-      let e : Some (instance role go.to_height go.to_terms) ≡ Some (listener t) = sym go.on_instance ∙ ap (item_at l.strands) there_is ∙ at in
-      absurd (cc)
-  from_strand place n t (listener u) at there_is own =
-      let e : Some (listener (apply_to f u)) ≡ Some (listener t) = sym (collapsed.listeners n u own) ∙ ap (item_at l.strands) there_is ∙ at in
-      let same : t ≡ apply_to f u = cc in
-      (n, listener u, own, ap (λ (w : Term). skeleton_trace (listener w)) same)
-
-  listener_comes : (place : ℕ) (t : Term) → item_at l.strands place ≡ Some (listener t) → ComesFrom (listener t)
-  listener_comes place t at = let own = strand_at_place k.strands l.strands p part.each collapsed.count place (listener t) at in from_strand place own.0 t own.1 at own.2 own.3
-
-  strand_comes : (place : ℕ) (st : SkeletonStrand) → item_at l.strands place ≡ Some st → ComesFrom st
-  strand_comes place (instance role height terms) at = instance_comes place role height terms at
-  strand_comes place (listener t) at = listener_comes place t at
+  comes : (place : ℕ) (st : SkeletonStrand) → item_at l.strands place ≡ Some st → ComesFrom st
+  comes =
+      strand_comes k l p part collapsed ComesFrom
+      (λ n role height terms to at agree. (n, instance role height terms, at, sym (same_trace (same_instance {role = role} {height = height} agree)) ∙ trace_under f (instance role height terms ∷ []) 0))
+      (λ n t at. (n, listener t, at, refl))
 
   strands_declared : (x : Variable) → IsIn x (variables_of_strands l.strands) → IsDeclared variables x
-  strands_declared x i = let r = strand_with l.strands x i in comes_declared r.1 (strand_comes r.0 r.1 r.2) x r.3
+  strands_declared x i = let r = strand_with l.strands x i in comes_declared r.1 (comes r.0 r.1 r.2) x r.3
 
   -- ---- assumptions, and the way from the problem
 
@@ -150,16 +142,9 @@ module _ (variables : List Declaration) (k : Skeleton) (h : HasDeclaredVariables
       let m = ((assumptions_are k l p collapsed).unique r.0).0 r.1 in
       image_declared m.0.value r.0.value (ap (λ (u : UniqueAt). u.value) m.2) (unique_declared variables k h m.0 m.1) x r.2
 
-  assumptions_declared : (x : Variable) → IsIn x (variables_of_assumptions l.assumptions) → IsDeclared variables x
-  assumptions_declared x i =
-      let non = variables_of_atoms l.assumptions.non_originating in
-      let penetrator = variables_of_atoms l.assumptions.penetrator_non_originating in
-      ⊎_elim (λ j. ⊎_elim (λ m. nons_declared x m) (λ m. penetrator_nons_declared x m) (in_append non penetrator j)) (λ j. uniques_declared x j)
-      (in_append (non ++ penetrator) (variables_of_uniques l.assumptions.uniquely_originating) i)
-
   pub collapse_declared : HasDeclaredVariables variables l
   collapse_declared = record {
-    occurring = λ x i. ⊎_elim (λ j. strands_declared x j) (λ j. assumptions_declared x j) (in_append (variables_of_strands l.strands) (variables_of_assumptions l.assumptions) i);
+    occurring = of_each_part (IsDeclared variables) l strands_declared nons_declared penetrator_nons_declared uniques_declared;
     mapped = λ t x i j.
         let m = from_map (apply_to f) k.from_problem.values (subst (IsIn t) collapsed.from_problem.values i) in
         of_term variables f keeps m.0 (λ z n. h.mapped m.0 z m.1 n) x (subst (λ (u : Term). IsIn x (variables_of u)) (sym m.2) j);

@@ -9,7 +9,7 @@ ghost use Rattle.cp_collapse.specs.Merging.{IsPutOnce};
 ghost use Rattle.cp_collapse.specs.Partitions.{place_in};
 
 use crate::placing::{node_in, pair_in, place_in};
-use crate::substituting::{atom_under, terms_under};
+use crate::substituting::{Substituted, each_under};
 use cp_skel::{Assumptions, Atom, FromProblem, OrderPair, UniqueAt, add_atom, add_unique};
 use cp_unify::Subst;
 use std::alloc::{AllocError, Global};
@@ -27,7 +27,7 @@ fn atom_images(alloc: Global, atoms: &[Atom], s: &Subst) -> Result<Vec<Atom>, Al
 {
     let mut images = Vec::new(alloc);
     for atom in atoms {
-        let image = atom_under(alloc, atom, s)?;
+        let image = atom.under(alloc, s)?;
         add_atom(&mut images, image)?;
     }
     Ok(images)
@@ -37,7 +37,7 @@ fn atom_images(alloc: Global, atoms: &[Atom], s: &Subst) -> Result<Vec<Atom>, Al
 fn unique_image(alloc: Global, unique: &UniqueAt, way: Way<'_>) -> Result<UniqueAt, AllocError>
     ensures { IfOk result (λ u. u ≡ unique_in way.entry.lowest.now (as_substitution way.entry.terms.now) unique.now) }
 {
-    let value = atom_under(alloc, unique.value(), way.terms)?;
+    let value = unique.value().under(alloc, way.terms)?;
     Ok(UniqueAt::new(value, node_in(way.lowest, unique.origin())))
 }
 
@@ -164,7 +164,7 @@ pub(crate) fn from_problem_image(
     ensures { IfOk result (λ p. IsFromProblemIn way.entry.lowest.now (as_substitution way.entry.terms.now) from_problem.now p) }
 {
     let strands = places_of(alloc, from_problem.strands(), way.lowest)?;
-    let values = terms_under(alloc, from_problem.values(), way.terms)?;
+    let values = each_under(alloc, from_problem.values(), way.terms)?;
     let assumptions = assumption_images(alloc, from_problem.assumptions(), way)?;
     let pairs = pair_images(alloc, from_problem.pairs(), way.lowest)?;
     Ok(FromProblem::new(strands, values, assumptions, pairs))

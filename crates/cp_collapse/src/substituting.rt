@@ -1,6 +1,6 @@
 // Skeletons under substitutions.
 ghost use Rattle.std.specs.Prelude.{◌≡◌, map, IfOk};
-ghost use Rattle.cp_model.specs.Term.{apply_to, apply_to_atom};
+ghost use Rattle.cp_model.specs.Term.{Substitution, apply_to, apply_to_atom};
 ghost use Rattle.cp_completeness.specs.Normal.{unique_under, assumptions_under, from_problem_under, skeleton_under};
 ghost use Rattle.cp_unify.specs.Bindings.{as_substitution};
 ghost use Rattle.cp_strand.specs.View.{instance_view, strand_view};
@@ -14,85 +14,82 @@ use cp_term::Term;
 use cp_unify::{Subst, apply};
 use std::alloc::{AllocError, Global};
 
-/// Terms under a substitution.
-pub(crate) fn terms_under(alloc: Global, terms: &[Term], s: &Subst) -> Result<Vec<Term>, AllocError>
-    ensures { IfOk result (λ v. v.items ≡ map (apply_to (as_substitution s.now)) terms.now) }
+/// What changes under a substitution.
+pub(crate) trait Substituted {
+    /// What it becomes under a substitution.
+    ghost becomes: { Substitution → Self → Self };
+
+    /// What it becomes. The error is that memory ran out.
+    fn under(&self, alloc: Global, s: &Subst) -> Result<Self, AllocError>
+        ensures { IfOk result (λ x. x ≡ becomes (as_substitution s.now) self.now) };
+}
+
+/// Each of these under a substitution.
+pub(crate) fn each_under<T: Substituted + Drop>(
+    alloc: Global,
+    items: &[T],
+    s: &Subst,
+) -> Result<Vec<T>, AllocError>
+    ensures { IfOk result (λ v. v.items ≡ map (T.becomes (as_substitution s.now)) items.now) }
 {
     let mut changed = Vec::new(alloc);
-    for term in terms {
-        changed.push(apply(alloc, s, term)?)?;
+    for item in items {
+        changed.push(item.under(alloc, s)?)?;
     }
     Ok(changed)
 }
 
-/// An atom under a substitution.
-pub(crate) fn atom_under(alloc: Global, atom: &Atom, s: &Subst) -> Result<Atom, AllocError>
-    ensures { IfOk result (λ a. a ≡ apply_to_atom (as_substitution s.now) atom.now) }
-{
-    match Atom::new(apply(alloc, s, atom.as_term())?) {
-        Some(atom) => Ok(atom),
-        None => unreachable!(),
+impl Substituted for Term {
+    ghost becomes = { apply_to };
+
+    fn under(&self, alloc: Global, s: &Subst) -> Result<Term, AllocError> {
+        apply(alloc, s, self)
     }
 }
 
-fn atoms_under(alloc: Global, atoms: &[Atom], s: &Subst) -> Result<Vec<Atom>, AllocError>
-    ensures { IfOk result (λ v. v.items ≡ map (apply_to_atom (as_substitution s.now)) atoms.now) }
-{
-    let mut changed = Vec::new(alloc);
-    for atom in atoms {
-        changed.push(atom_under(alloc, atom, s)?)?;
+impl Substituted for Atom {
+    ghost becomes = { apply_to_atom };
+
+    fn under(&self, alloc: Global, s: &Subst) -> Result<Atom, AllocError> {
+        match Atom::new(apply(alloc, s, self.as_term())?) {
+            Some(atom) => Ok(atom),
+            None => unreachable!(),
+        }
     }
-    Ok(changed)
 }
 
-/// A unique value under a substitution; its recorded origin stays.
-fn unique_under(alloc: Global, unique: &UniqueAt, s: &Subst) -> Result<UniqueAt, AllocError>
-    ensures { IfOk result (λ u. u ≡ unique_under (as_substitution s.now) unique.now) }
-{
-    let value = atom_under(alloc, unique.value(), s)?;
-    Ok(UniqueAt::new(value, unique.origin()))
-}
+/// Of a unique value the recorded origin stays.
+impl Substituted for UniqueAt {
+    ghost becomes = { unique_under };
 
-fn uniques_under(
-    alloc: Global,
-    uniques: &[UniqueAt],
-    s: &Subst,
-) -> Result<Vec<UniqueAt>, AllocError>
-    ensures { IfOk result (λ v. v.items ≡ map (unique_under (as_substitution s.now)) uniques.now) }
-{
-    let mut changed = Vec::new(alloc);
-    for unique in uniques {
-        changed.push(unique_under(alloc, unique, s)?)?;
+    fn under(&self, alloc: Global, s: &Subst) -> Result<UniqueAt, AllocError> {
+        let value = self.value().under(alloc, s)?;
+        Ok(UniqueAt::new(value, self.origin()))
     }
-    Ok(changed)
 }
 
-fn assumptions_under(
-    alloc: Global,
-    assumptions: &Assumptions,
-    s: &Subst,
-) -> Result<Assumptions, AllocError>
-    ensures { IfOk result (λ a. a ≡ assumptions_under (as_substitution s.now) assumptions.now) }
-{
-    let non = atoms_under(alloc, assumptions.non_originating(), s)?;
-    let penetrator_non = atoms_under(alloc, assumptions.penetrator_non_originating(), s)?;
-    let unique = uniques_under(alloc, assumptions.uniquely_originating(), s)?;
-    Ok(Assumptions::new(non, penetrator_non, unique))
+impl Substituted for Assumptions {
+    ghost becomes = { assumptions_under };
+
+    fn under(&self, alloc: Global, s: &Subst) -> Result<Assumptions, AllocError> {
+        let non = each_under(alloc, self.non_originating(), s)?;
+        let penetrator_non = each_under(alloc, self.penetrator_non_originating(), s)?;
+        let unique = each_under(alloc, self.uniquely_originating(), s)?;
+        Ok(Assumptions::new(non, penetrator_non, unique))
+    }
 }
 
-/// The way from a problem, followed by a substitution.
-fn from_problem_under(
-    alloc: Global,
-    from_problem: &FromProblem,
-    s: &Subst,
-) -> Result<FromProblem, AllocError>
-    ensures { IfOk result (λ p. p ≡ from_problem_under (as_substitution s.now) from_problem.now) }
-{
-    let strands = Vec::from_slice(alloc, from_problem.strands())?;
-    let values = terms_under(alloc, from_problem.values(), s)?;
-    let assumptions = assumptions_under(alloc, from_problem.assumptions(), s)?;
-    let pairs = Vec::from_slice(alloc, from_problem.pairs())?;
-    Ok(FromProblem::new(strands, values, assumptions, pairs))
+/// The way from a problem is followed by the substitution.
+impl Substituted for FromProblem {
+    ghost becomes = { from_problem_under };
+
+    fn under(&self, alloc: Global, s: &Subst) -> Result<FromProblem, AllocError> {
+        let strands = Vec::from_slice(alloc, self.strands())?;
+        let values = each_under(alloc, self.values(), s)?;
+        let assumptions = self.assumptions().under(alloc, s)?;
+        let pairs = Vec::from_slice(alloc, self.pairs())?;
+        Ok(FromProblem::new(strands, values, assumptions, pairs))
+    }
 }
 
 /// An instance under a substitution: the term of each variable that its role declares.
@@ -136,7 +133,7 @@ pub fn under(alloc: Global, k: &Skeleton, s: &Subst) -> Result<Skeleton, AllocEr
     let variables = k.variables().copy()?;
     let strands = strands_under(alloc, k.strands(), s)?;
     let order = k.order().copy(alloc)?;
-    let assumptions = assumptions_under(alloc, k.assumptions(), s)?;
-    let from_problem = from_problem_under(alloc, k.from_problem(), s)?;
+    let assumptions = k.assumptions().under(alloc, s)?;
+    let from_problem = k.from_problem().under(alloc, s)?;
     Ok(Skeleton::new(variables, strands, order, assumptions, from_problem))
 }

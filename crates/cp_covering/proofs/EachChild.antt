@@ -1,17 +1,27 @@
 -- Each child of a cohort comes of contracting, of a strand that is displaced or added, or of a listener.
-use Rattle.std.proofs.Common.{◌≡◌, ◌≢◌, ℕ, List, [], ◌++◌, Some, sym, subst, ⊎_elim}
+use Rattle.std.proofs.Common.{◌≡◌, ◌≢◌, ℕ, List, [], ◌++◌, length, Some, sym, subst, ⊎_elim}
 use Rattle.cp_lists.specs.Lists.{item_at, IsIn}
-use Rattle.cp_lists.proofs.Members.{not_in_none, only_item, in_append}
+use Rattle.cp_lists.proofs.Members.{not_in_none, only_item, in_append, from_map}
 use Rattle.cp_model.specs.Term.{Term, Substitution}
-use Rattle.cp_model.specs.Strand.{send, Role, Protocol}
+use Rattle.cp_model.specs.Strand.{send, payload, Declaration, Role, Protocol}
 use Rattle.cp_model.specs.Bundle.{node_at}
-use Rattle.cp_model.specs.Skeleton.{instance, Before}
-use Rattle.cp_model.specs.Tree.{Pattern}
+use Rattle.cp_model.specs.declared.node.Node.{Node}
+use Rattle.cp_model.specs.Skeleton.{instance, term_event_at, Skeleton, Before}
+use Rattle.cp_model.specs.Tree.{Operation, by_contraction, by_added_listener, Pattern}
 use Rattle.cp_term.specs.declared.path.Step.{Step}
+use Rattle.cp_term.specs.Positions.{term_at}
+use Rattle.cp_completeness.specs.Normal.{skeleton_under}
+use Rattle.cp_collapse.specs.Agreeing.{SaysTheSame}
+use Rattle.cp_normal.specs.Exact.{HasForms}
+use Rattle.cp_skel.specs.Changing.{AddsListener}
 use Rattle.cp_skel.specs.Events.{Occurrence, events_of}
+use Rattle.cp_answers.specs.Covering.{put_before}
+use Rattle.cp_match.specs.Unifying.{UnifiesMostGenerally}
+use Rattle.cp_settle.specs.Releasing.{Release, Tried}
+use Rattle.cp_settle.specs.Settling.{Settles, on_the_way}
 use Rattle.cp_covering.specs.Listing.{terms_onto}
-use Rattle.cp_covering.specs.Children.{Child, IsSentBefore}
-use Rattle.cp_covering.specs.Cohort.{Question, Contracts, AreContracted, DisplacesAt, DisplacesEvent, DisplacesStrand, AddsAt, AddsEvent, FreesCritical, by_key, by_body, by_nothing, OpensPattern, Listens, AreListeners, IsCohort, is_before, is_displaced, is_added, of_listener, of_node, of_role}
+use Rattle.cp_covering.specs.Children.{Child, child, IsSentBefore}
+use Rattle.cp_covering.specs.Cohort.{Question, Contracts, AreContracted, DisplacesAt, DisplacesEvent, DisplacesStrand, AddsAt, AddsEvent, FreesCritical, by_key, by_body, by_nothing, OpensPattern, Listens, AreListeners, IsCohort, is_before, is_displaced, is_added, of_listener, of_node, of_role, is_inside, is_critical, cyclic}
 use Rattle.cp_covering.specs.Cohort as cohort
 use Rattle.cp_covering.specs.Released.{SetsFree, critical_key, critical_body, pattern_key}
 use Rattle.cp_covering.proofs.Listed.{given, those_have, of_terms_onto}
@@ -33,6 +43,69 @@ module _ (q : Question) where
       (λ m.
       ⊎_elim (λ f. freed are.frees are.critical t f) (λ o. let one = given are.patterns t o in opened one.giver one.given one.listed one.gives_it t one.among) (in_append are.frees are.opens m))
       (of_terms_onto [] (are.frees ++ are.opens) t i)
+
+-- The skeleton is a normal form of the question's under a most general unifier of what stands at the position.
+pub record ComesOfContracting (q : Question) (o : Occurrence) (path : List Step) (r : Skeleton) : Type 0 where
+  pub term : Term
+  pub unifier : Substitution
+  pub under : Skeleton
+  pub forms : List Skeleton
+  pub at : term_at (payload o.event) path ≡ Some term
+  pub unifies : UnifiesMostGenerally term q.critical unifier
+  pub same : SaysTheSame (skeleton_under unifier q.skeleton) under
+  pub has : HasForms under forms
+  pub listed : IsIn r forms
+
+-- What was tried last comes of the grown skeleton, put before the node, under a most general unifier of what stands there.
+pub record ComesOfReleasing (q : Question) (variables : List Declaration) (release : Release) (grown : Skeleton) (x : Tried) : Type 0 where
+  pub message : Term
+  pub term : Term
+  pub unifier : Substitution
+  pub under : Skeleton
+  pub settled : List Tried
+  pub acyclic : (y : Node) → Before (put_before (node_at release.strand release.index) q.node grown) y y → ⊥
+  pub sent : term_event_at grown.strands (node_at release.strand release.index) ≡ Some (send message)
+  pub at : term_at message release.path ≡ Some term
+  pub unifies : UnifiesMostGenerally term q.critical unifier
+  pub same : SaysTheSame (skeleton_under unifier (put_before (node_at release.strand release.index) q.node grown)) under
+  pub settles : Settles release on_the_way (record { variables = variables; substitution = unifier; skeleton = under }) settled
+  pub listed : IsIn x settled
+
+-- The skeleton is a normal form of the question's with a listener, put before the node.
+pub record ComesOfListening (q : Question) (t : Term) (r : Skeleton) : Type 0 where
+  pub added : Skeleton
+  pub adds : AddsListener t q.skeleton added
+  pub forms : List Skeleton
+  pub normal : HasForms (put_before (node_at (length q.skeleton.strands) 1) q.node added) forms
+  pub listed : IsIn r forms
+
+module _ (q : Question) (P : Child → Type 0) where
+  -- A property of children that holds of each normal form holds of what a position gives.
+  pub of_contracted : (o : Occurrence) (path : List Step) → ((r : Skeleton) → ComesOfContracting q o path r → P (child q.variables (by_contraction o.node) path r)) →
+      (children : List Child) → Contracts q o path children → (d : Child) → IsIn d children → P d
+  of_contracted o path holds children (is_inside inside) d i = absurd (not_in_none i)
+  of_contracted o path holds children (is_critical at) d i = absurd (not_in_none i)
+  of_contracted o path holds children (cohort.never_equal at never) d i = absurd (not_in_none i)
+  of_contracted o path holds children (cohort.unified {t = t} {s = s} {l = l} {forms = forms} outside at ne unifies same has) d i =
+      let m = from_map (child q.variables (by_contraction o.node) path) forms i in
+      subst P m.2 (holds m.0 (record { term = t; unifier = s; under = l; forms = forms; at = at; unifies = unifies; same = same; has = has; listed = m.1 }))
+
+  -- A property of children that holds of what was settled holds of what a grown skeleton gives.
+  pub of_released : (variables : List Declaration) (operation : Operation) (release : Release) (grown : Skeleton) →
+      ((x : Tried) → ComesOfReleasing q variables release grown x → P (child x.variables operation release.path x.skeleton)) →
+      (children : List Child) → cohort.Releases q variables operation release grown children → (d : Child) → IsIn d children → P d
+  of_released variables operation release grown holds children (cyclic before) d i = absurd (not_in_none i)
+  of_released variables operation release grown holds children (cohort.never_equal sent at never) d i = absurd (not_in_none i)
+  of_released variables operation release grown holds children (cohort.unified {t = t} {u = u} {s = s} {l = l} {settled = settled} none sent at unifies same settles) d i =
+      let o = from_map (λ (x : Tried). child x.variables operation release.path x.skeleton) settled i in
+      subst P o.2 (holds o.0 (record { message = t; term = u; unifier = s; under = l; settled = settled; acyclic = none; sent = sent; at = at; unifies = unifies; same = same; settles = settles; listed = o.1 }))
+
+  -- A property of children that holds of each normal form holds of what a listener gives.
+  pub of_listened : (t : Term) → ((r : Skeleton) → ComesOfListening q t r → P (child q.variables (by_added_listener (length q.skeleton.strands)) [] r)) →
+      (children : List Child) → Listens q t children → (d : Child) → IsIn d children → P d
+  of_listened t holds children l d i =
+      let m = from_map (child q.variables (by_added_listener (length q.skeleton.strands)) []) l.forms (subst (IsIn d) l.are_children i) in
+      subst P m.2 (holds m.0 (record { added = l.added; adds = l.adds; forms = l.forms; normal = l.normal; listed = m.1 }))
 
 module _ (protocol : Protocol) (q : Question) (P : Child → Type 0) where
   -- The property holds of what each position of an event gives, and of what each listener does.

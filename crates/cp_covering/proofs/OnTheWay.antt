@@ -1,9 +1,9 @@
 -- What comes next on the way is on the way too: a branch, and a normal form.
-use Rattle.std.proofs.Common.{◌≡◌, ℕ, List, ◌++◌, Bool, true, false, refl, sym, ap, ◌∙◌, subst}
+use Rattle.std.proofs.Common.{◌≡◌, ℕ, List, ◌++◌, Bool, true, false, refl, sym, subst}
 use Rattle.cp_lists.specs.Lists.{IsIn}
 use Rattle.cp_lists.proofs.Items.{map_of_item}
 use Rattle.cp_lists.proofs.Members.{into_map}
-use Rattle.cp_model.specs.Term.{Variable, Term, atom_of_variable, variables_of_atom, variables_of, value_of, after, Substitution, apply_to_atom, apply_to, composed}
+use Rattle.cp_model.specs.Term.{Variable, Term, atom_of_variable, variables_of_atom, variables_of, value_of, Substitution, apply_to_atom, composed}
 use Rattle.cp_model.specs.Strand.{Declaration, Protocol}
 use Rattle.cp_model.specs.Bundle.{node_at}
 use Rattle.cp_model.specs.Skeleton.{instance, Skeleton}
@@ -11,15 +11,13 @@ use Rattle.cp_model.specs.Derivable.{IsOnInstance}
 use Rattle.cp_model.specs.Problem.{IsDeclared}
 use Rattle.cp_model.specs.Same.{has_variable}
 use Rattle.cp_model.specs.Tree.{Pattern}
-use Rattle.cp_model.proofs.LawTerms.{value_after, atom_composed}
-use Rattle.cp_model.proofs.LawAgreement.{agree_term}
-use Rattle.cp_unify.proofs.Free.{free}
+use Rattle.cp_model.proofs.LawTerms.{atom_composed}
 use Rattle.cp_completeness.specs.Normal.{strand_under, skeleton_under}
 use Rattle.cp_completeness.proofs.Skeletons.{skeleton_under_is_skeleton}
 use Rattle.cp_collapse.specs.Agreeing.{AreSameStrands, SaysTheSame}
 use Rattle.cp_collapse.proofs.SameStrands.{all_same_back, instance_at}
 use Rattle.cp_collapse.proofs.SameSkeletons.{same_is_skeleton}
-use Rattle.cp_collapse.proofs.NoNewVariables.{KeepsDeclared, AgreeOnDeclared, no_new, of_atom}
+use Rattle.cp_collapse.proofs.NoNewVariables.{KeepsDeclared, made_equal, no_new, of_atom}
 use Rattle.cp_skel.proofs.DeclaredChanges.{more_declared}
 use Rattle.cp_skel.proofs.GivenParts.{has-in, in-has}
 use Rattle.cp_normal.specs.BySubstitution.{all_variables, StaysWithin}
@@ -37,15 +35,8 @@ use Rattle.cp_covering.specs.Way.{AreUsedVariables, GivesDeclared, IsOnTheWay}
 use Rattle.cp_covering.proofs.Opening.{opened_declared, still_declared, only_itself}
 
 -- A most general unifier of terms of declared variables gives declared variables such terms.
-module _ (ds : List Declaration) (a b : Term) (s : Substitution) (of_a : (x : Variable) → IsIn x (variables_of a) → IsDeclared ds x) (of_b : (x : Variable) → IsIn x (variables_of b) → IsDeclared ds x) (m : UnifiesMostGenerally a b s) where
-  made_equal : (t : Substitution) → AgreeOnDeclared ds t s → value_of (after free t) a ≡ value_of (after free t) b
-  made_equal t agree =
-      let of_first : apply_to t a ≡ apply_to s a = agree_term t s a (λ x i. agree x (of_a x i)) in
-      let of_second : apply_to t b ≡ apply_to s b = agree_term t s b (λ x i. agree x (of_b x i)) in
-      value_after free t a ∙ ap (value_of free) (of_first ∙ m.unifies ∙ sym of_second) ∙ sym (value_after free t b)
-
-  pub unifier_keeps : KeepsDeclared ds s
-  unifier_keeps = no_new ds (λ g. value_of g a ≡ value_of g b) s made_equal m.general
+pub unifier_keeps : (ds : List Declaration) (a b : Term) (s : Substitution) → ((x : Variable) → IsIn x (variables_of a) → IsDeclared ds x) → ((x : Variable) → IsIn x (variables_of b) → IsDeclared ds x) → UnifiesMostGenerally a b s → KeepsDeclared ds s
+unifier_keeps ds a b s of_a of_b m = no_new ds (λ g. value_of g a ≡ value_of g b) s (made_equal (IsDeclared ds) a b s of_a of_b m.unifies) m.general
 
 -- One substitution after another.
 pub then_gives : (ds : List Declaration) (first : Skeleton) (s t : Substitution) → GivesDeclared ds first s → KeepsDeclared ds t → GivesDeclared ds first (composed s t)

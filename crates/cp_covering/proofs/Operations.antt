@@ -2,7 +2,7 @@
 use Rattle.std.proofs.Common.{◌≡◌, ℕ, suc, ◌≤◌, List, [], ◌∷◌, ◌++◌, length, Some, refl, sym, ap, ◌∙◌, subst, ⊎_elim, arith}
 use Rattle.std.specs.Prelude.{◌≢◌}
 use Rattle.cp_lists.specs.Lists.{item_at, IsIn, one_step}
-use Rattle.cp_lists.proofs.Members.{not_in_none, in_append_left, in_last, from_map}
+use Rattle.cp_lists.proofs.Members.{in_append_left, in_last}
 use Rattle.cp_model.specs.Term.{Term, Substitution, apply_to, composed}
 use Rattle.cp_model.specs.Strand.{Event, send, payload, Declaration, Role, Protocol}
 use Rattle.cp_model.specs.Bundle.{node_at}
@@ -30,10 +30,10 @@ use Rattle.cp_answers.proofs.Places.{term_at_under}
 use Rattle.cp_match.specs.Unifying.{UnifiesMostGenerally}
 use Rattle.cp_settle.specs.Releasing.{Tried, MeetsBoth}
 use Rattle.cp_covering.specs.Children.{Child, child, IsSentBefore, HasGrown}
-use Rattle.cp_covering.specs.Cohort.{Question, Contracts, AreContracted, release_at, DisplacesAt, DisplacesEvent, DisplacesStrand, AddsAt, AddsEvent, FreesCritical, by_key, by_body, by_nothing, OpensPattern, Listens, AreListeners, IsCohort, is_before, is_displaced, is_added, of_listener, of_node, of_role, is_inside, is_critical, cyclic}
+use Rattle.cp_covering.specs.Cohort.{Question, release_at, DisplacesAt, AddsAt, IsCohort}
 use Rattle.cp_covering.specs.Cohort as cohort
 use Rattle.cp_covering.specs.Released.{ComesFrom, ReleasesCritical, ReleasesFromElsewhere, EndsByReleasing, SetsFree, Says, IsAsSaid}
-use Rattle.cp_covering.proofs.EachChild.{each_child}
+use Rattle.cp_covering.proofs.EachChild.{of_contracted, of_released, of_listened, each_child}
 use Rattle.cp_covering.proofs.Leading.{Leads, IsStep, step_alike, step_form, step_event, step_instance, step_listener, step_before, step_leads, more_leads, first_then, more_then}
 use Rattle.cp_covering.proofs.Sending.{IsSending, settles_sending}
 
@@ -98,14 +98,6 @@ module _ (q : Question) where
       };
     }
 
-  contracts_said : (o : Occurrence) (path : List Step) (children : List Child) → IsIn o (events_of k) → IsSentBefore k q.node o → Contracts q o path children → (d : Child) → IsIn d children → IsAsSaid q d
-  contracts_said o path children there_is before (is_inside inside) d i = absurd (not_in_none i)
-  contracts_said o path children there_is before (is_critical at) d i = absurd (not_in_none i)
-  contracts_said o path children there_is before (cohort.never_equal at never) d i = absurd (not_in_none i)
-  contracts_said o path children there_is before (cohort.unified {t = t} {s = s} {l = l} {forms = forms} outside at ne unifies same has) d i =
-      let m = from_map (child q.variables (by_contraction o.node) path) forms i in
-      subst (IsAsSaid q) m.2 (contracted_child o path there_is before t s l at unifies same m.0 (form_comes l m.0 (are_normal_forms has m.0 m.1)))
-
   -- ---- what is put before the node
 
   module _ (s j : ℕ) (path : List Step) (operation : Operation) (grown : Skeleton) (more : SaysMore k grown) (role : Role) (height : ℕ) (terms : Substitution) (on : item_at grown.strands s ≡ Some (instance role height terms)) where
@@ -152,12 +144,11 @@ module _ (q : Question) where
     }
 
     releases_said : (variables : List Declaration) (children : List Child) → cohort.Releases q variables operation (release_at q s j path) grown children → (d : Child) → IsIn d children → Releasing d
-    releases_said variables children (cyclic before) d i = absurd (not_in_none i)
-    releases_said variables children (cohort.never_equal ev at never) d i = absurd (not_in_none i)
-    releases_said variables children (cohort.unified {t = t} {u = u} {s = f} {l = l} {settled = settled} none ev at m same settles) d i =
-        let o = from_map (λ (x : Tried). child x.variables operation path x.skeleton) settled i in
-        let last = settles_sending k q.node (release_at q s j path) role height settles (sends_first variables t u f l ev at m same) o.0 o.1 in
-        subst Releasing o.2 (releasing o.0 last.0 last.1)
+    releases_said variables =
+        of_released q Releasing variables operation (release_at q s j path) grown
+        (λ x c.
+        let last = settles_sending k q.node (release_at q s j path) role height c.settles (sends_first variables c.message c.term c.unifier c.under c.sent c.at c.unifies c.same) x c.listed in
+        releasing x last.0 last.1)
 
   -- ---- displaced
 
@@ -242,19 +233,16 @@ module _ (q : Question) where
           };
         }
 
-  listens_said : (t : Term) (children : List Child) → SetsFree q t → Listens q t children → (d : Child) → IsIn d children → IsAsSaid q d
-  listens_said t children sets_free l d i =
-      let m = from_map (child q.variables (by_added_listener (length k.strands)) []) l.forms (subst (IsIn d) l.are_children i) in
-      subst (IsAsSaid q) m.2 (listener_child t l.added l.adds sets_free m.0 (form_comes (put_before (node_at (length k.strands) 1) q.node l.added) m.0 (are_normal_forms l.normal m.0 m.1)))
-
   -- ---- all of them
 
   pub said : (protocol : Protocol) (children : List Child) → IsCohort protocol q children → (d : Child) → IsIn d children → IsAsSaid q d
   said protocol = each_child protocol q (IsAsSaid q) (record {
-    contracted = λ o there_is before path children. contracts_said o path children there_is before;
+    contracted = λ o there_is before path.
+        of_contracted q (IsAsSaid q) o path (λ r c. contracted_child o path there_is before c.term c.unifier c.under c.at c.unifies c.same r (form_comes c.under r (are_normal_forms c.has r c.listed)));
     displaced = λ s role height terms on apart j t sent none. displaced_at s role height terms on apart j none;
     added = λ role listed j t sent. added_at role j;
-    listened = λ t free children. listens_said t children free;
+    listened = λ t free.
+        of_listened q (IsAsSaid q) t (λ r c. listener_child t c.added c.adds free r (form_comes (put_before (node_at (length k.strands) 1) q.node c.added) r (are_normal_forms c.normal r c.listed)));
   })
 
 pub children_said : (protocol : Protocol) (q : Question) (children : List Child) → IsCohort protocol q children → (d : Child) → IsIn d children → IsAsSaid q d

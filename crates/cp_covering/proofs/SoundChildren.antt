@@ -1,14 +1,14 @@
 -- The children of a test are sound.
-use Rattle.std.proofs.Common.{◌≡◌, ℕ, suc, ◌<◌, ◌≤◌, List, [], ◌++◌, length, map, Some, refl, sym, ap, ◌∙◌, subst, ◌⊎◌, inl, inr, append_assoc, arith}
+use Rattle.std.proofs.Common.{◌≡◌, ℕ, suc, ◌<◌, ◌≤◌, List, [], ◌++◌, length, Some, refl, sym, ap, ◌∙◌, subst, ◌⊎◌, inl, inr, append_assoc, arith}
 use Rattle.std.specs.Prelude.{◌≢◌}
 use Rattle.cp_lists.specs.Lists.{item_at, IsIn}
-use Rattle.cp_lists.proofs.Members.{not_in_none, in_append_left, in_append_right, from_map}
+use Rattle.cp_lists.proofs.Members.{in_append_left, in_append_right}
 use Rattle.cp_model.specs.Term.{Variable, KeyTerm, symmetric_term, asymmetric_term, inverse_term, Term, variables_of, variables_of_key, Substitution}
 use Rattle.cp_model.specs.Strand.{send, payload, Declaration, Role, Protocol}
 use Rattle.cp_model.specs.Bundle.{node_at}
 use Rattle.cp_model.specs.Skeleton.{instance, Skeleton, IsSkeleton}
 use Rattle.cp_model.specs.Problem.{IsDeclared, HasDeclaredVariables}
-use Rattle.cp_model.specs.Tree.{Operation, by_contraction}
+use Rattle.cp_model.specs.Tree.{Operation, by_contraction, by_added_listener}
 use Rattle.cp_term.specs.declared.path.Step.{Step}
 use Rattle.cp_completeness.specs.Normal.{skeleton_under}
 use Rattle.cp_completeness.proofs.Skeletons.{skeleton_under_is_skeleton}
@@ -33,14 +33,14 @@ use Rattle.cp_answers.specs.Fresh.{fresh_terms}
 use Rattle.cp_answers.proofs.Places.{position_variables}
 use Rattle.cp_settle.specs.Releasing.{Tried}
 use Rattle.cp_covering.specs.Children.{Child, child, declarations_of}
-use Rattle.cp_covering.specs.Cohort.{Question, positions, Contracts, AreContracted, release_at, DisplacesAt, DisplacesEvent, DisplacesStrand, AddsAt, AddsEvent, FreesCritical, by_key, by_body, by_nothing, OpensPattern, Listens, AreListeners, IsCohort, is_before, is_displaced, is_added, of_listener, of_node, of_role, is_inside, is_critical, cyclic}
+use Rattle.cp_covering.specs.Cohort.{Question, release_at, DisplacesAt, AddsAt, IsCohort}
 use Rattle.cp_covering.specs.Cohort as cohort
 use Rattle.cp_covering.specs.Released.{SetsFree, critical_key, critical_body, pattern_key}
 use Rattle.cp_covering.specs.Way.{DeclaresMore}
 use Rattle.cp_covering.specs.Sound.{KeepsProblems, IsSoundChild}
 use Rattle.cp_covering.proofs.OnTheWay.{unifier_keeps}
 use Rattle.cp_covering.proofs.Settled.{append_none, event_declared, settles_later}
-use Rattle.cp_covering.proofs.EachChild.{each_child}
+use Rattle.cp_covering.proofs.EachChild.{ComesOfContracting, ComesOfReleasing, ComesOfListening, of_contracted, of_released, of_listened, each_child}
 use Rattle.cp_covering.proofs.Putting.{listening_is_skeleton}
 use Rattle.cp_covering.proofs.CohortCovers.{IsGrown, put_on_the_way, displaced_grown, added_grown}
 use Rattle.cp_covering.proofs.Problems.{keeps_itself, keeps_then, keeps_under, keeps_alike, keeps_forms, keeps_more, keeps_put, settles_keeps}
@@ -69,28 +69,25 @@ module _ (protocol : Protocol) (q : Question) (sk : IsSkeleton protocol q.skelet
   -- ---- normal forms
 
   -- Normal forms of a skeleton that is sound, with the variables of the first.
-  forms_sound : (l : Skeleton) (rs : List Skeleton) → IsSkeleton protocol l → HasDeclaredVariables q.variables l → KeepsProblems k l → HasForms l rs → (operation : Operation) (path : List Step) (d : Child) → IsIn d (map (child q.variables operation path) rs) → IsSound d
-  forms_sound l rs is has keeps forms operation path d i =
-      let m = from_map (child q.variables operation path) rs i in
-      subst IsSound m.2 (record {
-        skeleton = form_is_skeleton protocol l m.0 (are_normal_forms forms m.0 m.1) is;
-        declared = forms_declared q.variables forms has m.0 m.1;
-        more = more_itself q.variables;
-        keeps = keeps_then k l m.0 keeps (keeps_forms l rs forms m.0 m.1);
-      })
+  form_sound : (l : Skeleton) (rs : List Skeleton) → IsSkeleton protocol l → HasDeclaredVariables q.variables l → KeepsProblems k l → HasForms l rs → (operation : Operation) (path : List Step) (r : Skeleton) → IsIn r rs →
+      IsSound (child q.variables operation path r)
+  form_sound l rs is has keeps forms operation path r i = record {
+    skeleton = form_is_skeleton protocol l r (are_normal_forms forms r i) is;
+    declared = forms_declared q.variables forms has r i;
+    more = more_itself q.variables;
+    keeps = keeps_then k l r keeps (keeps_forms l rs forms r i);
+  }
 
   -- ---- contracted
 
-  contracts_sound : (o : Occurrence) (path : List Step) (children : List Child) → IsIn o (events_of k) → Contracts q o path children → (d : Child) → IsIn d children → IsSound d
-  contracts_sound o path children there_is (is_inside inside) d i = absurd (not_in_none i)
-  contracts_sound o path children there_is (is_critical at) d i = absurd (not_in_none i)
-  contracts_sound o path children there_is (cohort.never_equal at never) d i = absurd (not_in_none i)
-  contracts_sound o path children there_is (cohort.unified {t = t} {s = s} {l = l} {forms = forms} outside at ne unifies same has) d i =
+  contracted_sound : (o : Occurrence) → IsIn o (events_of k) → (path : List Step) (r : Skeleton) → ComesOfContracting q o path r → IsSound (child q.variables (by_contraction o.node) path r)
+  contracted_sound o there_is path r c =
       let event = listed_event k o there_is in
-      let gives : KeepsDeclared q.variables s = unifier_keeps q.variables t q.critical s (λ x m. event_declared q.variables k declared o.node o.event event x (position_variables (payload o.event) path t at x m)) critical_declared unifies in
-      let under : Skeleton = skeleton_under s k in
-      forms_sound l forms (same_is_skeleton under l same protocol (skeleton_under_is_skeleton protocol s k sk)) (agreeing_declared q.variables under l same (under_declared q.variables s k gives declared))
-      (keeps_then k under l (keeps_under s k) (keeps_alike under l same)) has (by_contraction o.node) path d i
+      let gives : KeepsDeclared q.variables c.unifier =
+      unifier_keeps q.variables c.term q.critical c.unifier (λ x m. event_declared q.variables k declared o.node o.event event x (position_variables (payload o.event) path c.term c.at x m)) critical_declared c.unifies in
+      let under : Skeleton = skeleton_under c.unifier k in
+      form_sound c.under c.forms (same_is_skeleton under c.under c.same protocol (skeleton_under_is_skeleton protocol c.unifier k sk)) (agreeing_declared q.variables under c.under c.same (under_declared q.variables c.unifier k gives declared))
+      (keeps_then k under c.under (keeps_under c.unifier k) (keeps_alike under c.under c.same)) c.has (by_contraction o.node) path r c.listed
 
   -- ---- what is put before the node
 
@@ -98,23 +95,23 @@ module _ (protocol : Protocol) (q : Question) (sk : IsSkeleton protocol q.skelet
     abbrev put : Skeleton
     put = put_before (node_at s j) q.node grown
 
-    releases_sound : (operation : Operation) (children : List Child) → cohort.Releases q variables operation (release_at q s j path) grown children → (d : Child) → IsIn d children → IsSound d
-    releases_sound operation children (cyclic before) d i = absurd (not_in_none i)
-    releases_sound operation children (cohort.never_equal ev at never) d i = absurd (not_in_none i)
-    releases_sound operation children (cohort.unified {t = t} {u = u} {s = f} {l = l} {settled = settled} none ev at m same settles) d i =
+    released_sound : (operation : Operation) (x : Tried) → ComesOfReleasing q variables (release_at q s j path) grown x → IsSound (child x.variables operation path x.skeleton)
+    released_sound operation x c =
         let r = release_at q s j path in
-        let under : Skeleton = skeleton_under f put in
-        let o = from_map (λ (x : Tried). child x.variables operation path x.skeleton) settled i in
-        let w = put_on_the_way protocol q sk declares declared is_test guards variables s j path grown is t u ev at none f m l same in
-        let later = settles_later protocol k r (λ p x listed free. guards.used_by_patterns p x listed free) settles w o.0 o.1 in
+        let under : Skeleton = skeleton_under c.unifier put in
+        let w = put_on_the_way protocol q sk declares declared is_test guards variables s j path grown is c.message c.term c.sent c.at c.acyclic c.unifier c.unifies c.under c.same in
+        let later = settles_later protocol k r (λ p y listed free. guards.used_by_patterns p y listed free) c.settles w x c.listed in
         let first = keeps_then k grown put keeps (keeps_put (node_at s j) q.node grown) in
-        let second = keeps_then put under l (keeps_under f put) (keeps_alike under l same) in
-        subst IsSound o.2 (record {
+        let second = keeps_then put under c.under (keeps_under c.unifier put) (keeps_alike under c.under c.same) in
+        record {
           skeleton = later.0.skeleton;
           declared = later.0.declared;
-          more = more_then q.variables variables o.0.variables more later.1;
-          keeps = keeps_then k l o.0.skeleton (keeps_then k put l first second) (settles_keeps r settles o.0 o.1);
-        })
+          more = more_then q.variables variables x.variables more later.1;
+          keeps = keeps_then k c.under x.skeleton (keeps_then k put c.under first second) (settles_keeps r c.settles x c.listed);
+        }
+
+    releases_sound : (operation : Operation) (children : List Child) → cohort.Releases q variables operation (release_at q s j path) grown children → (d : Child) → IsIn d children → IsSound d
+    releases_sound operation = of_released q IsSound variables operation (release_at q s j path) grown (released_sound operation)
 
   -- ---- displaced
 
@@ -153,13 +150,13 @@ module _ (protocol : Protocol) (q : Question) (sk : IsSkeleton protocol q.skelet
 
   -- ---- listeners
 
-  listens_sound : (t : Term) (children : List Child) → ((x : Variable) → IsIn x (variables_of t) → IsDeclared q.variables x) → Listens q t children → (d : Child) → IsIn d children → IsSound d
-  listens_sound t children of_t l d i =
+  listened_sound : (t : Term) → ((x : Variable) → IsIn x (variables_of t) → IsDeclared q.variables x) → (r : Skeleton) → ComesOfListening q t r → IsSound (child q.variables (by_added_listener (length k.strands)) [] r)
+  listened_sound t of_t r l =
       let node = node_at (length k.strands) 1 in
       let put : Skeleton = put_before node q.node l.added in
-      forms_sound put l.forms (listening_is_skeleton protocol t k l.added sk l.adds q.node is_test.message is_test.reception)
+      form_sound put l.forms (listening_is_skeleton protocol t k l.added sk l.adds q.node is_test.message is_test.reception)
       (ordered_declared q.variables l.added put.pairs (listener_declared q.variables t k l.added l.adds of_t declared))
-      (keeps_then k l.added put (keeps_more k l.added (listener_says_more t k l.added l.adds)) (keeps_put node q.node l.added)) l.normal _ [] d (subst (IsIn d) l.are_children i)
+      (keeps_then k l.added put (keeps_more k l.added (listener_says_more t k l.added l.adds)) (keeps_put node q.node l.added)) l.normal (by_added_listener (length k.strands)) [] r l.listed
 
   heard_declared : (t : Term) → SetsFree q t → (x : Variable) → IsIn x (variables_of t) → IsDeclared q.variables x
   heard_declared t (critical_key {body = body} e none) x m = critical_declared x (subst (λ (u : Term). IsIn x (variables_of u)) (sym e) (in_append_right (variables_of body) m))
@@ -175,10 +172,10 @@ module _ (protocol : Protocol) (q : Question) (sk : IsSkeleton protocol q.skelet
 
   pub sound : (children : List Child) → IsCohort protocol q children → (d : Child) → IsIn d children → IsSound d
   sound = each_child protocol q IsSound (record {
-    contracted = λ o there_is before path children. contracts_sound o path children there_is;
+    contracted = λ o there_is before path. of_contracted q IsSound o path (contracted_sound o there_is path);
     displaced = λ s role height terms on apart j t sent none. displaced_at s role height terms on apart j t sent;
     added = added_at;
-    listened = λ t free children. listens_sound t children (heard_declared t free);
+    listened = λ t free. of_listened q IsSound t (listened_sound t (heard_declared t free));
   })
 
 pub sound_child : (protocol : Protocol) (q : Question) (children : List Child) → IsSkeleton protocol q.skeleton → ((role : Role) → IsIn role protocol.roles → DeclaresItsVariables role) → HasDeclaredVariables q.variables q.skeleton →

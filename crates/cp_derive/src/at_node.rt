@@ -43,8 +43,8 @@ pub fn known(alloc: Global, k: &Skeleton, node: Node) -> Result<Known, AllocErro
     Known::new(alloc, sent, secrets)
 }
 
-/// The message of the event at a node, if there is one.
-fn message_at(alloc: Global, k: &Skeleton, node: Node) -> Result<Option<Term>, AllocError>
+/// The message of the event at a node, if there is one. The error is that memory ran out.
+pub fn message_at(alloc: Global, k: &Skeleton, node: Node) -> Result<Option<Term>, AllocError>
     ensures { IfOk result (λ m. m ≡ option_map payload (term_event_at (skeleton_view k.now).strands node)) }
 {
     match k.strands().get(node.strand) {

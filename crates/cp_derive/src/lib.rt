@@ -15,7 +15,7 @@ mod receptions;
 mod transmission;
 mod walk;
 
-pub use at_node::{critical, known};
+pub use at_node::{critical, known, message_at};
 pub use component::Critical;
 pub use knowledge::{Known, buildable};
 pub use laws::{derivable_at_a_node, derivable_where_given};

@@ -3,17 +3,14 @@ use Rattle.std.proofs.Common.{◌≡◌, ℕ, ◌<◌, List, [], ◌∷◌, ◌+
 use Rattle.std.proofs.lemmas.List.{length-map}
 use Rattle.cp_lists.specs.Lists.{item_at, IsIn}
 use Rattle.cp_lists.proofs.Items.{item_below, item_still, at_place}
-use Rattle.cp_model.specs.Term.{Variable, Term, variables_of}
+use Rattle.cp_model.specs.Term.{Variable, Term}
 use Rattle.cp_model.specs.Strand.{Declaration, Protocol}
 use Rattle.cp_model.specs.declared.node.Node.{Node}
 use Rattle.cp_model.specs.Skeleton.{Skeleton}
 use Rattle.cp_model.specs.Problem.{declared_sort, IsDeclared, HasDeclaredVariables}
 use Rattle.cp_model.specs.Tree.{Pattern}
 use Rattle.cp_term.specs.Table.{Declared}
-use Rattle.cp_term.specs.declared.variable.Sort.{Sort}
-use Rattle.cp_strand.specs.View.{sort_view}
-use Rattle.cp_term.specs.declared.variable.Sort.TheVariants as sorts
-use Rattle.cp_model.specs.Term as model
+use Rattle.cp_strand.proofs.SameParts.{same_sort}
 use Rattle.cp_skel.specs.Data.{SkeletonData}
 use Rattle.cp_skel.specs.View.{skeleton_view}
 use Rattle.cp_skel.specs.Trees.{declared_view, variables_view}
@@ -37,24 +34,6 @@ pub listed_child : (k : Skeleton) (cs : List program.Child) (place : ℕ) (p : P
 listed_child k cs place p g = at_place (map child_view cs) place g.child g.at
 
 -- ---- tables
-
-sort_back : model.Sort → Sort
-sort_back model.text_sort = sorts.Text
-sort_back model.datum_sort = sorts.Datum
-sort_back model.name_sort = sorts.Name
-sort_back model.skey_sort = sorts.Skey
-sort_back model.akey_sort = sorts.Akey
-
-back_again : (s : Sort) → sort_back (sort_view s) ≡ s
-unfolding sort_back
-back_again sorts.Text = refl
-back_again sorts.Datum = refl
-back_again sorts.Name = refl
-back_again sorts.Skey = refl
-back_again sorts.Akey = refl
-
-same_sort : (a b : Sort) → sort_view a ≡ sort_view b → a ≡ b
-same_sort a b e = sym (back_again a) ∙ ap sort_back e ∙ back_again b
 
 same_declared : (d e : Declared) → declared_view d ≡ declared_view e → d ≡ e
 same_declared d e h =

@@ -1,8 +1,7 @@
 -- Items of lists, and what they have too many.
-use Rattle.std.proofs.Common.{◌≡◌, ℕ, zero, suc, ◌+◌, ◌<◌, ◌≤◌, List, [], ◌∷◌, ◌++◌, length, get_or, map, take, drop, refl, sym, ap, ◌∙◌, arith}
+use Rattle.std.proofs.Common.{◌≡◌, ℕ, zero, suc, ◌+◌, ◌<◌, ◌≤◌, List, [], ◌∷◌, ◌++◌, length, get_or, map, take, drop, refl, sym, ap, arith}
 use Rattle.std.specs.Prelude.{Option, Some, None}
 use Rattle.std.proofs.lemmas.List.{take_all, drop_all, length-map}
-use Rattle.cp_lists.proofs.Members.{drop_read}
 use Rattle.cp_base.specs.declared.place.Place.{Place}
 use Rattle.cp_base.specs.declared.place.Code.TheVariants.{BadShape}
 use Rattle.cp_base.specs.declared.place.Refusal.{Refusal}
@@ -11,11 +10,11 @@ use Rattle.cp_model.specs.Strand.{Declaration}
 use Rattle.cp_sexpr.specs.Syntax.{Form}
 use Rattle.cp_sexpr.specs.View.{view}
 use Rattle.cp_sexpr.specs.declared.form.Form as program
-use Rattle.cp_language.specs.Faults.{fault, place_of}
+use Rattle.cp_language.specs.Faults.{comes_before, fault, place_of}
 use Rattle.cp_language.specs.Terms.{exceeds, key_faults, last_key_faults}
 use Rattle.cp_language.specs.Roles.{last_form, front_of, each_faults}
 use Rattle.cp_forms.specs.FirstFault.{first_onto}
-use Rattle.cp_forms.proofs.Firsts.{first_onto-append}
+use Rattle.cp_forms.proofs.EachForm.{next_asked, all_asked}
 
 pub map-take : (n : ℕ) (fs : List program.Form) → map view (take n fs) ≡ take n (map view fs)
 map-take zero fs = refl
@@ -76,19 +75,9 @@ last_key-none ds (g ∷ h ∷ fs) e = last_key-none ds (h ∷ fs) e
 -- ---- a list item by item
 
 module _ (faults : Form → List Refusal) (fs : List program.Form) (k : ℕ) where
-  -- the faults of what is left, after those of the item that comes next
-  pub each-step : (f : program.Form) → k < length fs → f ≡ get_or fs k f → (o : Option Refusal)
-      → first_onto o (each_faults faults (map view (drop k fs))) ≡ first_onto (first_onto o (faults (view f))) (each_faults faults (map view (drop (k + 1) fs)))
-  each-step f h e o =
-      ap (λ gs. first_onto o (each_faults faults (map view gs))) (drop_read fs k f h e)
-      ∙ first_onto-append o (faults (view f)) (each_faults faults (map view (drop (k + 1) fs)))
-
-  pub each-end : length fs ≤ k → (o : Option Refusal) → first_onto o (each_faults faults (map view (drop k fs))) ≡ o
-  each-end h o = ap (λ gs. first_onto o (each_faults faults (map view gs))) (drop_all k fs h)
-
   pub each-taken : (f : program.Form) → k < length fs → f ≡ get_or fs k f → (o p all : Option Refusal) → p ≡ first_onto o (faults (view f))
       → first_onto o (each_faults faults (map view (drop k fs))) ≡ all → first_onto p (each_faults faults (map view (drop (k + 1) fs))) ≡ all
-  each-taken f h e o p all g i = ap (λ q. first_onto q (each_faults faults (map view (drop (k + 1) fs)))) g ∙ sym (each-step f h e o) ∙ i
+  each-taken = next_asked comes_before (each_faults faults) faults fs k (λ f gs. refl)
 
   pub each-done : length fs ≤ k → (o all : Option Refusal) → first_onto o (each_faults faults (map view (drop k fs))) ≡ all → o ≡ all
-  each-done h o all i = sym (each-end h o) ∙ i
+  each-done = all_asked comes_before (each_faults faults) faults fs k refl

@@ -1,4 +1,5 @@
 pub mod FirstOf
 pub mod Firsts
+pub mod EachForm
 pub mod Items
 pub mod Views

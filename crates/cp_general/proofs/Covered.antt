@@ -13,6 +13,7 @@ use Rattle.cp_model.specs.Same.{same_node}
 use Rattle.cp_model.specs.declared.node.Node.{Node}
 use Rattle.cp_model.specs.declared.node.OrderPair.{OrderPair}
 use Rattle.cp_model.specs.Skeleton.{term_event_at, IsNodeOf, Skeleton, Before}
+use Rattle.cp_model.specs.Order.{IsAtOrAfter}
 use Rattle.cp_model.proofs.SameTests.{node_is, is_node}
 use Rattle.cp_skel.specs.Ordered.{IsOrdered}
 use Rattle.cp_general.specs.Steps.{IsPairOfOrder}
@@ -128,12 +129,16 @@ module _ (k : Skeleton) (ordered : IsOrdered k) (pairs : List OrderPair) (each :
       found_between r.lower r.below.upper r.below.strand r.below.index (in_pushed (led_to pairs p.earlier) p.earlier r.lower r.listed)
       (in_pushed (leading_to pairs p.later) p.later r.below.upper r.below.listed)
 
+  -- a transmission that is before a reception of another strand is in a pair with it
+  listed_pair : (x y : Node) (s t : Term) → term_event_at k.strands x ≡ Some (send s) → term_event_at k.strands y ≡ Some (recv t) → x.strand ≢ y.strand → Before k x y → IsIn (record { earlier = x; later = y }) pairs
+  listed_pair x y s t sends hears apart before =
+      (each (record { earlier = x; later = y })).1 (record { pair = record { sent = s; received = t; transmission = sends; reception = hears; between_strands = apart }; ordered = before })
+
   -- what leads along a pair, or not at all, to a node of n's strand
   record Row (n : Node) : Type 0 where
     node : Node
     listed : IsIn node (led_to pairs p.earlier ++ (p.earlier ∷ []))
-    strand : node.strand ≡ n.strand
-    index : node.index ≤ n.index
+    up : IsAtOrAfter node n
     strict : (node.index < n.index) ⊎ ((t : Term) × (term_event_at k.strands node ≡ Some (recv t)))
 
   row : (n : Node) → Before k p.earlier n → Row n
@@ -142,22 +147,16 @@ module _ (k : Skeleton) (ordered : IsOrdered k) (pairs : List OrderPair) (each :
       of : (p.earlier.strand ≡ n.strand) ⊎ (p.earlier.strand ≢ n.strand) → Row n
       of (inl s) =
           let l : p.earlier.index < n.index = rises k ordered p.earlier n s b in
-          record { node = p.earlier; listed = in_last (led_to pairs p.earlier) p.earlier; strand = s; index = omega (arith, l); strict = inl l }
+          record { node = p.earlier; listed = in_last (led_to pairs p.earlier) p.earlier; up = (s, omega (arith, l)); strict = inl l }
       of (inr h) =
           let a = arrives k ordered p.earlier n h b in
-          let q : OrderPair = record { earlier = p.earlier; later = a.node } in
-          let of_order : IsPairOfOrder k q =
-          record {
-            pair = record { sent = own.pair.sent; received = a.message; transmission = own.pair.transmission; reception = a.reception; between_strands = λ e. h (e ∙ a.strand) };
-            ordered = a.before;
-          } in
-          record { node = a.node; listed = in_append_left (p.earlier ∷ []) (to_led pairs q ((each q).1 of_order)); strand = a.strand; index = a.index; strict = inr (a.message, a.reception) }
+          let i = listed_pair p.earlier a.node own.pair.sent a.message own.pair.transmission a.event (λ e. h (e ∙ a.holds.0.0)) a.holds.1 in
+          record { node = a.node; listed = in_append_left (p.earlier ∷ []) (to_led pairs (record { earlier = p.earlier; later = a.node }) i); up = a.holds.0; strict = inr (a.message, a.event) }
 
   record Column (n : Node) : Type 0 where
     node : Node
     listed : IsIn node (leading_to pairs p.later ++ (p.later ∷ []))
-    strand : n.strand ≡ node.strand
-    index : n.index ≤ node.index
+    up : IsAtOrAfter n node
     strict : (n.index < node.index) ⊎ ((t : Term) × (term_event_at k.strands node ≡ Some (send t)))
 
   column : (n : Node) → Before k n p.later → Column n
@@ -166,16 +165,11 @@ module _ (k : Skeleton) (ordered : IsOrdered k) (pairs : List OrderPair) (each :
       of : (n.strand ≡ p.later.strand) ⊎ (n.strand ≢ p.later.strand) → Column n
       of (inl s) =
           let l : n.index < p.later.index = rises k ordered n p.later s b in
-          record { node = p.later; listed = in_last (leading_to pairs p.later) p.later; strand = s; index = omega (arith, l); strict = inl l }
+          record { node = p.later; listed = in_last (leading_to pairs p.later) p.later; up = (s, omega (arith, l)); strict = inl l }
       of (inr h) =
           let d = departs k ordered n p.later h b in
-          let q : OrderPair = record { earlier = d.node; later = p.later } in
-          let of_order : IsPairOfOrder k q =
-          record {
-            pair = record { sent = d.message; received = own.pair.received; transmission = d.transmission; reception = own.pair.reception; between_strands = λ e. h (d.strand ∙ e) };
-            ordered = d.before;
-          } in
-          record { node = d.node; listed = in_append_left (p.later ∷ []) (to_leading pairs q ((each q).1 of_order)); strand = d.strand; index = d.index; strict = inr (d.message, d.transmission) }
+          let i = listed_pair d.node p.later d.message own.pair.received d.event own.pair.reception (λ e. h (d.holds.0.0 ∙ e)) d.holds.1 in
+          record { node = d.node; listed = in_append_left (p.later ∷ []) (to_leading pairs (record { earlier = d.node; later = p.later }) i); up = d.holds.0; strict = inr (d.message, d.event) }
 
   never_both : (x y : Node) (s t : Term) → x ≡ y → term_event_at k.strands x ≡ Some (recv s) → term_event_at k.strands y ≡ Some (send t) → ⊥
   never_both x y s t e r w =
@@ -185,13 +179,13 @@ module _ (k : Skeleton) (ordered : IsOrdered k) (pairs : List OrderPair) (each :
   strictly : (n : Node) (r : Row n) (c : Column n) → (r.node.index < n.index) ⊎ ((t : Term) × (term_event_at k.strands r.node ≡ Some (recv t)))
       → (n.index < c.node.index) ⊎ ((t : Term) × (term_event_at k.strands c.node ≡ Some (send t))) → (r.node.index < c.node.index) ⊎ (c.node.index ≤ r.node.index) → r.node.index < c.node.index
   strictly n r c a b (inl l) = l
-  strictly n r c (inl l) b (inr ge) = let i = c.index in omega arith
-  strictly n r c (inr f) (inl l) (inr ge) = let i = r.index in omega arith
+  strictly n r c (inl l) b (inr ge) = let i = c.up.1 in omega arith
+  strictly n r c (inr f) (inl l) (inr ge) = let i = r.up.1 in omega arith
   strictly n r c (inr f) (inr g) (inr ge) =
-      let i : r.node.index ≤ n.index = r.index in
-      let j : n.index ≤ c.node.index = c.index in
+      let i : r.node.index ≤ n.index = r.up.1 in
+      let j : n.index ≤ c.node.index = c.up.1 in
       let same_index : r.node.index ≡ c.node.index = omega arith in
-      let same_strand : r.node.strand ≡ c.node.strand = r.strand ∙ c.strand in
+      let same_strand : r.node.strand ≡ c.node.strand = r.up.0 ∙ c.up.0 in
       let same : r.node ≡ c.node = λ i. record { strand = same_strand i; index = same_index i } in
       absurd (never_both r.node c.node f.0 g.0 same f.1 g.1)
 
@@ -199,5 +193,5 @@ module _ (k : Skeleton) (ordered : IsOrdered k) (pairs : List OrderPair) (each :
   between_covered n a b =
       let r = row n a in
       let c = column n b in
-      below_some r.node c.node (led_to pairs p.earlier ++ (p.earlier ∷ [])) (leading_to pairs p.later ++ (p.later ∷ [])) r.listed c.listed (r.strand ∙ c.strand)
+      below_some r.node c.node (led_to pairs p.earlier ++ (p.earlier ∷ [])) (leading_to pairs p.later ++ (p.later ∷ [])) r.listed c.listed (r.up.0 ∙ c.up.0)
       (strictly n r c r.strict c.strict (less_or_not r.node.index c.node.index))

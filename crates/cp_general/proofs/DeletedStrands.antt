@@ -1,7 +1,7 @@
 -- A skeleton without one of its strands is one over the protocol, and embeds in the skeleton with it.
-use Rattle.std.proofs.Common.{◌≡◌, ◌≢◌, ◌++◌, ℕ, List, Some, map, refl, sym, ap, ◌∙◌, subst, le_refl, ⊎_elim}
+use Rattle.std.proofs.Common.{◌≡◌, ◌≢◌, ℕ, List, Some, map, refl, sym, ap, ◌∙◌, subst, le_refl}
 use Rattle.cp_lists.specs.Lists.{item_at, IsIn}
-use Rattle.cp_lists.proofs.Members.{in_append, in_append_left}
+use Rattle.cp_lists.proofs.Members.{in_append_left}
 use Rattle.cp_lists.proofs.Mapped.{map_same, map_then, map_alike}
 use Rattle.cp_model.specs.Term.{Variable, AtomTerm, atom_of_variable, Term, unchanged, apply_to, apply_to_atom}
 use Rattle.cp_model.specs.Strand.{Declaration, Protocol}
@@ -17,7 +17,7 @@ use Rattle.cp_skel.proofs.Numbering.{restored, restored_renumbered, renumbered_r
 use Rattle.cp_skel.proofs.PairsWithout.{was_left}
 use Rattle.cp_skel.proofs.SkeletonWithout.{skeleton_kept}
 use Rattle.cp_skel.proofs.UnderVariables.{strand_with, in_strands, atom_with, unique_with}
-use Rattle.cp_collapse.proofs.VariablesOfCollapses.{non_declared, penetrator_non_declared, unique_declared}
+use Rattle.cp_collapse.proofs.VariablesOfCollapses.{of_each_part, non_declared, penetrator_non_declared, unique_declared}
 use Rattle.cp_general.specs.Steps.{Deletes}
 
 module _ (d : ℕ) (k h : Skeleton) (del : Deletes d k h) where
@@ -127,15 +127,8 @@ module _ (d : ℕ) (k h : Skeleton) (del : Deletes d k h) where
     of_unique : (x : Variable) → IsIn x (variables_of_uniques h.assumptions.uniquely_originating) → IsDeclared variables x
     of_unique x i = let m = unique_with h.assumptions.uniquely_originating x i in unique_declared variables k declared (unique_restored m.0) (unique_was m.0 m.1) x m.2
 
-    of_assumptions : (x : Variable) → IsIn x (variables_of_assumptions h.assumptions) → IsDeclared variables x
-    of_assumptions x i =
-        let non = variables_of_atoms h.assumptions.non_originating in
-        let penetrator = variables_of_atoms h.assumptions.penetrator_non_originating in
-        ⊎_elim (λ j. ⊎_elim (λ m. of_non x m) (λ m. of_penetrator_non x m) (in_append non penetrator j)) (λ j. of_unique x j)
-        (in_append (non ++ penetrator) (variables_of_uniques h.assumptions.uniquely_originating) i)
-
     pub deleted_declared : HasDeclaredVariables variables h
     deleted_declared = record {
-      occurring = λ x i. ⊎_elim (λ j. of_strands x j) (λ j. of_assumptions x j) (in_append (variables_of_strands h.strands) (variables_of_assumptions h.assumptions) i);
+      occurring = of_each_part (IsDeclared variables) h of_strands of_non of_penetrator_non of_unique;
       mapped = λ t x i j. declared.mapped t x (subst (IsIn t) del.from_problem.values i) j;
     }

@@ -1,17 +1,17 @@
 -- Ways from strand to strand.
-use Rattle.std.proofs.Common.{◌≡◌, ◌≢◌, ◌⊎◌, inl, inr, ℕ, suc, ◌<◌, ◌≤◌, Bool, true, false, refl, sym, ap, ◌∙◌, subst, arith}
+use Rattle.std.proofs.Common.{◌≡◌, ◌≢◌, ◌⊎◌, inl, inr, ℕ, suc, ◌<◌, ◌≤◌, Bool, true, false, refl, sym, ap, subst, arith}
 use Rattle.std.specs.Prelude.{◌==◌, nat_lt, Some}
 use Rattle.std.proofs.lemmas.Bool.Decides.{nat_tests}
 use Rattle.cp_lists.specs.Lists.{IsIn, one_step, more_steps}
 use Rattle.cp_lists.proofs.Items.{item_before}
 use Rattle.cp_lists.proofs.Reached.{steps_append}
 use Rattle.cp_model.specs.Term.{Term}
-use Rattle.cp_model.specs.Strand.{send, recv}
+use Rattle.cp_model.specs.Strand.{Event, send, recv}
 use Rattle.cp_model.specs.Bundle.{node_at}
 use Rattle.cp_model.specs.declared.node.Node.{Node}
 use Rattle.cp_model.specs.declared.node.OrderPair.{OrderPair}
-use Rattle.cp_model.specs.Order.{on_strand}
-use Rattle.cp_model.specs.Skeleton.{term_event_at, skeleton_trace_or_none, IsNodeOf, Skeleton, along_strand_of, along_pair, Before, IsOrderPair}
+use Rattle.cp_model.specs.Order.{IsAtOrAfter, on_strand}
+use Rattle.cp_model.specs.Skeleton.{term_event_at, skeleton_trace_or_none, IsNodeOf, Skeleton, along_strand_of, along_pair, Before}
 use Rattle.cp_model.proofs.LawOrder.{leads_before}
 use Rattle.cp_skel.specs.Ordered.{IsOrdered}
 
@@ -65,49 +65,46 @@ module _ (k : Skeleton) (ordered : IsOrdered k) where
 
   -- ---- to another strand
 
-  -- On the way from x a reception is reached that is y or before it on its strand.
-  pub record Arrives (x y : Node) : Type 0 where
+  -- A node at which such an event is, and of which this holds.
+  pub record EventWhere (kind : Term → Event Term) (Holds : Node → Type 0) : Type 0 where
     pub node : Node
     pub message : Term
-    pub reception : term_event_at k.strands node ≡ Some (recv message)
-    pub strand : node.strand ≡ y.strand
-    pub index : node.index ≤ y.index
-    pub before : Before k x node
+    pub event : term_event_at k.strands node ≡ Some (kind message)
+    pub holds : Holds node
 
-  by_pair : (p : OrderPair) → IsIn p k.pairs → (y : Node) → p.later.strand ≡ y.strand → p.later.index ≤ y.index → Arrives p.earlier y
-  by_pair p m y s l = record { node = p.later; message = (ordered.order_pairs p m).received; reception = (ordered.order_pairs p m).reception; strand = s; index = l; before = one_step (along_pair m) }
+  -- On the way from x a reception is reached that is y or before it on its strand.
+  abbrev pub Arrives : Node → Node → Type 0
+  Arrives x y = EventWhere recv (λ n. IsAtOrAfter n y × Before k x n)
+
+  by_pair : (p : OrderPair) → IsIn p k.pairs → (y : Node) → IsAtOrAfter p.later y → Arrives p.earlier y
+  by_pair p m y up = record { node = p.later; message = (ordered.order_pairs p m).received; event = (ordered.order_pairs p m).reception; holds = (up, one_step (along_pair m)) }
 
   pub arrives : (x y : Node) → x.strand ≢ y.strand → Before k x y → Arrives x y
   arrives x y apart (one_step (along_strand_of e)) = absurd (apart refl)
-  arrives x y apart (one_step (along_pair {p = p} m)) = by_pair p m y refl (omega arith)
+  arrives x y apart (one_step (along_pair {p = p} m)) = by_pair p m y (refl, omega arith)
   arrives x y apart (more_steps (along_strand_of {s = s} {i = i} e) r) =
       let a = arrives (node_at s (suc i)) y apart r in
-      record { node = a.node; message = a.message; reception = a.reception; strand = a.strand; index = a.index; before = more_steps (along_strand_of e) a.before }
+      record { node = a.node; message = a.message; event = a.event; holds = (a.holds.0, more_steps (along_strand_of e) a.holds.1) }
   arrives x y apart (more_steps (along_pair {p = p} m) r) = of (same_or_not p.later.strand y.strand) (λ h. arrives p.later y h r)
     where
       of : (p.later.strand ≡ y.strand) ⊎ (p.later.strand ≢ y.strand) → (p.later.strand ≢ y.strand → Arrives p.later y) → Arrives p.earlier y
-      of (inl s) more = let l : p.later.index < y.index = rises p.later y s r in by_pair p m y s (omega (arith, l))
+      of (inl s) more = let l : p.later.index < y.index = rises p.later y s r in by_pair p m y (s, omega (arith, l))
       of (inr h) more =
           let a = more h in
-          record { node = a.node; message = a.message; reception = a.reception; strand = a.strand; index = a.index; before = more_steps (along_pair m) a.before }
+          record { node = a.node; message = a.message; event = a.event; holds = (a.holds.0, more_steps (along_pair m) a.holds.1) }
 
   -- The way to y goes from a transmission that is x or behind it on its strand.
-  pub record Departs (x y : Node) : Type 0 where
-    pub node : Node
-    pub message : Term
-    pub transmission : term_event_at k.strands node ≡ Some (send message)
-    pub strand : x.strand ≡ node.strand
-    pub index : x.index ≤ node.index
-    pub before : Before k node y
+  abbrev pub Departs : Node → Node → Type 0
+  Departs x y = EventWhere send (λ n. IsAtOrAfter x n × Before k n y)
 
   from_pair : (p : OrderPair) → IsIn p k.pairs → (y : Node) → Before k p.earlier y → Departs p.earlier y
-  from_pair p m y b = record { node = p.earlier; message = (ordered.order_pairs p m).sent; transmission = (ordered.order_pairs p m).transmission; strand = refl; index = omega arith; before = b }
+  from_pair p m y b = record { node = p.earlier; message = (ordered.order_pairs p m).sent; event = (ordered.order_pairs p m).transmission; holds = ((refl, omega arith), b) }
 
   pub departs : (x y : Node) → x.strand ≢ y.strand → Before k x y → Departs x y
   departs x y apart (one_step (along_strand_of e)) = absurd (apart refl)
   departs x y apart (one_step (along_pair {p = p} m)) = from_pair p m y (one_step (along_pair m))
   departs x y apart (more_steps (along_strand_of {s = s} {i = i} e) r) =
       let d = departs (node_at s (suc i)) y apart r in
-      let l : suc i ≤ d.node.index = d.index in
-      record { node = d.node; message = d.message; transmission = d.transmission; strand = d.strand; index = omega (arith, l); before = d.before }
+      let l : suc i ≤ d.node.index = d.holds.0.1 in
+      record { node = d.node; message = d.message; event = d.event; holds = ((d.holds.0.0, omega (arith, l)), d.holds.1) }
   departs x y apart (more_steps (along_pair {p = p} m) r) = from_pair p m y (more_steps (along_pair m) r)

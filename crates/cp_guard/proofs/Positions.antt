@@ -75,15 +75,9 @@ module _ (protects : Message → Key → Bool) (g : Assignment) (c : Message) wh
   outside_or_above (pair_term a b) (Left ∷ path) u at e = ⊎_elim (λ o. inl (outside_left o)) (λ p. inr (record { body = p.body; key = p.key; above = p.above; protected = p.protected })) (outside_or_above a path u at e)
   outside_or_above (pair_term a b) (Right ∷ path) u at e = ⊎_elim (λ o. inl (outside_right o)) (λ p. inr (record { body = p.body; key = p.key; above = p.above; protected = p.protected })) (outside_or_above b path u at e)
   outside_or_above (enc_term a k) (Plaintext ∷ path) u at e = at_encryption a k path (protects (value_of g a) (value_of_key g k)) refl (outside_or_above a path u at e)
-  outside_or_above (tag_term bytes) (Left ∷ path) u at e = absurd (cc)
-  outside_or_above (tag_term bytes) (Right ∷ path) u at e = absurd (cc)
-  outside_or_above (tag_term bytes) (Plaintext ∷ path) u at e = absurd (cc)
-  outside_or_above (atom_term a) (Left ∷ path) u at e = absurd (cc)
-  outside_or_above (atom_term a) (Right ∷ path) u at e = absurd (cc)
-  outside_or_above (atom_term a) (Plaintext ∷ path) u at e = absurd (cc)
-  outside_or_above (pair_term a b) (Plaintext ∷ path) u at e = absurd (cc)
-  outside_or_above (enc_term a k) (Left ∷ path) u at e = absurd (cc)
-  outside_or_above (enc_term a k) (Right ∷ path) u at e = absurd (cc)
+  outside_or_above _ (Left ∷ path) u at e = absurd (cc)
+  outside_or_above _ (Right ∷ path) u at e = absurd (cc)
+  outside_or_above _ (Plaintext ∷ path) u at e = absurd (cc)
 
 -- An encryption above an open position does not protect.
 pub record IsUnprotecting (protects : Message → Key → Bool) (g : Assignment) (e : Term) : Type 0 where
@@ -97,22 +91,7 @@ module _ (protects : Message → Key → Bool) (g : Assignment) where
   open_above (pair_term a b) (Left ∷ path) e o i = open_above a path e o i
   open_above (pair_term a b) (Right ∷ path) e o i = open_above b path e o i
   open_above (enc_term a k) (Plaintext ∷ path) e o i = ⊎_elim (λ same. record { body = a; key = k; encryption = same; unprotected = o.0 }) (λ q. open_above a path e o.1 q) (head_or_behind i)
-  open_above (tag_term bytes) (Left ∷ path) e o i = absurd (not_in_none i)
-  open_above (tag_term bytes) (Right ∷ path) e o i = absurd (not_in_none i)
-  open_above (tag_term bytes) (Plaintext ∷ path) e o i = absurd (not_in_none i)
-  open_above (atom_term a) (Left ∷ path) e o i = absurd (not_in_none i)
-  open_above (atom_term a) (Right ∷ path) e o i = absurd (not_in_none i)
-  open_above (atom_term a) (Plaintext ∷ path) e o i = absurd (not_in_none i)
-  open_above (pair_term a b) (Plaintext ∷ path) e o i = absurd (not_in_none i)
-  open_above (enc_term a k) (Left ∷ path) e o i = absurd (not_in_none i)
-  open_above (enc_term a k) (Right ∷ path) e o i = absurd (not_in_none i)
-  open_above t [] e o i = absurd (none_above t i)
-    where
-      none_above : (z : Term) → IsIn e (encryptions_above z []) → ⊥
-      none_above (tag_term bytes) j = not_in_none j
-      none_above (atom_term a) j = not_in_none j
-      none_above (pair_term a b) j = not_in_none j
-      none_above (enc_term a k) j = not_in_none j
+  open_above _ _ e o i = absurd (not_in_none i)
 
 -- The assignments give the other variables of the patterns the same values.
 abbrev pub AgreeOnFree : List Pattern → Assignment → Assignment → Type 0

@@ -2,12 +2,12 @@
 ghost use Rattle.std.specs.Prelude.{◌≡◌, map, IfOk};
 ghost use Rattle.cp_model.specs.Homomorphism.{substitution_by};
 ghost use Rattle.cp_model.specs.Term.{apply_to};
-ghost use Rattle.cp_strand.specs.View.{event_view, instance_view, strand_view};
+ghost use Rattle.cp_strand.specs.View.{event_view, strand_view};
 ghost use Rattle.cp_hom.specs.Following.{partial_view, Finds};
 ghost use Rattle.cp_hom.specs.Taking.{MakesEvents, MakesPart};
 
 use crate::partials::{Partial, match_terms};
-use cp_skel::{Event, Instance, Strand, StrandShape, applied, is_same_role, prefix_of};
+use cp_skel::{Event, Strand, StrandShape, applied, is_same_role, prefix_of};
 use cp_term::Term;
 use std::alloc::{AllocError, Global};
 
@@ -50,22 +50,6 @@ fn match_events(
     Ok(Some(found))
 }
 
-/// Makes an instance a part of another.
-fn match_instances(
-    alloc: Global,
-    from: &Instance,
-    to: &Instance,
-    given: Partial,
-) -> Result<Option<Partial>, AllocError>
-    ensures { IfOk result (Finds (λ f. MakesPart f.terms (instance_view from.now) (instance_view to.now)) (partial_view given)) }
-{
-    if from.height() > to.height() || !is_same_role(from.role(), to.role()) {
-        return Ok(None);
-    }
-    let events = prefix_of(from.role(), from.height());
-    match_events(alloc, events, from.values(), to.values(), given)
-}
-
 /// Makes a strand a part of another.
 pub(crate) fn match_strands(
     alloc: Global,
@@ -77,7 +61,11 @@ pub(crate) fn match_strands(
 {
     match (from.shape(), to.shape()) {
         (StrandShape::Instance(first), StrandShape::Instance(second)) => {
-            match_instances(alloc, first, second, given)
+            if first.height() > second.height() || !is_same_role(first.role(), second.role()) {
+                return Ok(None);
+            }
+            let events = prefix_of(first.role(), first.height());
+            match_events(alloc, events, first.values(), second.values(), given)
         }
         (StrandShape::Listener(first), StrandShape::Listener(second)) => {
             match_terms(alloc, first, second, given)

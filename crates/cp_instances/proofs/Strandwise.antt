@@ -1,5 +1,5 @@
 -- Strands that are made one after another.
-use Rattle.std.proofs.Common.{◌≡◌, ℕ, zero, suc, ◌+◌, ◌<◌, ◌≤◌, List, [], ◌∷◌, ◌++◌, length, get_or, map, take, drop, false, if◌then◌else◌, refl, sym, ap, ◌∙◌, arith}
+use Rattle.std.proofs.Common.{◌≡◌, ℕ, ◌+◌, ◌<◌, ◌≤◌, List, [], ◌∷◌, ◌++◌, length, get_or, map, drop, refl, sym, ap, ◌∙◌}
 use Rattle.std.specs.Prelude.{Option, Some, None}
 use Rattle.std.specs.Option.{option_to_list}
 use Rattle.std.proofs.lemmas.List.{drop_all, append_assoc, append-nil, length-map, length-append}
@@ -10,7 +10,7 @@ use Rattle.cp_sexpr.specs.Syntax.{Form}
 use Rattle.cp_sexpr.specs.View.{view}
 use Rattle.cp_sexpr.specs.declared.form.Form as program
 use Rattle.cp_language.specs.Roles.{headed, item_or_none, items_behind}
-use Rattle.cp_language.specs.Problems.{Strands, strand_by, strands_from, with_strand, fresh_of, is_assumption_or_order, before_items}
+use Rattle.cp_language.specs.Problems.{Strands, strand_by, strands_from, with_strand, fresh_of}
 use Rattle.cp_strand.specs.View.{declaration_view}
 use Rattle.cp_strand.specs.declared.protocol.Declaration as declared
 use Rattle.cp_instances.specs.Making.{IsMadeIf, AreMade}

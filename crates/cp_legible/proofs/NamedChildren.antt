@@ -2,7 +2,6 @@
 use Rattle.std.proofs.Common.{◌≡◌, ℕ, ◌<◌, List, [], length, Option, Some, None, refl, sym, ap, subst, ⊎_elim}
 use Rattle.cp_lists.specs.Lists.{item_at, IsIn}
 use Rattle.cp_lists.proofs.Items.{item_below, item_last, there_or_none}
-use Rattle.cp_lists.proofs.Members.{not_in_none, from_map}
 use Rattle.cp_model.specs.Term.{Term}
 use Rattle.cp_model.specs.Strand.{send, Declaration, Role, Protocol}
 use Rattle.cp_model.specs.Bundle.{node_at}
@@ -14,11 +13,11 @@ use Rattle.cp_skel.specs.Changing.{AddsListener}
 use Rattle.cp_skel.specs.Events.{Occurrence, events_of}
 use Rattle.cp_skel.proofs.EventLists.{listed_event}
 use Rattle.cp_answers.specs.Covering.{put_before}
-use Rattle.cp_settle.specs.Releasing.{Release, Tried}
+use Rattle.cp_settle.specs.Releasing.{Release}
 use Rattle.cp_covering.specs.Children.{Child, child}
-use Rattle.cp_covering.specs.Cohort.{Question, Contracts, AreContracted, release_at, DisplacesAt, DisplacesEvent, DisplacesStrand, AddsAt, AddsEvent, Listens, IsCohort, is_before, is_displaced, is_added, of_listener, of_node, of_role, is_inside, is_critical, cyclic}
+use Rattle.cp_covering.specs.Cohort.{Question, release_at, DisplacesAt, AddsAt, IsCohort}
 use Rattle.cp_covering.specs.Cohort as cohort
-use Rattle.cp_covering.proofs.EachChild.{each_child}
+use Rattle.cp_covering.proofs.EachChild.{ComesOfContracting, ComesOfListening, of_contracted, of_released, of_listened, each_child}
 use Rattle.cp_legible.proofs.KeepingNodes.{nodes_like_under, nodes_forms, nodes_settle}
 
 -- The operation is a step that a test allows, and the node or strand that it names is one of the skeleton.
@@ -51,13 +50,8 @@ listener_node t k l adds =
 module _ (q : Question) where
   -- ---- contracted
 
-  contracts_named : (o : Occurrence) (path : List Step) (children : List Child) → IsIn o (events_of q.skeleton) → Contracts q o path children → (d : Child) → IsIn d children → IsNamed d
-  contracts_named o path children there_is (is_inside inside) d i = absurd (not_in_none i)
-  contracts_named o path children there_is (is_critical at) d i = absurd (not_in_none i)
-  contracts_named o path children there_is (cohort.never_equal at never) d i = absurd (not_in_none i)
-  contracts_named o path children there_is (cohort.unified {s = s} {l = l} {forms = forms} outside at ne unifies same has) d i =
-      let m = from_map (child q.variables (by_contraction o.node) path) forms i in
-      subst IsNamed m.2 (nodes_forms l forms has m.0 m.1 o.node (nodes_like_under s q.skeleton l same o.node (o.event, listed_event q.skeleton o there_is)))
+  contracted_named : (o : Occurrence) → IsIn o (events_of q.skeleton) → (path : List Step) (r : Skeleton) → ComesOfContracting q o path r → IsNamed (child q.variables (by_contraction o.node) path r)
+  contracted_named o there_is path r c = nodes_forms c.under c.forms c.has r c.listed o.node (nodes_like_under c.unifier q.skeleton c.under c.same o.node (o.event, listed_event q.skeleton o there_is))
 
   -- ---- released
 
@@ -68,13 +62,12 @@ module _ (q : Question) where
 
   releases_node : (variables : List Declaration) (operation : Operation) (r : Release) (grown : Skeleton) (children : List Child) → cohort.Releases q variables operation r grown children
       → (d : Child) → IsIn d children → HasReleased operation (node_at r.strand r.index) d
-  releases_node variables operation r grown children (cyclic before) d i = absurd (not_in_none i)
-  releases_node variables operation r grown children (cohort.never_equal ev at never) d i = absurd (not_in_none i)
-  releases_node variables operation r grown children (cohort.unified {t = t} {s = s} {l = l} {settled = ends} acyclic ev at m same settles) d i =
+  releases_node variables operation r grown =
+      of_released q (HasReleased operation (node_at r.strand r.index)) variables operation r grown
+      (λ x c.
       let n = node_at r.strand r.index in
       let put : Skeleton = put_before n q.node grown in
-      let o = from_map (λ (x : Tried). child x.variables operation r.path x.skeleton) ends i in
-      subst (HasReleased operation n) o.2 (record { by = refl; node = nodes_settle r settles o.0 o.1 n (nodes_like_under s put l same n (send t, ev)) })
+      record { by = refl; node = nodes_settle r c.settles x c.listed n (nodes_like_under c.unifier put c.under c.same n (send c.message, c.sent)) })
 
   displaced_at : (s : ℕ) (role : Role) (height j : ℕ) (path : List Step) (children : List Child) → DisplacesAt q s role height j path children → (d : Child) → IsIn d children → IsNamed d
   displaced_at s role height j path children a d i =
@@ -89,19 +82,18 @@ module _ (q : Question) where
 
   -- ---- listeners
 
-  listens_named : (t : Term) (children : List Child) → Listens q t children → (d : Child) → IsIn d children → IsNamed d
-  listens_named t children l d i =
+  listened_named : (t : Term) (r : Skeleton) → ComesOfListening q t r → IsNamed (child q.variables (by_added_listener (length q.skeleton.strands)) [] r)
+  listened_named t r l =
       let s = length q.skeleton.strands in
       let put : Skeleton = put_before (node_at s 1) q.node l.added in
-      let m = from_map (child q.variables (by_added_listener s) []) l.forms (subst (IsIn d) l.are_children i) in
-      subst IsNamed m.2 (strand_of_node m.0.strands (node_at s 1) (nodes_forms put l.forms l.normal m.0 m.1 (node_at s 1) (listener_node t q.skeleton l.added l.adds)))
+      strand_of_node r.strands (node_at s 1) (nodes_forms put l.forms l.normal r l.listed (node_at s 1) (listener_node t q.skeleton l.added l.adds))
 
   -- ---- the cohort
 
   pub named_child : (protocol : Protocol) (children : List Child) → IsCohort protocol q children → (d : Child) → IsIn d children → IsNamed d
   named_child protocol = each_child protocol q IsNamed (record {
-    contracted = λ o there_is before path children. contracts_named o path children there_is;
+    contracted = λ o there_is before path. of_contracted q IsNamed o path (contracted_named o there_is path);
     displaced = λ s role height terms on apart j t sent none. displaced_at s role height j;
     added = λ role listed j t sent. added_at role j;
-    listened = λ t free. listens_named t;
+    listened = λ t free. of_listened q IsNamed t (listened_named t);
   })

@@ -1,6 +1,6 @@
 -- The faults of pairs, part by part.
 use Rattle.std.proofs.Common.{◌≡◌, ℕ, ◌+◌, ◌-◌, ◌<◌, ◌≤◌, List, [], ◌∷◌, ◌++◌, length, get_or, map, take, drop, Bool, true, false, ◌&&◌, ◌||◌, refl, sym, ap, ◌∙◌, subst, arith}
-use Rattle.std.specs.Prelude.{◌↔◌, ◌==◌, Option, Some, None, is_none, nat_le}
+use Rattle.std.specs.Prelude.{◌↔◌, ◌==◌, Option, None, is_none, nat_le}
 use Rattle.std.proofs.lemmas.Bool.{cond-false}
 use Rattle.std.proofs.lemmas.Bool.Decides.{nat_tests}
 use Rattle.std.proofs.lemmas.List.{take_all, append_assoc}
@@ -23,7 +23,7 @@ use Rattle.cp_language.specs.Problems.{on_one_strand, at_or_after, any_pair, rea
 use Rattle.cp_language.proofs.Reaching.{reaches_all}
 use Rattle.cp_order.specs.Leading.{Target}
 use Rattle.cp_forms.proofs.FirstOf as first
-use Rattle.cp_forms.specs.FirstFault.{first_onto, merged, onto_none}
+use Rattle.cp_forms.specs.FirstFault.{first_onto, merged}
 use Rattle.cp_forms.proofs.Firsts.{first_onto-append, first_then_four, merged-unless}
 
 -- ---- cycles

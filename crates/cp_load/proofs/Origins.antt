@@ -1,19 +1,10 @@
 -- Tests that are exact, and loops over events.
-use Rattle.std.proofs.Common.{◌≡◌, ℕ, suc, ◌+◌, ◌≤◌, List, [], ◌∷◌, ◌++◌, length, get_or, map, refl, sym, ap, ◌∙◌, arith, Bool, true, false, Option, Some, None, if◌then◌else◌}
-use Rattle.std.specs.Prelude.{IfSome, IfNone}
-use Rattle.cp_base.specs.declared.place.Place.{Place}
-use Rattle.cp_base.specs.declared.place.Code.TheVariants.{BadShape}
+use Rattle.std.proofs.Common.{◌≡◌, ℕ, suc, ◌+◌, List, [], ◌∷◌, refl, sym, ap, ◌∙◌, arith, Bool, true, false, Option, Some, None, if◌then◌else◌}
 use Rattle.cp_model.specs.Term.{Term, IsCarriedByTerm}
 use Rattle.cp_model.specs.Strand as strand
 use Rattle.cp_model.specs.Strand.{payload, send, recv, OriginatesInTerms, Declaration}
-use Rattle.cp_sexpr.specs.Syntax.{Form}
-use Rattle.cp_sexpr.specs.View.{view}
-use Rattle.cp_sexpr.specs.declared.form.Form as program
-use Rattle.cp_language.specs.Faults.{fault, place_of}
 use Rattle.cp_model.specs.Same.{carries, origin_in, one_later}
-use Rattle.cp_language.specs.Terms.{term_faults}
-use Rattle.cp_language.specs.Roles.{message_faults, event_faults, events_faults, each_faults}
-use Rattle.cp_model.proofs.SameTests.{carried, is_carried, origin_found, finds_origin}
+use Rattle.cp_model.proofs.SameTests.{carried, is_carried}
 use Rattle.cp_load.specs.Originations.{place_if_sent}
 
 exact : (r t : Bool) (P : Type 0) → (r ≡ true → P) → (P → r ≡ true) → (t ≡ true → P) → (P → t ≡ true) → r ≡ t

@@ -107,7 +107,7 @@ pub(crate) fn round(alloc: Global, candidates: Vec<Candidate>) -> Result<Vec<Can
 {
     let mut rest = candidates;
     rest.reverse();
-    let mut next = Vec::new(alloc);
+    let mut next = Vec::with_capacity(alloc, rest.len())?;
     while let Some(candidate) = rest.pop() {
         advance(alloc, candidate, &mut next)?;
     }

@@ -47,7 +47,7 @@ fn forms_of(alloc: Global, candidates: Vec<Candidate>) -> Result<Vec<Form>, Allo
 {
     let mut rest = candidates;
     rest.reverse();
-    let mut forms = Vec::new(alloc);
+    let mut forms = Vec::with_capacity(alloc, rest.len())?;
     while let Some(candidate) = rest.pop() {
         add_form(alloc, candidate.into_form(), &mut forms)?;
     }
@@ -67,8 +67,9 @@ pub fn normalise_beside(alloc: Global, k: Skeleton, beside: &Subst) -> Result<Ve
         skeleton: k,
         substitution,
     };
-    let mut candidates = Vec::new(alloc);
-    candidates.push(Candidate::Open(first))?;
+    let mut alone = Vec::with_capacity(alloc, 1)?;
+    alone.push(Candidate::Open(first))?;
+    let mut candidates = alone;
     while some_is_open(&candidates) {
         candidates = round(alloc, candidates)?;
     }
@@ -81,7 +82,7 @@ fn skeletons_of(alloc: Global, forms: Vec<Form>) -> Result<Vec<Skeleton>, AllocE
 {
     let mut rest = forms;
     rest.reverse();
-    let mut skeletons = Vec::new(alloc);
+    let mut skeletons = Vec::with_capacity(alloc, rest.len())?;
     while let Some(form) = rest.pop() {
         let Form { skeleton, .. } = form;
         skeletons.push(skeleton)?;

@@ -1,32 +1,17 @@
 -- The pieces of a text of proper forms, and what follows for the forms where none of these pieces is refused.
-use Rattle.std.proofs.Common.{◌≡◌, ℕ, ◌+◌, ◌<◌, ◌≤◌, List, [], ◌∷◌, ◌++◌, length, drop, refl, sym, ap, ap₂, ◌∙◌, subst, arith, append_assoc, decimal, inl, inr, ⊎_elim}
-use Rattle.std.proofs.lemmas.Bool.{cases_lt}
+use Rattle.std.proofs.Common.{◌≡◌, ℕ, ◌+◌, ◌≤◌, List, [], ◌∷◌, ◌++◌, length, drop, refl, sym, ap, ap₂, ◌∙◌, subst, arith, append_assoc, decimal, inl, inr}
 use Rattle.cp_base.specs.declared.place.Place.{Place}
-use Rattle.cp_base.specs.declared.place.Code.TheVariants.{TooDeep}
 use Rattle.cp_sexpr.specs.Syntax.{Form, symbol, string, number, list, Forms, none, more}
 use Rattle.cp_sexpr.specs.Pieces.{Piece, blank, opening, closing, quoted, token, BeginsWithout, IsCut, IsTokenByte, IsWhiteSpace, space, line_feed, quote, open_parenthesis, close_parenthesis, after_piece, after_pieces}
-use Rattle.cp_sexpr.specs.Reading.{opened_behind, opened_after, IsAccepted, AreAccepted, max_depth}
+use Rattle.cp_sexpr.specs.Reading.{opened_after, AreAccepted, max_depth}
 use Rattle.cp_sexpr.specs.Spelling.{spelling, first_spelling, next_spelling, top_gap, first_top_spelling, next_top_spelling, top_text}
 use Rattle.cp_sexpr.specs.ReadingBack.{depth_of, top_spellings}
-use Rattle.cp_sexpr.proofs.Fronts.{opened_after-append, shorter}
+use Rattle.cp_sexpr.proofs.Fronts.{IsCut-append, opened_after-append, first_accepted, last_accepted, shallow, shorter}
 use Rattle.cp_sexpr.proofs.Grammar.{accepted_number}
 use Rattle.cp_sexpr.proofs.Unique.{one_piece}
+use Rattle.cp_sexpr.proofs.ReadBack.{next_apart, next_top_apart, line_end_apart}
 use Rattle.cp_proper.specs.Proper.{IsProper, AreProper, HaveShortNumbers}
 use Rattle.cp_proper.proofs.Numerals.{nine_digits, decimal_is_token, decimal_begins_with_digit}
-
--- ---- pieces one after another
-
-IsCut-append : (ps : List Piece) (text middle : List ℕ) (qs : List Piece) (rest : List ℕ) → IsCut text ps middle → IsCut middle qs rest → IsCut text (ps ++ qs) rest
-IsCut-append [] text middle qs rest c d = subst (λ t. IsCut t qs rest) (sym c) d
-IsCut-append (p ∷ ps) text middle qs rest c d = (c.0, c.1, IsCut-append ps c.0 middle qs rest c.2 d)
-
-first_accepted : (at : Place) (opened : List Place) (ps qs : List Piece) → AreAccepted at opened (ps ++ qs) → AreAccepted at opened ps
-first_accepted at opened [] qs h = tt
-first_accepted at opened (p ∷ ps) qs h = (h.0, first_accepted (after_piece at p) (opened_behind at opened p) ps qs h.1)
-
-last_accepted : (at : Place) (opened : List Place) (ps qs : List Piece) → AreAccepted at opened (ps ++ qs) → AreAccepted (after_pieces at ps) (opened_after at opened ps) qs
-last_accepted at opened [] qs h = h
-last_accepted at opened (p ∷ ps) qs h = last_accepted (after_piece at p) (opened_behind at opened p) ps qs h.1
 
 -- a text is cut into its pieces in one way
 pub one_cut : (ps qs : List Piece) (text : List ℕ) → IsCut text ps [] → IsCut text qs [] → ps ≡ qs
@@ -100,9 +85,6 @@ of_number n p = record {
   bounds = λ at opened d a. ((nine_digits n (accepted_number opened (decimal n) a.0 (decimal_begins_with_digit n)).1, tt), omega arith);
 }
 
-shallow : (opened : List Place) → IsAccepted opened opening → length opened < max_depth
-shallow opened a = ⊎_elim (λ h. h) (λ h. absurd (a TooDeep (h, refl))) (cases_lt (length opened) max_depth)
-
 of_list : (s : List ℕ) (p : Place) (fs : Forms) → HasPieces s fs → HasPieces (open_parenthesis ∷ (s ++ close_parenthesis ∷ [])) (more (list p fs) none)
 of_list s p fs h = record {
   pieces = opening ∷ (h.pieces ++ closing ∷ []);
@@ -118,11 +100,6 @@ of_list s p fs h = record {
       let x = h.bounds (after_piece at opening) (at ∷ opened) (omega (arith, less)) (first_accepted (after_piece at opening) (at ∷ opened) h.pieces (closing ∷ []) a.1) in
       ((x.0, tt), omega (arith, x.1));
 }
-
--- what stands behind a form ends it
-next_apart : (fs : Forms) (rest : List ℕ) → BeginsWithout IsTokenByte rest → BeginsWithout IsTokenByte (next_spelling fs ++ rest)
-next_apart none rest h = h
-next_apart (more f fs) rest h = λ k. omega (arith, k.0)
 
 mutual
   of_form : (f : Form) → IsProper f → HasPieces (spelling f) (more f none)
@@ -141,13 +118,6 @@ mutual
       behind_blank space (spelling f ++ next_spelling fs) (more f fs) (inl refl) (composed (spelling f) (next_spelling fs) f fs (of_form f proper.0) (of_next fs proper.1) (next_apart fs))
 
 -- ---- top forms
-
-next_top_apart : (fs : Forms) (rest : List ℕ) → BeginsWithout IsTokenByte rest → BeginsWithout IsTokenByte (next_top_spelling fs ++ rest)
-next_top_apart none rest h = h
-next_top_apart (more (symbol p t) fs) rest h = λ k. omega (arith, k.0)
-next_top_apart (more (string p t) fs) rest h = λ k. omega (arith, k.0)
-next_top_apart (more (number p n) fs) rest h = λ k. omega (arith, k.0)
-next_top_apart (more (list p gs) fs) rest h = λ k. omega (arith, k.0)
 
 behind_gap : (f : Form) (s : List ℕ) (fs : Forms) → HasPieces s fs → HasPieces (top_gap f ++ s) fs
 behind_gap (symbol p t) s fs h = behind_blank space s fs (inl refl) h
@@ -169,9 +139,6 @@ of_top (symbol p t) proper = of_symbol t p proper
 of_top (string p t) proper = of_string t p proper
 of_top (number p n) proper = of_number n p
 of_top (list p fs) proper = of_list (first_top_spelling fs) p fs (of_first_top fs proper)
-
-line_end_apart : (fs : Forms) (rest : List ℕ) → BeginsWithout IsTokenByte rest → BeginsWithout IsTokenByte ((line_feed ∷ top_spellings fs) ++ rest)
-line_end_apart fs rest h = λ k. omega (arith, k.0)
 
 pub of_top_forms : (fs : Forms) → AreProper fs → HasPieces (top_spellings fs) fs
 of_top_forms none proper = of_nothing

@@ -3,15 +3,17 @@ use Rattle.std.proofs.Common.{◌≡◌, ℕ, List, [], ◌∷◌, ◌++◌, Boo
 use Rattle.cp_base.specs.declared.place.Place.{Place}
 use Rattle.cp_base.specs.declared.place.Code.TheVariants.{DuplicateProtocol, DuplicateRole}
 use Rattle.cp_base.specs.declared.place.Refusal.{Refusal}
+use Rattle.cp_lists.specs.Lists.{IsIn, here, there}
 use Rattle.cp_model.specs.Term.{Sort, Term}
 use Rattle.cp_model.specs.Strand.{Event, send, recv, payload, Declaration, Role}
 use Rattle.cp_sexpr.specs.Syntax.{Form, symbol, string, number, list, Forms, none, more}
-use Rattle.cp_language.specs.Words.{ItemHead, role_item, non_item, penetrator_non_item, unique_item, strand_item, listener_item, precedes_item, comment_item, item_out_of_profile, no_item, event_head, item_head, SortWord}
+use Rattle.cp_language.specs.Words.{ItemHead, event_head, SortWord}
 use Rattle.cp_language.specs.Faults.{fault, place_of, items_of}
-use Rattle.cp_language.specs.Terms.{lacks, term_of, as_atom}
-use Rattle.cp_language.specs.Roles.{Headed, headed, text_of_symbol, items_behind, front_of, last_form, sort_named, sort_or_text, last_sort_faults, identifier_faults, identifiers_faults, declared_identifiers, list_items, declaration_faults, declarations_faults, vars_faults, declared_of, declarations_in, declarations_of, trace_faults, message_of, is_sending, event_of, events_in, events_of, each_faults, role_item_faults, headed_item_faults, item_faults, name_faults_at, role_faults, atoms_in, item_or_none, forms_under, is_non_item, is_penetrator_non_item, is_unique_item, role_of, is_role_item, protocol_item_faults, role_name_onto, roles_faults, algebra_faults, protocol_faults, roles_in, protocol_of}
+use Rattle.cp_language.specs.Terms.{term_of, as_atom}
+use Rattle.cp_language.specs.Roles.{Headed, headed, text_of_symbol, items_behind, front_of, last_form, sort_named, sort_or_text, identifier_faults, identifiers_faults, declared_identifiers, list_items, declaration_faults, declarations_faults, vars_faults, declared_of, declarations_in, declarations_of, trace_faults, message_of, is_sending, event_of, events_in, events_of, each_faults, role_item_faults, item_faults, name_faults_at, role_faults, atoms_in, item_or_none, forms_under, is_non_item, is_penetrator_non_item, is_unique_item, role_of, roles_faults, algebra_faults, protocol_faults, roles_in, protocol_of}
 use Rattle.cp_wellformed.proofs.Terms.{none_before, none_behind, none_of_three, none_of_four}
-use Rattle.cp_wellformed.proofs.Names.{inside_fixed}
+use Rattle.cp_wellformed.proofs.Names.{no_identifier_faults, inside_fixed}
+use Rattle.cp_wellformed.proofs.EachRole.{of_roles}
 use Rattle.cp_proper.specs.Strings.{strings_of}
 use Rattle.cp_proper.specs.Proper.{IsStringText, IsSymbolText, IsProper, AreProper}
 use Rattle.cp_proper.specs.Spelled.{IsSpelledAtom, AreSpelledAtoms, AreSpelledDeclarations, IsSpelledRole}
@@ -38,6 +40,11 @@ behind_proper (list at (more (symbol p t) fs)) h = items_proper fs h.1
 behind_proper (list at (more (string p t) fs)) h = tt
 behind_proper (list at (more (number p n) fs)) h = tt
 behind_proper (list at (more (list p gs) fs)) h = tt
+
+each_behind_proper : (fs : List Form) → AllProper fs → (f : Form) → IsIn f fs → AllProper (items_behind (headed f))
+each_behind_proper [] h f i = elim i [ ]
+each_behind_proper (g ∷ fs) h f here = behind_proper f h.0
+each_behind_proper (g ∷ fs) h f (there i) = each_behind_proper fs h.1 f i
 
 pub inside_proper : (f : Form) → IsProper f → AllProper (list_items f)
 inside_proper (list at fs) h = items_proper fs h
@@ -78,13 +85,6 @@ identifiers_proper before w s (f ∷ fs) h e =
     each_more (λ (d : Declaration). IsSymbolText d.identifier) (record { identifier = text_of_symbol f; sort = s }) (declared_of s fs)
     (identifier_proper before w f h.0 (none_before (identifier_faults before w f) (identifiers_faults (text_of_symbol f ∷ before) w fs) e))
     (identifiers_proper (text_of_symbol f ∷ before) w s fs h.1 (none_behind (identifier_faults before w f) (identifiers_faults (text_of_symbol f ∷ before) w fs) e))
-
-no_identifier_faults : (before : List (List ℕ)) (f : Form) → declaration_faults before f ≡ [] → identifiers_faults before (sort_named (last_form (list_items f))) (front_of (list_items f)) ≡ []
-no_identifier_faults before (list at fs) e =
-    (none_of_three (lacks 2 at (items_of fs)) (identifiers_faults before (sort_named (last_form (items_of fs))) (front_of (items_of fs))) (last_sort_faults (last_form (items_of fs))) e).1
-no_identifier_faults before (symbol at t) e = absurd (cc)
-no_identifier_faults before (string at t) e = absurd (cc)
-no_identifier_faults before (number at n) e = absurd (cc)
 
 declarations_proper : (before : List (List ℕ)) (fs : List Form) → AllProper fs → declarations_faults before fs ≡ [] → AreSpelledDeclarations IsSymbolText (declarations_in fs)
 declarations_proper before [] h e = each_of_none (λ (d : Declaration). IsSymbolText d.identifier)
@@ -158,32 +158,10 @@ role_spelled before at (name ∷ vars ∷ []) h e = absurd (cc)
 role_spelled before at (name ∷ []) h e = absurd (cc)
 role_spelled before at [] h e = absurd (cc)
 
--- one more role, where an item is one
-by_head : (before : List (List ℕ)) (at : Place) (k : ItemHead) (fs : List Form) (rs : List Role) → AllProper fs → protocol_item_faults before at k fs ≡ [] → AreSpelledRoles rs →
-    AreSpelledRoles (if is_role_item k then role_of fs ∷ rs else rs)
-by_head before at role_item fs rs h e hs = each_more (IsSpelledRole IsStringText IsSymbolText) (role_of fs) rs (role_spelled before at fs h e) hs
-by_head before at non_item fs rs h e hs = hs
-by_head before at penetrator_non_item fs rs h e hs = hs
-by_head before at unique_item fs rs h e hs = hs
-by_head before at strand_item fs rs h e hs = hs
-by_head before at listener_item fs rs h e hs = hs
-by_head before at precedes_item fs rs h e hs = hs
-by_head before at comment_item fs rs h e hs = hs
-by_head before at item_out_of_profile fs rs h e hs = hs
-by_head before at no_item fs rs h e hs = hs
-
-by_headed : (before : List (List ℕ)) (at : Place) (o : Option Headed) (rs : List Role) → AllProper (items_behind o) → headed_item_faults (protocol_item_faults before) at o ≡ [] → AreSpelledRoles rs →
-    AreSpelledRoles (if is_role_item (item_or_none o) then role_of (items_behind o) ∷ rs else rs)
-by_headed before at None rs h e hs = hs
-by_headed before at (Some k) rs h e hs = by_head before at (item_head k.head) k.items rs h e hs
-
 roles_spelled : (before : List (List ℕ)) (fs : List Form) → AllProper fs → roles_faults before fs ≡ [] → AreSpelledRoles (roles_in fs)
-roles_spelled before [] h e = each_of_none (IsSpelledRole IsStringText IsSymbolText)
-roles_spelled before (f ∷ fs) h e =
-    let first = item_faults (protocol_item_faults before) f in
-    let rest = roles_faults (role_name_onto (headed f) before) fs in
-    by_headed before (place_of f) (headed f) (roles_in fs) (behind_proper f h.0) (none_before first rest e)
-    (roles_spelled (role_name_onto (headed f) before) fs h.1 (none_behind first rest e))
+roles_spelled before fs h e =
+    of_roles AllProper (λ names rs. AreSpelledRoles rs) (λ names. each_of_none (IsSpelledRole IsStringText IsSymbolText))
+    (λ names at forms rs proper q hs. each_more (IsSpelledRole IsStringText IsSymbolText) (role_of forms) rs (role_spelled names at forms proper q) hs) before fs (each_behind_proper fs h) e
 
 -- The strings and identifiers of the roles of a protocol without faults, stated by proper forms, are proper.
 pub protocol_spelled : (names : List (List ℕ)) (at : Place) (fs : List Form) → AllProper fs → protocol_faults names at fs ≡ [] → AreSpelledRoles (protocol_of fs).roles

@@ -8,11 +8,11 @@ use Rattle.cp_model.specs.Strand.{Declaration, Role, variables_of_prefix}
 use Rattle.cp_model.specs.Skeleton.{SkeletonStrand, instance, listener}
 use Rattle.cp_model.specs.Homomorphism.{akey_in, substitution_by}
 use Rattle.cp_sexpr.specs.Syntax.{Form, symbol, string, number, list, none, more}
-use Rattle.cp_language.specs.Words.{is_one_of, ItemHead, role_item, non_item, penetrator_non_item, unique_item, strand_item, listener_item, precedes_item, comment_item, item_out_of_profile, no_item}
+use Rattle.cp_language.specs.Words.{is_one_of, ItemHead}
 use Rattle.cp_language.specs.Terms.{term_of}
 use Rattle.cp_language.specs.Roles.{headed, items_behind, item_or_none}
 use Rattle.cp_language.specs.Problems.{role_named, mapped_identifier, term_mapped, is_fresh, term_or_fresh, instantiated, instance_of_role, Strands, instance_by, name_in_front, heard, strand_by, fresh_of, with_strand, strands_from, is_assumption_or_order, before_items, number_of}
-use Rattle.cp_wellformed.proofs.Strands.{role_listed}
+use Rattle.cp_wellformed.proofs.Strands.{role_listed, of_item}
 use Rattle.cp_proper.specs.Strings.{strings_of_pair, strings_of_key, strings_of}
 use Rattle.cp_proper.specs.Proper.{IsStringText, IsSymbolText, IsProper}
 use Rattle.cp_proper.specs.Spelled.{IsSpelledTerm, IsSpelledAtom, AreSpelledDeclarations, IsSpelledRole, IsSpelledStrand}
@@ -167,17 +167,9 @@ IsProperOption None = Unit {0}
 IsProperOption (Some s) = IsProperPair s
 
 by_head : (roles : List Role) (ds : List Declaration) (next : ℕ) (k : ItemHead) (fs : List Form) → AreSpelledRoles roles → AllProper fs → IsProperOption (strand_by roles ds next k fs)
-by_head roles ds next strand_item fs h p =
-    by_role (role_named roles (name_in_front fs)) ds next fs (λ role e. h role (role_listed roles (name_in_front fs) role e)) p
-by_head roles ds next listener_item fs h p = (heard_strings ds fs p, no_symbols)
-by_head roles ds next role_item fs h p = tt
-by_head roles ds next non_item fs h p = tt
-by_head roles ds next penetrator_non_item fs h p = tt
-by_head roles ds next unique_item fs h p = tt
-by_head roles ds next precedes_item fs h p = tt
-by_head roles ds next comment_item fs h p = tt
-by_head roles ds next item_out_of_profile fs h p = tt
-by_head roles ds next no_item fs h p = tt
+by_head roles ds next k fs h p =
+    of_item roles ds next fs (λ i o. IsProperOption o)
+    (by_role (role_named roles (name_in_front fs)) ds next fs (λ role e. h role (role_listed roles (name_in_front fs) role e)) p) (heard_strings ds fs p, no_symbols) (λ i. tt) k
 
 -- Proper strands, and the variables made for them.
 pub record AreProperOnes (s : Strands) : Type 0 where

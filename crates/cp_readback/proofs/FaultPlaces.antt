@@ -9,7 +9,9 @@ use Rattle.cp_language.specs.Faults.{rank_of, comes_before}
 use Rattle.cp_forms.specs.FirstFault as faults
 use Rattle.cp_report.specs.ReadBack.{fault_places}
 use Rattle.cp_spelled.specs.FirstMisfit.{earlier_of, first_onto, merged}
-use Rattle.cp_spelled.proofs.Firsts.{first_onto-append, first_onto-merged, first_onto-swap}
+use Rattle.cp_report.specs.Misfits.{stands_before}
+use Rattle.cp_forms.proofs.FirstOf.{first_onto-append, first_onto-merged, first_onto-swap}
+use Rattle.cp_spelled.proofs.Firsts.{in_order}
 
 -- By place alone, or by place and then by kind: what comes before, and what does not, at another place.
 by_place : (a b c d e : Bool) (p q : Place) → (b ≡ true → d ≡ true → q ≡ p)
@@ -53,8 +55,8 @@ pub gathered : (rs : List Refusal) (front trees : List Place) (fault : Option Re
 gathered rs front trees fault others all is_fault is_others is_all =
     let places = fault_places rs in
     is_all ∙ ap (merged others) (ap (option_map (λ r. r.place)) is_fault ∙ none-place rs)
-    ∙ sym (first_onto-merged others places)
+    ∙ sym (first_onto-merged stands_before in_order others places)
     ∙ ap (λ o. first_onto o places) is_others
-    ∙ sym (first_onto-append None (front ++ trees) places)
-    ∙ first_onto-swap None (front ++ trees) places
+    ∙ sym (first_onto-append stands_before None (front ++ trees) places)
+    ∙ first_onto-swap stands_before in_order None (front ++ trees) places
     ∙ ap (first_onto None) (sym (append_assoc places front trees))

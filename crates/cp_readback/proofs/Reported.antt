@@ -25,7 +25,9 @@ use Rattle.cp_load.proofs.SoundDrafts.{drafts_sound}
 use Rattle.cp_load.proofs.TopForms.{entries-finished}
 use Rattle.cp_report.specs.ReadBack.{Section, Sections, sections_of, input_forms, fault_places, first_place, next_place, places_of, tree_misfits, trees_misfits, tree_onto, trees_from, misfits, report_of, IsReadBack}
 use Rattle.cp_spelled.specs.FirstMisfit.{first_onto, merged}
-use Rattle.cp_spelled.proofs.Firsts.{first_then, first_found, none_found}
+use Rattle.cp_report.specs.Misfits.{stands_before}
+use Rattle.cp_forms.proofs.FirstOf.{first_then, none_found}
+use Rattle.cp_spelled.proofs.Firsts.{first_found}
 use Rattle.cp_stated.proofs.NoMisfits.{none_in_both}
 use Rattle.cp_readback.specs.Sections.{section_view}
 use Rattle.cp_readback.specs.declared.sections.Section as of_program
@@ -108,7 +110,7 @@ module _ (fs : List program.Form) (cut : Sections) (is_cut : cut ≡ sections_of
       let rs = faults_from [] (forms_in read) in
       let behind = trees_misfits (first_place (map view fs)) [] read in
       gathered rs front behind g q all (at_input ∙ ap (λ x. faults.first_onto x rs) none)
-      (first_then o p q front behind at_front (at_trees ∙ ap (λ x. first_onto p (trees_misfits x [] read)) is_start) ∙ ap (λ x. first_onto x (front ++ behind)) new) noted
+      (first_then stands_before o p q front behind at_front (at_trees ∙ ap (λ x. first_onto p (trees_misfits x [] read)) is_start) ∙ ap (λ x. first_onto x (front ++ behind)) new) noted
       ∙ ap (first_onto None) (sym misfits-are)
 
 pub read-refused : (fs : List program.Form) (o : Option Place) (at : Place) → o ≡ first_onto None (misfits (views fs)) → o ≡ Some at → IsReadBack (views fs) (Err at)
@@ -121,7 +123,7 @@ module _ (fs : List program.Form) (o : Option Place) (found : o ≡ first_onto N
   sections = (sections_of (map view fs)).sections
 
   no-misfits : misfits (views fs) ≡ []
-  no-misfits = none_found (misfits (views fs)) (sym found ∙ e)
+  no-misfits = none_found stands_before (misfits (views fs)) (sym found ∙ e)
 
   none-here : ((fault_places (faults_from [] (forms_in sections)) ++ places_of (sections_of (map view fs)).front) ≡ []) × (trees_misfits (first_place (map view fs)) [] sections ≡ [])
   none-here =

@@ -10,10 +10,10 @@ use Rattle.cp_sexpr.specs.declared.form.Form as program
 use Rattle.cp_model.specs.Skeleton.{SkeletonStrand}
 use Rattle.cp_language.specs.Roles.{text_of_symbol}
 use Rattle.cp_language.specs.Problems.{number_of, Problem}
-use Rattle.cp_report.specs.Misfits.{misfit, unless_misfit, entries_misfits, symbol_misfits}
+use Rattle.cp_report.specs.Misfits.{stands_before, misfit, unless_misfit, entries_misfits, symbol_misfits}
 use Rattle.cp_report.specs.Labels.{OperationWord, problem_word, collapsed_word, contracted_word, displaced_word, added_strand_word, added_listener_word, generalised_word, no_operation_word, operation_word, is_operation, operation_kinds, operation_misfits, block_misfits, blocks}
 use Rattle.cp_spelled.specs.FirstMisfit.{first_onto}
-use Rattle.cp_spelled.proofs.Firsts.{first_onto-append}
+use Rattle.cp_forms.proofs.FirstOf.{first_onto-append}
 use Rattle.cp_reading.specs.Parts.{blocks_of, kinds_behind, operation_item_misfits}
 
 -- what is left of mapped forms
@@ -36,7 +36,7 @@ module _ (ns : List ℕ) (at : Place) (fs : List program.Form) where
   block-taken k (suc m) n sum less o all inv f is p noted =
       let rest = entries_misfits (blocks_of ns (suc k) m) at (map view (drop (suc k) fs)) in
       let one : (k + 1) + m ≡ n = omega arith in
-      let now : first_onto p rest ≡ all = ap (λ q. first_onto q rest) noted ∙ sym (first_onto-append o (block_misfits ns k f) rest)
+      let now : first_onto p rest ≡ all = ap (λ q. first_onto q rest) noted ∙ sym (first_onto-append stands_before o (block_misfits ns k f) rest)
       ∙ sym (ap (λ gs. first_onto o (entries_misfits (blocks_of ns k (suc m)) at gs)) (left_of fs k f is)) ∙ inv in
       (m, one, subst (λ i. first_onto p (entries_misfits (blocks_of ns i m) at (map view (drop i fs))) ≡ all) (sym (add-one k)) now)
 

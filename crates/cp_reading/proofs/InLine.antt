@@ -8,10 +8,10 @@ use Rattle.cp_sexpr.specs.View.{view}
 use Rattle.cp_sexpr.specs.declared.form.Form as program
 use Rattle.cp_language.specs.Faults.{place_of}
 use Rattle.cp_language.specs.Problems.{is_not_empty}
-use Rattle.cp_report.specs.Misfits.{misfit_unless}
+use Rattle.cp_report.specs.Misfits.{stands_before, misfit_unless}
 use Rattle.cp_report.specs.Heads.{Line, lines_from, lines_behind, order_misfits}
 use Rattle.cp_spelled.specs.FirstMisfit.{first_onto}
-use Rattle.cp_spelled.proofs.Firsts.{first_onto-append}
+use Rattle.cp_forms.proofs.FirstOf.{first_onto-append}
 
 module _ (fs : List program.Form) (k : ℕ) where
   pub line-taken : (f : program.Form) → k < length fs → f ≡ get_or fs k f → (lines own behind : List Line) (stands : Bool) (o p all : Option Place)
@@ -23,7 +23,7 @@ module _ (fs : List program.Form) (k : ℕ) where
       let next = lines_behind lines (lines_from (view f) lines) in
       ap (λ ls. first_onto p (order_misfits ls rest)) (is_behind ∙ ap (lines_behind lines) is_own)
       ∙ ap (λ q. first_onto q (order_misfits next rest)) (noted ∙ ap (λ b. first_onto o (misfit_unless b (place_of (view f)))) (is_standing ∙ ap is_not_empty is_own))
-      ∙ sym (first_onto-append o here (order_misfits next rest))
+      ∙ sym (first_onto-append stands_before o here (order_misfits next rest))
       ∙ sym (ap (λ gs. first_onto o (order_misfits lines (map view gs))) (drop_read fs k f h e)) ∙ i
 
   pub lines-done : length fs ≤ k → (lines : List Line) (o all : Option Place) → first_onto o (order_misfits lines (map view (drop k fs))) ≡ all → o ≡ all

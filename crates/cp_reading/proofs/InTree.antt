@@ -11,7 +11,8 @@ use Rattle.cp_language.specs.Problems.{Problem}
 use Rattle.cp_report.specs.Labels.{label_misfits, label_of}
 use Rattle.cp_report.specs.ReadBack.{labels_misfits, places_of, if_whole, ending_misfits, labels_in_front, behind_labels, tree_misfits}
 use Rattle.cp_spelled.specs.FirstMisfit.{first_onto}
-use Rattle.cp_spelled.proofs.Firsts.{first_onto-append, first_then}
+use Rattle.cp_report.specs.Misfits.{stands_before}
+use Rattle.cp_forms.proofs.FirstOf.{first_onto-append, first_then}
 use Rattle.cp_reading.specs.Counting.{AreCountsIn, ending_form_misfits}
 use Rattle.cp_reading.specs.declared.status.Counts.{Counts}
 use Rattle.cp_reading.proofs.Counted.{counts_are, status_is}
@@ -22,7 +23,7 @@ module _ (p : Problem) (tree : Option (List Form)) (fs : List program.Form) (k :
   label-taken f h e o q all g i =
       let rest = map view (drop (k + 1) fs) in
       ap (λ n. first_onto q (labels_misfits p tree n rest)) (add-one k) ∙ ap (λ x. first_onto x (labels_misfits p tree (suc k) rest)) g
-      ∙ sym (first_onto-append o (label_misfits p tree k (view f)) (labels_misfits p tree (suc k) rest))
+      ∙ sym (first_onto-append stands_before o (label_misfits p tree k (view f)) (labels_misfits p tree (suc k) rest))
       ∙ sym (ap (λ gs. first_onto o (labels_misfits p tree k (map view gs))) (drop_read fs k f h e)) ∙ i
 
   pub labels-done : length fs ≤ k → (o all : Option Place) → first_onto o (labels_misfits p tree k (map view (drop k fs))) ≡ all → o ≡ all
@@ -38,7 +39,7 @@ pub tree-asked : (p : Problem) (next : Place) (behind labels ending : List Form)
     → labels ≡ labels_in_front behind → ending ≡ behind_labels behind → tree ≡ if_whole labels ending → AreCountsIn labels c
     → q ≡ first_onto o (labels_misfits p tree 0 labels) → r ≡ first_onto q (ending_form_misfits c next ending) → r ≡ first_onto o (tree_misfits (Some p) next behind)
 tree-asked p next behind labels ending tree c o q r is_front is_ending is_tree counted g h =
-    first_then o q r (labels_misfits p tree 0 labels) (ending_misfits (map (label_of p) labels) next ending) g (h ∙ ap (first_onto q) (ending-is p labels c counted next ending))
+    first_then stands_before o q r (labels_misfits p tree 0 labels) (ending_misfits (map (label_of p) labels) next ending) g (h ∙ ap (first_onto q) (ending-is p labels c counted next ending))
     ∙ ap (λ t. first_onto o (labels_misfits p t 0 labels ++ ending_misfits (map (label_of p) labels) next ending)) is_tree
     ∙ ap (λ ls. first_onto o (labels_misfits p (if_whole ls ending) 0 ls ++ ending_misfits (map (label_of p) ls) next ending)) is_front
     ∙ ap (λ es. first_onto o (labels_misfits p (if_whole (labels_in_front behind) es) 0 (labels_in_front behind) ++ ending_misfits (map (label_of p) (labels_in_front behind)) next es)) is_ending

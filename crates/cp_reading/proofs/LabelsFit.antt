@@ -1,5 +1,5 @@
 -- Trees without misfits: what their labels are made of, and the tree that they are.
-use Rattle.std.proofs.Common.{◌≡◌, ℕ, suc, ◌==◌, List, [], ◌∷◌, map, drop, ap, ◌∙◌, subst}
+use Rattle.std.proofs.Common.{◌≡◌, ℕ, suc, ◌==◌, List, [], ◌∷◌, map, ap, ◌∙◌, subst}
 use Rattle.std.specs.Prelude.{Option, Some}
 use Rattle.cp_base.specs.declared.place.Place.{Place}
 use Rattle.cp_lists.specs.Lists.{IsIn, here, there}
@@ -9,7 +9,7 @@ use Rattle.cp_language.specs.Faults.{place_of}
 use Rattle.cp_language.specs.Problems.{Problem}
 use Rattle.cp_report.specs.Misfits.{number_misfits}
 use Rattle.cp_report.specs.Heads.{entries_of}
-use Rattle.cp_report.specs.Labels.{items_of_label, items_misfits, numbered_misfits, label_misfits, label_of}
+use Rattle.cp_report.specs.Labels.{behind_number, items_of_label, items_misfits, numbered_misfits, label_misfits, label_of}
 use Rattle.cp_report.specs.ReadBack.{labels_misfits, if_whole, ending_misfits, labels_in_front, behind_labels, tree_misfits, tree_of}
 use Rattle.cp_stated.proofs.NoMisfits.{none_in_both}
 use Rattle.cp_reading.specs.Counting.{outcome_in}
@@ -17,9 +17,9 @@ use Rattle.cp_reading.specs.Items.{HasFitting}
 use Rattle.cp_reading.proofs.AllItems.{has-fitting}
 
 module _ (p : Problem) (tree : Option (List Form)) where
-  numbered_fit : (i : ℕ) (at : Place) (fs : List Form) → numbered_misfits p tree i at fs ≡ [] → HasFitting p (drop 1 fs)
+  numbered_fit : (i : ℕ) (at : Place) (fs : List Form) → numbered_misfits p tree i at fs ≡ [] → HasFitting p (behind_number fs)
   numbered_fit i at [] e = absurd (cc)
-  numbered_fit i at (f ∷ items) e = has-fitting p tree i at items (none_in_both (number_misfits (λ n. n == i) f) (items_misfits p tree i at items) e).1
+  numbered_fit i at (f ∷ fs) e = has-fitting p tree i at (behind_number (f ∷ fs)) (none_in_both (number_misfits (λ n. n == i) f) (items_misfits p tree i at (behind_number (f ∷ fs))) e).1
 
   labels_fit : (i : ℕ) (fs : List Form) → labels_misfits p tree i fs ≡ [] → (f : Form) → IsIn f fs → HasFitting p (items_of_label f)
   labels_fit i [] e f m = elim m [ ]

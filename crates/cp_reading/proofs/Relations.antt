@@ -11,10 +11,10 @@ use Rattle.cp_sexpr.specs.Syntax.{Form}
 use Rattle.cp_sexpr.specs.View.{view}
 use Rattle.cp_sexpr.specs.declared.form.Form as program
 use Rattle.cp_language.specs.Problems.{number_of}
-use Rattle.cp_report.specs.Misfits.{number_misfits}
+use Rattle.cp_report.specs.Misfits.{stands_before, number_misfits}
 use Rattle.cp_report.specs.Labels.{is_among, is_number, stated_number, numbers_onto, numbers_in, stated_parent, stated_children, has_parent, has_child, has_parent_in, children_misfits}
 use Rattle.cp_spelled.specs.FirstMisfit.{first_onto}
-use Rattle.cp_spelled.proofs.Firsts.{first_onto-append}
+use Rattle.cp_forms.proofs.FirstOf.{first_onto-append}
 use Rattle.cp_reading.specs.Families.{AreNumbers, is_same_child, names_child, child_from, AreChildren, parent_in}
 
 or_false : (b : Bool) → (b || false) ≡ b
@@ -59,7 +59,7 @@ module _ (fs : List program.Form) (k : ℕ) (tree : Option (List Form)) (i : ℕ
       let stored : ℕ → Bool = λ n. has_parent_in tree i n && not (contains nat_eq set n) in
       let same : stored ≡ among = λ j n. has_parent_in tree i n && not (are n j) in
       ap (λ q. first_onto q rest) (noted ∙ ap (λ (t : ℕ → Bool). first_onto o (number_misfits t (view f))) same)
-      ∙ sym (first_onto-append o (number_misfits among (view f)) rest)
+      ∙ sym (first_onto-append stands_before o (number_misfits among (view f)) rest)
       ∙ sym (ap (λ gs. first_onto o (children_misfits tree i before (map view gs))) (drop_read fs k f h e)) ∙ inv
 
   pub children-done : length fs ≤ k → (before : List ℕ) (o all : Option Place) → first_onto o (children_misfits tree i before (map view (drop k fs))) ≡ all → o ≡ all

@@ -3,15 +3,33 @@ ghost use Rattle.std.specs.Prelude.{◌≡◌, map, option_map};
 ghost use Rattle.cp_sexpr.specs.View.{view};
 ghost use Rattle.cp_language.specs.Words.{is_one_of};
 ghost use Rattle.cp_language.specs.Problems.{name_in_front};
-ghost use Rattle.cp_report.specs.Heads.{has_head, item_with, mark_heads, is_of_tree, is_label};
+ghost use Rattle.cp_report.specs.Heads.{has_head, item_with, mark_heads, up_to_strands, is_of_tree, is_label};
 ghost use Rattle.cp_report.specs.Labels.{items_of_label};
 
-use cp_forms::{headed, is_word, items_behind, later_items, symbol_or_empty};
+use cp_forms::{first_items, headed, is_word, items_behind, symbol_or_empty};
 use cp_sexpr::Form;
 use cp_spelled::has_head;
 
 /// The heads of marks.
 pub(crate) const MARK_HEADS: &[&str] = &["shape", "dead", "seen", "instance-of", "limit"];
+
+/// The heads of the items that belong behind the strands.
+const HEADS_BEHIND_STRANDS: &[&str] = &[
+    "precedes",
+    "non-orig",
+    "pen-non-orig",
+    "uniq-orig",
+    "map",
+    "unrealised",
+    "test",
+    "escape",
+    "children",
+    "shape",
+    "dead",
+    "seen",
+    "instance-of",
+    "limit",
+];
 
 /// Whether a word is one of these.
 fn is_one_of(word: &[u8], words: &[&str]) -> bool
@@ -47,6 +65,18 @@ pub(crate) fn mark_item(items: &[Form]) -> Option<&Form>
     None
 }
 
+/// The items in front of the first that belongs behind the strands.
+pub(crate) fn up_to_strands(items: &[Form]) -> &[Form]
+    ensures { map view result.now ≡ up_to_strands (map view items.now) }
+{
+    for (place, item) in items.iter().enumerate() {
+        if has_one_of(item, HEADS_BEHIND_STRANDS) {
+            return first_items(items, place);
+        }
+    }
+    items
+}
+
 /// Whether a form is a label form.
 pub(crate) fn is_label(form: &Form) -> bool
     ensures { result ≡ is_label (view form.now) }
@@ -61,11 +91,15 @@ pub fn is_of_tree(form: &Form) -> bool
     has_one_of(form, &["label", "status"])
 }
 
-/// The items of a label form, which stand behind its number.
+/// The items of a label form, which stand behind its number. A list in front is no number, but an item.
 pub(crate) fn items_of_label(form: &Form) -> &[Form]
     ensures { map view result.now ≡ items_of_label (view form.now) }
 {
-    later_items(items_behind(form), 1)
+    let entries = items_behind(form);
+    match entries.split_first() {
+        None | Some((Form::List(_, _), _)) => entries,
+        Some((_, behind)) => behind,
+    }
 }
 
 /// The text of the symbol that stands first; where none does the empty text.

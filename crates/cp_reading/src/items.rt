@@ -3,12 +3,12 @@ ghost use Rattle.std.specs.Prelude.{◌≡◌, ◌||◌, ◌++◌, [], ◌∷◌
 ghost use Rattle.cp_sexpr.specs.View.{view};
 ghost use Rattle.cp_language.specs.Problems.{is_known};
 ghost use Rattle.cp_strand.specs.View.{declaration_view, strand_view};
-ghost use Rattle.cp_report.specs.Heads.{item_with, lines_of_label, order_misfits};
+ghost use Rattle.cp_report.specs.Heads.{item_with};
 ghost use Rattle.cp_report.specs.Skeletons.{declarations_of_label, vars_item_misfits};
 ghost use Rattle.cp_report.specs.Labels.{word_of_label, wants_parent, has_children, has_mark, missing_misfits};
 ghost use Rattle.cp_spelled.specs.FirstMisfit.{first_onto};
 ghost use Rattle.cp_reading.specs.Families.{labels_of, IsFamily};
-ghost use Rattle.cp_reading.specs.Parts.{is_fitting, no_parent_item_misfits, parent_item_misfits, operation_of_item_misfits, children_item_misfits};
+ghost use Rattle.cp_reading.specs.Parts.{no_parent_item_misfits, parent_item_misfits, operation_of_item_misfits, children_item_misfits};
 ghost use Rattle.cp_reading.specs.Words.{word_view};
 
 use crate::family::{Family, children_misfits, parent_misfits};
@@ -16,7 +16,6 @@ use crate::heads::mark_item;
 use crate::operations::{
     OperationWord, is_operation, makes_root, operation_misfits, word_in_front,
 };
-use crate::order::order_misfits;
 use cp_base::Place;
 use cp_forms::{items_behind, place_of};
 use cp_sexpr::Form;
@@ -91,18 +90,6 @@ pub(crate) fn missing_if(is_asked: bool, place: Place, items: &[Form], first: &m
     if is_asked {
         missing_misfits(place, items, first);
     }
-}
-
-/// The items have to stand in the order; whether they do.
-pub(crate) fn order_item_misfits(items: &[Form], first: &mut FirstMisfit) -> bool
-    ensures ordered { result ≡ is_fitting (order_misfits lines_of_label (map view items.now)) }
-    ensures misfits { first.new ≡ first_onto first.old (order_misfits lines_of_label (map view items.now)) }
-{
-    let mut inside = FirstMisfit::new();
-    order_misfits(items, &mut inside);
-    let is_ordered = inside.is_none();
-    first.merge(inside);
-    is_ordered
 }
 
 /// A parent may be there where the label is no root.

@@ -3,7 +3,8 @@ ghost use Rattle.std.specs.Prelude.{◌≡◌, ◌==◌, ◌&&◌, ◌++◌, [],
 ghost use Rattle.cp_sexpr.specs.View.{view};
 ghost use Rattle.cp_load.specs.Drafts.{draft_view};
 ghost use Rattle.cp_report.specs.Skeletons.{scope_of, strands_misfits, around_strands_misfits};
-ghost use Rattle.cp_report.specs.Misfits.{number_misfits};
+ghost use Rattle.cp_report.specs.Misfits.{number_misfits, first_or};
+ghost use Rattle.cp_report.specs.Heads.{up_to_strands, lines_of_label, order_misfits};
 ghost use Rattle.cp_report.specs.Labels.{about_strands_misfits, items_misfits, label_misfits};
 ghost use Rattle.cp_spelled.specs.FirstMisfit.{first_onto};
 ghost use Rattle.cp_spelled.specs.Views.{scope_view};
@@ -13,12 +14,13 @@ ghost use Rattle.cp_reading.specs.Items.{IsSetting};
 
 use crate::about::{about_strands_misfits, escape_item_misfits};
 use crate::family::Family;
-use crate::heads::mark_item;
+use crate::heads::{items_of_label, mark_item, up_to_strands};
 use crate::items::{
     children_item_misfits, has_children, missing_if, no_parent_misfits, operation_item_misfits,
-    order_item_misfits, parent_item_misfits, variables_item,
+    parent_item_misfits, variables_item,
 };
 use crate::marks::mark_misfits;
+use crate::order::{are_in_order, order_misfits, place_of_lack};
 use cp_base::Place;
 use cp_forms::{items_behind, place_of};
 use cp_load::Draft;
@@ -76,7 +78,7 @@ fn behind_strands_if(
     requires setting { IsSetting setting }
     requires scope { scope_view scope ≡ scope_of (map view label.items.now) }
     ensures { OnOk result (first.new ≡ first_onto first.old (if is_asked
-        then around_strands_misfits (draft_view setting.entry.problem.now) label.entry.place (map view label.entry.items.now)
+        then around_strands_misfits (draft_view setting.entry.problem.now) (first_or label.entry.place (order_misfits lines_of_label (map view label.entry.items.now))) (map view label.entry.items.now)
         ++ about_strands_misfits (draft_view setting.entry.problem.now) (map view label.entry.items.now)
         else [])) }
 {
@@ -91,7 +93,8 @@ fn behind_strands_if(
     } = setting;
     let Labelled { place, items, .. } = label;
     let strands = strands_of(alloc, problem.protocol.roles(), scope, items)?;
-    around_strands_misfits(alloc, problem, names, scope, &strands, place, items, first)?;
+    let lack = place_of_lack(place, items);
+    around_strands_misfits(alloc, problem, names, scope, &strands, lack, items, first)?;
     about_strands_misfits(scope, &strands, items, first);
     Ok(())
 }
@@ -104,11 +107,11 @@ fn strand_count(problem: &Draft) -> usize
     strands.len()
 }
 
-/// Whether the items stand in the order and the strands fit.
-fn are_fitting(is_ordered: bool, strands_fit: bool) -> bool
-    ensures { result ≡ (is_ordered && strands_fit) }
+/// Whether the items up to the strands stand in the order, and the strands fit, as it is said.
+fn are_known(items: &[Form], strands_fit: bool) -> bool
+    ensures { result ≡ (is_fitting (order_misfits lines_of_label (up_to_strands (map view items.now))) && strands_fit) }
 {
-    is_ordered && strands_fit
+    are_in_order(up_to_strands(items)) && strands_fit
 }
 
 /// Where the items of a label form do not fit.
@@ -126,8 +129,8 @@ fn items_misfits(
         place,
         items,
     } = label;
-    let is_ordered = order_item_misfits(items, first);
-    missing_if(is_ordered, place, items, first);
+    order_misfits(items, first);
+    missing_if(are_in_order(items), place, items, first);
     no_parent_misfits(items, first);
     parent_item_misfits(setting.tree, number, items, first);
     operation_item_misfits(strand_count(setting.problem), items, first);
@@ -139,7 +142,7 @@ fn items_misfits(
         locals: &locals,
     };
     let fit = strands_item_misfits(setting, scope, items, first)?;
-    let is_asked = are_fitting(is_ordered, fit);
+    let is_asked = are_known(items, fit);
     behind_strands_if(is_asked, setting, scope, label, first)?;
     escape_item_misfits(setting.alloc, &variables, items, first)?;
     children_item_misfits(setting.alloc, setting.tree, number, items, first)?;
@@ -169,7 +172,7 @@ pub(crate) fn label_misfits(
         (option_map (λ f. labels_of f.now) setting.entry.tree) number (view form.now))) }
 {
     let place = place_of(form);
-    let Some((stated, items)) = items_behind(form).split_first() else {
+    let Some((stated, _)) = items_behind(form).split_first() else {
         first.note(place);
         return Ok(());
     };
@@ -177,7 +180,7 @@ pub(crate) fn label_misfits(
     let label = Labelled {
         number,
         place,
-        items,
+        items: items_of_label(form),
     };
     items_misfits(setting, label, first)
 }

@@ -1,11 +1,14 @@
 // The order of the items of a label form.
 ghost use Rattle.std.specs.Prelude.{◌≡◌, map};
 ghost use Rattle.cp_sexpr.specs.View.{view};
+ghost use Rattle.cp_report.specs.Misfits.{first_or};
 ghost use Rattle.cp_report.specs.Heads.{lines_of_label, lines_from, lines_behind, order_misfits};
 ghost use Rattle.cp_spelled.specs.FirstMisfit.{first_onto};
 ghost use Rattle.cp_reading.specs.Lines.{line_view};
+ghost use Rattle.cp_reading.specs.Parts.{is_fitting};
 
 use crate::heads::{MARK_HEADS, has_one_of};
+use cp_base::Place;
 use cp_forms::place_of;
 use cp_sexpr::Form;
 use cp_spelled::FirstMisfit;
@@ -111,4 +114,29 @@ pub(crate) fn order_misfits(items: &[Form], first: &mut FirstMisfit)
         first.note_unless(!own.is_empty(), place_of(item));
         lines = lines_behind(lines, own);
     }
+}
+
+/// Whether the items are such, and stand in the order.
+pub(crate) fn are_in_order(items: &[Form]) -> bool
+    ensures { result ≡ is_fitting (order_misfits lines_of_label (map view items.now)) }
+{
+    let mut inside = FirstMisfit::new();
+    order_misfits(items, &mut inside);
+    inside.is_none()
+}
+
+/// Where a label form, which stands at this place, lacks something that an item may be that is out of the order: at the
+/// first such item, or where there is none at the form.
+pub(crate) fn place_of_lack(place: Place, items: &[Form]) -> Place
+    ensures { result ≡ first_or place (order_misfits lines_of_label (map view items.now)) }
+{
+    let mut lines = LINES;
+    for item in items {
+        let own = lines_from(item, lines);
+        if own.is_empty() {
+            return place_of(item);
+        }
+        lines = lines_behind(lines, own);
+    }
+    place
 }

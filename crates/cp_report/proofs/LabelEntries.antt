@@ -1,6 +1,6 @@
 -- Each item of a label form as it is printed is found by its head, with what it lists.
 use Rattle.std.proofs.Common.{◌≡◌, ℕ, List, [], ◌∷◌, true, refl, ap, ◌∙◌}
-use Rattle.std.specs.Prelude.{Option, Some, None, map, drop, codes}
+use Rattle.std.specs.Prelude.{Option, Some, None, map, codes}
 use Rattle.cp_model.specs.Term.{Variable}
 use Rattle.cp_model.specs.Tree.{Label}
 use Rattle.cp_sexpr.specs.Syntax.{Form}
@@ -8,7 +8,7 @@ use Rattle.cp_language.specs.Names.{label_names}
 use Rattle.cp_language.specs.Printed.{numeral, headed_list, pattern_form}
 use Rattle.cp_language.specs.Report.{occurring, named_by, node_form, parent_items, operation_words, map_form, test_items, mark_items, item_unless_empty, label_items, label_form}
 use Rattle.cp_report.specs.Heads.{item_with, entries_or_none, entries_under, mark_heads}
-use Rattle.cp_report.specs.Labels.{number_in_front, numbers_in, items_of_label, stated_parent, stated_children}
+use Rattle.cp_report.specs.Labels.{number_in_front, numbers_in, behind_number, items_of_label, stated_parent, stated_children}
 use Rattle.cp_report.proofs.PrintedStrands.{items_back}
 use Rattle.cp_report.proofs.LabelItems.{Group, forms_for, is_alone, label_groups, label_in_groups, label_groups_are, item_found, listed_under}
 
@@ -89,7 +89,7 @@ module _ (of_problem : List (List ℕ)) (n : ℕ) (l : Label) where
 
   -- The items of a label form are those that are printed.
   pub items_printed : items_of_label (label_form of_problem n l) ≡ label_items of_problem names_here l
-  items_printed = ap (drop 1) (items_back (numeral n ∷ label_items of_problem names_here l))
+  items_printed = ap behind_number (items_back (numeral n ∷ label_items of_problem names_here l))
 
   pub parent_printed : stated_parent (label_form of_problem n l) ≡ l.parent
   parent_printed = ap (λ fs. number_in_front (entries_under (codes "parent") fs)) items_printed ∙ parent_is of_problem names_here l

@@ -14,8 +14,8 @@ use Rattle.cp_language.specs.Faults.{items_of}
 use Rattle.cp_language.specs.Printed.{numeral, no_place, pattern_form}
 use Rattle.cp_language.specs.Report.{variables_of_test, node_form, parent_items, operation_words, test_items, mark_items, item_unless_empty, label_form}
 use Rattle.cp_language.specs.Problems.{is_known, name_in_front, Problem}
-use Rattle.cp_report.specs.Misfits.{misfit_unless, unless_misfit, where_fitting, lacking, each_misfits}
-use Rattle.cp_report.specs.Heads.{item_with, entries_under, optional_misfits, mark_heads}
+use Rattle.cp_report.specs.Misfits.{misfit_unless, unless_misfit, where_fitting, first_or, lacking, each_misfits}
+use Rattle.cp_report.specs.Heads.{item_with, entries_under, optional_misfits, mark_heads, lines_of_label, order_misfits}
 use Rattle.cp_report.specs.Spelled.{Scope, pattern_misfits}
 use Rattle.cp_report.specs.Skeletons.{declarations_of_label, scope_of, node_misfits, strands_of_label, around_strands_misfits}
 use Rattle.cp_report.specs.Labels.{is_among, has_child_in, has_parent_in, is_label_in, parent_misfits, children_misfits, operation_word, is_operation, makes_root, operation_misfits, operation_place_misfits, word_of_label, unrealised_misfits, test_misfits, escape_misfits, has_children, has_mark, mark_misfits, no_parent_misfits, wants_parent, missing_misfits, about_strands_misfits, items_misfits, numbered_misfits, label_misfits}
@@ -24,7 +24,7 @@ use Rattle.cp_report.specs.UpToNames.{renamed, renaming}
 use Rattle.cp_report.proofs.SpelledTerms.{StandsFor, none_and, printed_term_fits}
 use Rattle.cp_report.proofs.CoveringSkeletons.{there_too}
 use Rattle.cp_report.proofs.PrintedStrands.{items_back}
-use Rattle.cp_report.proofs.LabelItems.{label_items_in_order}
+use Rattle.cp_report.proofs.LabelItems.{label_items_in_order, front_in_order}
 use Rattle.cp_report.proofs.LabelEntries.{parent_found, by_found, map_found, unrealised_found, test_found, escape_found, children_found, mark_found, operation_are}
 use Rattle.cp_report.proofs.LabelWords.{of_problem, names, named, number, items}
 use Rattle.cp_report.proofs.SkeletonRead.{IsUnder}
@@ -250,7 +250,8 @@ module _ (under : IsUnder) (whole : AppliesWhole) (p : Problem) (l : Label) (h :
       none_and _ _ (none_and _ _ (none_and _ _ (none_and _ _ (none_and _ _ (none_and _ _ (none_and _ _ (none_and _ _ (none_and _ _
       (ap (λ ps. unless_misfit ps (missing_misfits at (items p l))) ordered ∙ missing at)
       root_item) parent_item) operation_item) (vars_fit under whole p l h)) strands_are)
-      (ap (λ ps. where_fitting ps (around_strands_misfits p at (items p l) ++ about_strands_misfits p (items p l))) (none_and _ _ ordered strands_are) ∙ none_and _ _ (around_fits under whole p l h at) about_fits))
+      (ap (λ ps. where_fitting ps (around_strands_misfits p (first_or at (order_misfits lines_of_label (items p l))) (items p l) ++ about_strands_misfits p (items p l)))
+      (none_and _ _ (front_in_order lines_of_label (items p l) ordered) strands_are) ∙ none_and _ _ (around_fits under whole p l h (first_or at (order_misfits lines_of_label (items p l)))) about_fits))
       escape_item) children_item) mark_item
 
   -- A label form as it is printed fits.

@@ -17,7 +17,7 @@ use Rattle.cp_language.specs.Printed.{word, numeral, headed_list, plain_list, at
 use Rattle.cp_language.specs.Report.{occurring, item_unless_empty, named_by, node_form, parent_items, operation_words, vars_from, maplets_from, strand_form, value_forms, covering_pairs, unique_form, map_form, test_items, mark_items, label_items}
 use Rattle.cp_language.proofs.ValidTests.{one_of, is_one}
 use Rattle.cp_report.specs.Misfits.{misfit_unless}
-use Rattle.cp_report.specs.Heads.{has_head, entries_of, item_with, items_with, entries_under, Line, once, strand_heads, mark_heads, lines_of_label, lines_from, lines_behind, order_misfits}
+use Rattle.cp_report.specs.Heads.{has_head, entries_of, item_with, items_with, entries_under, Line, once, strand_heads, mark_heads, heads_behind_strands, up_to_strands, lines_of_label, lines_from, lines_behind, order_misfits}
 use Rattle.cp_report.proofs.CoveringOrder.{not_true}
 use Rattle.cp_report.proofs.PrintedStrands.{items_back}
 
@@ -327,6 +327,18 @@ label_groups_are of_problem names l = (
 -- The items of a label form stand in order.
 pub label_items_in_order : (of_problem names : List (List ℕ)) (l : Label) → order_misfits lines_of_label (label_items of_problem names l) ≡ []
 label_items_in_order of_problem names l = ap (order_misfits lines_of_label) (label_in_groups of_problem names l) ∙ in_order (label_groups of_problem names l) (label_groups_are of_problem names l) refl
+
+-- Where all items stand in order, those up to the strands do.
+pub front_in_order : (lines : List Line) (items : List Form) → order_misfits lines items ≡ [] → order_misfits lines (up_to_strands items) ≡ []
+front_in_order lines [] e = refl
+front_in_order lines (f ∷ fs) e =
+    let parts = both_none (misfit_unless (is_not_empty (lines_from f lines)) (place_of f)) (order_misfits (lines_behind lines (lines_from f lines)) fs) e in
+    by (has_head heads_behind_strands f)
+    (ap (λ ps. ps ++ order_misfits (lines_behind lines (lines_from f lines)) (up_to_strands fs)) parts.0 ∙ front_in_order (lines_behind lines (lines_from f lines)) fs parts.1)
+  where
+    by : (b : Bool) → order_misfits lines (f ∷ up_to_strands fs) ≡ [] → order_misfits lines (if b then [] else f ∷ up_to_strands fs) ≡ []
+    by true g = refl
+    by false g = g
 
 -- What is listed under a head, whether the item is left out or not.
 pub listed_under : (head : List ℕ) (fs : List Form) → entries_under head (item_unless_empty head fs) ≡ fs

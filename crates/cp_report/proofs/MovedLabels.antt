@@ -12,18 +12,18 @@ use Rattle.cp_language.specs.Words.{is_one_of}
 use Rattle.cp_language.specs.Faults.{place_of}
 use Rattle.cp_language.specs.Roles.{Headed, headed}
 use Rattle.cp_language.specs.Problems.{is_known, is_not_empty, first_form, second_form, number_of, option_node, Problem}
-use Rattle.cp_report.specs.Misfits.{lacking, each_misfits, entries_misfits, number_misfits, symbol_misfits}
-use Rattle.cp_report.specs.Heads.{entries_of, item_with, entries_under, optional_misfits, mark_heads, Line, lines_of_label, lines_from, lines_behind, order_misfits, has_head}
+use Rattle.cp_report.specs.Misfits.{first_or, lacking, each_misfits, entries_misfits, number_misfits, symbol_misfits}
+use Rattle.cp_report.specs.Heads.{entries_of, item_with, entries_under, optional_misfits, mark_heads, heads_behind_strands, up_to_strands, Line, lines_of_label, lines_from, lines_behind, order_misfits, has_head}
 use Rattle.cp_report.specs.Spelled.{Scope, term_misfits, pattern_misfits, pattern_of}
-use Rattle.cp_report.specs.Skeletons.{declarations_of_label, scope_of, term_or_tag, node_misfits, node_or_first, strands_of_label}
-use Rattle.cp_report.specs.Labels.{number_in_front, items_of_label, is_label_in, parent_misfits, children_misfits, is_operation, makes_root, operation_misfits, operation_place_misfits, operation_by, word_of_label, unrealised_misfits, test_misfits, escape_misfits, test_of, mark_kinds, mark_by, mark_of, mark_in, has_children, has_mark, headed_mark_misfits, mark_misfits, no_parent_misfits, wants_parent, missing_misfits, about_strands_misfits, items_misfits, numbered_misfits, label_misfits, label_by, label_of}
+use Rattle.cp_report.specs.Skeletons.{declarations_of_label, scope_of, term_or_tag, node_misfits, node_or_first, strands_of_label, around_strands_misfits}
+use Rattle.cp_report.specs.Labels.{number_in_front, behind_number, items_of_label, is_label_in, parent_misfits, children_misfits, is_operation, makes_root, operation_misfits, operation_place_misfits, operation_by, word_of_label, unrealised_misfits, test_misfits, escape_misfits, test_of, mark_kinds, mark_by, mark_of, mark_in, has_children, has_mark, headed_mark_misfits, mark_misfits, no_parent_misfits, wants_parent, missing_misfits, about_strands_misfits, items_misfits, numbered_misfits, label_misfits, label_by, label_of}
 use Rattle.cp_report.proofs.Moved.{at_start, all_moved, IsMovedInside, both, unless_moved, where_moved, test_moved, place_moved, items_moved, head_moved, entries_moved, lacking_moved, each_moved, AreMoved, entries_misfits_moved, symbol_moved, number_moved}
 use Rattle.cp_report.proofs.MovedTerms.{test_at_form, term_moved}
 use Rattle.cp_report.proofs.MovedItems.{map_moved, item_moved, entries_under_moved, number_of_moved, first_moved, second_moved, name_in_front_moved, scope_moved, term_or_tag_moved, option_node_moved, node_moved}
 use Rattle.cp_report.proofs.MovedSkeletons.{strands_moved, node_misfits_moved}
 use Rattle.cp_report.proofs.MovedStated.{item_misfits_moved, skeleton_moved, vars_item_moved, strands_misfits_moved, around_moved}
 use Rattle.cp_report.proofs.MovedPatterns.{pattern_misfits_moved, pattern_moved}
-use Rattle.cp_report.proofs.MovedNumbers.{in_front_moved, rest_moved, label_items_moved, tree_moved, label_number_moved, parent_misfits_moved, children_misfits_moved, operation_misfits_moved, operation_place_moved, number_stated_moved, operation_by_moved, word_moved}
+use Rattle.cp_report.proofs.MovedNumbers.{in_front_moved, rest_moved, behind_number_moved, label_items_moved, tree_moved, label_number_moved, parent_misfits_moved, children_misfits_moved, operation_misfits_moved, operation_place_moved, number_stated_moved, operation_by_moved, word_moved}
 
 -- ---- the order of items
 
@@ -38,6 +38,23 @@ order_moved lines (f ∷ fs) =
     both _ _ _ _
     (test_at_form _ _ f (ap is_not_empty (lines_moved lines f)))
     (ap (λ ks. order_misfits (lines_behind lines ks) (all_moved fs)) (lines_moved lines f) ∙ order_moved (lines_behind lines (lines_from f lines)) fs)
+
+front_moved : (fs : List Form) → up_to_strands (all_moved fs) ≡ all_moved (up_to_strands fs)
+front_moved [] = refl
+front_moved (f ∷ fs) =
+    ap (λ b. if b then [] else unplaced f ∷ up_to_strands (all_moved fs)) (head_moved heads_behind_strands f)
+    ∙ ap (λ gs. if has_head heads_behind_strands f then [] else unplaced f ∷ gs) (front_moved fs) ∙ by (has_head heads_behind_strands f)
+  where
+    by : (b : Bool) → (if b then [] else unplaced f ∷ all_moved (up_to_strands fs)) ≡ all_moved (if b then [] else f ∷ up_to_strands fs)
+    by true = refl
+    by false = refl
+
+front_order_moved : (items : List Form) → order_misfits lines_of_label (up_to_strands (all_moved items)) ≡ at_start (order_misfits lines_of_label (up_to_strands items))
+front_order_moved items = ap (order_misfits lines_of_label) (front_moved items) ∙ order_moved lines_of_label (up_to_strands items)
+
+first_at_start : (ps : List Place) → first_or start (at_start ps) ≡ start
+first_at_start [] = refl
+first_at_start (p ∷ ps) = refl
 
 -- ---- items that are there
 
@@ -185,7 +202,11 @@ items_misfits_moved p tree i at items =
     (item_misfits_moved (codes "by" ∷ []) (operation_misfits p) (operation_misfits_moved p) items))
     (vars_item_moved items))
     (strands_misfits_moved p items))
-    (where_moved _ _ _ _ (both _ _ _ _ (order_moved lines_of_label items) (strands_misfits_moved p items)) (both _ _ _ _ (around_moved p at items) (about_moved p items))))
+    (where_moved _ _ _ _ (both _ _ _ _ (front_order_moved items) (strands_misfits_moved p items))
+    (both _ _ _ _
+    (ap (λ ps. around_strands_misfits p (first_or start ps) (all_moved items)) (order_moved lines_of_label items)
+    ∙ ap (λ q. around_strands_misfits p q (all_moved items)) (first_at_start (order_misfits lines_of_label items)) ∙ around_moved p (first_or at (order_misfits lines_of_label items)) items)
+    (about_moved p items))))
     (with_items (codes "escape" ∷ []) (escape_misfits items) (escape_misfits (all_moved items)) (escape_moved items) items))
     (with_items (codes "children" ∷ []) (λ q fs. lacking 1 q fs ++ children_misfits tree i [] fs) (λ q fs. lacking 1 q fs ++ children_misfits (tree_moved tree) i [] fs)
     (λ q fs. both _ _ _ _ (lacking_moved 1 q fs) (children_misfits_moved tree i [] fs)) items))
@@ -193,7 +214,9 @@ items_misfits_moved p tree i at items =
 
 numbered_moved : (p : Problem) (tree : Option (List Form)) (i : ℕ) (at : Place) (fs : List Form) → numbered_misfits p (tree_moved tree) i start (all_moved fs) ≡ at_start (numbered_misfits p tree i at fs)
 numbered_moved p tree i at [] = refl
-numbered_moved p tree i at (f ∷ items) = both _ _ _ _ (number_moved (λ n. n == i) f) (items_misfits_moved p tree i at items)
+numbered_moved p tree i at (f ∷ fs) =
+    both _ _ _ _ (number_moved (λ n. n == i) f)
+    (ap (items_misfits p (tree_moved tree) i start) (behind_number_moved (f ∷ fs)) ∙ items_misfits_moved p tree i at (behind_number (f ∷ fs)))
 
 pub label_misfits_moved : (p : Problem) (tree : Option (List Form)) (i : ℕ) (f : Form) → label_misfits p (tree_moved tree) i (unplaced f) ≡ at_start (label_misfits p tree i f)
 label_misfits_moved p tree i f =

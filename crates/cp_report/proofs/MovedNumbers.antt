@@ -14,7 +14,7 @@ use Rattle.cp_language.specs.Problems.{is_known, number_of, name_in_front, Probl
 use Rattle.cp_report.specs.Misfits.{entries_misfits, number_misfits}
 use Rattle.cp_report.specs.Heads.{entries_of, entries_under}
 use Rattle.cp_report.specs.Skeletons.{strand_number_misfits}
-use Rattle.cp_report.specs.Labels.{is_among, is_number, stated_number, number_in_front, numbers_onto, numbers_in, items_of_label, stated_parent, stated_children, has_parent, has_child, has_parent_in, has_child_in, is_label_in, parent_misfits, children_misfits, OperationWord, problem_word, collapsed_word, contracted_word, displaced_word, added_strand_word, added_listener_word, generalised_word, no_operation_word, operation_word, is_operation, blocks, operation_kinds, operation_misfits, index_misfits, operation_place_misfits, number_stated, node_stated, operation_by, word_of_label}
+use Rattle.cp_report.specs.Labels.{is_among, is_number, stated_number, number_in_front, numbers_onto, numbers_in, behind_number, items_of_label, stated_parent, stated_children, has_parent, has_child, has_parent_in, has_child_in, is_label_in, parent_misfits, children_misfits, OperationWord, problem_word, collapsed_word, contracted_word, displaced_word, added_strand_word, added_listener_word, generalised_word, no_operation_word, operation_word, is_operation, blocks, operation_kinds, operation_misfits, index_misfits, operation_place_misfits, number_stated, node_stated, operation_by, word_of_label}
 use Rattle.cp_report.proofs.Moved.{at_start, all_moved, IsMoved, IsMovedInside, both, unless_moved, entries_moved, AreMoved, entries_misfits_moved, symbol_moved, number_moved, any_number_moved}
 use Rattle.cp_report.proofs.MovedItems.{map_moved, text_moved, number_of_moved, name_in_front_moved, entries_under_moved}
 
@@ -38,8 +38,15 @@ pub rest_moved : (fs : List Form) → drop 1 (all_moved fs) ≡ all_moved (drop 
 rest_moved [] = refl
 rest_moved (f ∷ fs) = refl
 
+pub behind_number_moved : (fs : List Form) → behind_number (all_moved fs) ≡ all_moved (behind_number fs)
+behind_number_moved [] = refl
+behind_number_moved (symbol at t ∷ fs) = refl
+behind_number_moved (string at t ∷ fs) = refl
+behind_number_moved (number at n ∷ fs) = refl
+behind_number_moved (list at items ∷ fs) = refl
+
 pub label_items_moved : (f : Form) → items_of_label (unplaced f) ≡ all_moved (items_of_label f)
-label_items_moved f = ap (drop 1) (entries_moved f) ∙ rest_moved (entries_of f)
+label_items_moved f = ap behind_number (entries_moved f) ∙ behind_number_moved (entries_of f)
 
 parent_of_moved : (f : Form) → stated_parent (unplaced f) ≡ stated_parent f
 parent_of_moved f =

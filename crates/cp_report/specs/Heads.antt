@@ -58,6 +58,18 @@ strand_heads = codes "defstrand" ∷ codes "deflistener" ∷ []
 abbrev pub mark_heads : List (List ℕ)
 mark_heads = codes "shape" ∷ codes "dead" ∷ codes "seen" ∷ codes "instance-of" ∷ codes "limit" ∷ []
 
+-- The heads of the items that belong behind the strands.
+abbrev pub heads_behind_strands : List (List ℕ)
+heads_behind_strands =
+    codes "precedes" ∷ codes "non-orig" ∷ codes "pen-non-orig" ∷ codes "uniq-orig" ∷ codes "map" ∷ codes "unrealised" ∷ codes "test" ∷ codes "escape"
+    ∷ codes "children" ∷ mark_heads
+
+-- The items in front of the first that belongs behind the strands: the strands, what belongs before them, and what has no
+-- right to stand there, which may be a misspelled strand.
+abbrev pub up_to_strands : List Form → List Form
+up_to_strands [] = []
+up_to_strands (f ∷ fs) = if has_head heads_behind_strands f then [] else f ∷ up_to_strands fs
+
 -- One kind of item: its heads, and whether it may stand again and again.
 pub record Line : Type 0 where
   pub heads : List (List ℕ)

@@ -7,13 +7,13 @@ use Rattle.cp_model.specs.declared.node.Node.{Node}
 use Rattle.cp_model.specs.Skeleton.{SkeletonStrand, term_event_at}
 use Rattle.cp_model.specs.Tree.{Operation, by_problem, by_collapse, by_contraction, by_displacement, by_added_strand, by_added_listener, by_generalising, Mark, shape, dead, seen, instance_of, limit_steps, limit_strands, Test, Label}
 use Rattle.cp_model.specs.Same.{same_text}
-use Rattle.cp_sexpr.specs.Syntax.{Form, number}
+use Rattle.cp_sexpr.specs.Syntax.{Form, number, list}
 use Rattle.cp_language.specs.Words.{is_one_of}
 use Rattle.cp_language.specs.Faults.{place_of}
 use Rattle.cp_language.specs.Roles.{Headed, headed, text_of_symbol}
 use Rattle.cp_language.specs.Problems.{is_known, first_form, second_form, number_of, name_in_front, option_node, Problem}
-use Rattle.cp_report.specs.Misfits.{misfit, misfit_unless, unless_misfit, where_fitting, lacking, each_misfits, entries_misfits, number_misfits, symbol_misfits, any_number_misfits}
-use Rattle.cp_report.specs.Heads.{entries_of, item_with, entries_under, optional_misfits, mark_heads, lines_of_label, order_misfits}
+use Rattle.cp_report.specs.Misfits.{misfit, misfit_unless, unless_misfit, where_fitting, first_or, lacking, each_misfits, entries_misfits, number_misfits, symbol_misfits, any_number_misfits}
+use Rattle.cp_report.specs.Heads.{entries_of, item_with, entries_under, optional_misfits, mark_heads, up_to_strands, lines_of_label, order_misfits}
 use Rattle.cp_report.specs.Spelled.{Scope, term_misfits, pattern_misfits, pattern_of}
 use Rattle.cp_report.specs.Skeletons.{declarations_of_label, scope_of, term_or_tag, node_misfits, node_or_first, strands_of_label, strand_number_misfits, vars_item_misfits, strands_misfits, around_strands_misfits, skeleton_stated}
 
@@ -44,9 +44,15 @@ abbrev pub numbers_in : List Form → List ℕ
 numbers_in [] = []
 numbers_in (f ∷ fs) = numbers_onto (stated_number f) (numbers_in fs)
 
+-- The entries behind the number of a label form; a list in front is none, but an item.
+abbrev pub behind_number : List Form → List Form
+behind_number [] = []
+behind_number (list at items ∷ fs) = list at items ∷ fs
+behind_number (f ∷ fs) = fs
+
 -- The items of a label form stand behind its number.
 abbrev pub items_of_label : Form → List Form
-items_of_label f = drop 1 (entries_of f)
+items_of_label f = behind_number (entries_of f)
 
 -- The parent that a label form states.
 abbrev pub stated_parent : Form → Option ℕ
@@ -270,7 +276,8 @@ about_strands_misfits p items =
 
 -- The items of label number i of a tree, whose label forms are these if it is whole, in the label form that stands here:
 -- each stands in the order, none that is wanted is missing, and each fits. What speaks of the strands is asked only where
--- all items stand in the order and the strands fit.
+-- the items up to them stand in the order and the strands fit; and of assumptions that the roles give and no item lists the
+-- place is that of the label form, or where an item is out of the order, which may be that one misspelled, the place of this.
 abbrev pub items_misfits : Problem → Option (List Form) → ℕ → Place → List Form → List Place
 items_misfits p tree i at items =
     unless_misfit (order_misfits lines_of_label items) (missing_misfits at items)
@@ -279,15 +286,17 @@ items_misfits p tree i at items =
     ++ optional_misfits (operation_misfits p) (item_with (codes "by" ∷ []) items)
     ++ vars_item_misfits items
     ++ strands_misfits p items
-    ++ where_fitting (order_misfits lines_of_label items ++ strands_misfits p items) (around_strands_misfits p at items ++ about_strands_misfits p items)
+    ++ where_fitting (order_misfits lines_of_label (up_to_strands items) ++ strands_misfits p items)
+    (around_strands_misfits p (first_or at (order_misfits lines_of_label items)) items ++ about_strands_misfits p items)
     ++ optional_misfits (escape_misfits items) (item_with (codes "escape" ∷ []) items)
     ++ optional_misfits (λ q fs. lacking 1 q fs ++ children_misfits tree i [] fs) (item_with (codes "children" ∷ []) items)
     ++ mark_misfits tree items (item_with mark_heads items)
 
--- A label form behind its head: its number, and its items.
+-- A label form behind its head: its number, and its items. Where a list stands in the number's place it is a misfit, and
+-- an item like the others.
 abbrev pub numbered_misfits : Problem → Option (List Form) → ℕ → Place → List Form → List Place
 numbered_misfits p tree i at [] = misfit at
-numbered_misfits p tree i at (f ∷ items) = number_misfits (λ n. n == i) f ++ items_misfits p tree i at items
+numbered_misfits p tree i at (f ∷ fs) = number_misfits (λ n. n == i) f ++ items_misfits p tree i at (behind_number (f ∷ fs))
 
 abbrev pub label_misfits : Problem → Option (List Form) → ℕ → Form → List Place
 label_misfits p tree i f = numbered_misfits p tree i (place_of f) (entries_of f)

@@ -24,6 +24,11 @@ abbrev pub where_fitting : List Place → List Place → List Place
 where_fitting [] others = others
 where_fitting (p ∷ ps) others = []
 
+-- The place that stands first in the list; where it is empty this one.
+abbrev pub first_or : Place → List Place → Place
+first_or at [] = at
+first_or at (p ∷ ps) = p
+
 -- The list lacks an entry, of as many as it has to have at least.
 abbrev pub lacking : ℕ → Place → List Form → List Place
 lacking zero at fs = []

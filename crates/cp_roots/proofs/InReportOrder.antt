@@ -1,5 +1,5 @@
 -- A skeleton whose assumptions stand in the order of a report says what it said before: the assumptions are the same.
-use Rattle.std.proofs.Common.{◌++◌, ℕ, List, length, refl, le_refl, ⊎_elim}
+use Rattle.std.proofs.Common.{ℕ, List, length, refl, le_refl}
 use Rattle.cp_lists.specs.Lists.{IsIn, one_step, more_steps}
 use Rattle.cp_model.specs.Term.{Variable, AtomTerm, Substitution}
 use Rattle.cp_model.specs.Strand.{Role, Declaration, Protocol}
@@ -10,17 +10,17 @@ use Rattle.cp_model.specs.declared.node.OrderPair.{OrderPair}
 use Rattle.cp_model.specs.Realising.{OriginatesAtTerm, KeepsAssumptions}
 use Rattle.cp_model.specs.Standing.{Standing, StandsIn, StandsApart}
 use Rattle.cp_model.specs.Homomorphism.{SkeletonMap, GoesToInstance, IsHomomorphism, map_from_problem, CarriesHomomorphism, FactorsThrough}
-use Rattle.cp_model.specs.Problem.{IsDeclared, variables_of_strands, variables_of_atoms, variables_of_uniques, variables_of_assumptions, HasDeclaredVariables}
+use Rattle.cp_model.specs.Problem.{IsDeclared, variables_of_atoms, variables_of_uniques, variables_of_assumptions, HasDeclaredVariables}
 use Rattle.cp_model.specs.Given.{listed}
 use Rattle.cp_model.specs.Stated.{KeepsStated}
-use Rattle.cp_lists.proofs.Members.{in_append, in_append_left}
+use Rattle.cp_lists.proofs.Members.{in_append_left}
 use Rattle.cp_model.proofs.StatedStays.{stated_stays}
 use Rattle.cp_completeness.specs.Normal.{SaysNoMore}
 use Rattle.cp_completeness.proofs.Weaker.{stands_too}
 use Rattle.cp_skel.proofs.EachOnce.{listed-non, listed-penetrator-non, listed-unique}
 use Rattle.cp_roots.specs.Roots.{in_report_order}
 use Rattle.cp_skel.proofs.UnderVariables.{atom_with, unique_with}
-use Rattle.cp_collapse.proofs.VariablesOfCollapses.{non_declared, penetrator_non_declared, unique_declared}
+use Rattle.cp_collapse.proofs.VariablesOfCollapses.{of_each_part, non_declared, penetrator_non_declared, unique_declared}
 
 module _ (k : Skeleton) where
   -- ---- the same assumptions
@@ -153,17 +153,8 @@ module _ (k : Skeleton) where
     unique_in : (x : Variable) → IsIn x (variables_of_uniques (listed k).uniquely_originating) → IsDeclared variables x
     unique_in x i = let m = unique_with (listed k).uniquely_originating x i in unique_declared variables k h m.0 (was_unique m.0 m.1) x m.2
 
-    assumption_in : (x : Variable) → IsIn x (variables_of_assumptions (listed k)) → IsDeclared variables x
-    assumption_in x i =
-        let non = variables_of_atoms (listed k).non_originating in
-        let penetrator = variables_of_atoms (listed k).penetrator_non_originating in
-        ⊎_elim (λ j. ⊎_elim (λ m. non_in x m) (λ m. penetrator_non_in x m) (in_append non penetrator j)) (λ j. unique_in x j)
-        (in_append (non ++ penetrator) (variables_of_uniques (listed k).uniquely_originating) i)
-
     pub declared_listed : HasDeclaredVariables variables (in_report_order k)
     declared_listed = record {
-      occurring = λ x i.
-          ⊎_elim (λ j. h.occurring x (in_append_left (variables_of_assumptions k.assumptions) j)) (λ j. assumption_in x j)
-          (in_append (variables_of_strands k.strands) (variables_of_assumptions (listed k)) i);
+      occurring = of_each_part (IsDeclared variables) (in_report_order k) (λ x i. h.occurring x (in_append_left (variables_of_assumptions k.assumptions) i)) non_in penetrator_non_in unique_in;
       mapped = h.mapped;
     }

@@ -1,8 +1,9 @@
 -- The first label that is isomorphic to a skeleton.
-use Rattle.std.proofs.Common.{◌≡◌, ◌∙◌, ℕ, ◌<◌, ◌≤◌, length, map, get_or, Option, Some, None, is_some, Bool, true, false, not, arith, List, [], sym, ap, subst}
-use Rattle.std.proofs.lemmas.List.{length-map, get_or_default}
-use Rattle.cp_lists.specs.Lists.{item_at, IsIn}
-use Rattle.cp_lists.proofs.Items.{item_below, item_of_read, map_of_item, place_of, at_place}
+use Rattle.std.proofs.Common.{◌≡◌, ◌∙◌, ℕ, ◌+◌, ◌<◌, ◌≤◌, length, map, drop, get_or, Option, Some, None, Bool, true, false, arith, List, [], ◌∷◌, sym, ap, subst, ⊎_elim}
+use Rattle.std.proofs.lemmas.List.{get_or_default}
+use Rattle.cp_lists.specs.Lists.{item_at, IsIn, here}
+use Rattle.cp_lists.proofs.Items.{item_below, place_of, at_place}
+use Rattle.cp_lists.proofs.Members.{drop_read, in_rest, next_or_rest, none_left}
 use Rattle.cp_model.specs.Skeleton.{Skeleton}
 use Rattle.cp_skel.specs.View.{skeleton_view}
 use Rattle.cp_hom.specs.Maps.{IsIsomorphic}
@@ -11,6 +12,8 @@ use Rattle.cp_hom.proofs.Traits.{embedded_may_embed}
 use Rattle.cp_term.proofs.CarriedTerms.{not_both}
 use Rattle.cp_search.specs.declared.made.Made.{Made}
 use Rattle.cp_search.specs.Finding.{FindsLeast, IsFlagged}
+use Rattle.cp_search.specs.Sharing.{with_sharing}
+use Rattle.cp_search.proofs.Sharing.{there_listed, listed_there, AreAscending, are_ascending, ascending_from}
 use Rattle.cp_search.specs.Making.{made_way, AreFound, AreReaching, MayBeSeenIn, MayBeSeen}
 use Rattle.cp_search.proofs.Ways.{finds_alike}
 use Rattle.cp_tree.specs.Made.{Reaches}
@@ -20,40 +23,54 @@ same_number : (a b : Skeleton) → IsIsomorphic a b → (traits_of a).sharing �
 same_number a b h = by (traits_of a) (traits_of b) (embedded_may_embed a b h.0) (embedded_may_embed b a h.1)
   where
     by : (x y : Traits) → MayEmbed x y → MayEmbed y x → x.sharing ≡ y.sharing
-    by x y there back =
-        let l : x.sharing ≤ y.sharing = there.sharing in
+    by x y forth back =
+        let l : x.sharing ≤ y.sharing = forth.sharing in
         let m : y.sharing ≤ x.sharing = back.sharing in
         omega (arith, l, m)
 
--- ---- labels and their numbers, which stand beside each other
+-- ---- labels that are listed with the number
 
-abbrev number_of : Made → ℕ
-number_of m = m.fingerprint.sharing
+abbrev pub IsAmongLater : List Made → List Bool → Skeleton → List ℕ → ℕ → Type 0
+IsAmongLater ms flags k ns i = (n : ℕ) → MayBeSeenIn ms flags k n → IsIn n (drop i ns)
 
-module _ (ms : List Made) (numbers : List ℕ) (are : numbers ≡ map (λ m. m.fingerprint.sharing) ms) (i : ℕ) where
-  as_many : length numbers ≡ length ms
-  as_many = ap length are ∙ length-map ms number_of
+module _ (ms : List Made) (flags : List Bool) (k : Skeleton) where
+  -- Each copy is listed.
+  pub copies_listed : (traits : Traits) → traits ≡ traits_of k → ((m : Made) → IsIn m ms → m.fingerprint ≡ traits_of (skeleton_view m.skeleton)) → (ns : List ℕ) → ns ≡ with_sharing traits.sharing 0 ms → IsAmongLater ms flags k ns 0
+  copies_listed traits their fingerprints ns are n h =
+      let own : h.other.fingerprint ≡ traits_of (skeleton_view h.other.skeleton) = fingerprints h.other (at_place ms n h.other h.at) in
+      let number : h.other.fingerprint.sharing ≡ traits.sharing =
+      ap (λ (t : Traits). t.sharing) own ∙ same_number (skeleton_view h.other.skeleton) k h.isomorphic ∙ sym (ap (λ (t : Traits). t.sharing) their) in
+      subst (λ (xs : List ℕ). IsIn n xs) (sym are) (there_listed traits.sharing ms n h.other h.at number)
 
-  pub is_numbered : i < length numbers → i < length ms
-  is_numbered l = let n : length numbers ≡ length ms = as_many in omega (arith, l, n)
+  module _ (ns : List ℕ) (i : ℕ) where
+    module _ (l : i < length ns) where
+      abbrev number : ℕ
+      number = get_or ns i 0
 
-  pub all_numbered : length numbers ≤ i → length ms ≤ i
-  all_numbered l = let n : length numbers ≡ length ms = as_many in omega (arith, l, n)
+      is : number ≡ get_or ns i number
+      is = get_or_default ns i 0 number l
 
-  number_is : i < length numbers → (other : Made) → item_at ms i ≡ Some other → get_or numbers i 0 ≡ other.fingerprint.sharing
-  number_is l other at =
-      let n : ℕ = get_or numbers i 0 in
-      let read : item_at numbers i ≡ Some n = item_of_read numbers i n l (get_or_default numbers i 0 n l) in
-      let mapped : item_at numbers i ≡ Some (number_of other) = subst (λ (ns : List ℕ). item_at ns i ≡ Some (number_of other)) (sym are) (map_of_item number_of ms i other at) in
-      let same : n ≡ number_of other = cc in
-      same
+      opened : drop i ns ≡ number ∷ drop (i + 1) ns
+      opened = drop_read ns i number l is
 
-  module _ (flags : List Bool) (k : Skeleton) (traits : Traits) (their : traits ≡ traits_of k) (fingerprints : (m : Made) → IsIn m ms → m.fingerprint ≡ traits_of (skeleton_view m.skeleton)) where
-    -- A label with another number is no copy.
-    pub other_number : i < length numbers → (sought : ℕ) → sought ≡ traits.sharing → (get_or numbers i 0 ≡ sought → ⊥) → MayBeSeenIn ms flags k i → ⊥
-    other_number l sought e differs h =
-        let own : h.other.fingerprint ≡ traits_of (skeleton_view h.other.skeleton) = fingerprints h.other (at_place ms i h.other h.at) in
-        differs (number_is l h.other h.at ∙ (ap (λ (t : Traits). t.sharing) own ∙ (same_number (skeleton_view h.other.skeleton) k h.isomorphic ∙ (sym (ap (λ (t : Traits). t.sharing) their) ∙ sym e))))
+      -- Where this one is no copy, each copy is behind it.
+      pub copies_behind : (MayBeSeenIn ms flags k number → ⊥) → IsAmongLater ms flags k ns i → IsAmongLater ms flags k ns (i + 1)
+      copies_behind other later n h = ⊎_elim (λ (same : number ≡ n). absurd (other (subst (MayBeSeenIn ms flags k) (sym same) h))) (λ m. m) (next_or_rest ns i n number l is (later n h))
+
+      -- The label is there, and no copy is below it.
+      pub label_there : (sharing : ℕ) → ns ≡ with_sharing sharing 0 ms → number < length ms
+      label_there sharing are =
+          let m = listed_there sharing ms number (subst (λ (xs : List ℕ). IsIn number xs) are (in_rest ns i (subst (λ (xs : List ℕ). IsIn number xs) (sym opened) here))) in
+          item_below ms number m.0 m.1
+
+      pub none_below : (sharing : ℕ) → ns ≡ with_sharing sharing 0 ms → IsAmongLater ms flags k ns i → (n : ℕ) → n < number → MayBeSeenIn ms flags k n → ⊥
+      none_below sharing are later n less h =
+          let m = subst (λ (xs : List ℕ). IsIn n xs) opened (later n h) in
+          let least : number ≤ n = ascending_from ns i number (drop (i + 1) ns) (subst AreAscending (sym are) (are_ascending sharing 0 ms)) opened n m in
+          omega (arith, less, least)
+
+    pub none_left_over : length ns ≤ i → IsAmongLater ms flags k ns i → (n : ℕ) → MayBeSeenIn ms flags k n → ⊥
+    none_left_over done later n h = none_left ns i n done (later n h)
 
 -- ---- the next label
 
@@ -76,11 +93,6 @@ module _ (ms : List Made) (i : ℕ) (other : Made) (at : item_at ms i ≡ Some o
 pub flagged_no_copy : (ms : List Made) (flags : List Bool) (k : Skeleton) (i : ℕ) → IsFlagged flags i → MayBeSeenIn ms flags k i → ⊥
 flagged_no_copy ms flags k i flagged h = h.allowed flagged
 
-pub copy_below : (ms : List Made) (flags : List Bool) (k : Skeleton) (i n : ℕ) → length ms ≤ n → MayBeSeenIn ms flags k i → i < n
-copy_below ms flags k i n l h =
-    let m : i < length ms = item_below ms i h.other h.at in
-    omega arith
-
 -- ---- in which label one is seen
 
 pub fingerprints_of : (ms : List Made) → AreFound ms → (m : Made) → IsIn m ms → m.fingerprint ≡ traits_of (skeleton_view m.skeleton)
@@ -91,9 +103,8 @@ nothing_flagged n flagged = cc
 
 module _ (ms : List Made) (k : Skeleton) (parent : Option ℕ) where
   -- Where no label is isomorphic, one is seen in none.
-  pub seen_nowhere : (found : Option ℕ) (none : Bool) → is_some found ≡ not none → none ≡ true → FindsLeast (MayBeSeenIn ms [] k) found → FindsLeast (MayBeSeen ms parent k) None
-  seen_nowhere None none e f least n h = least n (record { other = h.other; at = h.at; allowed = nothing_flagged n; isomorphic = h.isomorphic })
-  seen_nowhere (Some m) none e f least n h = let b : true ≡ false = e ∙ ap not f in absurd (cc)
+  pub seen_nowhere : FindsLeast (MayBeSeenIn ms [] k) None → FindsLeast (MayBeSeen ms parent k) None
+  seen_nowhere least n h = least n (record { other = h.other; at = h.at; allowed = nothing_flagged n; isomorphic = h.isomorphic })
 
   -- One that is made from none may be seen in any.
   pub seen_in_any : parent ≡ None → (found : Option ℕ) → FindsLeast (MayBeSeenIn ms [] k) found → FindsLeast (MayBeSeen ms parent k) found
@@ -115,3 +126,10 @@ module _ (ms : List Made) (k : Skeleton) (parent : Option ℕ) where
 
       back : (n : ℕ) → MayBeSeen ms parent k n → MayBeSeenIn ms flags k n
       back n h = record { other = h.other; at = h.at; allowed = λ flagged. h.allowed p from ((right n).0 flagged).1; isomorphic = h.isomorphic }
+
+  -- If the first that is isomorphic is not flagged, it is the one.
+  pub seen_in_first : (p : ℕ) → parent ≡ Some p → (flags : List Bool) → AreReaching ms p flags → (n : ℕ) → (IsFlagged flags n → ⊥) → FindsLeast (MayBeSeenIn ms [] k) (Some n) → FindsLeast (MayBeSeen ms parent k) (Some n)
+  seen_in_first p from flags right n free first = seen_in_others p from flags right (Some n) (record {
+    holds = record { other = first.holds.other; at = first.holds.at; allowed = free; isomorphic = first.holds.isomorphic };
+    least = λ m l h. first.least m l (record { other = h.other; at = h.at; allowed = nothing_flagged m; isomorphic = h.isomorphic });
+  })

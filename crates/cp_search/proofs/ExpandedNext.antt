@@ -1,5 +1,5 @@
 -- The next label is settled by its expansion.
-use Rattle.std.proofs.Common.{◌≡◌, ◌≢◌, ⊎_elim, ℕ, ◌+◌, ◌<◌, ◌≤◌, List, [], ◌∷◌, ◌++◌, length, map, false, Option, Some, None, sym, ap, subst, ◌∙◌, refl, arith}
+use Rattle.std.proofs.Common.{◌≡◌, ◌≢◌, ℕ, ◌+◌, ◌<◌, ◌≤◌, List, [], ◌∷◌, ◌++◌, length, map, false, Option, Some, None, sym, ap, subst, ◌∙◌, refl, arith}
 use Rattle.std.proofs.lemmas.List.{length-map}
 use Rattle.cp_lists.specs.Lists.{item_at, IsIn}
 use Rattle.cp_lists.proofs.Members.{into_map, from_map}
@@ -17,7 +17,7 @@ use Rattle.cp_tree.specs.Made as plain
 use Rattle.cp_tree.specs.Made.{Way, way_of, seen_in_of, MayPointTo, IsNew}
 use Rattle.cp_tree.specs.Sound.{IsSoundMade, ExpandsSoundly}
 use Rattle.cp_tree.specs.Searched.{mark_by, Becomes, is_tested}
-use Rattle.cp_tree.proofs.Numbered.{length_of_numbers, front_or_behind}
+use Rattle.cp_tree.proofs.Numbered.{length_of_numbers}
 use Rattle.cp_search.specs.declared.made.Made.{Made}
 use Rattle.cp_search.specs.declared.settled.Settled.{Settled}
 use Rattle.cp_search.specs.declared.settled.Settled.TheVariants as settled
@@ -28,6 +28,7 @@ use Rattle.cp_search.specs.Settling.{expanded_label, IsToExpand, IsOpenMark, Are
 use Rattle.cp_search.proofs.OneMoreSettled.{numbers_of_map}
 use Rattle.cp_search.proofs.SettledNext.{settled_next}
 use Rattle.cp_search.proofs.SettledLeaves.{some_unrealised}
+use Rattle.cp_search.proofs.SoundBehind.{sound_behind}
 
 marked_unseen : (children : List ℕ) → seen_in_of (mark_by children) ≡ None
 marked_unseen [] = refl
@@ -96,19 +97,11 @@ found_to_expand limits i n ms found label m at to au =
     subst (λ (x : Made). (x.dead ≡ false) × (x.unrealised.items ≢ [])) same (to.lives, to.unrealised)
 
 -- What is made of the children of an expansion is sound where all labels before are.
-pub sound_behind : (protocol : Protocol) (i : ℕ) (old new : List Made) (label : Made) (e : Expansion) → AddMade (map (plain.made_of_child i) e.children) old new → AreSoundMade protocol old → item_at old i ≡ Some label → label.dead ≡ false → IsUnrealised (skeleton_view label.skeleton)
+pub children_sound : (protocol : Protocol) (i : ℕ) (old new : List Made) (label : Made) (e : Expansion) → AddMade (map (plain.made_of_child i) e.children) old new → AreSoundMade protocol old → item_at old i ≡ Some label → label.dead ≡ false → IsUnrealised (skeleton_view label.skeleton)
     → IsExpansionOf protocol (variables_view label.skeleton.variables) (skeleton_view label.skeleton) e → ((variables : List Declaration) (k : Skeleton) → IsPointOfView variables k → ExpandsSoundly protocol k) → AreSoundMade protocol new
-sound_behind protocol i old new label e a s at lives unrealised is law = record {
-  problem = s.problem;
-  variables = s.variables;
-  skeleton = s.skeleton;
-  own = s.own;
-  each = λ j m there.
-      ⊎_elim
-      (λ (front : item_at old j ≡ Some m). s.each j m front)
-      (λ (behind : IsIn m a.added).
-      let c = from_map (plain.made_of_child i) e.children (subst (IsIn (made_view m)) a.same (into_map made_view behind)) in
-      let same : plain.made_of_child i c.0 ≡ made_view m = c.2 in
-      subst (IsSoundMade protocol s.problem) same ((law s.variables s.problem s.own (made_view label) e (s.each i label at) lives unrealised is).children i c.0 c.1))
-      (front_or_behind old a.added j m (ap (λ (xs : List Made). item_at xs j) (sym a.behind) ∙ there));
-}
+children_sound protocol i old new label e a s at lives unrealised is law =
+    sound_behind old a.added new a.behind s
+    (λ m listed.
+    let c = from_map (plain.made_of_child i) e.children (subst (IsIn (made_view m)) a.same (into_map made_view listed)) in
+    let same : plain.made_of_child i c.0 ≡ made_view m = c.2 in
+    subst (IsSoundMade protocol s.problem) same ((law s.variables s.problem s.own (made_view label) e (s.each i label at) lives unrealised is).children i c.0 c.1))

@@ -20,7 +20,7 @@ use Rattle.cp_search.specs.declared.made.Made.{Made}
 use Rattle.cp_search.specs.declared.settled.Expanded.{Expanded}
 use Rattle.cp_search.specs.Making.{AddMade}
 use Rattle.cp_search.specs.Settling.{ExpandsLabel, AreSoundMade}
-use Rattle.cp_search.proofs.ExpandedNext.{sound_behind}
+use Rattle.cp_search.proofs.ExpandedNext.{children_sound}
 
 pub some_unrealised : (k : Skeleton) (ns : List Node) → ListsUnrealised k ns → ns ≢ [] → IsUnrealised k
 some_unrealised k [] lists some = absurd (some refl)
@@ -47,6 +47,6 @@ label_expanded protocol i old new label test x e sound at lives lists law is sam
       expansion = is';
       same = ap skeleton_view skeleton ∙ same;
       made = made;
-      sound = sound_behind protocol i old new label (expansion_view test x) made sound at lives.0 (some_unrealised (skeleton_view label.skeleton) label.unrealised.items lists lives.1) is law;
+      sound = children_sound protocol i old new label (expansion_view test x) made sound at lives.0 (some_unrealised (skeleton_view label.skeleton) label.unrealised.items lists lives.1) is law;
       numbers = numbers ∙ sym (numbers_mapped child_view (length old) x.children.items);
     }

@@ -1,7 +1,7 @@
 -- A label that is generalised: what comes of it.
-use Rattle.std.proofs.Common.{◌≡◌, ⊎_elim, ℕ, List, length, true, false, Option, Some, None, IfSome, IfNone, sym, ap, subst, ◌∙◌, refl}
+use Rattle.std.proofs.Common.{◌≡◌, ℕ, List, [], ◌∷◌, length, true, false, Option, Some, None, IfSome, IfNone, sym, ap, subst, ◌∙◌, refl}
 use Rattle.cp_lists.specs.Lists.{item_at}
-use Rattle.cp_lists.proofs.Items.{item_of_push}
+use Rattle.cp_lists.proofs.Members.{only_item}
 use Rattle.cp_model.specs.Strand.{Declaration, Protocol}
 use Rattle.cp_model.specs.Skeleton.{Skeleton, IsSkeleton}
 use Rattle.cp_model.specs.Problem.{IsPointOfView}
@@ -17,6 +17,7 @@ use Rattle.cp_search.specs.declared.made.Made.{Made}
 use Rattle.cp_search.specs.Making.{made_view, AddsMade, AddsGeneral, AreFound}
 use Rattle.cp_search.specs.Settling.{AreSoundMade}
 use Rattle.cp_search.specs.Generalising.{GeneralisesLabel}
+use Rattle.cp_search.proofs.SoundBehind.{sound_behind}
 
 -- No step applies to what a skeleton generalises to.
 pub ends_most_general : {k g : Skeleton} → GeneralisesTo k g → IsMostGeneral g
@@ -36,21 +37,13 @@ pub found_own : (i : ℕ) (ms : List Made) (label : Made) → item_at ms i ≡ S
 found_own i ms label at o none e = (record { label = label; at = at; most_general = subst (λ (x : Option SkeletonData). IfNone x (IsMostGeneral (skeleton_view label.skeleton))) e none }, refl)
 
 -- What is made of the generalisation of a label is sound where all labels before are.
-sound_behind : (protocol : Protocol) (i : ℕ) (old new : List Made) (label : Made) (g : Skeleton) → item_at old i ≡ Some label → GeneralisesTo (skeleton_view label.skeleton) g → AddsMade (made_of_generalisation i (variables_view label.skeleton.variables) g) old new
+generalisation_sound : (protocol : Protocol) (i : ℕ) (old new : List Made) (label : Made) (g : Skeleton) → item_at old i ≡ Some label → GeneralisesTo (skeleton_view label.skeleton) g → AddsMade (made_of_generalisation i (variables_view label.skeleton.variables) g) old new
     → ((variables : List Declaration) (k : Skeleton) → IsSkeleton protocol k → IsPointOfView variables k → GeneralisesSoundly protocol k) → label.dead ≡ false → AreSoundMade protocol old → AreSoundMade protocol new
-sound_behind protocol i old new label g at to a law lives s = record {
-  problem = s.problem;
-  variables = s.variables;
-  skeleton = s.skeleton;
-  own = s.own;
-  each = λ j m there.
-      ⊎_elim
-      (λ (front : item_at old j ≡ Some m). s.each j m front)
-      (λ (last : (j ≡ length old) × (a.added ≡ m)).
-      let same : made_of_generalisation i (variables_view label.skeleton.variables) g ≡ made_view m = sym a.same ∙ ap made_view last.1 in
-      subst (IsSoundMade protocol s.problem) same ((law s.variables s.problem s.skeleton s.own (made_view label) g (s.each i label at) lives to).made i))
-      (item_of_push old a.added j m (ap (λ (xs : List Made). item_at xs j) (sym a.behind) ∙ there));
-}
+generalisation_sound protocol i old new label g at to a law lives s =
+    sound_behind old (a.added ∷ []) new a.behind s
+    (λ m listed.
+    let same : made_of_generalisation i (variables_view label.skeleton.variables) g ≡ made_view m = sym a.same ∙ ap made_view (sym (only_item listed)) in
+    subst (IsSoundMade protocol s.problem) same ((law s.variables s.problem s.skeleton s.own (made_view label) g (s.each i label at) lives to).made i))
 
 -- What is made of another that is found.
 pub found_other : (i child : ℕ) (old new : List Made) (label : Made) (g : SkeletonData) → item_at old i ≡ Some label → label.general ≡ false → GeneralisesTo (skeleton_view label.skeleton) (skeleton_view g) → g.variables ≡ label.skeleton.variables
@@ -66,7 +59,7 @@ found_other i child old new label g at unknown to same adds general law last =
         generalises = to;
         made = made;
         general = general;
-        sound = λ protocol lives s. sound_behind protocol i old new label (skeleton_view g) at to made (law protocol) lives s;
+        sound = λ protocol lives s. generalisation_sound protocol i old new label (skeleton_view g) at to made (law protocol) lives s;
       },
       last,
     )

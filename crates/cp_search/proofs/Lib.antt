@@ -15,8 +15,10 @@ pub mod SettledNext
 pub mod SettledAs
 pub mod Waiting
 pub mod LabelGeneralised
+pub mod Sharing
 pub mod Spreading
 pub mod WayEdges
 pub mod Ways
 pub mod LabelExpanded
 pub mod MadeTrees
+mod SoundBehind

@@ -1,9 +1,13 @@
 -- Labels that are made one after the other.
-use Rattle.std.proofs.Common.{◌≡◌, ◌∙◌, ℕ, suc, ◌+◌, List, [], ◌∷◌, ◌++◌, length, map, reverse, refl, sym, ap, subst, arith}
+use Rattle.std.proofs.Common.{◌≡◌, ◌∙◌, ℕ, suc, ◌+◌, List, [], ◌∷◌, ◌++◌, length, map, reverse, false, Some, refl, sym, ap, subst, arith}
 use Rattle.std.proofs.lemmas.List.{append_assoc, append-nil, length-append, length-map, map-append, reverse-append, reverse-reverse}
 use Rattle.cp_model.specs.Problem.{numbers_from}
+use Rattle.cp_skel.specs.Data.{SkeletonData}
+use Rattle.cp_skel.specs.View.{skeleton_view}
+use Rattle.cp_skel.specs.Trees.{variables_view, operation_view}
 use Rattle.cp_cohort.specs.declared.child.Child.{Child}
 use Rattle.cp_cohort.specs.Views.{child_view}
+use Rattle.cp_roots.specs.Roots.{in_report_order}
 use Rattle.cp_roots.specs.declared.root.Root.{Root}
 use Rattle.cp_tree.specs.Made as plain
 use Rattle.cp_tree.specs.Made.{made_of_child}
@@ -37,6 +41,13 @@ pub record AreRootsMade (roots left : List Root) (new : List Made) : Type 0 wher
   pub whole : done ++ reverse left ≡ roots
   pub made : AddMade (map root_made done) [] new
 
+pub no_roots_yet : (roots left : List Root) (new : List Made) → left ≡ reverse roots → new ≡ [] → AreRootsMade roots left new
+no_roots_yet roots left new turned none = record {
+  done = [];
+  whole = ap reverse turned ∙ reverse-reverse roots;
+  made = subst (λ (ms : List Made). AddMade [] [] ms) (sym none) (none_made [] (record { each = λ i m at. absurd (cc); later = λ i p m at from. absurd (cc) }));
+}
+
 pub next_root : (roots left rest : List Root) (root : Root) (old new : List Made) → AreRootsMade roots left old → left ≡ rest ++ root ∷ [] → AddsMade (root_made root) old new → AreRootsMade roots rest new
 next_root roots left rest root old new so_far popped next = record {
   done = so_far.done ++ root ∷ [];
@@ -49,6 +60,14 @@ next_root roots left rest root old new so_far popped next = record {
 numbers_push : {A : Type 0} (n : ℕ) (xs : List A) (x : A) → numbers_from n (xs ++ x ∷ []) ≡ numbers_from n xs ++ (n + length xs) ∷ []
 numbers_push n [] x = let e : n ≡ n + 0 = omega arith in ap (λ (k : ℕ). k ∷ []) e
 numbers_push n (y ∷ xs) x = let e : suc n + length xs ≡ n + suc (length xs) = omega arith in ap (λ ys. n ∷ ys) (numbers_push (suc n) xs x ∙ ap (λ (k : ℕ). numbers_from (suc n) xs ++ k ∷ []) e)
+
+-- The label of a child, whose skeleton is put into the order of a report.
+pub child_made : (parent : ℕ) (c : Child) (k : SkeletonData) (old new : List Made) → skeleton_view k ≡ in_report_order (skeleton_view c.skeleton) → k.variables ≡ c.skeleton.variables
+    → AddsMade (record { parent = Some parent; operation = operation_view c.operation; variables = variables_view k.variables; skeleton = skeleton_view k; dead = false }) old new → AddsMade (made_of_child parent (child_view c)) old new
+child_made parent c k old new listed same adds =
+    let made : plain.Made = record { parent = Some parent; operation = operation_view c.operation; variables = variables_view k.variables; skeleton = skeleton_view k; dead = false } in
+    let same_made : made ≡ made_of_child parent (child_view c) = λ i. record { parent = Some parent; operation = operation_view c.operation; variables = variables_view (same i); skeleton = listed i; dead = false } in
+    subst (λ (m : plain.Made). AddsMade m old new) same_made adds
 
 -- Of the children, which are taken from the end of their reverse, those in front of what is left are made, with these numbers.
 pub record AreChildrenMade (parent : ℕ) (children left : List Child) (old new : List Made) (numbers : List ℕ) : Type 0 where

@@ -16,22 +16,19 @@ use Rattle.cp_search.specs.Making.{made_view, made_way, AddMade}
 use Rattle.cp_search.specs.Roots.{root_made}
 use Rattle.cp_search.specs.Settling.{IsOpenMark, AreSoundMade, AreSoundRoots, IsSearched}
 use Rattle.cp_search.proofs.SettledNext.{no_labels}
+use Rattle.cp_search.proofs.SoundBehind.{for_the_same}
 
 module _ (protocol : Protocol) (limits : Limits) (roots : List Root) (ms : List Made) (a : AddMade (map root_made roots) [] ms) (sound : AreSoundRoots protocol roots) where
   as_roots : map made_view ms ≡ map root_made roots
   as_roots = ap (map made_view) a.behind ∙ a.same
 
   are_sound : AreSoundMade protocol ms
-  are_sound = record {
-    problem = sound.problem;
-    variables = sound.variables;
-    skeleton = sound.skeleton;
-    own = sound.own;
-    each = λ i m at.
-        let r = item_of_map root_made roots i (made_view m) (ap (λ (xs : List plain.Made). item_at xs i) (sym as_roots) ∙ map_of_item made_view ms i m at) in
-        let same : root_made r.0 ≡ made_view m = r.2 in
-        subst (IsSoundMade protocol sound.problem) same (sound.each r.0 (at_place roots i r.0 r.1));
-  }
+  are_sound =
+      for_the_same sound
+      (λ i m at.
+      let r = item_of_map root_made roots i (made_view m) (ap (λ (xs : List plain.Made). item_at xs i) (sym as_roots) ∙ map_of_item made_view ms i m at) in
+      let same : root_made r.0 ≡ made_view m = r.2 in
+      subst (IsSoundMade protocol sound.problem) same (sound.each r.0 (at_place roots i r.0 r.1)))
 
   none_settled : IsSearched protocol limits (map root_made roots) ms [] 0
   none_settled =

@@ -19,7 +19,7 @@ use Rattle.cp_search.specs.Making.{made_view, made_way, IsFound, AreFound}
 use Rattle.cp_search.specs.Settling.{generalised_label, IsLeafOf, dead_leaf, seen_leaf, open_leaf, above_bound, at_limit, no_leaf, IsOpenMark, AreSoundMade, IsSearched}
 use Rattle.cp_search.specs.Generalising.{IsOwnGeneralisation, Generalises, SettlesAs}
 use Rattle.cp_search.proofs.SettledNext.{settled_next}
-use Rattle.cp_search.proofs.SettledLeaves.{all_derivable, leaf_settled}
+use Rattle.cp_search.proofs.SettledLeaves.{all_derivable, leaf_settled, next_label}
 
 -- The label lives, is new and realised.
 record IsToGeneralise (m : Made) : Type 0 where
@@ -83,6 +83,6 @@ module _ (protocol : Protocol) (limits : Limits) (roots : List plain.Made) (old 
 
 -- A search in which one label more is settled that is not expanded.
 pub settled_pushed : (protocol : Protocol) (limits : Limits) (roots : List plain.Made) (old new : List Made) (ss then : List Settled) (n : ℕ) (m : Made) (o : Option (Option ProgramMark)) (mark : Option ProgramMark) (s : Settled) (i : ℕ) → IsSearched protocol limits roots old ss n
-    → item_at old (length ss) ≡ Some m → IsLeafOf limits m n o → o ≡ Some mark → i ≡ length ss → SettlesAs i old new mark s → then ≡ ss ++ s ∷ [] → IsSearched protocol limits roots new then n
+    → item_at old i ≡ Some m → IsLeafOf limits m n o → o ≡ Some mark → i ≡ length ss → SettlesAs i old new mark s → then ≡ ss ++ s ∷ [] → IsSearched protocol limits roots new then n
 settled_pushed protocol limits roots old new ss then n m o mark s i r at is e place h pushed =
-    subst (λ (xs : List Settled). IsSearched protocol limits roots new xs n) (sym pushed) (settled_as protocol limits roots old new ss n r m at mark (subst (IsLeafOf limits m n) e is) s (subst (λ (k : ℕ). SettlesAs k old new mark s) place h))
+    subst (λ (xs : List Settled). IsSearched protocol limits roots new xs n) (sym pushed) (settled_as protocol limits roots old new ss n r m (next_label old ss i m at place) mark (subst (IsLeafOf limits m n) e is) s (subst (λ (k : ℕ). SettlesAs k old new mark s) place h))

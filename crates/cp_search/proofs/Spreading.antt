@@ -1,10 +1,10 @@
 -- Flags that are spread backwards along edges.
-use Rattle.std.proofs.Common.{◌≡◌, ◌≢◌, ◌⊎◌, ◌↔◌, inl, inr, ℕ, zero, suc, ◌+◌, ◌<◌, ◌≤◌, List, [], ◌∷◌, ◌++◌, length, get_or, take, drop, replicate, set, length-set, Bool, true, false, Some, arith, refl, sym, ap, ◌∙◌, subst}
-use Rattle.cp_lists.specs.Lists.{item_at, IsIn, Steps, one_step, more_steps}
+use Rattle.std.proofs.Common.{◌≡◌, ◌≢◌, ◌⊎◌, ◌↔◌, inl, inr, ℕ, zero, suc, ◌<◌, ◌≤◌, List, [], ◌∷◌, ◌++◌, length, get_or, take, drop, replicate, set, length-set, Bool, true, false, Some, arith, refl, sym, ap, ◌∙◌, subst}
+use Rattle.cp_lists.specs.Lists.{item_at, IsIn, here, there, Steps, one_step, more_steps}
 use Rattle.std.proofs.Math.Logic.{⊎_elim}
 use Rattle.std.proofs.Math.Seq.{take-append_seam}
-use Rattle.cp_lists.proofs.Items.{set_here, set_elsewhere, item_below, at_place, drop_of_item}
-use Rattle.cp_lists.proofs.Members.{in_cases, none_left}
+use Rattle.cp_lists.proofs.Items.{set_here, set_elsewhere, item_below, at_place}
+use Rattle.cp_lists.proofs.Members.{in_cases, not_in_none}
 use Rattle.cp_search.specs.declared.graph.Edge.{Edge}
 use Rattle.cp_search.specs.Finding.{IsFlagged}
 use Rattle.cp_search.specs.Graph.{HasEdge, Leads, AreWithin, IsClosed, unflagged}
@@ -82,21 +82,23 @@ leads_on : (edges : List Edge) (i j target : ℕ) → HasEdge edges i j → Lead
 leads_on edges i j target e (inl same) = inr (one_step (subst (HasEdge edges i) same e))
 leads_on edges i j target e (inr steps) = inr (more_steps e steps)
 
-module _ (edges : List Edge) (old new : List Bool) (is_new : Bool) (i : ℕ) (d : Edge) (l : i < length edges) (so_far : IsSpread edges (drop i edges) old new is_new) where
+-- Of the first items up to this one each is this, or among those before.
+this_or_before : {A : Type 0} (xs : List A) (i : ℕ) (d x : A) → IsIn x (take (suc i) xs) → (get_or xs i d ≡ x) ⊎ IsIn x (take i xs)
+this_or_before [] i d x h = absurd (not_in_none h)
+this_or_before (y ∷ ys) zero d x h = ⊎_elim inl (λ rest. absurd (not_in_none rest)) (in_cases h)
+this_or_before (y ∷ ys) (suc i) d x h =
+    ⊎_elim (λ same. inr (subst (λ z. IsIn z (y ∷ take i ys)) same here)) (λ rest. ⊎_elim inl (λ before. inr (there before)) (this_or_before ys i d x rest)) (in_cases h)
+
+module _ (edges : List Edge) (old new : List Bool) (is_new : Bool) (i n : ℕ) (d : Edge) (next : suc i ≡ n) (l : i < length edges) (so_far : IsSpread edges (take n edges) old new is_new) where
   abbrev edge : Edge
   edge = get_or edges i d
 
-  here_or_rest : (x : Edge) → IsIn x (drop i edges) → (edge ≡ x) ⊎ IsIn x (drop (i + 1) edges)
-  here_or_rest x h =
-      let e : i + 1 ≡ suc i = omega arith in
-      in_cases (subst (IsIn x) (drop_of_item edges i edge (read_item edges i d l) ∙ ap (λ (n : ℕ). edge ∷ drop n edges) (sym e)) h)
-
-  still_closed : (x : Edge) → (IsFlagged new edge.to → IsFlagged new edge.from) → IsIn x (drop i edges) ⊎ (IsFlagged new x.to → IsFlagged new x.from) → IsIn x (drop (i + 1) edges) ⊎ (IsFlagged new x.to → IsFlagged new x.from)
+  still_closed : (x : Edge) → (IsFlagged new edge.to → IsFlagged new edge.from) → IsIn x (take n edges) ⊎ (IsFlagged new x.to → IsFlagged new x.from) → IsIn x (take i edges) ⊎ (IsFlagged new x.to → IsFlagged new x.from)
   still_closed x h (inr closed) = inr closed
-  still_closed x h (inl left) = ⊎_elim (λ same. inr (subst (λ (y : Edge). IsFlagged new y.to → IsFlagged new y.from) same h)) inl (here_or_rest x left)
+  still_closed x h (inl left) = ⊎_elim (λ same. inr (subst (λ (y : Edge). IsFlagged new y.to → IsFlagged new y.from) same h)) inl (this_or_before edges i d x (subst (λ (m : ℕ). IsIn x (take m edges)) (sym next) left))
 
   -- An edge that is closed needs no flag.
-  pub edge_is_closed : (IsFlagged new edge.to → IsFlagged new edge.from) → IsSpread edges (drop (i + 1) edges) old new is_new
+  pub edge_is_closed : (IsFlagged new edge.to → IsFlagged new edge.from) → IsSpread edges (take i edges) old new is_new
   edge_is_closed h = record {
     count = so_far.count;
     kept = so_far.kept;
@@ -114,7 +116,7 @@ module _ (edges : List Edge) (old new : List Bool) (is_new : Bool) (i : ℕ) (d 
   reach_of target h to n (inr flagged) = h n flagged
 
   -- One that is not has its first number flagged.
-  pub edge_is_new : IsFlagged new edge.to → item_at new edge.from ≡ Some false → IsSpread edges (drop (i + 1) edges) old (set new edge.from true) true
+  pub edge_is_new : IsFlagged new edge.to → item_at new edge.from ≡ Some false → IsSpread edges (take i edges) old (set new edge.from true) true
   edge_is_new to from =
       let within : edge.from < length new = item_below new edge.from false from in
       let fewer : suc (unflagged (set new edge.from true)) ≡ unflagged new = set_fewer new edge.from from in
@@ -128,8 +130,8 @@ module _ (edges : List Edge) (old new : List Bool) (is_new : Bool) (i : ℕ) (d 
         falls = λ _. omega arith;
       }
 
-pub all_spread : (edges : List Edge) (old new : List Bool) (is_new : Bool) (i : ℕ) → length edges ≤ i → IsSpread edges (drop i edges) old new is_new → is_new ≡ false → IsClosed edges new
-all_spread edges old new is_new i l so_far e x listed = ⊎_elim (λ left. absurd (none_left edges i x l left)) (λ (h : IsFlagged new x.to → IsFlagged new x.from). h) (so_far.closed e x listed)
+pub all_spread : (edges : List Edge) (old new : List Bool) (is_new : Bool) → IsSpread edges [] old new is_new → is_new ≡ false → IsClosed edges new
+all_spread edges old new is_new so_far e x listed = ⊎_elim (λ left. absurd (not_in_none left)) (λ (h : IsFlagged new x.to → IsFlagged new x.from). h) (so_far.closed e x listed)
 
 -- ---- until nothing is new
 

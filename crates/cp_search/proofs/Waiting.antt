@@ -9,6 +9,7 @@ use Rattle.cp_search.specs.declared.settled.Settled.{Settled}
 use Rattle.cp_search.specs.declared.settled.Settled.TheVariants as settled
 use Rattle.cp_search.specs.Making.{AreFound}
 use Rattle.cp_search.specs.Generalising.{Generalises, SettlesAs}
+use Rattle.cp_search.proofs.SettledLeaves.{next_label}
 use Rattle.cp_search.proofs.SettledAs.{same_label}
 
 -- One that generalises to another makes that wait; one that was made so makes none.
@@ -86,18 +87,19 @@ module _ (old new : List Made) (ss then : List Settled) (m : Made) (mark : Optio
       let b = no_shorter s h in
       omega (arith, l, a, b)
 
-  module _ (s : Settled) (i : ℕ) (place : i ≡ length ss) (h : SettlesAs i old new mark s) where
-    here : SettlesAs (length ss) old new mark s
-    here = subst (λ (k : ℕ). SettlesAs k old new mark s) place h
+-- What comes of one label more that is settled: what is found of all labels is true, no more are settled than were made, and fewer
+-- steps are left.
+pub record OneSettled (old new : List Made) (ss then : List Settled) : Type 0 where
+  pub found : AreFound old → AreFound new
+  pub within : length then ≤ length new
+  pub fewer_left : steps_waiting (left new then) < steps_waiting (left old ss)
 
-    -- What is found of all labels is true.
-    pub all_found : AreFound old → AreFound new
-    all_found found = still_found found s here
-
-    -- Fewer steps are left.
-    pub fewer_left : then ≡ ss ++ s ∷ [] → steps_waiting (left new then) < steps_waiting (left old ss)
-    fewer_left = fewer s here
-
-    -- No more labels are settled than were made.
-    pub still_within : then ≡ ss ++ s ∷ [] → length then ≤ length new
-    still_within = one_within s here
+pub one_settled : (old new : List Made) (ss then : List Settled) (i : ℕ) (m : Made) (mark : Option Mark) (s : Settled) → i ≡ length ss → item_at old i ≡ Some m → SettlesAs i old new mark s → then ≡ ss ++ s ∷ [] → OneSettled old new ss then
+one_settled old new ss then i m mark s place at h pushed =
+    let there = next_label old ss i m at place in
+    let here = subst (λ (k : ℕ). SettlesAs k old new mark s) place h in
+    record {
+      found = λ found. still_found old new ss then m mark there found s here;
+      within = one_within old new ss then m mark there s here pushed;
+      fewer_left = fewer old new ss then m mark there s here pushed;
+    }

@@ -1,14 +1,14 @@
 -- The edges of labels.
-use Rattle.std.proofs.Common.{◌≡◌, ◌⊎◌, ◌↔◌, inl, inr, ◌∙◌, ℕ, ◌+◌, ◌<◌, ◌≤◌, below_more, List, [], ◌∷◌, ◌++◌, length, map, reverse, Bool, true, false, Option, Some, None, refl, sym, ap, subst, arith}
+use Rattle.std.proofs.Common.{◌≡◌, ◌⊎◌, ◌↔◌, inl, inr, ◌∙◌, ℕ, ◌<◌, List, [], ◌∷◌, ◌++◌, length, map, Bool, true, false, Option, Some, None, refl, sym, ap, subst, subst₂, arith}
 use Rattle.cp_lists.specs.Lists.{item_at, IsIn, Steps, one_step, more_steps}
-use Rattle.cp_lists.proofs.Items.{item_below, map_of_item, item_of_map}
-use Rattle.cp_lists.proofs.Members.{not_in_none, in_reverse, from_reverse, in_append_left, in_last, in_pushed}
+use Rattle.cp_lists.proofs.Items.{item_below, item_last, item_still, item_of_push, map_of_item, item_of_map}
+use Rattle.cp_lists.proofs.Members.{not_in_none, in_append_left, in_last, in_pushed}
 use Rattle.cp_tree.specs.Made.{Way, IsEdge, to_child, to_seen, Reaches, MayPointTo}
 use Rattle.cp_search.specs.declared.made.Made.{Made}
 use Rattle.cp_search.specs.declared.graph.Edge.{Edge}
 use Rattle.cp_search.specs.Finding.{FindsLeast, IsFlagged}
 use Rattle.cp_search.specs.Graph.{HasEdge, AddsEdge, Leads, AreWithin}
-use Rattle.cp_search.specs.Making.{made_way, AreFound, AreReaching}
+use Rattle.cp_search.specs.Making.{made_way, IsEdgeOf, IsEdgeOfSome, AreEdgesOf, AreFound, AreReaching}
 
 -- ---- one edge more
 
@@ -37,76 +37,60 @@ module _ (from to : ℕ) (old new : List Edge) (behind : new ≡ old ++ record {
   edge_is_added first second f t =
       subst (λ (o : Option ℕ). AddsEdge o second old new) (sym f) (subst (λ (o : Option ℕ). AddsEdge (Some from) o old new) (sym t) one_edge)
 
--- ---- the edges of one label after the other
+-- ---- the edges of one label more
 
--- The edge is one to this label from the one from which it was made, or from it to the one in which it is seen.
-abbrev pub IsEdgeOf : ℕ → Made → Edge → Type 0
-IsEdgeOf i m e = ((m.parent ≡ Some e.from) × (Some i ≡ Some e.to)) ⊎ ((Some i ≡ Some e.from) × (m.seen_in ≡ Some e.to))
+pub none_yet : (edges : List Edge) → edges ≡ [] → AreEdgesOf [] edges
+none_yet edges none e = (λ h. absurd (not_in_none (subst (IsIn e) none h)), λ h. let at : item_at [] h.number ≡ Some h.label = h.at in absurd (cc))
 
--- All are edges of the labels, and those of the first n labels are there.
-pub record AreEdgesBelow (ms : List Made) (n : ℕ) (edges : List Edge) : Type 0 where
-  pub are_edges : (e : Edge) → IsIn e edges → IsEdge (map made_way ms) e.from e.to
-  pub every : (i : ℕ) (m : Made) (e : Edge) → i < n → item_at ms i ≡ Some m → IsEdgeOf i m e → IsIn e edges
-
-pub none_below : (ms : List Made) (edges : List Edge) → edges ≡ [] → AreEdgesBelow ms 0 edges
-none_below ms edges none = record {
-  are_edges = λ e h. absurd (not_in_none (subst (IsIn e) none h));
-  every = λ i m e l at h. absurd (omega (arith, l));
-}
-
-module _ (ms : List Made) (n : ℕ) (m : Made) (at : item_at ms n ≡ Some m) (old mid new : List Edge) (below : AreEdgesBelow ms n old) (parent : AddsEdge m.parent (Some n) old mid) (seen : AddsEdge (Some n) m.seen_in mid new) where
-  as_child : (e : Edge) → (m.parent ≡ Some e.from) × (Some n ≡ Some e.to) → IsEdge (map made_way ms) e.from e.to
-  as_child e h =
-      let t : Some n ≡ Some e.to = h.1 in
-      let to_is : n ≡ e.to = cc in
-      to_child {w = made_way m} (subst (λ (j : ℕ). item_at (map made_way ms) j ≡ Some (made_way m)) to_is (map_of_item made_way ms n m at)) h.0
-
-  as_seen : (e : Edge) → (Some n ≡ Some e.from) × (m.seen_in ≡ Some e.to) → IsEdge (map made_way ms) e.from e.to
-  as_seen e h =
-      let f : Some n ≡ Some e.from = h.0 in
-      let from_is : n ≡ e.from = cc in
-      to_seen {w = made_way m} (subst (λ (j : ℕ). item_at (map made_way ms) j ≡ Some (made_way m)) from_is (map_of_item made_way ms n m at)) h.1
-
-  mid_edge : (e : Edge) → IsIn e old ⊎ ((m.parent ≡ Some e.from) × (Some n ≡ Some e.to)) → IsEdge (map made_way ms) e.from e.to
-  mid_edge e (inl h) = below.are_edges e h
-  mid_edge e (inr h) = as_child e h
-
-  new_edge : (e : Edge) → IsIn e mid ⊎ ((Some n ≡ Some e.from) × (m.seen_in ≡ Some e.to)) → IsEdge (map made_way ms) e.from e.to
-  new_edge e (inl h) = mid_edge e ((parent e).0 h)
-  new_edge e (inr h) = as_seen e h
-
-  own_edge : (e : Edge) → IsEdgeOf n m e → IsIn e new
+module _ (ms : List Made) (m : Made) (old mid new : List Edge) (so_far : AreEdgesOf ms old) (parent : AddsEdge m.parent (Some (length ms)) old mid) (seen : AddsEdge (Some (length ms)) m.seen_in mid new) where
+  own_edge : (e : Edge) → IsEdgeOf (length ms) m e → IsIn e new
   own_edge e (inl h) = (seen e).1 (inl ((parent e).1 (inr h)))
   own_edge e (inr h) = (seen e).1 (inr h)
 
-  -- All edges of this label are there.
-  abbrev AreThere : ℕ → Type 0
-  AreThere i = (x : Made) (e : Edge) → item_at ms i ≡ Some x → IsEdgeOf i x e → IsIn e new
+  is_own : (e : Edge) → IsEdgeOf (length ms) m e → IsEdgeOfSome (ms ++ m ∷ []) e
+  is_own e h = record { number = length ms; label = m; at = item_last ms m; own = h }
 
-  own_there : AreThere n
-  own_there x e there h = let same : x ≡ m = cc in own_edge e (subst (λ (y : Made). IsEdgeOf n y e) same h)
+  of_old : (e : Edge) → IsEdgeOfSome ms e → IsEdgeOfSome (ms ++ m ∷ []) e
+  of_old e h = record { number = h.number; label = h.label; at = item_still ms (m ∷ []) h.number h.label h.at; own = h.own }
 
-  others_there : (i : ℕ) → i < n → AreThere i
-  others_there i l x e there h = (seen e).1 (inl ((parent e).1 (inl (below.every i x e l there h))))
+  of_mid : (e : Edge) → IsIn e old ⊎ ((m.parent ≡ Some e.from) × (Some (length ms) ≡ Some e.to)) → IsEdgeOfSome (ms ++ m ∷ []) e
+  of_mid e (inl h) = of_old e ((so_far e).0 h)
+  of_mid e (inr h) = is_own e (inl h)
 
-  pub next_below : AreEdgesBelow ms (n + 1) new
-  next_below = record {
-    are_edges = λ e h. new_edge e ((seen e).0 h);
-    every = λ i x e l there h. below_more AreThere n others_there own_there i l x e there h;
-  }
+  of_new : (e : Edge) → IsIn e mid ⊎ ((Some (length ms) ≡ Some e.from) × (m.seen_in ≡ Some e.to)) → IsEdgeOfSome (ms ++ m ∷ []) e
+  of_new e (inl h) = of_mid e ((parent e).0 h)
+  of_new e (inr h) = is_own e (inr h)
 
--- In the other direction they are the same.
-pub reversed_below : (ms : List Made) (n : ℕ) (edges new : List Edge) → AreEdgesBelow ms n edges → new ≡ reverse edges → AreEdgesBelow ms n new
-reversed_below ms n edges new below turned = record {
-  are_edges = λ e h. below.are_edges e (from_reverse edges (subst (IsIn e) turned h));
-  every = λ i m e l at h. subst (IsIn e) (sym turned) (in_reverse edges (below.every i m e l at h));
-}
+  put_there : (e : Edge) (number : ℕ) (label : Made) → IsEdgeOf number label e → (item_at ms number ≡ Some label) ⊎ ((number ≡ length ms) × (m ≡ label)) → IsIn e new
+  put_there e number label own (inl at) = (seen e).1 (inl ((parent e).1 (inl ((so_far e).1 (record { number = number; label = label; at = at; own = own })))))
+  put_there e number label own (inr same) = own_edge e (subst₂ (λ (n : ℕ) (x : Made). IsEdgeOf n x e) same.0 (sym same.1) own)
 
-module _ (ms : List Made) (n : ℕ) (edges : List Edge) (l : length ms ≤ n) (below : AreEdgesBelow ms n edges) where
+  pub edges_more : (all : List Made) → all ≡ ms ++ m ∷ [] → AreEdgesOf all new
+  edges_more all behind = subst (λ (xs : List Made). AreEdgesOf xs new) (sym behind) (λ e. (
+    λ h. of_new e ((seen e).0 h),
+    λ h. put_there e h.number h.label h.own (item_of_push ms m h.number h.label h.at),
+  ))
+
+-- ---- they are the edges of the ways
+
+module _ (ms : List Made) (edges : List Edge) (are : AreEdgesOf ms edges) where
+  of_label : (e : Edge) (i : ℕ) (m : Made) → item_at ms i ≡ Some m → IsEdgeOf i m e → IsEdge (map made_way ms) e.from e.to
+  of_label e i m at (inl h) =
+      let t : Some i ≡ Some e.to = h.1 in
+      let to_is : i ≡ e.to = cc in
+      to_child {w = made_way m} (subst (λ (j : ℕ). item_at (map made_way ms) j ≡ Some (made_way m)) to_is (map_of_item made_way ms i m at)) h.0
+  of_label e i m at (inr h) =
+      let f : Some i ≡ Some e.from = h.0 in
+      let from_is : i ≡ e.from = cc in
+      to_seen {w = made_way m} (subst (λ (j : ℕ). item_at (map made_way ms) j ≡ Some (made_way m)) from_is (map_of_item made_way ms i m at)) h.1
+
+  is_edge : (i j : ℕ) → HasEdge edges i j → IsEdge (map made_way ms) i j
+  is_edge i j h =
+      let s = (are h.edge).0 h.listed in
+      subst (λ (k : ℕ). IsEdge (map made_way ms) k j) h.from (subst (IsEdge (map made_way ms) h.edge.from) h.to (of_label h.edge s.number s.label s.at s.own))
+
   is_there : (i : ℕ) (m : Made) (e : Edge) → item_at ms i ≡ Some m → IsEdgeOf i m e → IsIn e edges
-  is_there i m e at h =
-      let k : i < length ms = item_below ms i m at in
-      below.every i m e (omega arith) at h
+  is_there i m e at own = (are e).1 (record { number = i; label = m; at = at; own = own })
 
   has_edge : (i j : ℕ) → IsEdge (map made_way ms) i j → HasEdge edges i j
   has_edge i j (to_child {w = w} at parent) =
@@ -115,9 +99,6 @@ module _ (ms : List Made) (n : ℕ) (edges : List Edge) (l : length ms ≤ n) (b
   has_edge i j (to_seen {w = w} at seen) =
       let m = item_of_map made_way ms i w at in
       record { edge = record { from = i; to = j }; listed = is_there i m.0 (record { from = i; to = j }) m.1 (inr (refl, ap (λ (v : Way). v.seen_in) m.2 ∙ seen)); from = refl; to = refl }
-
-  is_edge : (i j : ℕ) → HasEdge edges i j → IsEdge (map made_way ms) i j
-  is_edge i j h = subst (λ (k : ℕ). IsEdge (map made_way ms) k j) h.from (subst (IsEdge (map made_way ms) h.edge.from) h.to (below.are_edges h.edge h.listed))
 
   pub all_edges : (i j : ℕ) → HasEdge edges i j ↔ IsEdge (map made_way ms) i j
   all_edges i j = (is_edge i j, has_edge i j)

@@ -3,6 +3,7 @@ pub mod Graph
 pub mod Making
 pub mod Roots
 pub mod Settling
+pub mod Sharing
 pub mod Generalising
 pub mod Candidates
 pub mod Labelling

@@ -1,6 +1,6 @@
 -- What the program finds of each label as it makes it.
-use Rattle.std.specs.Prelude.{◌≡◌, ◌↔◌, ◌<◌, ℕ, List, [], ◌∷◌, ◌++◌, length, map, Bool, true, false, Option, Some, None}
-use Rattle.cp_lists.specs.Lists.{item_at}
+use Rattle.std.specs.Prelude.{◌≡◌, ◌⊎◌, ◌↔◌, ◌<◌, ℕ, List, [], ◌∷◌, ◌++◌, length, map, Bool, true, false, Option, Some, None}
+use Rattle.cp_lists.specs.Lists.{item_at, IsIn}
 use Rattle.cp_model.specs.Strand.{Protocol}
 use Rattle.cp_model.specs.Skeleton.{Skeleton, IsSkeleton}
 use Rattle.cp_model.specs.Problem.{HasDeclaredVariables}
@@ -12,6 +12,7 @@ use Rattle.cp_hom.specs.Fingerprints.{traits_of}
 use Rattle.cp_tree.specs.Made as plain
 use Rattle.cp_tree.specs.Made.{Way, Reaches, MayPointTo}
 use Rattle.cp_search.specs.declared.made.Made.{Made}
+use Rattle.cp_search.specs.declared.graph.Edge.{Edge}
 use Rattle.cp_search.specs.Finding.{FindsLeast, IsFlagged}
 use Rattle.cp_general.specs.Generalising.{IsMostGeneral}
 
@@ -20,6 +21,21 @@ made_view m = record { parent = m.parent; operation = operation_view m.operation
 
 abbrev pub made_way : Made → Way
 made_way m = record { parent = m.parent; seen_in = m.seen_in; skeleton = skeleton_view m.skeleton }
+
+-- The edge is one to this label from the one from which it was made, or from it to the one in which it is seen.
+abbrev pub IsEdgeOf : ℕ → Made → Edge → Type 0
+IsEdgeOf i m e = ((m.parent ≡ Some e.from) × (Some i ≡ Some e.to)) ⊎ ((Some i ≡ Some e.from) × (m.seen_in ≡ Some e.to))
+
+-- The edge is one of some label.
+pub record IsEdgeOfSome (ms : List Made) (e : Edge) : Type 0 where
+  pub number : ℕ
+  pub label : Made
+  pub at : item_at ms number ≡ Some label
+  pub own : IsEdgeOf number label e
+
+-- These are the edges of the labels, and no others.
+abbrev pub AreEdgesOf : List Made → List Edge → Type 0
+AreEdgesOf ms edges = (e : Edge) → IsIn e edges ↔ IsEdgeOfSome ms e
 
 -- What is found of label i is true, where labels have these ways: of one that is dead from the start no unrealised receptions are
 -- listed, and it is seen nowhere; any other is seen in the least label to which it may point; and no step of generalising applies

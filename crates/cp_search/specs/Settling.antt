@@ -73,21 +73,21 @@ pub record IsNextToExpand (limits : Limits) (s : Search) : Type 0 where
   pub at : item_at s.made (length s.settled.items) ≡ Some label
   pub expands : IsToExpand limits label s.expanded
 
--- Each label is sound for one problem, which is a skeleton over the protocol.
-pub record AreSoundMade (protocol : Protocol) (ms : List Made) : Type 0 where
+-- This is true for one problem, which is a skeleton over the protocol.
+pub record ForOneProblem (protocol : Protocol) (Says : Skeleton → Type 0) : Type 0 where
   pub problem : Skeleton
   pub variables : List Declaration
   pub skeleton : IsSkeleton protocol problem
   pub own : IsPointOfView variables problem
-  pub each : (i : ℕ) (m : Made) → item_at ms i ≡ Some m → IsSoundMade protocol problem (made_view m)
+  pub each : Says problem
 
--- Each root is sound, as a label, for one problem, which is a skeleton over the protocol.
-pub record AreSoundRoots (protocol : Protocol) (roots : List Root) : Type 0 where
-  pub problem : Skeleton
-  pub variables : List Declaration
-  pub skeleton : IsSkeleton protocol problem
-  pub own : IsPointOfView variables problem
-  pub each : (r : Root) → IsIn r roots → IsSoundMade protocol problem (root_made r)
+-- Each label is sound for one problem.
+abbrev pub AreSoundMade : Protocol → List Made → Type 0
+AreSoundMade protocol ms = ForOneProblem protocol (λ problem. (i : ℕ) (m : Made) → item_at ms i ≡ Some m → IsSoundMade protocol problem (made_view m))
+
+-- Each root is sound, as a label, for one problem.
+abbrev pub AreSoundRoots : Protocol → List Root → Type 0
+AreSoundRoots protocol roots = ForOneProblem protocol (λ problem. (r : Root) → IsIn r roots → IsSoundMade protocol problem (root_made r))
 
 -- Label i is expanded: its expansion, and behind the other labels those of the children of its test, with their numbers.
 pub record ExpandsLabel (protocol : Protocol) (i : ℕ) (old new : List Made) (e : Expanded) : Type 0 where

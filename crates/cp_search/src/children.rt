@@ -3,34 +3,15 @@ ghost use Rattle.std.specs.Prelude.{◌≡◌, ◌<◌, length, map, IfOk, OnOk}
 ghost use Rattle.cp_model.specs.Problem.{numbers_from};
 ghost use Rattle.cp_cohort.specs.Views.{child_view};
 ghost use Rattle.cp_tree.specs.Made.{made_of_child};
-ghost use Rattle.cp_search.specs.Making.{AreFound, AddsMade, AddMade};
+ghost use Rattle.cp_search.specs.Making.{AreFound, AddMade};
 
 use crate::labels::Labels;
 use crate::making::make;
 use cp_cohort::Child;
 use std::alloc::{AllocError, Global};
 
-/// Makes the label of a child, with its assumptions in the order of a report.
-fn make_child(
-    alloc: Global,
-    made: &mut Labels,
-    parent: usize,
-    child: Child,
-) -> Result<(), AllocError>
-    requires found { AreFound made.old }
-    requires parent { parent < length made.old }
-    ensures { OnOk result (AddsMade (made_of_child parent (child_view child)) made.old made.new) }
-{
-    let Child {
-        mut skeleton,
-        operation,
-        path: _,
-    } = child;
-    skeleton.list_assumptions(alloc)?;
-    make(alloc, made, Some(parent), operation, skeleton, false)
-}
-
-/// Makes the labels of the children of a label's test, in their order: their numbers. The error is that memory ran out.
+/// Makes the labels of the children of a label's test, in their order, each with its assumptions in the order of a report: their
+/// numbers. The error is that memory ran out.
 pub(crate) fn make_children(
     alloc: Global,
     made: &mut Labels,
@@ -47,7 +28,13 @@ pub(crate) fn make_children(
     let mut numbers = Vec::new(alloc);
     while let Some(child) = rest.pop() {
         numbers.push(made.len())?;
-        make_child(alloc, made, parent, child)?;
+        let Child {
+            mut skeleton,
+            operation,
+            path: _,
+        } = child;
+        skeleton.list_assumptions(alloc)?;
+        make(alloc, made, Some(parent), operation, skeleton, false)?;
     }
     Ok(numbers)
 }

@@ -23,8 +23,8 @@ fn is_flagged(flags: &[bool], number: usize) -> bool
     }
 }
 
-/// The first label that is not flagged and is isomorphic to the skeleton with this fingerprint. The numbers of fingerprints, which
-/// stand beside each other, are compared first.
+/// The first label that is not flagged and is isomorphic to the skeleton with this fingerprint. Only those are looked at whose
+/// fingerprints have the same number.
 fn first_copy(
     alloc: Global,
     made: &Labels,
@@ -36,20 +36,17 @@ fn first_copy(
     requires fingerprints { (m : program.Made) → IsIn m made.now → m.fingerprint ≡ traits_of (skeleton_view m.skeleton) }
     ensures { IfOk result (FindsLeast (MayBeSeenIn made.now forbidden.now (skeleton_view skeleton.now))) }
 {
-    let sought = fingerprint.sharing();
-    for (number, sharing) in made.sharings().iter().enumerate() {
-        if *sharing != sought {
+    let alike = made.with_sharing(fingerprint.sharing());
+    for number in alike {
+        if is_flagged(forbidden, *number) {
             continue;
         }
-        if is_flagged(forbidden, number) {
-            continue;
-        }
-        let other = made.label(number);
+        let other = made.label(*number);
         if !other.fingerprint.may_be_isomorphic(fingerprint) {
             continue;
         }
         if isomorphic(alloc, &other.skeleton, skeleton)? {
-            return Ok(Some(number));
+            return Ok(Some(*number));
         }
     }
     Ok(None)
@@ -70,13 +67,15 @@ pub(crate) fn copied_label(
     requires fingerprint { fingerprint.now ≡ traits_of (skeleton_view skeleton.now) }
     ensures { IfOk result (FindsLeast (MayBeSeen made.now parent (skeleton_view skeleton.now))) }
 {
-    let copy = first_copy(alloc, made, &[], fingerprint, skeleton)?;
-    if copy.is_none() {
+    let Some(copy) = first_copy(alloc, made, &[], fingerprint, skeleton)? else {
         return Ok(None);
-    }
-    let Some(parent) = parent else {
-        return Ok(copy);
     };
-    let leading = reaching(alloc, made.all(), parent)?;
+    let Some(parent) = parent else {
+        return Ok(Some(copy));
+    };
+    let leading = reaching(alloc, made, parent)?;
+    if !is_flagged(&leading, copy) {
+        return Ok(Some(copy));
+    }
     first_copy(alloc, made, &leading, fingerprint, skeleton)
 }

@@ -14,7 +14,8 @@ pub(crate) struct Edge {
     pub to: usize,
 }
 
-/// Flags the first number of each edge whose second is flagged. Whether one is flagged that was not.
+/// Flags the first number of each edge whose second is flagged, from the last edge to the first: labels come behind those from which
+/// they were made, so that few rounds find all that lead to one. Whether one is flagged that was not.
 fn spread(edges: &[Edge], flags: &mut [bool]) -> bool
     requires within { AreWithin (length flags.old) edges.now }
     ensures count { length flags.new ≡ length flags.old }
@@ -24,7 +25,8 @@ fn spread(edges: &[Edge], flags: &mut [bool]) -> bool
     ensures falls { result ≡ true → unflagged flags.new < unflagged flags.old }
 {
     let mut is_new = false;
-    for edge in edges {
+    for place in (0..edges.len()).rev() {
+        let edge = edges[place];
         if flags[edge.from] {
             continue;
         }

@@ -1,21 +1,83 @@
 // The labels that were made, so kept that they are looked through quickly.
-ghost use Rattle.std.specs.Prelude.{◌≡◌, ◌<◌, [], ◌∷◌, ◌++◌, length, map, Some, OnOk};
+ghost use Rattle.std.specs.Prelude.{◌≡◌, ◌<◌, nat_eq, ℕ, [], ◌∷◌, ◌++◌, if◌then◌else◌, length, Some, OnOk};
 ghost use Rattle.cp_lists.specs.Lists.{item_at};
+ghost use Rattle.cp_search.specs.Graph.{AddsEdge};
+ghost use Rattle.cp_search.specs.Making.{AreEdgesOf};
+ghost use Rattle.cp_search.specs.Sharing.{with_sharing, numbers_by};
 
+use crate::graph::Edge;
 use crate::made::Made;
 use std::alloc::{AllocError, Global};
+use std::collections::HashMap;
 use std::marker::Model;
 
-/// The labels that were made, in their order, and beside each other the numbers by which most of them are told apart, so that these
-/// are looked through quickly.
+/// The labels that were made, in their order; and, so that copies among them are found quickly, for each number of a fingerprint
+/// the labels that have it, and the edges between labels: to each from the one from which it was made, and from it to the one in
+/// which it is seen.
 #[derive(Drop)]
 pub(crate) struct Labels {
     all: Vec<Made>,
-    sharings: Vec<usize>,
+    alike: HashMap<usize, Vec<usize>>,
+    edges: Vec<Edge>,
+}
+
+/// Adds the edge from one label to the other, where there are both.
+fn add_edge(edges: &mut Vec<Edge>, from: Option<usize>, to: Option<usize>) -> Result<(), AllocError>
+    ensures { OnOk result (AddsEdge from to edges.old.items edges.new.items) }
+{
+    let Some(from) = from else {
+        return Ok(());
+    };
+    let Some(to) = to else {
+        return Ok(());
+    };
+    edges.push(Edge { from, to })?;
+    Ok(())
+}
+
+/// Puts a label behind those that have this number.
+fn add_alike(
+    alloc: Global,
+    alike: &mut HashMap<usize, Vec<usize>>,
+    sharing: usize,
+    label: usize,
+) -> Result<(), AllocError>
+    ensures { OnOk result ((q : ℕ) → numbers_by alike.new (λ v. v.items) q
+        ≡ (if nat_eq sharing q then numbers_by alike.old (λ v. v.items) q ++ label ∷ [] else numbers_by alike.old (λ v. v.items) q)) }
+{
+    let mut labels = match alike.remove(&sharing) {
+        Some(labels) => labels,
+        None => Vec::new(alloc),
+    };
+    labels.push(label)?;
+    alike.insert(sharing, labels)?;
+    Ok(())
+}
+
+/// Puts a label behind others, behind those that have its number, and its edges behind theirs.
+fn put_behind(
+    alloc: Global,
+    all: &mut Vec<Made>,
+    alike: &mut HashMap<usize, Vec<usize>>,
+    edges: &mut Vec<Edge>,
+    made: Made,
+) -> Result<(), AllocError>
+    requires alike { (q : ℕ) → numbers_by alike.old (λ v. v.items) q ≡ with_sharing q 0 all.old.items }
+    requires edges { AreEdgesOf all.old.items edges.old.items }
+    ensures all { OnOk result (all.new.items ≡ all.old.items ++ made ∷ []) }
+    ensures alike { OnOk result ((q : ℕ) → numbers_by alike.new (λ v. v.items) q ≡ with_sharing q 0 all.new.items) }
+    ensures edges { OnOk result (AreEdgesOf all.new.items edges.new.items) }
+{
+    let number = all.len();
+    add_edge(edges, made.parent, Some(number))?;
+    add_edge(edges, Some(number), made.seen_in)?;
+    add_alike(alloc, alike, made.fingerprint.sharing(), number)?;
+    all.push(made)?;
+    Ok(())
 }
 
 impl Model for Labels {
-    ghost use Rattle.std.specs.Prelude.{◌≡◌, List, map};
+    ghost use Rattle.std.specs.Prelude.{◌≡◌, ℕ, List};
     ghost use Rattle.std.specs.Coded.{coded_list};
     ghost use Rattle.cp_search.specs.declared.made.Made as program;
     ghost use Rattle.cp_search.specs.contracts.made.Made as made;
@@ -26,7 +88,10 @@ impl Model for Labels {
 
     ghost view = { λ l. l.all.items };
 
-    ghost invariant = { λ l. l.sharings.items ≡ map (λ m. m.fingerprint.sharing) l.all.items };
+    ghost use Rattle.cp_search.specs.Making.{AreEdgesOf};
+    ghost use Rattle.cp_search.specs.Sharing.{with_sharing, numbers_by};
+
+    ghost invariant = { λ l. ((q : ℕ) → numbers_by l.alike (λ v. v.items) q ≡ with_sharing q 0 l.all.items) × AreEdgesOf l.all.items l.edges.items };
 }
 
 impl Labels {
@@ -36,7 +101,8 @@ impl Labels {
     {
         Labels {
             all: Vec::new(alloc),
-            sharings: Vec::new(alloc),
+            alike: HashMap::new(alloc),
+            edges: Vec::new(alloc),
         }
     }
 
@@ -62,21 +128,32 @@ impl Labels {
         &self.all[number]
     }
 
-    /// The number of each label's fingerprint.
-    pub(crate) fn sharings(&self) -> &[usize]
-        ensures { result.now ≡ map (λ m. m.fingerprint.sharing) self.now }
+    /// The labels whose fingerprints have this number, in ascending order.
+    pub(crate) fn with_sharing(&self, sharing: usize) -> &[usize]
+        ensures { result.now ≡ with_sharing sharing 0 self.now }
     {
-        &self.sharings
+        match self.alike.get(&sharing) {
+            Some(labels) => labels,
+            None => &[],
+        }
     }
 
-    /// Puts a label behind the others. The error is that memory ran out.
-    pub(crate) fn push(&mut self, made: Made) -> Result<(), AllocError>
+    /// The edges between the labels, those of a later label behind those of an earlier one.
+    pub(crate) fn edges(&self) -> &[Edge]
+        ensures { AreEdgesOf self.now result.now }
+    {
+        &self.edges
+    }
+
+    /// Puts a label behind the others. The error is that memory ran out, and then all labels are given up.
+    pub(crate) fn push(&mut self, alloc: Global, made: Made) -> Result<(), AllocError>
         ensures { OnOk result (self.new ≡ self.old ++ made ∷ []) }
     {
-        let sharing = made.fingerprint.sharing();
-        self.sharings.push(sharing)?;
-        if self.all.push(made).is_err() {
-            self.sharings.pop();
+        let Labels { all, alike, edges } = self;
+        if put_behind(alloc, all, alike, edges, made).is_err() {
+            all.clear();
+            alike.clear();
+            edges.clear();
             return Err(AllocError);
         }
         Ok(())

@@ -32,16 +32,19 @@ pub(crate) fn make(
     let fingerprint = Fingerprint::of(alloc, &skeleton)?;
     let seen_in = copied_label(alloc, made, parent, &fingerprint, &skeleton)?;
     let unrealised = unrealised(alloc, &skeleton)?;
-    made.push(Made {
-        parent,
-        operation,
-        skeleton,
-        general,
-        dead: false,
-        fingerprint,
-        seen_in,
-        unrealised,
-    })
+    made.push(
+        alloc,
+        Made {
+            parent,
+            operation,
+            skeleton,
+            general,
+            dead: false,
+            fingerprint,
+            seen_in,
+            unrealised,
+        },
+    )
 }
 
 /// Makes a label behind the others that is dead from the start. The error is that memory ran out.
@@ -55,14 +58,17 @@ pub(crate) fn make_dead(
     ensures { OnOk result (AddsMade (record { parent = None; operation = operation_view operation; variables = variables_view skeleton.variables; skeleton = skeleton_view skeleton; dead = true }) made.old made.new) }
 {
     let fingerprint = Fingerprint::of(alloc, &skeleton)?;
-    made.push(Made {
-        parent: None,
-        operation,
-        skeleton,
-        general: false,
-        dead: true,
-        fingerprint,
-        seen_in: None,
-        unrealised: Vec::new(alloc),
-    })
+    made.push(
+        alloc,
+        Made {
+            parent: None,
+            operation,
+            skeleton,
+            general: false,
+            dead: true,
+            fingerprint,
+            seen_in: None,
+            unrealised: Vec::new(alloc),
+        },
+    )
 }

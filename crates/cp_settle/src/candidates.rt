@@ -150,7 +150,7 @@ pub(crate) fn round(
 {
     let mut rest = candidates;
     rest.reverse();
-    let mut next = Vec::new(alloc);
+    let mut next = Vec::with_capacity(alloc, rest.len())?;
     while let Some(candidate) = rest.pop() {
         advance(alloc, release, candidate, &mut next)?;
     }

@@ -1,17 +1,14 @@
 // The two conditions on a release.
 ghost use Rattle.std.specs.Prelude.{◌≡◌, ◌↔◌, IsTrue, IfOk, MatchOption};
-ghost use Rattle.std.specs.Option.{option_map};
 ghost use Rattle.cp_model.specs.Term.{apply_to};
-ghost use Rattle.cp_model.specs.Strand.{payload};
-ghost use Rattle.cp_model.specs.Skeleton.{term_event_at};
-ghost use Rattle.cp_skel.specs.View.{skeleton_view};
 ghost use Rattle.cp_settle.specs.Releasing.{IsReleasedInside, IsInsideAlone, IsFirstOutside};
 ghost use Rattle.cp_settle.specs.Views.{release_view, tried_view};
 ghost use Rattle.cp_settle.specs.Conditions.{IsFirstAt, HasNoneBefore};
 
 use crate::release::{Release, Tried};
+use cp_derive::message_at;
 use cp_match::{first_outside, is_inside};
-use cp_skel::{Node, Skeleton};
+use cp_skel::Node;
 use cp_term::{Path, Term};
 use cp_unify::apply;
 use std::alloc::{AllocError, Global};
@@ -21,22 +18,6 @@ use std::alloc::{AllocError, Global};
 pub(crate) struct Position {
     pub(crate) term: Term,
     pub(crate) path: Path,
-}
-
-/// The message of the event at a node, if there is one.
-fn message_at(alloc: Global, k: &Skeleton, node: Node) -> Result<Option<Term>, AllocError>
-    ensures { IfOk result (λ m. m ≡ option_map payload (term_event_at (skeleton_view k.now).strands node)) }
-{
-    match k.strands().get(node.strand) {
-        Some(strand) => match strand.event(alloc, node.index)? {
-            Some(event) => {
-                let message = event.payload().copy()?;
-                Ok(Some(message))
-            }
-            None => Ok(None),
-        },
-        None => Ok(None),
-    }
 }
 
 /// Whether the position of the release is inside the patterns.

@@ -14,7 +14,7 @@ fn all_tried(alloc: Global, candidates: Vec<Candidate>) -> Result<Vec<Tried>, Al
 {
     let mut rest = candidates;
     rest.reverse();
-    let mut all = Vec::new(alloc);
+    let mut all = Vec::with_capacity(alloc, rest.len())?;
     while let Some(candidate) = rest.pop() {
         all.push(candidate.into_tried())?;
     }
@@ -33,8 +33,9 @@ fn all_tried(alloc: Global, candidates: Vec<Candidate>) -> Result<Vec<Tried>, Al
 pub fn settle(alloc: Global, release: &Release, tried: Tried) -> Result<Vec<Tried>, AllocError>
     ensures { IfOk result (λ ts. Settles (release_view release.now) on_the_way (tried_view tried) (map tried_view ts.items)) }
 {
-    let mut candidates = Vec::new(alloc);
-    candidates.push(Candidate::OnTheWay(tried))?;
+    let mut alone = Vec::with_capacity(alloc, 1)?;
+    alone.push(Candidate::OnTheWay(tried))?;
+    let mut candidates = alone;
     while some_is_open(&candidates) {
         candidates = round(alloc, release, candidates)?;
     }

@@ -1,14 +1,19 @@
 -- Pieces one after another: each fold over pieces, at one piece more.
-use Rattle.std.proofs.Common.{◌≡◌, ℕ, ◌+◌, ◌-◌, ◌<◌, ◌≤◌, List, [], ◌∷◌, ◌++◌, length, take, refl, sym, ap, ◌∙◌, subst, arith, length-append}
+use Rattle.std.proofs.Common.{◌≡◌, ℕ, ◌+◌, ◌-◌, ◌<◌, ◌≤◌, List, [], ◌∷◌, ◌++◌, length, take, refl, sym, ap, ◌∙◌, subst, arith, length-append, ⊎_elim}
+use Rattle.std.proofs.lemmas.Bool.{cases_lt}
 use Rattle.std.proofs.Math.Seq.{take-append_seam}
 use Rattle.cp_base.specs.declared.place.Place.{Place}
-use Rattle.cp_base.specs.declared.place.Code.{Code}
+use Rattle.cp_base.specs.declared.place.Code.TheVariants.{TooDeep}
 use Rattle.cp_sexpr.specs.Pieces.{Piece, blank, comment, opening, closing, quoted, token, spelling, IsPiece, BeginsWith, IsCut, after_byte, place_after, after_piece, after_pieces}
-use Rattle.cp_sexpr.specs.Reading.{opened_behind, opened_after, IsRefusedPiece, AreAccepted}
+use Rattle.cp_sexpr.specs.Reading.{opened_behind, opened_after, IsAccepted, AreAccepted, max_depth}
+
+-- What is cut into pieces, and what is left into more, is cut into all of them.
+pub IsCut-append : (ps : List Piece) (text middle : List ℕ) (qs : List Piece) (rest : List ℕ) → IsCut text ps middle → IsCut middle qs rest → IsCut text (ps ++ qs) rest
+IsCut-append [] text middle qs rest c d = subst (λ t. IsCut t qs rest) (sym c) d
+IsCut-append (p ∷ ps) text middle qs rest c d = (c.0, c.1, IsCut-append ps c.0 middle qs rest c.2 d)
 
 pub IsCut-push : (ps : List Piece) (text rest : List ℕ) (p : Piece) (after : List ℕ) → IsCut text ps rest → BeginsWith rest p after → IsCut text (ps ++ p ∷ []) after
-IsCut-push [] text rest p after c b = (after, subst (λ t. BeginsWith t p after) (sym c) b, refl)
-IsCut-push (q ∷ ps) text rest p after c b = (c.0, c.1, IsCut-push ps c.0 rest p after c.2 b)
+IsCut-push ps text rest p after c b = IsCut-append ps text rest (p ∷ []) after c (after, b, refl)
 
 pub after_pieces-append : (at : Place) (ps qs : List Piece) → after_pieces at (ps ++ qs) ≡ after_pieces (after_pieces at ps) qs
 after_pieces-append at [] qs = refl
@@ -18,10 +23,25 @@ pub opened_after-append : (at : Place) (opened : List Place) (ps qs : List Piece
 opened_after-append at opened [] qs = refl
 opened_after-append at opened (p ∷ ps) qs = opened_after-append (after_piece at p) (opened_behind at opened p) ps qs
 
-pub AreAccepted-push : (at : Place) (opened : List Place) (ps : List Piece) (p : Piece) → AreAccepted at opened ps → ((code : Code) → IsRefusedPiece (opened_after at opened ps) p code → ⊥)
-    → AreAccepted at opened (ps ++ p ∷ [])
-AreAccepted-push at opened [] p a h = (h, tt)
-AreAccepted-push at opened (q ∷ ps) p a h = (a.0, AreAccepted-push (after_piece at q) (opened_behind at opened q) ps p a.1 h)
+-- Pieces are accepted where the first are, and the rest behind them.
+pub AreAccepted-append : (at : Place) (opened : List Place) (ps qs : List Piece) → AreAccepted at opened ps → AreAccepted (after_pieces at ps) (opened_after at opened ps) qs → AreAccepted at opened (ps ++ qs)
+AreAccepted-append at opened [] qs a b = b
+AreAccepted-append at opened (p ∷ ps) qs a b = (a.0, AreAccepted-append (after_piece at p) (opened_behind at opened p) ps qs a.1 b)
+
+pub AreAccepted-push : (at : Place) (opened : List Place) (ps : List Piece) (p : Piece) → AreAccepted at opened ps → IsAccepted (opened_after at opened ps) p → AreAccepted at opened (ps ++ p ∷ [])
+AreAccepted-push at opened ps p a h = AreAccepted-append at opened ps (p ∷ []) a (h, tt)
+
+pub first_accepted : (at : Place) (opened : List Place) (ps qs : List Piece) → AreAccepted at opened (ps ++ qs) → AreAccepted at opened ps
+first_accepted at opened [] qs h = tt
+first_accepted at opened (p ∷ ps) qs h = (h.0, first_accepted (after_piece at p) (opened_behind at opened p) ps qs h.1)
+
+pub last_accepted : (at : Place) (opened : List Place) (ps qs : List Piece) → AreAccepted at opened (ps ++ qs) → AreAccepted (after_pieces at ps) (opened_after at opened ps) qs
+last_accepted at opened [] qs h = h
+last_accepted at opened (p ∷ ps) qs h = last_accepted (after_piece at p) (opened_behind at opened p) ps qs h.1
+
+-- Where one more list may be opened, fewer are open than at the most.
+pub shallow : (opened : List Place) → IsAccepted opened opening → length opened < max_depth
+shallow opened a = ⊎_elim (λ h. h) (λ h. absurd (a TooDeep (h, refl))) (cases_lt (length opened) max_depth)
 
 -- ---- lengths and places
 

@@ -1,18 +1,15 @@
 -- What reading gives has a spelling.
-use Rattle.std.proofs.Common.{◌≡◌, ℕ, ◌+◌, ◌^◌, ◌<◌, ◌≤◌, List, [], ◌∷◌, ◌++◌, length, drop, refl, ap, ◌∙◌, subst, arith, Ok, lit<, ⊎_elim}
+use Rattle.std.proofs.Common.{◌≡◌, ℕ, ◌+◌, ◌^◌, ◌<◌, ◌≤◌, List, [], ◌∷◌, ◌++◌, length, drop, refl, ap, ◌∙◌, subst, arith, Ok, lit<}
 use Rattle.std.specs.List.{AllByRecursion}
 use Rattle.std.specs.Str.Parse.{AllDigits}
 use Rattle.std.proofs.Math.Nat.{pow-le-pow_right}
-use Rattle.std.proofs.lemmas.Bool.{cases_lt}
 use Rattle.std.proofs.lemmas.Int.Digits.{digits_value-lt}
 use Rattle.cp_base.specs.declared.place.Place.{Place}
-use Rattle.cp_base.specs.declared.place.Code.{Code}
-use Rattle.cp_base.specs.declared.place.Code.TheVariants.{TooDeep}
 use Rattle.cp_sexpr.specs.Syntax.{Forms}
 use Rattle.cp_sexpr.specs.Pieces.{Piece, opening, closing, IsPiece, IsCut, after_piece, after_pieces}
-use Rattle.cp_sexpr.specs.Reading.{IsDigit, IsNumber, value, Writes, nothing, skip_blank, skip_comment, a_string, a_symbol, a_number, a_list, opened_behind, opened_after, IsRefusedPiece, AreAccepted, IsReading, max_depth}
+use Rattle.cp_sexpr.specs.Reading.{IsDigit, IsNumber, value, Writes, nothing, skip_blank, skip_comment, a_string, a_symbol, a_number, a_list, opened_after, AreAccepted, IsReading, max_depth}
 use Rattle.cp_sexpr.specs.ReadingBack.{AreSpellable, depth_of}
-use Rattle.cp_sexpr.proofs.Fronts.{opened_after-append}
+use Rattle.cp_sexpr.proofs.Fronts.{opened_after-append, first_accepted, last_accepted, shallow}
 use Rattle.cp_sexpr.proofs.Numbers.{digit_value-digit}
 
 are_digits : (t : List ℕ) → AllByRecursion IsDigit t → AllDigits 10 t
@@ -38,14 +35,6 @@ last_pieces : (ps qs : List Piece) → AllByRecursion IsPiece (ps ++ qs) → All
 last_pieces [] qs h = h
 last_pieces (p ∷ ps) qs h = last_pieces ps qs h.1
 
-first_accepted : (at : Place) (opened : List Place) (ps qs : List Piece) → AreAccepted at opened (ps ++ qs) → AreAccepted at opened ps
-first_accepted at opened [] qs h = tt
-first_accepted at opened (p ∷ ps) qs h = (h.0, first_accepted (after_piece at p) (opened_behind at opened p) ps qs h.1)
-
-last_accepted : (at : Place) (opened : List Place) (ps qs : List Piece) → AreAccepted at opened (ps ++ qs) → AreAccepted (after_pieces at ps) (opened_after at opened ps) qs
-last_accepted at opened [] qs h = h
-last_accepted at opened (p ∷ ps) qs h = last_accepted (after_piece at p) (opened_behind at opened p) ps qs h.1
-
 -- what writes forms leaves no list open
 Writes-closed : {at : Place} {ps : List Piece} {fs : Forms} → Writes at ps fs → (opened : List Place) → opened_after at opened ps ≡ opened
 Writes-closed nothing opened = refl
@@ -59,9 +48,6 @@ Writes-closed (a_list {at} {inside} {ps} {items} {fs} w v) opened =
     ∙ ap (λ o. opened_after (after_piece (after_pieces (after_piece at opening) inside) closing) (drop 1 o) ps) (Writes-closed w (at ∷ opened))
     ∙ Writes-closed v opened
 
-shallow : (at : Place) (opened : List Place) → ((code : Code) → IsRefusedPiece opened opening code → ⊥) → length opened < max_depth
-shallow at opened a = ⊎_elim (λ h. h) (λ h. absurd (a TooDeep (h, refl))) (cases_lt (length opened) max_depth)
-
 written_is_spellable : {at : Place} {ps : List Piece} {fs : Forms} → Writes at ps fs → (opened : List Place) → AllByRecursion IsPiece ps → AreAccepted at opened ps → length opened ≤ max_depth
     → AreSpellable fs × (length opened + depth_of fs ≤ max_depth)
 written_is_spellable nothing opened p a d = (tt, omega arith)
@@ -72,7 +58,7 @@ written_is_spellable (a_symbol other w) opened p a d = let h = written_is_spella
 written_is_spellable (a_number {at} {t} n w) opened p a d = let h = written_is_spellable w opened p.1 a.1 d in ((value_below t n, h.0), omega (arith, h.1))
 written_is_spellable (a_list {at} {inside} {ps} {items} {fs} w v) opened p a d =
     let inner = after_piece at opening in
-    let less = shallow at opened a.0 in
+    let less = shallow opened a.0 in
     let h = written_is_spellable w (at ∷ opened) (first_pieces inside (closing ∷ ps) p.1) (first_accepted inner (at ∷ opened) inside (closing ∷ ps) a.1) (omega (arith, less)) in
     let behind = last_accepted inner (at ∷ opened) inside (closing ∷ ps) a.1 in
     let later : AreAccepted (after_piece (after_pieces inner inside) closing) opened ps = subst (λ o. AreAccepted (after_piece (after_pieces inner inside) closing) (drop 1 o) ps) (Writes-closed w (at ∷ opened)) behind.1 in

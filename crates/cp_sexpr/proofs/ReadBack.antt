@@ -5,11 +5,11 @@ use Rattle.std.proofs.lemmas.Fmt.{decimal_is_IsNumeral, decimal_by_steps, length
 use Rattle.cp_base.specs.declared.place.Place.{Place}
 use Rattle.cp_sexpr.specs.Syntax.{Form, symbol, string, number, list, Forms, none, more, append}
 use Rattle.cp_sexpr.specs.Pieces.{Piece, blank, opening, closing, quoted, token, BeginsWithout, IsCut, IsTokenByte, IsWhiteSpace, space, line_feed, quote, open_parenthesis, close_parenthesis, start, after_piece, after_pieces}
-use Rattle.cp_sexpr.specs.Reading.{IsDigit, IsNumber, value, Writes, nothing, skip_blank, a_string, a_symbol, a_number, opened_behind, opened_after, AreAccepted, IsWritten, max_depth}
+use Rattle.cp_sexpr.specs.Reading.{IsDigit, IsNumber, value, Writes, nothing, skip_blank, a_string, a_symbol, a_number, opened_after, AreAccepted, IsWritten, max_depth}
 use Rattle.cp_sexpr.specs.Spelling.{spelling, first_spelling, next_spelling, top_gap, first_top_spelling, next_top_spelling, top_text}
 use Rattle.cp_sexpr.specs.ReadingBack.{unplaced, all_unplaced, IsSpellable, AreSpellable, depth, depth_of, top_spellings, ReadsAs}
 use Rattle.cp_sexpr.proofs.Stacks.{append-none, append-append}
-use Rattle.cp_sexpr.proofs.Fronts.{IsCut-push, AreAccepted-push, after_pieces-append, opened_after-append}
+use Rattle.cp_sexpr.proofs.Fronts.{IsCut-append, IsCut-push, AreAccepted-append, AreAccepted-push, after_pieces-append, opened_after-append}
 use Rattle.cp_sexpr.proofs.Grammar.{WritesFirst, first_list}
 
 -- ---- numbers
@@ -52,14 +52,6 @@ behind_blank at opened b s fs w a = record {
   writes = λ ps gs v. skip_blank (a.writes ps gs v);
   same = a.same;
 }
-
-IsCut-append : (ps : List Piece) (text middle : List ℕ) (qs : List Piece) (rest : List ℕ) → IsCut text ps middle → IsCut middle qs rest → IsCut text (ps ++ qs) rest
-IsCut-append [] text middle qs rest c d = subst (λ t. IsCut t qs rest) (sym c) d
-IsCut-append (p ∷ ps) text middle qs rest c d = (c.0, c.1, IsCut-append ps c.0 middle qs rest c.2 d)
-
-AreAccepted-append : (at : Place) (opened : List Place) (ps qs : List Piece) → AreAccepted at opened ps → AreAccepted (after_pieces at ps) (opened_after at opened ps) qs → AreAccepted at opened (ps ++ qs)
-AreAccepted-append at opened [] qs a b = b
-AreAccepted-append at opened (p ∷ ps) qs a b = (a.0, AreAccepted-append (after_piece at p) (opened_behind at opened p) ps qs a.1 b)
 
 all_unplaced-append : (fs gs : Forms) → all_unplaced (append fs gs) ≡ append (all_unplaced fs) (all_unplaced gs)
 all_unplaced-append none gs = refl
@@ -145,7 +137,7 @@ list_spells at opened s fs shallow inside =
     }
 
 -- what stands behind a form ends it
-next_apart : (fs : Forms) (rest : List ℕ) → BeginsWithout IsTokenByte rest → BeginsWithout IsTokenByte (next_spelling fs ++ rest)
+pub next_apart : (fs : Forms) (rest : List ℕ) → BeginsWithout IsTokenByte rest → BeginsWithout IsTokenByte (next_spelling fs ++ rest)
 next_apart none rest h = h
 next_apart (more f fs) rest h = λ k. omega (arith, k.0)
 
@@ -172,7 +164,7 @@ mutual
 
 -- ---- top forms
 
-next_top_apart : (fs : Forms) (rest : List ℕ) → BeginsWithout IsTokenByte rest → BeginsWithout IsTokenByte (next_top_spelling fs ++ rest)
+pub next_top_apart : (fs : Forms) (rest : List ℕ) → BeginsWithout IsTokenByte rest → BeginsWithout IsTokenByte (next_top_spelling fs ++ rest)
 next_top_apart none rest h = h
 next_top_apart (more (symbol p t) fs) rest h = λ k. omega (arith, k.0)
 next_top_apart (more (string p t) fs) rest h = λ k. omega (arith, k.0)
@@ -216,7 +208,7 @@ top_text_spells (string p t) at s d = string_spells at [] t p s
 top_text_spells (number p n) at s d = number_spells at [] n s
 top_text_spells (list p fs) at s d = list_spells at [] (first_top_spelling fs) (all_unplaced fs) (omega arith) (first_top_spells fs (after_piece at opening) (at ∷ []) s (omega (arith, d)))
 
-line_end_apart : (fs : Forms) (rest : List ℕ) → BeginsWithout IsTokenByte rest → BeginsWithout IsTokenByte ((line_feed ∷ top_spellings fs) ++ rest)
+pub line_end_apart : (fs : Forms) (rest : List ℕ) → BeginsWithout IsTokenByte rest → BeginsWithout IsTokenByte ((line_feed ∷ top_spellings fs) ++ rest)
 line_end_apart fs rest h = λ k. omega (arith, k.0)
 
 top_spells : (fs : Forms) (at : Place) → AreSpellable fs → depth_of fs ≤ max_depth → Spells at [] (top_spellings fs) (all_unplaced fs)

@@ -18,6 +18,7 @@ use Rattle.cp_model.proofs.StatedStays.{HasAssumptionsOf, own_stays, stated_stay
 use Rattle.cp_skel.specs.Given.{AddsOnce}
 use Rattle.cp_skel.specs.Changing.{AddsListener, AddsStrand, CanExtend, Extends}
 use Rattle.cp_skel.specs.Ordered.{IsOrdered, ordered_by, DiffersInOrder}
+use Rattle.cp_skel.specs.Keeping.{KeptByChanges}
 use Rattle.cp_skel.specs.Sound.{DeclaresItsVariables, IsSound}
 use Rattle.cp_skel.proofs.Grown.{Grows}
 use Rattle.cp_skel.proofs.OrderKept.{more_ordered}
@@ -227,6 +228,16 @@ module _ (k : Skeleton) (pairs : List OrderPair) (wider : (p : OrderPair) → Is
 
 pub pair_says_more : (k : Skeleton) (p : OrderPair) → SaysMore k (ordered_by k (p ∷ k.pairs))
 pair_says_more k p = reordered_says_more k (ordered_by k (p ∷ k.pairs)) (record { strands = refl; assumptions = refl; from_problem = refl }) (λ x y b. before_wider k (p ∷ k.pairs) (λ q i. there i) b)
+
+-- What holds of each skeleton that says more is kept by all changes.
+pub kept_by_changes : (P : Skeleton → Type 0) → ((old new : Skeleton) → SaysMore old new → P old → P new) → KeptByChanges P
+kept_by_changes P keeps = record {
+  listener = λ old new t adds. keeps old new (listener_says_more t old new adds);
+  strand = λ old new role height values adds. keeps old new (strand_says_more role height values old new adds);
+  extended = λ old new s height values x higher. keeps old new (extended_says_more s height values old new x higher);
+  pair = λ k p. keeps k (ordered_by k (p ∷ k.pairs)) (pair_says_more k p);
+  reordered = λ old new same before. keeps old new (reordered_says_more old new same before);
+}
 
 -- ---- skeletons over a protocol
 

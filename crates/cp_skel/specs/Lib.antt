@@ -8,6 +8,7 @@ pub mod Changing
 pub mod DeclaredPrefixes
 pub mod Joining
 pub mod Ordered
+pub mod Keeping
 pub mod Deleting
 pub mod Bridging
 pub mod Kinds

@@ -1,13 +1,13 @@
 // Laws of what skeletons keep when they are changed: each stands as the contract of a function that does nothing.
 ghost use Rattle.std.specs.Prelude.{ℕ, ◌≤◌, ◌∷◌, List};
-ghost use Rattle.cp_model.specs.declared.node.Node.{Node};
 ghost use Rattle.cp_model.specs.Term.{Term};
-ghost use Rattle.cp_model.specs.Strand.{Role, Protocol};
+ghost use Rattle.cp_model.specs.Strand.{Protocol};
 ghost use Rattle.cp_model.specs.Skeleton.{Skeleton, Before, IsOrderPair, IsSkeleton};
 ghost use Rattle.cp_model.specs.declared.node.OrderPair.{OrderPair};
 ghost use Rattle.cp_model.specs.Homomorphism.{CarriesHomomorphism};
 ghost use Rattle.cp_model.specs.Stated.{KeepsStated};
-ghost use Rattle.cp_skel.specs.Changing.{AddsListener, IsClosedPrefix, AddsStrand, CanExtend, Extends};
+ghost use Rattle.cp_skel.specs.Changing.{IsClosedPrefix, CanExtend, Extends};
+ghost use Rattle.cp_skel.specs.Keeping.{KeptByChanges};
 ghost use Rattle.cp_skel.specs.Sound.{IsSound};
 ghost use Rattle.cp_skel.specs.Ordered.{IsOrdered, ordered_by, DiffersInOrder};
 
@@ -21,20 +21,12 @@ pub fn order_keeps_skeletons()
 /// A skeleton that carries a homomorphism from its problem goes on to carry it when a listener or an instance is added, when an
 /// instance grows, when a pair is added, and with any order in which what was before a node still is.
 pub fn changes_keep_homomorphisms()
-    ensures listener { (problem old new : Skeleton) (t : Term) → AddsListener t old new → CarriesHomomorphism problem old → CarriesHomomorphism problem new }
-    ensures strand { (problem old new : Skeleton) (role : Role) (height : ℕ) (values : List Term) → AddsStrand role height values old new → CarriesHomomorphism problem old → CarriesHomomorphism problem new }
-    ensures extended { (problem old new : Skeleton) (s height : ℕ) (values : List Term) → (x : Extends s height values old new) → x.before ≤ height → CarriesHomomorphism problem old → CarriesHomomorphism problem new }
-    ensures pair { (problem k : Skeleton) (p : OrderPair) → CarriesHomomorphism problem k → CarriesHomomorphism problem (ordered_by k (p ∷ k.pairs)) }
-    ensures reordered { (problem old new : Skeleton) → DiffersInOrder old new → ((x y : Node) → Before old x y → Before new x y) → CarriesHomomorphism problem old → CarriesHomomorphism problem new }
+    ensures kept { (problem : Skeleton) → KeptByChanges (CarriesHomomorphism problem) }
 {}
 
 /// So does one that keeps what its problem states itself: its own assumptions and its own pairs.
 pub fn changes_keep_what_is_stated()
-    ensures listener { (problem old new : Skeleton) (t : Term) → AddsListener t old new → KeepsStated problem old → KeepsStated problem new }
-    ensures strand { (problem old new : Skeleton) (role : Role) (height : ℕ) (values : List Term) → AddsStrand role height values old new → KeepsStated problem old → KeepsStated problem new }
-    ensures extended { (problem old new : Skeleton) (s height : ℕ) (values : List Term) → (x : Extends s height values old new) → x.before ≤ height → KeepsStated problem old → KeepsStated problem new }
-    ensures pair { (problem k : Skeleton) (p : OrderPair) → KeepsStated problem k → KeepsStated problem (ordered_by k (p ∷ k.pairs)) }
-    ensures reordered { (problem old new : Skeleton) → DiffersInOrder old new → ((x y : Node) → Before old x y → Before new x y) → KeepsStated problem old → KeepsStated problem new }
+    ensures kept { (problem : Skeleton) → KeptByChanges (KeepsStated problem) }
 {}
 
 /// An instance that can grow to a height is not higher before, and in a sound skeleton its role declares the variables of

@@ -6,14 +6,14 @@ use Rattle.cp_lists.proofs.Members.{drop_read}
 use Rattle.cp_base.specs.declared.place.Place.{Place}
 use Rattle.cp_model.specs.Term as model
 use Rattle.cp_model.specs.Same.{same_sort}
-use Rattle.cp_report.specs.Misfits.{misfit_unless}
+use Rattle.cp_report.specs.Misfits.{stands_before, misfit_unless}
 use Rattle.cp_report.specs.Spelled.{Local, LocalAt, keeps_sort, has_local, locals_onto, clash_misfits}
 use Rattle.cp_spelled.specs.FirstMisfit.{first_onto}
 use Rattle.cp_spelled.specs.Tables.{local_from}
 use Rattle.cp_spelled.specs.LocalViews.{local_view, local_at_view}
 use Rattle.cp_spelled.specs.declared.locals.Local as program
 use Rattle.cp_spelled.specs.declared.locals.LocalAt as program_at
-use Rattle.cp_spelled.proofs.Firsts.{first_onto-append}
+use Rattle.cp_forms.proofs.FirstOf.{first_onto-append}
 use Rattle.cp_scope.proofs.NamesInUse.{otherwise, otherwise-none, one_more, some_otherwise}
 
 -- the sort with which a number stands first
@@ -120,7 +120,7 @@ module _ (fs : List program_at.LocalAt) (k : ℕ) where
       ap (λ x. first_onto p (clash_misfits x rest)) g
       ∙ ap (first_onto p) (sym (clash-added ls l rest))
       ∙ ap (λ x. first_onto x (clash_misfits (ls ++ l ∷ []) rest)) (q ∙ ap (λ d. first_onto o (misfit_unless d f.place)) b)
-      ∙ sym (first_onto-append o (misfit_unless (keeps_sort ls l) f.place) (clash_misfits (ls ++ l ∷ []) rest))
+      ∙ sym (first_onto-append stands_before o (misfit_unless (keeps_sort ls l) f.place) (clash_misfits (ls ++ l ∷ []) rest))
       ∙ sym (ap (λ gs. first_onto o (clash_misfits ls (map local_at_view gs))) (drop_read fs k f h e)) ∙ i
 
   pub onto-taken : (f : program_at.LocalAt) → k < length fs → f ≡ get_or fs k f → (ls ms all : List Local) → ms ≡ added ls (local_view f.local)

@@ -1,11 +1,11 @@
--- The first of the misfits met so far.
-use Rattle.std.proofs.Common.{◌≡◌, ℕ, List, [], ◌∷◌, ◌++◌, true, false, refl, ap, ◌∙◌, arith}
+-- The first of the misfits met so far, in the order of places.
+use Rattle.std.proofs.Common.{◌≡◌, ℕ, List, [], ◌∷◌, true, false, arith}
 use Rattle.std.specs.Prelude.{Option, Some, None, nat_lt, ◌==◌, ◌||◌, ◌&&◌}
 use Rattle.std.proofs.lemmas.Bool.Decides.{nat_tests}
 use Rattle.cp_lists.specs.Lists.{here, there}
 use Rattle.cp_base.specs.declared.place.Place.{Place}
 use Rattle.cp_forms.proofs.FirstOf as first
-use Rattle.cp_forms.proofs.FirstOf.{IsOrder, unless_any, among_two}
+use Rattle.cp_forms.proofs.FirstOf.{IsOrder, among_two}
 use Rattle.cp_report.specs.Misfits.{stands_before, IsFirstMisfit, unless_misfit}
 use Rattle.cp_report.proofs.OneAnswer.{not_before, one_first}
 use Rattle.cp_spelled.specs.FirstMisfit.{first_onto, merged, onto_none}
@@ -29,47 +29,14 @@ one_of_two : (p q : Place) → stands_before p q ≡ false → stands_before q p
 one_of_two p q g h =
     one_first (p ∷ q ∷ []) p q (record { listed = here; first = among_two stands_before p q p (behind_itself p) h }) (record { listed = there here; first = among_two stands_before p q q g (behind_itself q) })
 
-in_order : IsOrder stands_before
+pub in_order : IsOrder stands_before
 in_order = record { itself = behind_itself; other = behind_other; both = behind_both; same = one_of_two }
 
-pub first_onto-append : (o : Option Place) (a b : List Place) → first_onto o (a ++ b) ≡ first_onto (first_onto o a) b
-first_onto-append o a b = first.first_onto-append stands_before o a b
-
--- ---- what it means
-
+-- The first that is met is the first misfit.
 pub first_found : (places : List Place) (p : Place) → first_onto None places ≡ Some p → IsFirstMisfit places p
 first_found places p e = let one = first.first_found stands_before in_order places p e in record { listed = one.listed; first = one.first }
 
-pub none_found : (places : List Place) → first_onto None places ≡ None → places ≡ []
-none_found places e = first.none_found stands_before places e
-
--- ---- the order of the misfits does not matter
-
-pub first_onto-swap : (o : Option Place) (a b : List Place) → first_onto o (a ++ b) ≡ first_onto o (b ++ a)
-first_onto-swap o a b = first.first_onto-swap stands_before in_order o a b
-
-pub moved_behind : (o : Option Place) (a b c : List Place) → first_onto o ((a ++ b) ++ c) ≡ first_onto (first_onto o (a ++ c)) b
-moved_behind o a b c = first.moved_behind stands_before in_order o a b c
-
-pub moved_behind_two : (o : Option Place) (a b c d : List Place) → first_onto o (((a ++ b) ++ c) ++ d) ≡ first_onto (first_onto o ((a ++ c) ++ d)) b
-moved_behind_two o a b c d = first.moved_behind_two stands_before in_order o a b c d
-
--- ---- one after another
-
-pub first_then : (o p q : Option Place) (a b : List Place) → p ≡ first_onto o a → q ≡ first_onto p b → q ≡ first_onto o (a ++ b)
-first_then o p q a b e f = first.first_then stands_before o p q a b e f
-
-pub first_then_three : (o p q r : Option Place) (a b c : List Place) → p ≡ first_onto o a → q ≡ first_onto p b → r ≡ first_onto q c → r ≡ first_onto o (a ++ b ++ c)
-first_then_three o p q r a b c e f g = first.first_then_three stands_before o p q r a b c e f g
-
--- ---- misfits that are gathered apart
-
-pub first_onto-merged : (o : Option Place) (places : List Place) → first_onto o places ≡ merged o (first_onto None places)
-first_onto-merged o places = first.first_onto-merged stands_before in_order o places
-
-unless_is : (places others : List Place) → unless_any places others ≡ unless_misfit places others
-unless_is [] others = refl
-unless_is (p ∷ ps) others = refl
-
+-- Others count only where there is no misfit among the first.
 pub merged-unless : (o i j k : Option Place) (places others : List Place) → i ≡ first_onto None places → j ≡ onto_none i others → k ≡ merged o j → k ≡ first_onto o (unless_misfit places others)
-merged-unless o i j k places others e f g = first.merged-unless stands_before in_order o i j k places others e f g ∙ ap (first_onto o) (unless_is places others)
+merged-unless o i j k [] others e f g = first.merged-unless stands_before in_order o i j k [] others e f g
+merged-unless o i j k (p ∷ ps) others e f g = first.merged-unless stands_before in_order o i j k (p ∷ ps) others e f g

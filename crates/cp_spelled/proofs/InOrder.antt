@@ -1,18 +1,16 @@
 -- Entries of lists one after another.
-use Rattle.std.proofs.Common.{◌≡◌, ℕ, zero, suc, ◌+◌, ◌<◌, ◌≤◌, List, [], ◌∷◌, length, get_or, map, drop, Vec, Global, refl, sym, ap, ◌∙◌, Bool, true, false, ◌||◌, arith}
+use Rattle.std.proofs.Common.{◌≡◌, ℕ, zero, suc, List, [], ◌∷◌, length, map, Vec, Global, refl, sym, ap, ◌∙◌, Bool, true, false, ◌||◌, arith}
 use Rattle.std.specs.Prelude.{Option, nat_le}
 use Rattle.std.proofs.Math.Dec.{leb-suc-zero, leb-suc-suc}
 use Rattle.std.proofs.lemmas.Bool.{le-leb}
-use Rattle.std.proofs.lemmas.List.{drop_all}
-use Rattle.cp_lists.proofs.Members.{drop_read}
 use Rattle.cp_base.specs.declared.place.Place.{Place}
 use Rattle.cp_sexpr.specs.Syntax.{Form}
 use Rattle.cp_sexpr.specs.View.{view}
 use Rattle.cp_sexpr.specs.declared.form.Form as program
-use Rattle.cp_report.specs.Misfits.{misfit, misfit_unless, lacking, each_misfits, entries_misfits, list_misfits}
+use Rattle.cp_report.specs.Misfits.{stands_before, misfit, misfit_unless, lacking, entries_misfits, list_misfits}
 use Rattle.cp_forms.proofs.Views.{view-List, items_of-forms_of}
 use Rattle.cp_spelled.specs.FirstMisfit.{first_onto}
-use Rattle.cp_spelled.proofs.Firsts.{first_onto-append}
+use Rattle.cp_forms.proofs.FirstOf.{first_onto-append}
 
 pub or_false : (b : Bool) → b ≡ (b || false)
 or_false true = refl
@@ -36,7 +34,7 @@ module _ (kind : Form → List Place) (kinds : List (Form → List Place)) (at :
   pub entry-taken : (fs gs : List program.Form) (f : program.Form) (o p q : Option Place) → fs ≡ f ∷ gs → p ≡ first_onto o (kind (view f)) → q ≡ first_onto p (entries_misfits kinds at (map view gs))
       → q ≡ first_onto o (entries_misfits (kind ∷ kinds) at (map view fs))
   entry-taken fs gs f o p q e g h =
-      h ∙ ap (λ x. first_onto x (entries_misfits kinds at (map view gs))) g ∙ sym (first_onto-append o (kind (view f)) (entries_misfits kinds at (map view gs)))
+      h ∙ ap (λ x. first_onto x (entries_misfits kinds at (map view gs))) g ∙ sym (first_onto-append stands_before o (kind (view f)) (entries_misfits kinds at (map view gs)))
       ∙ ap (λ hs. first_onto o (entries_misfits (kind ∷ kinds) at (map view hs))) (sym e)
 
 -- ---- a list
@@ -44,22 +42,3 @@ module _ (kind : Form → List Place) (kinds : List (Form → List Place)) (at :
 pub list-read : (inside : Place → List Form → List Place) (f : program.Form) (at : Place) (v : Vec program.Form Global) (fs : List program.Form) → f ≡ program.List at v → fs ≡ v.items → inside at (map view fs) ≡ list_misfits inside (view f)
 list-read inside f at v fs e g =
     ap (λ gs. inside at (map view gs)) g ∙ ap (inside at) (sym (items_of-forms_of (map view v.items))) ∙ sym (ap (list_misfits inside) (ap view e ∙ view-List at v))
-
--- ---- a list item by item
-
-module _ (inside : Form → List Place) (fs : List program.Form) (k : ℕ) where
-  each-step : (f : program.Form) → k < length fs → f ≡ get_or fs k f → (o : Option Place)
-      → first_onto o (each_misfits inside (map view (drop k fs))) ≡ first_onto (first_onto o (inside (view f))) (each_misfits inside (map view (drop (k + 1) fs)))
-  each-step f h e o =
-      ap (λ gs. first_onto o (each_misfits inside (map view gs))) (drop_read fs k f h e)
-      ∙ first_onto-append o (inside (view f)) (each_misfits inside (map view (drop (k + 1) fs)))
-
-  each-end : length fs ≤ k → (o : Option Place) → first_onto o (each_misfits inside (map view (drop k fs))) ≡ o
-  each-end h o = ap (λ gs. first_onto o (each_misfits inside (map view gs))) (drop_all k fs h)
-
-  pub each-taken : (f : program.Form) → k < length fs → f ≡ get_or fs k f → (o p all : Option Place) → p ≡ first_onto o (inside (view f))
-      → first_onto o (each_misfits inside (map view (drop k fs))) ≡ all → first_onto p (each_misfits inside (map view (drop (k + 1) fs))) ≡ all
-  each-taken f h e o p all g i = ap (λ q. first_onto q (each_misfits inside (map view (drop (k + 1) fs)))) g ∙ sym (each-step f h e o) ∙ i
-
-  pub each-done : length fs ≤ k → (o all : Option Place) → first_onto o (each_misfits inside (map view (drop k fs))) ≡ all → o ≡ all
-  each-done h o all i = sym (each-end h o) ∙ i

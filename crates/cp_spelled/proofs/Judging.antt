@@ -7,12 +7,13 @@ use Rattle.cp_sexpr.specs.Syntax.{Form, symbol, string, number, list, forms_of}
 use Rattle.cp_language.specs.Words.{TermHead, cat, encrypt, long_term_key, public_key, private_key, inverse_key, operation_out_of_profile, no_operation, term_head}
 use Rattle.cp_language.specs.Faults.{items_of}
 use Rattle.cp_language.specs.Roles.{Headed, headed, front_of, last_form}
-use Rattle.cp_report.specs.Misfits.{lacking, all_misfits, each_misfits}
+use Rattle.cp_report.specs.Misfits.{stands_before, lacking, all_misfits, each_misfits}
 use Rattle.cp_report.specs.Spelled.{Scope, local_misfits, name_misfits, variables_misfits, spread_misfits, last_key_misfits, applied_misfits, term_misfits, each_term_misfits, value_misfits}
 use Rattle.cp_model.specs.Term.{Variable, name_sort}
 use Rattle.cp_spelled.specs.FirstMisfit.{first_onto}
 use Rattle.cp_spelled.specs.Own.{wanted_sort_misfits, own_misfits, judged, headed_misfits, headed_judged}
-use Rattle.cp_spelled.proofs.Firsts.{moved_behind, moved_behind_two}
+use Rattle.cp_forms.proofs.FirstOf.{moved_behind, moved_behind_two}
+use Rattle.cp_spelled.proofs.Firsts.{in_order}
 use Rattle.cp_scope.specs.OwnFaults.{behind_purpose}
 use Rattle.cp_scope.proofs.Judged.{smaller_none}
 use Rattle.cp_scope.proofs.Sizes.{forms_size}
@@ -26,10 +27,10 @@ module _ (s : Scope) where
   applied-judged : (at : Place) (h : TermHead) (fs : List Form) (o : Option Place)
       → first_onto o (applied_misfits s at h fs (each_term_misfits s (forms_of fs))) ≡ first_onto (first_onto o (own_misfits s at h fs)) (each_misfits (term_misfits s) (judged h fs))
   applied-judged at cat fs o =
-      moved_behind o (lacking 2 at fs) (all_misfits (each_term_misfits s (forms_of fs))) (spread_misfits (last_form fs))
+      moved_behind stands_before in_order o (lacking 2 at fs) (all_misfits (each_term_misfits s (forms_of fs))) (spread_misfits (last_form fs))
       ∙ ap (first_onto (first_onto o (lacking 2 at fs ++ spread_misfits (last_form fs)))) (all-each fs)
   applied-judged at encrypt fs o =
-      moved_behind_two o (lacking 2 at fs) (all_misfits (each_term_misfits s (forms_of fs))) (spread_misfits (last_form (front_of fs))) (last_key_misfits s (last_form fs))
+      moved_behind_two stands_before in_order o (lacking 2 at fs) (all_misfits (each_term_misfits s (forms_of fs))) (spread_misfits (last_form (front_of fs))) (last_key_misfits s (last_form fs))
       ∙ ap (first_onto (first_onto o (lacking 2 at fs ++ spread_misfits (last_form (front_of fs)) ++ last_key_misfits s (last_form fs)))) (all-each fs)
   applied-judged at long_term_key fs o = refl
   applied-judged at public_key fs o = refl

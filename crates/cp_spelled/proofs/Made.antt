@@ -10,7 +10,8 @@ use Rattle.cp_term.specs.Patterns.{pattern_by}
 use Rattle.cp_spelled.specs.FirstMisfit.{first_onto}
 use Rattle.cp_spelled.specs.LocalViews.{local_view}
 use Rattle.cp_spelled.specs.declared.locals.Local as program
-use Rattle.cp_spelled.proofs.Firsts.{none_found}
+use Rattle.cp_report.specs.Misfits.{stands_before}
+use Rattle.cp_forms.proofs.FirstOf.{none_found}
 use Rattle.cp_spelled.proofs.ReadPatterns.{differ, pattern-by}
 
 none_is : {A : Type 0} (o : Option A) → is_none o ≡ true → o ≡ None
@@ -18,7 +19,7 @@ none_is None e = refl
 none_is (Some x) e = absurd (cc)
 
 pub fits : (ms : List Place) (o p : Option Place) (b : Bool) → o ≡ None → p ≡ first_onto o ms → b ≡ is_none p → b ≡ true → ms ≡ []
-fits ms o p b e g h i = none_found ms (sym (g ∙ ap (λ x. first_onto x ms) e) ∙ none_is p (sym h ∙ i))
+fits ms o p b e g h i = none_found stands_before ms (sym (g ∙ ap (λ x. first_onto x ms) e) ∙ none_is p (sym h ∙ i))
 
 pub unfit : (ms : List Place) (o p : Option Place) (b : Bool) → o ≡ None → p ≡ first_onto o ms → b ≡ is_none p → b ≡ false → ms ≢ []
 unfit ms o p b e g h i k = differ (sym i ∙ h ∙ ap is_none (g ∙ ap (λ x. first_onto x ms) e ∙ ap (first_onto None) k))

@@ -18,14 +18,15 @@ use Rattle.cp_strand.specs.View.{strand_view}
 use Rattle.cp_term.specs.Table.{Declared}
 use Rattle.cp_skel.specs.Data.{skeleton_of}
 use Rattle.cp_skel.specs.View.{skeleton_view}
-use Rattle.cp_report.specs.Misfits.{misfit_unless, lacking}
+use Rattle.cp_report.specs.Misfits.{stands_before, misfit_unless, lacking}
 use Rattle.cp_report.specs.Heads.{entries_of, entries_under, item_with, optional_misfits, place_or}
 use Rattle.cp_report.specs.Spelled.{Scope}
 use Rattle.cp_report.specs.Skeletons.{scope_of, strands_of_label, precedes_misfits, pairs_under, has_atoms, atoms_misfits, atoms_under, assumption_misfits, values_misfits, has_uniques, uniques_misfits, uniques_under, all_uniques_misfits, map_misfits, problem_variables, strands_mapped, values_of_map, assumptions_under, from_problem_of, around_strands_misfits, skeleton_stated}
 use Rattle.cp_report.proofs.PrintedAssumptions.{all_atoms}
 use Rattle.cp_report.proofs.PrintedUniques.{all_uniques}
 use Rattle.cp_spelled.specs.FirstMisfit.{first_onto, merged, onto_none}
-use Rattle.cp_spelled.proofs.Firsts.{first_onto-append, merged-unless}
+use Rattle.cp_forms.proofs.FirstOf.{first_onto-append}
+use Rattle.cp_spelled.proofs.Firsts.{merged-unless}
 use Rattle.cp_stated.specs.Assuming.{assumptions_misfits, uniques_item_misfits}
 use Rattle.cp_stated.specs.Mapping.{map_misfits_to, values_by, from_problem_to}
 use Rattle.cp_stated.proofs.FittingValues.{given_atoms, given_there}
@@ -64,8 +65,8 @@ assumption-read at w item inside o i j k b c e f g h l =
 
 pub three-parts : (o p q r : Option Place) (a b c d e f : List Place) → a ≡ d → b ≡ e → c ≡ f → p ≡ first_onto o a → q ≡ first_onto p b → r ≡ first_onto q c → r ≡ first_onto o (d ++ e ++ f)
 three-parts o p q r a b c d e f ad be cf g h i =
-    i ∙ ap (first_onto q) cf ∙ ap (λ x. first_onto x f) (h ∙ ap (first_onto p) be ∙ ap (λ x. first_onto x e) (g ∙ ap (first_onto o) ad) ∙ sym (first_onto-append o d e))
-    ∙ sym (first_onto-append o (d ++ e) f)
+    i ∙ ap (first_onto q) cf ∙ ap (λ x. first_onto x f) (h ∙ ap (first_onto p) be ∙ ap (λ x. first_onto x e) (g ∙ ap (first_onto o) ad) ∙ sym (first_onto-append stands_before o d e))
+    ∙ sym (first_onto-append stands_before o (d ++ e) f)
 
 pub around-parts : (p : Problem) (at : Place) (items : List Form) (strands : List SkeletonStrand) → strands ≡ strands_of_label p items → (o i j k : Option Place) (way : List Place)
     → way ≡ optional_misfits (map_misfits p (scope_of items) (strands_of_label p items)) (item_with (codes "map" ∷ []) items)
@@ -80,11 +81,11 @@ around-parts p at items strands same o i j k way is g h l =
     let f = optional_misfits (map_misfits p (scope_of items) ks) (item_with (codes "map" ∷ []) items) in
     let order : i ≡ first_onto o a = g ∙ ap (λ ss. first_onto o (optional_misfits (precedes_misfits ss) (item_with (codes "precedes" ∷ []) items))) same in
     let assumed : j ≡ first_onto i (b ++ c ++ d) = h ∙ ap (λ ss. first_onto i (assumptions_misfits at ss items)) same in
-    let apart : first_onto i (b ++ c ++ d) ≡ first_onto (first_onto (first_onto i b) c) d = first_onto-append i (b ++ c) d ∙ ap (λ x. first_onto x d) (first_onto-append i b c) in
+    let apart : first_onto i (b ++ c ++ d) ≡ first_onto (first_onto (first_onto i b) c) d = first_onto-append stands_before i (b ++ c) d ∙ ap (λ x. first_onto x d) (first_onto-append stands_before i b c) in
     let behind : first_onto (first_onto (first_onto i b) c) d ≡ first_onto o (a ++ b ++ c ++ d) =
-    ap (λ x. first_onto (first_onto (first_onto x b) c) d) order ∙ ap (λ x. first_onto (first_onto x c) d) (sym (first_onto-append o a b)) ∙ ap (λ x. first_onto x d) (sym (first_onto-append o (a ++ b) c))
-    ∙ sym (first_onto-append o (a ++ b ++ c) d) in
-    l ∙ ap (first_onto j) is ∙ ap (λ x. first_onto x f) (assumed ∙ apart ∙ behind) ∙ sym (first_onto-append o (a ++ b ++ c ++ d) f)
+    ap (λ x. first_onto (first_onto (first_onto x b) c) d) order ∙ ap (λ x. first_onto (first_onto x c) d) (sym (first_onto-append stands_before o a b)) ∙ ap (λ x. first_onto x d) (sym (first_onto-append stands_before o (a ++ b) c))
+    ∙ sym (first_onto-append stands_before o (a ++ b ++ c) d) in
+    l ∙ ap (first_onto j) is ∙ ap (λ x. first_onto x f) (assumed ∙ apart ∙ behind) ∙ sym (first_onto-append stands_before o (a ++ b ++ c ++ d) f)
 
 -- ---- the map
 

@@ -14,7 +14,8 @@ module _ (o i j k : Option Place) (b : Bool) (rs others : List Place) (found : i
   pub not-asked : b ≡ false → j ≡ i → k ≡ first_onto o (unless_misfit rs others)
   not-asked h e = merged-unless o i j k rs others found (first.onto_none-not stands_before i j others (sym test ∙ h) e) whole
 
-by_itself : (j : Option Place) → j ≡ merged None j
+-- What is merged where none was before is itself.
+pub by_itself : (j : Option Place) → j ≡ merged None j
 by_itself None = refl
 by_itself (Some p) = refl
 

@@ -1,5 +1,5 @@
 // The order that a label form states.
-ghost use Rattle.std.specs.Prelude.{◌≡◌, ◌++◌, ◌∷◌, [], map, codes, Some, IfOk, OnOk};
+ghost use Rattle.std.specs.Prelude.{◌≡◌, ◌++◌, ◌∷◌, [], map, codes, Some, None, IfOk, OnOk};
 ghost use Rattle.cp_model.specs.Same.{same_node};
 ghost use Rattle.cp_sexpr.specs.View.{view};
 ghost use Rattle.cp_language.specs.Problems.{pair_of, pairs_in, between_strands};
@@ -120,45 +120,41 @@ fn nodes_misfits(strands: &[Strand], form: &Form, first: &mut FirstMisfit)
     two_nodes_misfits(strands, *place, items.as_slice(), first);
 }
 
-/// A form has to be a pair that may follow those before it. Where these are said to have no cycle with it, they have none.
-fn pair_misfits(
-    alloc: Global,
-    before: Before<'_>,
-    form: &Form,
-    first: &mut FirstMisfit,
-) -> Result<(), AllocError>
+/// The first misfit of a form that has to be a pair that may follow those before it. Where these are said to have no cycle
+/// with it, they have none.
+fn pair_misfits(alloc: Global, before: Before<'_>, form: &Form) -> Result<FirstMisfit, AllocError>
     requires { IsAcyclicIf before.acyclic (before.pairs.now ++ pair_of (view form.now)) }
-    ensures { OnOk result (first.new ≡ first_onto first.old (pair_misfits (map strand_view before.entry.strands.now) before.entry.pairs.now (view form.now))) }
+    ensures { IfOk result (λ inside. inside ≡ first_onto None (pair_misfits (map strand_view before.entry.strands.now) before.entry.pairs.now (view form.now))) }
 {
     let mut inside = FirstMisfit::new();
     nodes_misfits(before.strands, form, &mut inside);
     let follows = may_follow(alloc, before, pair_stated(form))?;
     inside.note_unless_misfit(follows, place_of(form));
-    first.merge(inside);
-    Ok(())
+    Ok(inside)
 }
 
-/// Forms have to be pairs, each of which may follow those before it; they go behind these. Where all are said to have no
-/// cycle, they have none.
+/// Forms have to be pairs, each of which may follow those before it.
 fn pairs_misfits(
     alloc: Global,
     strands: &[Strand],
-    before: &mut Vec<OrderPair>,
-    acyclic: bool,
     items: &[Form],
     first: &mut FirstMisfit,
 ) -> Result<(), AllocError>
-    requires { IsAcyclicIf acyclic (before.old.items ++ pairs_in (map view items.now)) }
-    ensures { OnOk result (first.new ≡ first_onto first.old (pairs_misfits (map strand_view strands.now) before.old.items (map view items.now))) }
+    ensures { OnOk result (first.new ≡ first_onto first.old (pairs_misfits (map strand_view strands.now) [] (map view items.now))) }
 {
+    let mut pairs = Vec::new(alloc);
+    add_pairs(items, &mut pairs)?;
+    let acyclic = have_no_cycle(alloc, &pairs)?;
+    let mut before = Vec::new(alloc);
     for form in items {
         let stated = Before {
             strands,
-            pairs: before,
+            pairs: &before,
             acyclic,
         };
-        pair_misfits(alloc, stated, form, first)?;
-        add_pair(pair_of(form), before)?;
+        let inside = pair_misfits(alloc, stated, form)?;
+        first.merge(inside);
+        add_pair(pair_of(form), &mut before)?;
     }
     Ok(())
 }
@@ -174,11 +170,7 @@ fn precedes_misfits(
     ensures { OnOk result (first.new ≡ first_onto first.old (precedes_misfits (map strand_view strands.now) place (map view items.now))) }
 {
     lacking(1, place, items, first);
-    let mut pairs = Vec::new(alloc);
-    add_pairs(items, &mut pairs)?;
-    let acyclic = have_no_cycle(alloc, &pairs)?;
-    let mut before = Vec::new(alloc);
-    pairs_misfits(alloc, strands, &mut before, acyclic, items, first)
+    pairs_misfits(alloc, strands, items, first)
 }
 
 /// Where the order among these items of a label form does not fit, if it is there.

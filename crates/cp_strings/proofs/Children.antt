@@ -1,13 +1,13 @@
 -- The children of a test have no other strings and no other identifiers than its skeleton and the protocol's roles.
-use Rattle.std.proofs.Common.{◌≡◌, ◌⊎◌, inl, inr, ℕ, suc, ◌<◌, ◌≤◌, List, [], ◌∷◌, ◌++◌, length, map, Option, Some, None, refl, sym, ◌∙◌, subst, arith}
+use Rattle.std.proofs.Common.{◌≡◌, ◌⊎◌, inl, inr, ℕ, suc, ◌<◌, ◌≤◌, List, [], ◌∷◌, ◌++◌, length, Option, Some, None, refl, sym, ◌∙◌, subst, arith}
 use Rattle.cp_lists.specs.Lists.{item_at, IsIn, here, there}
 use Rattle.cp_lists.proofs.Items.{at_place}
-use Rattle.cp_lists.proofs.Members.{not_in_none, in_append_left, in_append_right, from_map}
+use Rattle.cp_lists.proofs.Members.{not_in_none, in_append_left, in_append_right}
 use Rattle.cp_model.specs.Term.{Variable, KeyTerm, symmetric_term, asymmetric_term, inverse_term, Term, Substitution}
 use Rattle.cp_model.specs.Strand.{send, payload, Declaration, Role, Protocol}
 use Rattle.cp_model.specs.Bundle.{node_at}
 use Rattle.cp_model.specs.Skeleton.{instance, Skeleton, IsSkeleton}
-use Rattle.cp_model.specs.Tree.{Operation, by_contraction, Pattern}
+use Rattle.cp_model.specs.Tree.{Operation, by_contraction, by_added_listener, Pattern}
 use Rattle.cp_term.specs.declared.path.Step.{Step}
 use Rattle.cp_completeness.specs.Normal.{skeleton_under}
 use Rattle.cp_strand.specs.Occurring.{prefix_variables, added_variables}
@@ -22,7 +22,7 @@ use Rattle.cp_answers.specs.Covering.{put_before}
 use Rattle.cp_answers.specs.Fresh.{fresh_terms}
 use Rattle.cp_settle.specs.Releasing.{Tried}
 use Rattle.cp_covering.specs.Children.{Child, child, declaration_onto, declarations_of}
-use Rattle.cp_covering.specs.Cohort.{Question, Contracts, AreContracted, release_at, DisplacesAt, DisplacesEvent, DisplacesStrand, AddsAt, AddsEvent, FreesCritical, by_key, by_body, by_nothing, OpensPattern, Listens, AreListeners, IsCohort, is_before, is_displaced, is_added, of_listener, of_node, of_role, is_inside, is_critical, cyclic}
+use Rattle.cp_covering.specs.Cohort.{Question, release_at, DisplacesAt, AddsAt, IsCohort}
 use Rattle.cp_covering.specs.Cohort as cohort
 use Rattle.cp_covering.specs.Released.{SetsFree, critical_key, critical_body, pattern_key}
 use Rattle.cp_proper.specs.Strings.{strings_of_key, strings_of}
@@ -33,7 +33,7 @@ use Rattle.cp_strings.proofs.Forms.{forms_spelled}
 use Rattle.cp_strings.proofs.Changes.{listener_spelled, strand_spelled, extended_spelled, put_spelled}
 use Rattle.cp_strings.proofs.OpenedPatterns.{AreNamed, still_named, both_declared}
 use Rattle.cp_strings.proofs.Settled.{IsSpelledTried, settles_spelled}
-use Rattle.cp_covering.proofs.EachChild.{each_child}
+use Rattle.cp_covering.proofs.EachChild.{ComesOfContracting, ComesOfReleasing, ComesOfListening, of_contracted, of_released, of_listened, each_child}
 
 -- What is asked has admitted strings and identifiers, and so has what names the locals of its patterns as new variables.
 pub record IsSpelledQuestion (S I : List ℕ → Type 0) (q : Question) : Type 0 where
@@ -73,10 +73,8 @@ module _ (S I : List ℕ → Type 0) (decide : (t : List ℕ) → S t ⊎ (S t �
 
     -- ---- normal forms
 
-    forms_are : (l : Skeleton) (rs : List Skeleton) → IsSpelledSkeleton S I l → HasForms l rs → (operation : Operation) (path : List Step) (d : Child) → IsIn d (map (child q.variables operation path) rs) → IsSpelled d
-    forms_are l rs is has operation path d i =
-        let m = from_map (child q.variables operation path) rs i in
-        subst IsSpelled m.2 (record { variables = asked.variables; skeleton = forms_spelled S I decide has is m.0 m.1 })
+    form_is : (l : Skeleton) (rs : List Skeleton) → IsSpelledSkeleton S I l → HasForms l rs → (operation : Operation) (path : List Step) (r : Skeleton) → IsIn r rs → IsSpelled (child q.variables operation path r)
+    form_is l rs is has operation path r i = record { variables = asked.variables; skeleton = forms_spelled S I decide has is r i }
 
     -- A skeleton under a unifier of a term with the critical one.
     module _ (l m : Skeleton) (is : IsSpelledSkeleton S I l) (u : Term) (of_u : IsSpelledTerm S u) (f : Substitution) (unifies : UnifiesMostGenerally u q.critical f) (same : SaysTheSame (skeleton_under f l) m) where
@@ -88,33 +86,30 @@ module _ (S I : List ℕ → Type 0) (decide : (t : List ℕ) → S t ⊎ (S t �
 
     -- ---- contracted
 
-    contracts : (o : Occurrence) (path : List Step) (children : List Child) → IsIn o (events_of k) → Contracts q o path children → (d : Child) → IsIn d children → IsSpelled d
-    contracts o path children there_is (is_inside inside) d i = absurd (not_in_none i)
-    contracts o path children there_is (is_critical at) d i = absurd (not_in_none i)
-    contracts o path children there_is (cohort.never_equal at never) d i = absurd (not_in_none i)
-    contracts o path children there_is (cohort.unified {t = t} {s = s} {l = l} {forms = forms} outside at ne unifies same has) d i =
+    contracted_is : (o : Occurrence) → IsIn o (events_of k) → (path : List Step) (r : Skeleton) → ComesOfContracting q o path r → IsSpelled (child q.variables (by_contraction o.node) path r)
+    contracted_is o there_is path r c =
         let of_event : IsSpelledTerm S (payload o.event) = event_spelled S I k o.node o.event asked.skeleton (listed_event k o there_is) in
-        forms_are l forms (unified_is k l asked.skeleton t (part_spelled S I (payload o.event) path t of_event at) s unifies same) has (by_contraction o.node) path d i
+        form_is c.under c.forms (unified_is k c.under asked.skeleton c.term (part_spelled S I (payload o.event) path c.term of_event c.at) c.unifier c.unifies c.same) c.has (by_contraction o.node) path r c.listed
 
     -- ---- what is put before the node
 
     module _ (variables : List Declaration) (declared : AreSpelledDeclarations I variables) (named : (p : Pattern) → IsIn p q.patterns → AreNamed I variables p) (s j : ℕ) (path : List Step) (grown : Skeleton) (is : IsSpelledSkeleton S I grown) where
-      releases : (operation : Operation) (children : List Child) → cohort.Releases q variables operation (release_at q s j path) grown children → (d : Child) → IsIn d children → IsSpelled d
-      releases operation children (cyclic before) d i = absurd (not_in_none i)
-      releases operation children (cohort.never_equal ev at never) d i = absurd (not_in_none i)
-      releases operation children (cohort.unified {t = t} {u = u} {s = f} {l = l} {settled = settled} none ev at m same settles) d i =
+      released_is : (operation : Operation) (y : Tried) → ComesOfReleasing q variables (release_at q s j path) grown y → IsSpelled (child y.variables operation path y.skeleton)
+      released_is operation y c =
           let node = node_at s j in
           let put : Skeleton = put_before node q.node grown in
-          let of_u : IsSpelledTerm S u = part_spelled S I t path u (event_spelled S I grown node (send t) is ev) at in
-          let x : Tried = record { variables = variables; substitution = f; skeleton = l } in
+          let of_term : IsSpelledTerm S c.term = part_spelled S I c.message path c.term (event_spelled S I grown node (send c.message) is c.sent) c.at in
+          let x : Tried = record { variables = variables; substitution = c.unifier; skeleton = c.under } in
           let first : IsSpelledTried S I x = record {
             variables = declared;
-            substitution = unifier_is put l (put_spelled S I node q.node grown is) u of_u f m same;
-            skeleton = unified_is put l (put_spelled S I node q.node grown is) u of_u f m same;
+            substitution = unifier_is put c.under (put_spelled S I node q.node grown is) c.term of_term c.unifier c.unifies c.same;
+            skeleton = unified_is put c.under (put_spelled S I node q.node grown is) c.term of_term c.unifier c.unifies c.same;
           } in
-          let o = from_map (λ (x : Tried). child x.variables operation path x.skeleton) settled i in
-          let y = settles_spelled S I decide (release_at q s j path) asked.patterns settles first named o.0 o.1 in
-          subst IsSpelled o.2 (record { variables = y.variables; skeleton = y.skeleton })
+          let last = settles_spelled S I decide (release_at q s j path) asked.patterns c.settles first named y c.listed in
+          record { variables = last.variables; skeleton = last.skeleton }
+
+      releases : (operation : Operation) (children : List Child) → cohort.Releases q variables operation (release_at q s j path) grown children → (d : Child) → IsIn d children → IsSpelled d
+      releases operation = of_released q IsSpelled variables operation (release_at q s j path) grown (released_is operation)
 
     -- The variables of a question, and behind them those of a role.
     module _ (role : Role) (of_role : IsSpelledRole S I role) (xs : List Variable) where
@@ -167,11 +162,11 @@ module _ (S I : List ℕ → Type 0) (decide : (t : List ℕ) → S t ⊎ (S t �
 
     -- ---- listeners
 
-    listens : (t : Term) (children : List Child) → IsSpelledTerm S t → Listens q t children → (d : Child) → IsIn d children → IsSpelled d
-    listens t children of_t l d i =
+    listened_is : (t : Term) → IsSpelledTerm S t → (r : Skeleton) → ComesOfListening q t r → IsSpelled (child q.variables (by_added_listener (length k.strands)) [] r)
+    listened_is t of_t r l =
         let node = node_at (length k.strands) 1 in
         let heard : IsSpelledSkeleton S I l.added = listener_spelled S I t k l.added l.adds of_t asked.skeleton in
-        forms_are (put_before node q.node l.added) l.forms (put_spelled S I node q.node l.added heard) l.normal _ [] d (subst (IsIn d) l.are_children i)
+        form_is (put_before node q.node l.added) l.forms (put_spelled S I node q.node l.added heard) l.normal (by_added_listener (length k.strands)) [] r l.listed
 
     heard_spelled : (t : Term) → SetsFree q t → IsSpelledTerm S t
     heard_spelled t (critical_key {body = body} e none) s j = asked.critical s (subst (λ (u : Term). IsIn s (strings_of u)) (sym e) (in_append_right (strings_of body) j))
@@ -183,10 +178,10 @@ module _ (S I : List ℕ → Type 0) (decide : (t : List ℕ) → S t ⊎ (S t �
 
     all_spelled : (children : List Child) → IsCohort protocol q children → (d : Child) → IsIn d children → IsSpelled d
     all_spelled = each_child protocol q IsSpelled (record {
-      contracted = λ o there_is before path children. contracts o path children there_is;
+      contracted = λ o there_is before path. of_contracted q IsSpelled o path (contracted_is o there_is path);
       displaced = λ s role height terms on apart j t sent none. displaced_at s role height terms on j;
       added = λ role listed j t sent. added_at role listed j;
-      listened = λ t free children. listens t children (heard_spelled t free);
+      listened = λ t free. of_listened q IsSpelled t (listened_is t (heard_spelled t free));
     })
 
   pub cohort_spelled : (q : Question) (children : List Child) → IsSkeleton protocol q.skeleton → IsSpelledQuestion S I q → IsCohort protocol q children → (c : Child) → IsIn c children → IsSpelledChild S I c

@@ -3,25 +3,20 @@ use Rattle.std.proofs.Common.{◌≡◌, ◌⊎◌, ℕ, List, Some, sym, ap, �
 use Rattle.cp_lists.specs.Lists.{item_at, IsIn, here, there}
 use Rattle.cp_lists.proofs.Items.{at_place, place_of}
 use Rattle.cp_lists.proofs.Members.{from_map}
-use Rattle.cp_model.specs.Term.{Variable, atom_of_variable, AtomTerm, Term, AgreeOnTerms, Assignment, value_of_atom, after, Substitution, apply_to_atom, apply_to, composed}
+use Rattle.cp_model.specs.Term.{Variable, atom_of_variable, AtomTerm, AgreeOnTerms, Assignment, value_of_atom, after, Substitution, apply_to_atom, apply_to, composed}
 use Rattle.cp_model.specs.Strand.{Role, variables_of_prefix}
 use Rattle.cp_model.specs.Skeleton.{SkeletonStrand, instance, listener, UniqueAt, Assumptions, Skeleton}
 use Rattle.cp_model.proofs.Gathered.{atoms, uniques}
 use Rattle.cp_model.proofs.LawTerms.{atom_after, atom_composed}
 use Rattle.cp_unify.proofs.Free.{free}
-use Rattle.cp_collapse.specs.Partitions.{IsPartition, place_in, IdentifiesValues}
+use Rattle.cp_collapse.specs.Partitions.{IsPartition, IdentifiesValues}
 use Rattle.cp_collapse.specs.Collapsing.{unique_in, assumptions_in, IsCollapsed, AreCollapsesBy, no_collapses, collapse_by}
 use Rattle.cp_collapse.proofs.AssumptionImages.{AreImages, AreAssumptionsIn, assumptions_are, gathered_images}
-use Rattle.cp_collapse.proofs.Places.{strand_at_place}
+use Rattle.cp_collapse.proofs.StrandsOfCollapses.{strand_comes}
+use Rattle.cp_collapse.proofs.VariablesOfCollapses.{value_composed}
 use Rattle.cp_proper.specs.Spelled.{IsSpelledTerm, IsSpelledAtom, AreSpelledAtoms, IsSpelledStrand, AreSpelledAssumptions, IsSpelledSkeleton}
 use Rattle.cp_strings.proofs.Under.{GivesStrings, atom_under, term_under}
 use Rattle.cp_strings.proofs.NoOtherStrings.{leaving_out, same_atoms_left, gives_only}
-
-value_composed : (t d : Substitution) (x : Variable) → value_of_atom (after (after free t) d) (atom_of_variable x) ≡ value_of_atom free (apply_to_atom (composed d t) (atom_of_variable x))
-value_composed t d x =
-    atom_after (after free t) d (atom_of_variable x)
-    ∙ atom_after free t (apply_to_atom d (atom_of_variable x))
-    ∙ ap (value_of_atom free) (sym (atom_composed d t (atom_of_variable x)))
 
 -- ---- under a substitution that gives admitted strings
 
@@ -98,37 +93,16 @@ module _ (S I : List ℕ → Type 0) (decide : (t : List ℕ) → S t ⊎ (S t �
 
     -- ---- strands
 
-    instance_comes : (place : ℕ) (role : Role) (height : ℕ) (terms : Substitution) → item_at l.strands place ≡ Some (instance role height terms) → IsSpelledStrand S I (instance role height terms)
-    instance_comes place role height terms at =
-        let one = collapsed.tallest place role height terms at in
-        let go = collapsed.instances one.strand role height one.terms one.on_instance in
-        let e : Some (instance role go.to_height go.to_terms) ≡ Some (instance role height terms) = sym go.on_instance ∙ ap (item_at l.strands) one.at_place ∙ at in
-        let same : go.to_terms ≡ terms = cc in
-        let agree : AgreeOnTerms (variables_of_prefix role height) (composed one.terms f) terms = subst (AgreeOnTerms (variables_of_prefix role height) (composed one.terms f)) same go.equal_terms in
-        instance_image S I f gives role height one.terms terms agree (strand_spelled one.strand (instance role height one.terms) one.on_instance)
-
-    from_strand : (place n : ℕ) (t : Term) (own : SkeletonStrand) → item_at l.strands place ≡ Some (listener t) → place_in p n ≡ place → item_at k.strands n ≡ Some own → IsSpelledTerm S t
-    from_strand place n t (instance role height terms) at there_is own =
-        let go = collapsed.instances n role height terms own in
-        let e : Some (instance role go.to_height go.to_terms) ≡ Some (listener t) = sym go.on_instance ∙ ap (item_at l.strands) there_is ∙ at in
-        absurd (cc)
-    from_strand place n t (listener u) at there_is own =
-        let e : Some (listener (apply_to f u)) ≡ Some (listener t) = sym (collapsed.listeners n u own) ∙ ap (item_at l.strands) there_is ∙ at in
-        let same : apply_to f u ≡ t = cc in
-        subst (IsSpelledTerm S) same (term_under S I f u gives (strand_spelled n (listener u) own))
-
-    listener_comes : (place : ℕ) (t : Term) → item_at l.strands place ≡ Some (listener t) → IsSpelledTerm S t
-    listener_comes place t at = let own = strand_at_place k.strands l.strands p part.each collapsed.count place (listener t) at in from_strand place own.0 t own.1 at own.2 own.3
-
-    strand_comes : (place : ℕ) (st : SkeletonStrand) → item_at l.strands place ≡ Some st → IsSpelledStrand S I st
-    strand_comes place (instance role height terms) at = instance_comes place role height terms at
-    strand_comes place (listener t) at = listener_comes place t at
+    comes : (place : ℕ) (st : SkeletonStrand) → item_at l.strands place ≡ Some st → IsSpelledStrand S I st
+    comes =
+        strand_comes k l p part collapsed (IsSpelledStrand S I)
+        (λ n role height terms to at agree. instance_image S I f gives role height terms to agree (strand_spelled n (instance role height terms) at)) (λ n t at. term_under S I f t gives (strand_spelled n (listener t) at))
 
     -- ---- the whole collapse
 
     collapse_spelled : IsSpelledSkeleton S I l
     collapse_spelled = record {
-      strands = λ st i. let r = place_of i in strand_comes r.0 st r.1;
+      strands = λ st i. let r = place_of i in comes r.0 st r.1;
       assumptions = assumption_images S I f gives p k.assumptions l.assumptions (assumptions_are k l p collapsed) is.assumptions;
       values = λ t i.
           let m = from_map (apply_to f) k.from_problem.values (subst (IsIn t) collapsed.from_problem.values i) in

@@ -184,18 +184,12 @@ module _ (S I : List ℕ → Type 0) where
 
   pub part_spelled : (t : Term) (path : List Step) (u : Term) → IsSpelledTerm S t → term_at t path ≡ Some u → IsSpelledTerm S u
   part_spelled t [] u is at = let same : t ≡ u = cc in subst (IsSpelledTerm S) same is
-  part_spelled (tag_term bytes) (Left ∷ path) u is at = absurd (cc)
-  part_spelled (tag_term bytes) (Right ∷ path) u is at = absurd (cc)
-  part_spelled (tag_term bytes) (Plaintext ∷ path) u is at = absurd (cc)
-  part_spelled (atom_term a) (Left ∷ path) u is at = absurd (cc)
-  part_spelled (atom_term a) (Right ∷ path) u is at = absurd (cc)
-  part_spelled (atom_term a) (Plaintext ∷ path) u is at = absurd (cc)
   part_spelled (pair_term a b) (Left ∷ path) u is at = part_spelled a path u (λ s i. is s (in_append_left (strings_of b) i)) at
   part_spelled (pair_term a b) (Right ∷ path) u is at = part_spelled b path u (λ s i. is s (in_append_right (strings_of a) i)) at
-  part_spelled (pair_term a b) (Plaintext ∷ path) u is at = absurd (cc)
-  part_spelled (enc_term a k) (Left ∷ path) u is at = absurd (cc)
-  part_spelled (enc_term a k) (Right ∷ path) u is at = absurd (cc)
   part_spelled (enc_term a k) (Plaintext ∷ path) u is at = part_spelled a path u (λ s i. is s (in_append_left (strings_of_key k) i)) at
+  part_spelled _ (Left ∷ path) u is at = absurd (cc)
+  part_spelled _ (Right ∷ path) u is at = absurd (cc)
+  part_spelled _ (Plaintext ∷ path) u is at = absurd (cc)
 
   pub carried_spelled : (v : AtomTerm) (t : Term) → IsSpelledTerm S t → IsCarriedByTerm (atom_term v) t → IsSpelledAtom S v
   carried_spelled v t is carried s i = is s (carried_strings carried s i)

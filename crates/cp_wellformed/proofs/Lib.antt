@@ -2,7 +2,7 @@ pub mod Terms
 pub mod Names
 pub mod Items
 pub mod Values
-mod EachRole
+pub mod EachRole
 pub mod Roles
 pub mod Instances
 pub mod Strands

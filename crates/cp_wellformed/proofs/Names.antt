@@ -91,7 +91,8 @@ distinct_of_sort before w s (f ∷ fs) rest e h = (
       (fewer (declared_identifiers (f ∷ fs) ++ before) (declared_identifiers fs ++ (text_of_symbol f ∷ before)) (moved (text_of_symbol f) (declared_identifiers fs) before) rest h),
 )
 
-no_identifier_faults : (before : List (List ℕ)) (f : Form) → declaration_faults before f ≡ [] → identifiers_faults before (sort_named (last_form (list_items f))) (front_of (list_items f)) ≡ []
+-- What a declaration without faults declares has none.
+pub no_identifier_faults : (before : List (List ℕ)) (f : Form) → declaration_faults before f ≡ [] → identifiers_faults before (sort_named (last_form (list_items f))) (front_of (list_items f)) ≡ []
 no_identifier_faults before (list at fs) e =
     (none_of_three (lacks 2 at (items_of fs)) (identifiers_faults before (sort_named (last_form (items_of fs))) (front_of (items_of fs))) (last_sort_faults (last_form (items_of fs))) e).1
 no_identifier_faults before (symbol at t) e = absurd (cc)

@@ -47,7 +47,7 @@ new_role before at [] e = absurd (cc)
 
 -- Roles without faults have names of their own.
 pub roles_named : (before : List (List ℕ)) (fs : List Form) → roles_faults before fs ≡ [] → HaveOwnNames before (roles_in fs)
-roles_named = of_roles HaveOwnNames (λ before. tt) (λ before at fs rs e h. (new_role before at fs e, h))
+roles_named before fs e = of_roles (λ forms. Unit {0}) HaveOwnNames (λ names. tt) (λ names at forms rs g q h. (new_role names at forms q, h)) before fs (λ f i. tt) e
 
 -- each of them is none of those before
 none_of_those : (before : List (List ℕ)) (rs : List Role) (r : Role) → HaveOwnNames before rs → IsIn r rs → is_one_of r.name before ≡ false

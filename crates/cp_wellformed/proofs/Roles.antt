@@ -142,7 +142,8 @@ one_more r rs h hs s here = h
 one_more r rs h hs s (there p) = hs s p
 
 roles_sound : (before : List (List ℕ)) (fs : List Form) → roles_faults before fs ≡ [] → AreSoundRoles (roles_in fs)
-roles_sound = of_roles (λ before rs. AreSoundRoles rs) (λ before r p. elim p [ ]) (λ before at fs rs e hs. one_more (role_of fs) rs (role_body_sound before at fs e) hs)
+roles_sound before fs e =
+    of_roles (λ forms. Unit {0}) (λ names rs. AreSoundRoles rs) (λ names r p. elim p [ ]) (λ names at forms rs g q hs. one_more (role_of forms) rs (role_body_sound names at forms q) hs) before fs (λ f i. tt) e
 
 -- The roles of a protocol without faults are sound, and have names of their own.
 pub protocol_sound : (names : List (List ℕ)) (at : Place) (fs : List Form) → protocol_faults names at fs ≡ [] → AreSoundRoles (protocol_of fs).roles × HaveOwnNames [] (protocol_of fs).roles

@@ -85,6 +85,20 @@ height_is role (list at fs) e = absurd (cc)
 
 -- ---- strands
 
+-- What an item states has a property, whatever its head, that an instance has, and a listener, and no strand.
+pub of_item : (roles : List Role) (ds : List Declaration) (next : ℕ) (fs : List Form) (P : ItemHead → Option (SkeletonStrand × List Declaration) → Type 0) →
+    P strand_item (strand_by roles ds next strand_item fs) → P listener_item (strand_by roles ds next listener_item fs) → ((k : ItemHead) → P k None) → (k : ItemHead) → P k (strand_by roles ds next k fs)
+of_item roles ds next fs P s l n strand_item = s
+of_item roles ds next fs P s l n listener_item = l
+of_item roles ds next fs P s l n role_item = n role_item
+of_item roles ds next fs P s l n non_item = n non_item
+of_item roles ds next fs P s l n penetrator_non_item = n penetrator_non_item
+of_item roles ds next fs P s l n unique_item = n unique_item
+of_item roles ds next fs P s l n precedes_item = n precedes_item
+of_item roles ds next fs P s l n comment_item = n comment_item
+of_item roles ds next fs P s l n item_out_of_profile = n item_out_of_profile
+of_item roles ds next fs P s l n no_item = n no_item
+
 abbrev IsSoundOption : List Role → List Declaration → Option (SkeletonStrand × List Declaration) → Type 0
 IsSoundOption roles full None = Unit {0}
 IsSoundOption roles full (Some s) = IsSoundStrand roles full s.0
@@ -126,16 +140,9 @@ module _ (roles : List Role) (sound : AreSoundRoles roles) (ds full : List Decla
 
   strand_sound : (front others : List Declaration) (next : ℕ) (k : ItemHead) (fs : List Form) → full ≡ front ++ (fresh_of (strand_by roles ds next k fs) ++ others) → next ≡ length front →
       IsFaultless roles ds k fs → IsSoundOption roles full (strand_by roles ds next k fs)
-  strand_sound front others next strand_item fs are many h = instance_sound front others next h.0 fs are many h.1
-  strand_sound front others next listener_item fs are many h = listener_sound next h.0 fs h.1
-  strand_sound front others next role_item fs are many h = tt
-  strand_sound front others next non_item fs are many h = tt
-  strand_sound front others next penetrator_non_item fs are many h = tt
-  strand_sound front others next unique_item fs are many h = tt
-  strand_sound front others next precedes_item fs are many h = tt
-  strand_sound front others next comment_item fs are many h = tt
-  strand_sound front others next item_out_of_profile fs are many h = tt
-  strand_sound front others next no_item fs are many h = tt
+  strand_sound front others next k fs are many h =
+      of_item roles ds next fs (λ i o. full ≡ front ++ (fresh_of o ++ others) → IsFaultless roles ds i fs → IsSoundOption roles full o)
+      (λ split faultless. instance_sound front others next faultless.0 fs split many faultless.1) (λ split faultless. listener_sound next faultless.0 fs faultless.1) (λ i split faultless. tt) k are h
 
   -- The strands that are stated without faults are sound.
   pub strands_sound : (front : List Declaration) (next : ℕ) (fs : List Form) → full ≡ front ++ (strands_from roles ds next fs).fresh → next ≡ length front →

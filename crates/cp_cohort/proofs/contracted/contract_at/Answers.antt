@@ -1,14 +1,13 @@
-use Rattle.std.proofs.Common.{◌≡◌, ◌↔◌, IsTrue, Some, sym, ap, ◌∙◌}
+use Rattle.std.proofs.Common.{◌↔◌, IsTrue, Some, ap, ◌∙◌}
 use Rattle.std.proofs.lemmas.Result.{on_ok_weaker}
 use Rattle.cp_model.proofs.CarriedParts.{not_both}
-use Rattle.cp_model.specs.Term.{Term, unchanged}
+use Rattle.cp_model.specs.Term.{unchanged}
 use Rattle.cp_model.specs.Strand.{payload}
 use Rattle.cp_guard.specs.Inside.{IsInside}
 use Rattle.cp_match.specs.Unifying.{UnifiesMostGenerally, NeverEqual}
 use Rattle.cp_skel.specs.Events.{occurrence_view}
 use Rattle.cp_skel.specs.Trees.{variables_view}
 use Rattle.cp_skel.specs.View.{skeleton_view}
-use Rattle.cp_term.specs.Positions.{term_at}
 use Rattle.cp_unify.specs.Bindings.{as_substitution}
 use Rattle.cp_covering.specs.Cohort.{is_inside, is_critical, never_equal}
 use Rattle.cp_cohort.specs.Views.{question_view}

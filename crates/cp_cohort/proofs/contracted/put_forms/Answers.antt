@@ -1,4 +1,3 @@
-use Rattle.std.specs.Prelude.{refl}
 use Rattle.std.proofs.lemmas.Result.{on_ok_weaker}
 use Rattle.cp_cohort.specs.Views.{made_view}
 use Rattle.cp_cohort.proofs.Contracting.{forms_put}

@@ -1,27 +1,50 @@
-use Rattle.std.proofs.Common.{Some, ap, sym, ◌∙◌, ◌≡◌}
-use Rattle.std.proofs.lemmas.Result.{on_ok_weaker}
+use Rattle.std.proofs.Common.{◌≡◌, ◌<◌, ◌≤◌, Some, length, ap, sym, ◌∙◌, arith}
 use Rattle.cp_lists.specs.Lists.{item_at}
-use Rattle.cp_model.specs.Skeleton.{listener}
+use Rattle.cp_model.specs.Problem.{numbers_from}
+use Rattle.cp_model.specs.Skeleton.{SkeletonStrand, listener}
+use Rattle.cp_model.specs.Strand.{Role}
 use Rattle.cp_strand.specs.Data.{StrandData}
-use Rattle.cp_strand.specs.View.{strand_view}
-use Rattle.cp_covering.specs.Cohort.{of_listener, of_node, of_role}
+use Rattle.cp_strand.specs.View.{event_view, strand_view}
+use Rattle.cp_covering.specs.Cohort.{DisplacesEvent, of_listener, of_node, of_role}
 use Rattle.cp_cohort.specs.Views.{question_view}
-use Rattle.cp_cohort.proofs.Putting.{puts_nothing, puts_other}
+use Rattle.cp_cohort.proofs.Putting.{puts_nothing, puts_other, puts_first, puts_next, puts_last, number_there, numbers_past, length_of}
+use Rattle.cp_cohort.proofs.Letting.{listens}
+use Rattle.cp_cohort.proofs.displaced.displace_strand.Goals.{After-trace-events}
 use Rattle.cp_cohort.proofs.displaced.displace_strand.Goals as goal
+
+-- as many events are read as the role has
+as_many : (c : After-trace-events) → length c.trace-events.result.now ≡ length c.in-Instance.instance.now.role.trace
+as_many c = length_of event_view c.trace-events.result.now c.in-Instance.instance.now.role.trace (c.trace-events.ensures ∙ ap (λ (r : Role). r.trace) (c.deref.ensures ∙ c.role.ensures))
+
+pub returns-in_default : goal.returns-in_default
+returns-in_default c =
+    let heard = listens c.shape.result c.args.strand.now c.shape.ensures c.in_default.not-Instance in
+    let there : item_at (question_view c.args.question.now).skeleton.strands c.args.number ≡ Some (listener heard.0) = c.requires.there ∙ ap (λ (x : SkeletonStrand). Some x) heard.1 in
+    puts_nothing c.args.children.now.items (of_listener there)
 
 pub returns-then-number-question : goal.returns-then-number-question
 returns-then-number-question c = puts_nothing c.args.children.now.items (of_node c.if-number-question.true)
 
-pub displace_instance-requires-clause-there : goal.displace_instance-requires-clause-there
-displace_instance-requires-clause-there c = c.requires.there ∙ ap (λ (d : StrandData). Some (strand_view d)) (sym c.in-Instance.ensures)
+pub loop-index-init : goal.loop-index-init
+loop-index-init c = puts_first (DisplacesEvent (question_view c.args.question.now) c.args.number c.in-Instance.instance.now.role c.in-Instance.instance.now.height) (numbers_from 0 c.in-Instance.instance.now.role.trace) c.args.children.now.items
 
-pub returns-else-number-question : goal.returns-else-number-question
-returns-else-number-question c =
-    on_ok_weaker c.displace_instance.result
-    (λ p. puts_other c.args.children.now.items c.displace_instance.new.children.items (λ cs e. of_role (c.requires.there ∙ ap (λ (d : StrandData). Some (strand_view d)) (sym c.in-Instance.ensures)) c.if-number-question.false e) p)
-    c.displace_instance.ensures
+pub displace_event-requires : goal.displace_event-requires
+displace_event-requires c =
+    let same = as_many (goal.at.displace_event-requires c).After-trace-events in
+    record { test = c.requires.test; there = c.requires.there ∙ ap (λ (d : StrandData). Some (strand_view d)) (sym c.in-Instance.ensures); other = c.if-number-question.false; reached = omega (arith, same, c.loop-index-test.true) }
 
-pub returns-in-Listener : goal.returns-in-Listener
-returns-in-Listener c =
-    let there : item_at (question_view c.args.question.now).skeleton.strands c.args.number ≡ Some (listener c.in-Listener.field-0.now) = c.requires.there ∙ ap (λ (d : StrandData). Some (strand_view d)) (sym c.in-Listener.ensures) in
-    puts_nothing c.args.children.now.items (of_listener there)
+pub loop-index-preserved : goal.loop-index-preserved
+loop-index-preserved c =
+    let role = c.in-Instance.instance.now.role in
+    let same = as_many (goal.at.loop-index-preserved c).After-trace-events in
+    let lt : c.loop-index.index < length role.trace = omega (arith, same, c.loop-index-test.true) in
+    puts_next (DisplacesEvent (question_view c.args.question.now) c.args.number role c.in-Instance.instance.now.height) (numbers_from 0 role.trace) c.loop-index.index c.loop-index.index (number_there role.trace c.loop-index.index lt) _ _ _ c.loop-index.invariant c.in_ok-displace_event.ensures
+
+pub returns : goal.returns
+returns c =
+    let role = c.in-Instance.instance.now.role in
+    let same = as_many (goal.at.returns c).After-trace-events in
+    let past : length role.trace ≤ c.loop-index.index = omega (arith, same, c.loop-index-test.false) in
+    puts_other c.args.children.now.items c.loop-index.children.items
+    (λ cs e. of_role (c.requires.there ∙ ap (λ (d : StrandData). Some (strand_view d)) (sym c.in-Instance.ensures)) c.if-number-question.false e)
+    (puts_last (DisplacesEvent (question_view c.args.question.now) c.args.number role c.in-Instance.instance.now.height) (numbers_from 0 role.trace) c.loop-index.index (numbers_past role.trace c.loop-index.index past) _ _ c.loop-index.invariant)

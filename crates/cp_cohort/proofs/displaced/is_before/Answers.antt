@@ -1,4 +1,4 @@
-use Rattle.std.proofs.Common.{sym, ◌≡◌, arith, subst, ap, ◌∙◌, ◌≤◌}
+use Rattle.std.proofs.Common.{arith}
 use Rattle.cp_model.specs.Homomorphism.{substitution_by}
 use Rattle.cp_cohort.specs.Views.{question_view}
 use Rattle.cp_cohort.proofs.Listening.{has_event, has_none}

@@ -1,7 +1,6 @@
 use Rattle.std.proofs.Common.{subst}
-use Rattle.cp_covering.specs.Children.{Child}
 use Rattle.cp_covering.specs.Cohort.{Question, IsCohort}
-use Rattle.cp_cohort.specs.Views.{child_view, question_of}
+use Rattle.cp_cohort.specs.Views.{question_of}
 use Rattle.cp_cohort.proofs.Joining.{all_put}
 use Rattle.cp_cohort.proofs.gathering.cohort.Goals as goal
 
@@ -12,7 +11,7 @@ pub returns : goal.returns
 returns c =
     let protocol = c.args.protocol.now in
     let q : Question = question_of c.args.k.now c.args.node c.args.critical.now c.args.patterns.now in
-    let exact = all_put protocol q _ _ _ _ _ c.new-children.ensures.items c.in_ok-contract.ensures c.in_ok-displace.ensures c.in_ok-add.ensures c.in_ok-listen.ensures in
+    let exact = all_put protocol q _ _ _ _ _ c.in_ok-children.ensures.items c.in_ok-contract.ensures c.in_ok-displace.ensures c.in_ok-add.ensures c.in_ok-listen.ensures in
     record {
       exact = exact;
       leaves_none_out = λ asked. c.cohorts_cover.ensures.leaves_none_out protocol q _ asked.skeleton c.requires.roles asked.declared c.requires.test c.requires.guards exact;

@@ -1,12 +1,8 @@
-use Rattle.std.proofs.Common.{◌≡◌, ◌++◌, [], map, length, drop, ap, sym, ◌∙◌, subst, refl}
-use Rattle.std.specs.List.{filter}
-use Rattle.std.proofs.lemmas.List.{append-nil}
-use Rattle.cp_model.specs.Strand.{variables_of_trace, variables_of_prefix}
-use Rattle.cp_skel.specs.Trees.{variables_view}
-use Rattle.cp_strand.specs.Occurring.{is_added, declared_variables, added_variables}
+use Rattle.std.proofs.Common.{map}
+use Rattle.cp_model.specs.Strand.{variables_of_trace}
+use Rattle.cp_strand.specs.Occurring.{is_added}
 use Rattle.cp_strand.specs.View.{declaration_view, event_view}
-use Rattle.cp_answers.specs.Fresh.{fresh_terms}
-use Rattle.cp_cohort.proofs.Raising.{declared_from, IsDeclaredSoFar, declared_at_first, one_skipped, one_declared, all_declared}
+use Rattle.cp_cohort.proofs.Raising.{declared_at_first, one_skipped, one_declared, all_declared}
 use Rattle.cp_cohort.proofs.growing.declare_added.Goals as goal
 
 pub loop-number-init : goal.loop-number-init

@@ -1,4 +1,4 @@
-use Rattle.std.proofs.Common.{◌≡◌, ◌<◌, ◌≤◌, ◌++◌, ℕ, length, ap, sym, ◌∙◌, subst, arith}
+use Rattle.std.proofs.Common.{◌≡◌, ◌<◌, ◌≤◌, ◌++◌, ℕ, length, ap, ◌∙◌, arith}
 use Rattle.cp_model.specs.Strand.{Role}
 use Rattle.cp_skel.specs.Trees.{variables_view}
 use Rattle.cp_strand.specs.Occurring.{added_variables}

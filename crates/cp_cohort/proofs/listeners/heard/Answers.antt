@@ -1,4 +1,3 @@
-use Rattle.std.proofs.Common.{◌≡◌}
 use Rattle.cp_lists.proofs.Items.{item_of_read}
 use Rattle.cp_cohort.specs.Views.{question_view}
 use Rattle.cp_cohort.proofs.Hearing.{heard_first, heard_next, heard_last}

@@ -1,7 +1,4 @@
-use Rattle.std.proofs.Common.{◌≡◌, List, [], ◌++◌, ◌∙◌, sym, subst}
 use Rattle.cp_lists.proofs.Items.{item_of_read}
-use Rattle.cp_model.specs.Term.{Term}
-use Rattle.cp_covering.specs.Listing.{EachGives, terms_onto}
 use Rattle.cp_covering.specs.Cohort.{Listens}
 use Rattle.cp_cohort.specs.Views.{question_view}
 use Rattle.cp_cohort.proofs.Putting.{puts_other, puts_first, puts_next, puts_last}

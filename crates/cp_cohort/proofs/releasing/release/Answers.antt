@@ -1,6 +1,5 @@
-use Rattle.std.proofs.Common.{◌≡◌, Some, ap, sym, ◌∙◌, subst, refl}
+use Rattle.std.proofs.Common.{◌≡◌, ap, ◌∙◌}
 use Rattle.std.proofs.lemmas.Result.{on_ok_weaker}
-use Rattle.cp_model.specs.Term.{Term}
 use Rattle.cp_model.specs.Strand.{send}
 use Rattle.cp_model.specs.Skeleton.{Skeleton, term_event_at}
 use Rattle.cp_skel.specs.Trees.{variables_view}

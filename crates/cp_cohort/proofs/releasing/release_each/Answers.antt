@@ -1,4 +1,4 @@
-use Rattle.std.proofs.Common.{◌≡◌, List, ◌∙◌, subst}
+use Rattle.std.proofs.Common.{List, ◌∙◌, subst}
 use Rattle.cp_lists.specs.Lists.{IsIn}
 use Rattle.cp_lists.proofs.Items.{item_of_read}
 use Rattle.cp_lists.proofs.Members.{item_is_in}
@@ -6,7 +6,6 @@ use Rattle.cp_match.specs.Candidates.{may_equal}
 use Rattle.cp_skel.specs.Trees.{variables_view}
 use Rattle.cp_skel.specs.View.{skeleton_view}
 use Rattle.cp_term.specs.declared.path.Step.{Step}
-use Rattle.cp_term.specs.Positions.{positions_where}
 use Rattle.cp_covering.specs.Listing.{EachGives}
 use Rattle.cp_cohort.specs.Growing.{ReleasesPut}
 use Rattle.cp_cohort.specs.Views.{question_view, made_view}

@@ -3,22 +3,13 @@ use Rattle.std.proofs.lemmas.Result.{IfOk-weaker}
 use Rattle.cp_lists.specs.Lists.{item_at}
 use Rattle.cp_strand.specs.View.{instance_as_data}
 use Rattle.cp_skel.specs.View.{skeleton_view}
-use Rattle.cp_collapse.proofs.Backward.{option_weaker}
+use Rattle.cp_collapse.proofs.Options.{option_weaker}
 use Rattle.cp_collapse.proofs.Joined.{if_alike, never_strands, exact_strands, declared_at}
 use Rattle.cp_collapse.proofs.extending.unify_strands.Goals as goal
 
-pub unify_instances-requires-clause-first_declared : goal.unify_instances-requires-clause-first_declared
-unify_instances-requires-clause-first_declared c =
+pub unify_instances-requires-clause-declared : goal.unify_instances-requires-clause-declared
+unify_instances-requires-clause-declared c =
     declared_at c.args.k.now c.args.s c.in-Some.first.now c.requires.declared (ap (λ xs. item_at xs c.args.s) (sym c.strands.ensures) ∙ c.in-Some.ensures.some)
-
-pub unify_instances-requires-clause-second_declared : goal.unify_instances-requires-clause-second_declared
-unify_instances-requires-clause-second_declared c =
-    declared_at c.args.k.now c.args.t c.in-Some-instance_at.second.now c.requires.declared (ap (λ xs. item_at xs c.args.t) (sym c.strands-2.ensures) ∙ c.in-Some-instance_at.ensures.some)
-
-pub unify_instances-requires-clause-same_role : goal.unify_instances-requires-clause-same_role
-unify_instances-requires-clause-same_role c =
-    if_alike c.args.k.now.strands c.args.s c.args.t c.in-Some.first.now c.in-Some-instance_at.second.now
-    (ap (λ xs. item_at xs c.args.s) (sym c.strands.ensures) ∙ c.in-Some.ensures.some) (ap (λ xs. item_at xs c.args.t) (sym c.strands-2.ensures) ∙ c.in-Some-instance_at.ensures.some) c.requires.alike
 
 pub returns : goal.returns
 returns c =

@@ -1,4 +1,4 @@
-use Rattle.std.proofs.Common.{map, ap, ◌∙◌, subst}
+use Rattle.std.proofs.Common.{◌∙◌, subst}
 use Rattle.std.proofs.lemmas.Result.{IfOk-weaker}
 use Rattle.cp_load.specs.Acyclic.{IsAcyclicIf}
 use Rattle.cp_load.proofs.NoCycles.{items-stated, stated-all}

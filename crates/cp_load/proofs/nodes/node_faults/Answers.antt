@@ -1,4 +1,4 @@
-use Rattle.std.proofs.Common.{map, option_map}
+use Rattle.std.proofs.Common.{map}
 use Rattle.cp_strand.specs.View.{strand_view}
 use Rattle.cp_load.proofs.NodeFaults.{node-read}
 use Rattle.cp_load.proofs.nodes.node_faults.Goals as goal

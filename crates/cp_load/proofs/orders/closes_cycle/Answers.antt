@@ -1,4 +1,4 @@
-use Rattle.std.proofs.Common.{map, sym, ◌∙◌}
+use Rattle.std.proofs.Common.{sym, ◌∙◌}
 use Rattle.cp_load.proofs.Cycles.{cycle-searched, no-way-from, no-way-to}
 use Rattle.cp_load.proofs.NoCycles.{known-acyclic}
 use Rattle.cp_load.proofs.orders.closes_cycle.Goals as goal

@@ -1,5 +1,4 @@
-use Rattle.std.proofs.Common.{◌++◌, map, sym, ap, ◌∙◌, subst}
-use Rattle.std.specs.Prelude.{option_map}
+use Rattle.std.proofs.Common.{◌++◌, sym, ap, ◌∙◌, subst}
 use Rattle.cp_sexpr.specs.View.{view}
 use Rattle.cp_language.specs.Problems.{node_of, pair_of_nodes, between_strands}
 use Rattle.cp_load.specs.Acyclic.{IsAcyclicIf}

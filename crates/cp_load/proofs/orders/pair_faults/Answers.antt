@@ -1,4 +1,4 @@
-use Rattle.std.proofs.Common.{◌++◌, map, sym, subst}
+use Rattle.std.proofs.Common.{◌++◌, sym, subst}
 use Rattle.cp_forms.proofs.Views.{list_items-view}
 use Rattle.cp_load.specs.Acyclic.{IsAcyclicIf, pair_in}
 use Rattle.cp_load.proofs.orders.pair_faults.Goals as goal

@@ -1,4 +1,4 @@
-use Rattle.std.proofs.Common.{◌≡◌, map, drop}
+use Rattle.std.proofs.Common.{◌≡◌, drop}
 use Rattle.cp_language.specs.Problems.{at_or_after, any_pair}
 use Rattle.cp_load.proofs.orders.some_begins_behind.Given as goal
 

@@ -1,4 +1,4 @@
-use Rattle.std.proofs.Common.{map, ◌∙◌}
+use Rattle.std.proofs.Common.{◌∙◌}
 use Rattle.cp_model.specs.Term.{apply_to}
 use Rattle.cp_model.specs.Strand.{prefix_of}
 use Rattle.cp_model.specs.Homomorphism.{substitution_by}

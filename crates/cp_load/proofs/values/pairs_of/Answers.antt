@@ -1,4 +1,4 @@
-use Rattle.std.proofs.Common.{map, sym, ap, ◌∙◌, ◌++◌}
+use Rattle.std.proofs.Common.{sym, ap, ◌∙◌, ◌++◌}
 use Rattle.cp_language.specs.Problems.{pairs_in}
 use Rattle.cp_load.proofs.OwnParts.{pairs-taken, pairs-left}
 use Rattle.cp_load.proofs.values.pairs_of.Goals as goal

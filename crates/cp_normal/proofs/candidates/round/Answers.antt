@@ -4,7 +4,7 @@ use Rattle.cp_normal.proofs.Following.{at_first, next_part, all_done, next_is_in
 use Rattle.cp_normal.proofs.candidates.round.Goals as goal
 
 pub loop-candidate-init : goal.loop-candidate-init
-loop-candidate-init c = at_first _ _ c.new-next.ensures.items
+loop-candidate-init c = at_first _ _ c.in_ok-next.ensures.items
 
 pub advance-requires : goal.advance-requires
 advance-requires c = c.requires c.in-Some.candidate (next_is_in c.args.candidates.items _ _ _ _ c.in-Some.candidate c.reverse.ensures.items c.loop-candidate.invariant c.in-Some.ensures.items)

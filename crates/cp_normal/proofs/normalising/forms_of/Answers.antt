@@ -6,7 +6,7 @@ use Rattle.cp_normal.proofs.Gathered.{none_so_far, next_form, all_forms}
 use Rattle.cp_normal.proofs.normalising.forms_of.Goals as goal
 
 pub loop-candidate-init : goal.loop-candidate-init
-loop-candidate-init c = none_so_far _ _ c.new-forms.ensures.items
+loop-candidate-init c = none_so_far _ _ c.in_ok-forms.ensures.items
 
 pub loop-candidate-preserved : goal.loop-candidate-preserved
 loop-candidate-preserved c =

@@ -13,7 +13,7 @@ pub loop-candidates-init : goal.loop-candidates-init
 loop-candidates-init c =
     let first : List Binding → Form = λ bs. record { skeleton = c.args.k; substitution = bs } in
     reached_at_first (first c.args.beside.now) _
-    (c.in_ok-push.ensures.items ∙ ap (λ (cs : List Candidate). cs ++ Open (first c.in_ok-substitution.substitution) ∷ []) c.new-candidates.ensures.items ∙ ap (λ (bs : List Binding). Open (first bs) ∷ []) c.in_ok-substitution.ensures)
+    (c.in_ok-push.ensures.items ∙ ap (λ (cs : List Candidate). cs ++ Open (first c.in_ok-substitution.substitution) ∷ []) c.in_ok-alone.ensures.items ∙ ap (λ (bs : List Binding). Open (first bs) ∷ []) c.in_ok-substitution.ensures)
 
 pub loop-candidates-preserved : goal.loop-candidates-preserved
 loop-candidates-preserved c = reached_next _ _ _ c.loop-candidates.invariant c.in_ok-candidates.ensures

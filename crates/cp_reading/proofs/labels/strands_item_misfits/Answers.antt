@@ -4,13 +4,14 @@ use Rattle.cp_base.specs.declared.place.Place.{Place}
 use Rattle.cp_model.specs.Strand.{Role}
 use Rattle.cp_sexpr.specs.View.{view}
 use Rattle.cp_load.specs.Drafts.{draft_view}
-use Rattle.cp_report.specs.Misfits.{each_misfits}
+use Rattle.cp_report.specs.Misfits.{stands_before, each_misfits}
 use Rattle.cp_report.specs.Heads.{items_with, strand_heads}
 use Rattle.cp_report.specs.Spelled.{Scope}
 use Rattle.cp_report.specs.Skeletons.{strand_misfits, strands_misfits}
 use Rattle.cp_spelled.specs.FirstMisfit.{first_onto, merged}
 use Rattle.cp_spelled.specs.Views.{scope_view}
-use Rattle.cp_spelled.proofs.Firsts.{first_onto-merged}
+use Rattle.cp_forms.proofs.FirstOf.{first_onto-merged}
+use Rattle.cp_spelled.proofs.Firsts.{in_order}
 use Rattle.cp_reading.proofs.Fitting.{fitting-found}
 use Rattle.cp_reading.proofs.labels.strands_item_misfits.Goals as goal
 
@@ -29,4 +30,4 @@ returns-clause-fit c = c.is_none-fit.ensures ∙ ap is_none (met c) ∙ fitting-
 
 pub returns-clause-misfits : goal.returns-clause-misfits
 returns-clause-misfits c =
-    c.merge.ensures ∙ ap (merged c.args.first.now) (met c) ∙ sym (first_onto-merged c.args.first.now (strands_misfits (draft_view c.args.setting.problem.now) (map view c.args.items.now)))
+    c.merge.ensures ∙ ap (merged c.args.first.now) (met c) ∙ sym (first_onto-merged stands_before in_order c.args.first.now (strands_misfits (draft_view c.args.setting.problem.now) (map view c.args.items.now)))

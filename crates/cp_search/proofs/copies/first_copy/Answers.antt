@@ -1,47 +1,50 @@
-use Rattle.std.proofs.Common.{ℕ, below_more}
+use Rattle.std.proofs.Common.{get_or, ap, ◌∙◌}
 use Rattle.cp_skel.specs.View.{skeleton_view}
 use Rattle.cp_term.proofs.CarriedTerms.{not_both}
-use Rattle.cp_search.specs.Making.{MayBeSeenIn}
-use Rattle.cp_search.proofs.AllowedCopies.{is_numbered, all_numbered, other_number, copy_here, no_copy_here, kept_apart, flagged_no_copy, copy_below}
+use Rattle.cp_search.specs.Sharing.{with_sharing}
+use Rattle.cp_search.proofs.AllowedCopies.{copies_listed, copies_behind, label_there, none_below, none_left_over, copy_here, no_copy_here, kept_apart, flagged_no_copy}
 use Rattle.cp_search.proofs.copies.first_copy.Goals as goal
 
-pub loop-number-preserved-then-sharing-sought : goal.loop-number-preserved-then-sharing-sought
-loop-number-preserved-then-sharing-sought c =
-    let k = skeleton_view c.args.skeleton.now in
-    below_more (λ (n : ℕ). MayBeSeenIn c.args.made.now c.args.forbidden.now k n → ⊥) c.loop-number.number c.loop-number.invariant
-    (other_number c.args.made.now c.sharings-sharing-items.result.now c.sharings-sharing-items.ensures c.loop-number.number c.args.forbidden.now k c.args.fingerprint.now c.requires.fingerprint c.requires.fingerprints c.loop-number-test.true c.sharing-sought.result c.sharing-sought.ensures c.if-sharing-sought.true)
+pub loop-number-init : goal.loop-number-init
+loop-number-init c =
+    copies_listed c.args.made.now c.args.forbidden.now (skeleton_view c.args.skeleton.now) c.args.fingerprint.now c.requires.fingerprint c.requires.fingerprints c.with_sharing-alike.result.now
+    (c.with_sharing-alike.ensures ∙ ap (λ s. with_sharing s 0 c.args.made.now) c.sharing.ensures)
 
 pub loop-number-preserved-then-is_flagged : goal.loop-number-preserved-then-is_flagged
 loop-number-preserved-then-is_flagged c =
+    let ns = c.with_sharing-alike.result.now in
     let k = skeleton_view c.args.skeleton.now in
-    below_more (λ (n : ℕ). MayBeSeenIn c.args.made.now c.args.forbidden.now k n → ⊥) c.loop-number.number c.loop-number.invariant
-    (flagged_no_copy c.args.made.now c.args.forbidden.now k c.loop-number.number (c.is_flagged.ensures.0 c.if-is_flagged.true))
+    copies_behind c.args.made.now c.args.forbidden.now k ns c.loop-number.number-index c.loop-number-test.true
+    (flagged_no_copy c.args.made.now c.args.forbidden.now k (get_or ns c.loop-number.number-index 0) (c.is_flagged.ensures.0 c.if-is_flagged.true)) c.loop-number.invariant
 
 pub label-other-requires : goal.label-other-requires
-label-other-requires c = is_numbered c.args.made.now c.sharings-sharing-items.result.now c.sharings-sharing-items.ensures c.loop-number.number c.loop-number-test.true
+label-other-requires c =
+    label_there c.args.made.now c.args.forbidden.now (skeleton_view c.args.skeleton.now) c.with_sharing-alike.result.now c.loop-number.number-index c.loop-number-test.true c.sharing.result c.with_sharing-alike.ensures
 
 pub loop-number-preserved-then-not-may_be_isomorphic : goal.loop-number-preserved-then-not-may_be_isomorphic
 loop-number-preserved-then-not-may_be_isomorphic c =
+    let ns = c.with_sharing-alike.result.now in
     let k = skeleton_view c.args.skeleton.now in
-    let other = c.label-other.result.now in
-    below_more (λ (n : ℕ). MayBeSeenIn c.args.made.now c.args.forbidden.now k n → ⊥) c.loop-number.number c.loop-number.invariant
-    (kept_apart c.args.made.now c.loop-number.number other c.label-other.ensures c.args.forbidden.now k c.requires.fingerprints c.args.fingerprint.now c.may_be_isomorphic.result c.requires.fingerprint c.if-not-may_be_isomorphic.true c.may_be_isomorphic.ensures.kept)
+    copies_behind c.args.made.now c.args.forbidden.now k ns c.loop-number.number-index c.loop-number-test.true
+    (kept_apart c.args.made.now (get_or ns c.loop-number.number-index 0) c.label-other.result.now c.label-other.ensures c.args.forbidden.now k c.requires.fingerprints c.args.fingerprint.now c.may_be_isomorphic.result c.requires.fingerprint c.if-not-may_be_isomorphic.true c.may_be_isomorphic.ensures.kept)
+    c.loop-number.invariant
 
 pub returns-then-branch : goal.returns-then-branch
 returns-then-branch c =
-    let other = c.label-other.result.now in
+    let ns = c.with_sharing-alike.result.now in
+    let k = skeleton_view c.args.skeleton.now in
     record {
-      holds = copy_here c.args.made.now c.loop-number.number other c.label-other.ensures c.args.forbidden.now (skeleton_view c.args.skeleton.now) (λ flagged. not_both c.if-is_flagged.false (c.is_flagged.ensures.1 flagged)) (c.in_ok-isomorphic.ensures.exact.0 c.if-branch.true);
-      least = c.loop-number.invariant;
+      holds = copy_here c.args.made.now (get_or ns c.loop-number.number-index 0) c.label-other.result.now c.label-other.ensures c.args.forbidden.now k (λ flagged. not_both c.if-is_flagged.false (c.is_flagged.ensures.1 flagged)) (c.in_ok-isomorphic.ensures.exact.0 c.if-branch.true);
+      least = none_below c.args.made.now c.args.forbidden.now k ns c.loop-number.number-index c.loop-number-test.true c.sharing.result c.with_sharing-alike.ensures c.loop-number.invariant;
     }
 
 pub loop-number-preserved : goal.loop-number-preserved
 loop-number-preserved c =
+    let ns = c.with_sharing-alike.result.now in
     let k = skeleton_view c.args.skeleton.now in
-    let other = c.label-other.result.now in
-    below_more (λ (n : ℕ). MayBeSeenIn c.args.made.now c.args.forbidden.now k n → ⊥) c.loop-number.number c.loop-number.invariant
-    (no_copy_here c.args.made.now c.loop-number.number other c.label-other.ensures c.args.forbidden.now k (λ h. not_both c.if-branch.false (c.in_ok-isomorphic.ensures.exact.1 h)))
+    copies_behind c.args.made.now c.args.forbidden.now k ns c.loop-number.number-index c.loop-number-test.true
+    (no_copy_here c.args.made.now (get_or ns c.loop-number.number-index 0) c.label-other.result.now c.label-other.ensures c.args.forbidden.now k (λ h. not_both c.if-branch.false (c.in_ok-isomorphic.ensures.exact.1 h)))
+    c.loop-number.invariant
 
 pub returns : goal.returns
-returns c = λ n h.
-    c.loop-number.invariant n (copy_below c.args.made.now c.args.forbidden.now (skeleton_view c.args.skeleton.now) n c.loop-number.number (all_numbered c.args.made.now c.sharings-sharing-items.result.now c.sharings-sharing-items.ensures c.loop-number.number c.loop-number-test.false) h) h
+returns c = none_left_over c.args.made.now c.args.forbidden.now (skeleton_view c.args.skeleton.now) c.with_sharing-alike.result.now c.loop-number.number-index c.loop-number-test.false c.loop-number.invariant

@@ -1,6 +1,6 @@
-use Rattle.std.proofs.Common.{drop}
+use Rattle.std.proofs.Common.{take}
 use Rattle.cp_search.proofs.Spreading.{IsSpread}
 use Rattle.cp_search.proofs.graph.spread.Given as goal
 
-abbrev pub invariant-loop-edge : goal.invariant-loop-edge
-invariant-loop-edge l = IsSpread l.edges (drop l.edge-index l.edges) l.fn.flags l.flags l.is_new
+abbrev pub invariant-loop-place : goal.invariant-loop-place
+invariant-loop-place l = IsSpread l.edges (take l.place l.edges) l.fn.flags l.flags l.is_new

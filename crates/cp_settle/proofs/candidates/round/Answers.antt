@@ -4,7 +4,7 @@ use Rattle.cp_settle.proofs.Rounds.{at_first, next_part, all_done}
 use Rattle.cp_settle.proofs.candidates.round.Goals as goal
 
 pub loop-candidate-init : goal.loop-candidate-init
-loop-candidate-init c = at_first _ _ _ c.new-next.ensures.items
+loop-candidate-init c = at_first _ _ _ c.in_ok-next.ensures.items
 
 pub loop-candidate-preserved : goal.loop-candidate-preserved
 loop-candidate-preserved c = next_part _ _ _ _ _ _ c.in-Some.candidate c.loop-candidate.invariant c.in-Some.ensures.items c.in_ok-advance.ensures

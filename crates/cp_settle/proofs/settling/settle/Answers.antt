@@ -11,7 +11,7 @@ use Rattle.cp_settle.proofs.settling.settle.Goals as goal
 
 pub loop-candidates-init : goal.loop-candidates-init
 loop-candidates-init c =
-    reached_at_first _ c.args.tried _ (c.in_ok-push.ensures.items ∙ ap (λ (cs : List Candidate). cs ++ OnTheWay c.args.tried ∷ []) c.new-candidates.ensures.items)
+    reached_at_first _ c.args.tried _ (c.in_ok-push.ensures.items ∙ ap (λ (cs : List Candidate). cs ++ OnTheWay c.args.tried ∷ []) c.in_ok-alone.ensures.items)
 
 pub loop-candidates-preserved : goal.loop-candidates-preserved
 loop-candidates-preserved c = reached_next _ c.args.tried _ _ c.loop-candidates.invariant c.in_ok-candidates.ensures

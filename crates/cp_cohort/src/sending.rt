@@ -1,0 +1,22 @@
+// Which events of a role are transmissions.
+ghost use Rattle.std.specs.Prelude.{◌≡◌, ◌<◌, ◌+◌, ◌^◌, Some, length, true, false};
+ghost use Rattle.cp_lists.specs.Lists.{item_at};
+ghost use Rattle.cp_model.specs.Strand.{send, recv};
+ghost use Rattle.cp_model.specs.Term.{Term as Plain};
+
+use cp_skel::{Event, Role};
+use std::rc::Rc;
+
+/// Whether the event of this index of the role sends its message; else it receives it. The height behind it fits a word.
+pub(crate) fn is_sent(role: &Rc<Role>, index: usize) -> bool
+    requires { index < length role.now.value.trace }
+    ensures height { index + 1 < 2 ^ 64 }
+    ensures sent { result ≡ true → (t : Plain) × (item_at role.now.value.trace index ≡ Some (send t)) }
+    ensures received { result ≡ false → (t : Plain) × (item_at role.now.value.trace index ≡ Some (recv t)) }
+{
+    let events = role.trace();
+    match &events[index] {
+        Event::Send(_) => true,
+        Event::Receive(_) => false,
+    }
+}
