@@ -1,6 +1,7 @@
 #!/bin/bash
-# How long a built program, whose path is the first word, searches the problems of the folder `measured`, which do not end, at
-# several step limits: for each the labels, the user time in seconds, the least of three runs, and microseconds a label.
+# How long a built program, whose path is the first word, searches the problems of the folder `measured`, of which only the last
+# one ends, at several step limits: for each the labels, the user time in seconds, the least of three runs, and microseconds a
+# label.
 set -eu
 export LC_ALL=C TIMEFORMAT=%U
 program=$(cd -- "$(dirname -- "$1")" && pwd)/$(basename -- "$1")
@@ -26,4 +27,6 @@ done <<'END'
 three_roles 67 200 667 2000
 five_roles 40 200 400 2000
 eight_roles 25 250 2000
+five_roles_of_ten 4 40 400
+yahalom_kept_from_the_penetrator 20 200
 END

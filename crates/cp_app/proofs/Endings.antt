@@ -13,7 +13,8 @@ use Rattle.cp_sexpr.specs.Reading.{IsReading}
 use Rattle.cp_sexpr.proofs.Unique.{one_reading_of}
 use Rattle.cp_language.proofs.OneAnswer.{one_first}
 use Rattle.cp_words.specs.Command.{Command}
-use Rattle.cp_app.specs.Headline.{text_by, most_bytes, IsAccepted, IsRefusedFor, HaveTrees, SaysOutcomes, IsAnalysed, HasReported, HasRefused, WasTooLong, TookAtMost}
+use Rattle.cp_app.specs.Headline.{text_by, most_bytes, IsAccepted, HaveTrees, SaysOutcomes, IsAnalysed, HasReported}
+use Rattle.cp_app.specs.Endings.{IsRefusedFor, HasRefused, WasTooLong, TookAtMost}
 use Rattle.cp_app.specs.Searched.{AreSearched, HasReportedSearch, HasBrokenOffSearch}
 use Rattle.cp_report.specs.Fitting.{TreeFits}
 use Rattle.cp_app.specs.ReadBack.{IsReadBackAs, HasReportedReadBack}

@@ -6,7 +6,8 @@ use Rattle.std.proofs.Math.Seq.{drop-append_seam}
 use Rattle.cp_app.proofs.Putting.{append-empty}
 use Rattle.cp_base.specs.declared.status.Failed.{Failed}
 use Rattle.cp_base.specs.Outside.{Moved, Takes}
-use Rattle.cp_app.specs.Headline.{most_bytes, TookAtMost, WasTooLong}
+use Rattle.cp_app.specs.Headline.{most_bytes}
+use Rattle.cp_app.specs.Endings.{TookAtMost, WasTooLong}
 use Rattle.cp_app.specs.Steps.{HasStopped}
 use Rattle.cp_app.specs.declared.stopped.Stopped.{Stopped}
 use Rattle.cp_app.specs.declared.stopped.Stopped.TheVariants.{Memory}

@@ -1,17 +1,14 @@
--- What `run` promises, top to bottom. That a report is read back as its trees stands in `ReadBack.antt`, `IsReadBackAs`.
-use Rattle.std.specs.Prelude.{◌≡◌, ◌≢◌, ℕ, ◌+◌, ◌<◌, ◌≤◌, ◌⊎◌, List, [], ◌∷◌, ◌++◌, length, take, drop, Bool, true, false, codes, decimal, Option, Some, Ok, Err}
+-- The headline of `run`, top to bottom. What it promises where it reports nothing stands in `Endings.antt`; that a report is read
+-- back as its trees in `ReadBack.antt`, `IsReadBackAs`.
+use Rattle.std.specs.Prelude.{◌≡◌, ◌≢◌, ℕ, ◌<◌, ◌≤◌, ◌⊎◌, List, [], ◌++◌, length, take, Option, Some, Ok}
 use Rattle.std.specs.List.{AllZip, filter_map}
-use Rattle.cp_base.specs.Codes.{code_text}
-use Rattle.cp_base.specs.Outside.{Rose}
-use Rattle.cp_base.specs.declared.place.Refusal.{Refusal}
 use Rattle.cp_base.specs.declared.status.Status.{Status}
-use Rattle.cp_base.specs.declared.status.Status.TheVariants.{Done, Limit, Usage, Refused, ReadFault, WriteFault, Memory, TooLong}
+use Rattle.cp_base.specs.declared.status.Status.TheVariants.{Done, Limit}
 use Rattle.cp_model.specs.Tree.{complete, Label, Tree, IsTrueOf}
 use Rattle.cp_lists.specs.Lists.{IsIn}
 use Rattle.cp_sexpr.specs.Syntax.{Forms}
 use Rattle.cp_sexpr.specs.Reading.{IsReading}
 use Rattle.cp_language.specs.Problems.{Problem}
-use Rattle.cp_language.specs.Faults.{IsFirstFault}
 use Rattle.cp_language.specs.Input.{Entry, faults_of, input_of}
 use Rattle.cp_language.specs.Report.{HasItsVariables, report_text}
 use Rattle.cp_language.specs.ShapesText.{shapes_text}
@@ -30,10 +27,6 @@ pub record IsAccepted (input : List ℕ) (fs : Forms) : Type 0 where
   pub short : length input ≤ most_bytes
   pub read : IsReading input (Ok fs)
   pub well_formed : faults_of fs ≡ []
-
--- The whole input is refused so: the reader refuses it, or this is the first fault of its forms.
-abbrev pub IsRefusedFor : List ℕ → Refusal → Type 0
-IsRefusedFor input r = IsReading input (Err r) ⊎ ((fs : Forms) × IsReading input (Ok fs) × IsFirstFault (faults_of fs) r)
 
 -- ---- the report
 
@@ -68,31 +61,6 @@ SaysOutcomes _ trees = ⊥
 abbrev pub IsAnalysed : Status → Type 0
 IsAnalysed s = (s ≡ Done) ⊎ (s ≡ Limit)
 
--- Nothing is put at these.
-abbrev pub puts_nothing : Status → Bool
-puts_nothing Usage = true
-puts_nothing (Refused r) = true
-puts_nothing ReadFault = true
-puts_nothing Memory = true
-puts_nothing TooLong = true
-puts_nothing Done = false
-puts_nothing Limit = false
-puts_nothing WriteFault = false
-
-abbrev pub line : List ℕ → List ℕ
-line t = t ++ 10 ∷ []
-
--- The line that a status has on the error stream.
-abbrev pub status_line : Status → List ℕ
-status_line Done = []
-status_line Limit = []
-status_line Usage = line (codes "usage: cpsa COMMAND [--limit N] [--bound N]")
-status_line (Refused r) = line (codes "refused " ++ decimal r.place.line ++ codes ":" ++ decimal r.place.col ++ codes " " ++ code_text r.code)
-status_line ReadFault = line (codes "read fault")
-status_line WriteFault = line (codes "write fault")
-status_line Memory = line (codes "memory")
-status_line TooLong = line (codes "too long")
-
 -- ---- what a call leaves, where the source tells what it held and the sinks what they hold
 
 -- Whenever the words are this command, this input is left and this stands put before, P holds of the three.
@@ -117,23 +85,3 @@ pub record HasBrokenOff (command : Command) (input before : List ℕ) (left_new 
   pub at_end : left_new ≡ Some []
   pub held : held_new ≡ Some (before ++ take put text)
   pub report : IsReportOf command input text trees
-
--- A refused input was read to its end, and is refused so.
-pub record HasRefused (input : List ℕ) (left_new : Option (List ℕ)) (r : Refusal) : Type 0 where
-  pub at_end : left_new ≡ Some []
-  pub short : length input ≤ most_bytes
-  pub cause : IsRefusedFor input r
-
--- Of too long an input one byte more than the most was taken.
-pub record WasTooLong (input : List ℕ) (left_new : Option (List ℕ)) : Type 0 where
-  pub long : most_bytes < length input
-  pub left : left_new ≡ Some (drop (most_bytes + 1) input)
-
--- At most so many bytes were taken.
-abbrev pub TookAtMost : List ℕ → Option (List ℕ) → Type 0
-TookAtMost input left_new = (n : ℕ) × (n ≤ most_bytes + 1) × (left_new ≡ Some (drop n input))
-
--- The line was put, or a front of it where the count of faults rose.
-abbrev pub HasLine : List ℕ → List ℕ → Option (List ℕ) → ℕ → ℕ → Type 0
-HasLine text before held_new faults_old faults_new =
-    (held_new ≡ Some (before ++ text)) ⊎ ((n : ℕ) × (held_new ≡ Some (before ++ take n text)) × Rose faults_old faults_new)

@@ -1,4 +1,5 @@
 pub mod Headline
+pub mod Endings
 pub mod Searched
 pub mod ReadBack
 pub mod Steps

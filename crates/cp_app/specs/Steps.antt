@@ -9,7 +9,8 @@ use Rattle.cp_sexpr.specs.declared.error.ReadError.TheVariants as reading
 use Rattle.cp_load.specs.declared.error.LoadError.{LoadError}
 use Rattle.cp_load.specs.declared.error.LoadError.TheVariants as loading
 use Rattle.cp_words.specs.Command.{Command}
-use Rattle.cp_app.specs.Headline.{IsRefusedFor, IsReportOf, SaysOutcomes, HasRefused, WasTooLong, TookAtMost}
+use Rattle.cp_app.specs.Headline.{IsReportOf, SaysOutcomes}
+use Rattle.cp_app.specs.Endings.{IsRefusedFor, HasRefused, WasTooLong, TookAtMost}
 use Rattle.cp_app.specs.Searched.{AreSearched}
 use Rattle.cp_app.specs.ReadBack.{IsReadBackAs}
 use Rattle.cp_app.specs.declared.stopped.Stopped.{Stopped}

@@ -1,6 +1,7 @@
 // The top call.
 ghost use Rattle.std.specs.Prelude.{◌≡◌, ◌≢◌, ◌≤◌, ◌<◌, ◌++◌, ◌⊎◌, ◌↔◌, ℕ, List, [], length, map, string_bytes, true, None, Some, IfOk, IfErr, OnOk, OnErr};
-ghost use Rattle.cp_app.specs.Headline.{most_bytes, IsAccepted, IsRefusedFor, IsAnalysed, puts_nothing, status_line, text_by, WheneverGiven, HasReported, HasBrokenOff, HasRefused, WasTooLong, TookAtMost, HasLine};
+ghost use Rattle.cp_app.specs.Headline.{most_bytes, IsAccepted, IsAnalysed, text_by, WheneverGiven, HasReported, HasBrokenOff};
+ghost use Rattle.cp_app.specs.Endings.{IsRefusedFor, puts_nothing, status_line, HasRefused, WasTooLong, TookAtMost, HasLine};
 ghost use Rattle.cp_app.specs.Searched.{HasReportedSearch, HasBrokenOffSearch};
 ghost use Rattle.cp_app.specs.ReadBack.{HasReportedReadBack};
 ghost use Rattle.cp_app.specs.Steps.{IsCauseFor, HasStopped, IsWholeReport, outcomes_status, HasPut, HasEnded, HasExecuted};
@@ -11,7 +12,8 @@ ghost use Rattle.cp_base.specs.declared.status.Status.TheVariants.{Usage, Refuse
 ghost use Rattle.cp_sexpr.specs.Syntax.{Forms};
 ghost use Rattle.cp_load.specs.Inputs.{entries_of};
 ghost use Rattle.cp_skel.specs.Trees.{tree_view};
-ghost use Rattle.cp_words.specs.Command.{Command as CommandData, command_of};
+ghost use Rattle.cp_words.specs.Command.{Command as CommandData};
+ghost use Rattle.cp_words.specs.CommandWords.{command_of};
 ghost use Rattle.cp_words.specs.Settings.{command_view};
 
 use crate::analysing::{are_complete, trees_of};

@@ -3,7 +3,8 @@ ghost use Rattle.std.specs.Prelude.{◌≡◌, ◌≤◌, ℕ, List, map, Some, 
 ghost use Rattle.std.specs.List.{concat};
 ghost use Rattle.cp_base.specs.declared.status.Status.TheVariants.{Refused};
 ghost use Rattle.cp_base.specs.Outside.{Rose};
-ghost use Rattle.cp_app.specs.Headline.{HasLine, IsAnalysed, status_line};
+ghost use Rattle.cp_app.specs.Headline.{IsAnalysed};
+ghost use Rattle.cp_app.specs.Endings.{HasLine, status_line};
 ghost use Rattle.cp_app.specs.Steps.{HasPut};
 
 use cp_base::{Failed, Refusal, Sink, Status};

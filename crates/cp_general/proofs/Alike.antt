@@ -1,5 +1,5 @@
 -- Whether a skeleton is fit depends on its strands, on what it assumes and on its order alone.
-use Rattle.std.proofs.Common.{◌≡◌, ◌↔◌, ◌⊎◌, inl, inr, List, refl, sym, subst}
+use Rattle.std.proofs.Common.{◌≡◌, ◌↔◌, ◌⊎◌, inl, inr, List, sym, subst}
 use Rattle.std.specs.Prelude.{Some}
 use Rattle.cp_lists.specs.Lists.{IsIn, one_step, more_steps}
 use Rattle.cp_lists.proofs.Reached.{steps_append}
@@ -9,7 +9,6 @@ use Rattle.cp_model.specs.declared.node.Node.{Node}
 use Rattle.cp_model.specs.declared.node.OrderPair.{OrderPair}
 use Rattle.cp_model.specs.Skeleton.{SkeletonStrand, UniqueAt, Assumptions, FromProblem, Skeleton, term_event_at, OrderStep, along_strand_of, along_pair, Before}
 use Rattle.cp_model.specs.Derivable.{IsSecret, IsOnInstance, DerivableAt, a_tag, an_atom, sent_before, paired, left_of, right_of, encrypted, decrypted}
-use Rattle.cp_model.specs.Realising.{OriginatesAtTerm, AllDerivable}
 use Rattle.cp_model.specs.Given.{listed}
 use Rattle.cp_completeness.specs.Normal.{with_pairs}
 use Rattle.cp_skel.proofs.EachOnce.{listed-non, listed-penetrator-non, listed-unique}

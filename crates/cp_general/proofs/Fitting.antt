@@ -1,20 +1,20 @@
 -- What the tests of a skeleton say.
-use Rattle.std.proofs.Common.{◌≡◌, ◌≢◌, ◌↔◌, ◌⊎◌, inl, inr, ℕ, suc, ◌+◌, ◌<◌, ◌≤◌, List, [], ◌∷◌, map, length, get_or, drop, Bool, true, false, not, refl, sym, ap, ◌∙◌, subst, arith}
-use Rattle.std.specs.Prelude.{◌==◌, Option, Some, None, option_map, IsNone}
+use Rattle.std.proofs.Common.{◌≡◌, ◌↔◌, ◌⊎◌, inl, inr, ℕ, ◌+◌, ◌<◌, ◌≤◌, List, [], ◌∷◌, map, length, get_or, drop, Bool, true, false, refl, sym, ap, ◌∙◌, subst, arith}
+use Rattle.std.specs.Prelude.{◌==◌, Option, Some, None, IsNone}
 use Rattle.std.proofs.lemmas.Bool.Decides.{nat_tests}
 use Rattle.cp_lists.specs.Lists.{item_at, IsIn, here, there}
 use Rattle.std.proofs.lemmas.List.{get_or_default}
-use Rattle.cp_lists.proofs.Members.{next_or_rest, none_left, item_in, into_map, from_map}
-use Rattle.cp_model.specs.Term.{AtomTerm, Term, atom_term}
+use Rattle.cp_lists.proofs.Members.{next_or_rest, none_left, from_map}
+use Rattle.cp_model.specs.Term.{Term, atom_term}
 use Rattle.cp_model.specs.Strand.{send, recv, OriginatesInTerms}
 use Rattle.cp_model.specs.declared.node.Node.{Node}
 use Rattle.cp_model.specs.declared.node.OrderPair.{OrderPair}
 use Rattle.cp_model.specs.Order.{LeadsTo}
 use Rattle.cp_model.specs.Same.{same_node}
 use Rattle.cp_model.proofs.SameTests.{node_is, is_node}
-use Rattle.cp_model.specs.Skeleton.{SkeletonStrand, instance, listener, skeleton_trace_or_none, term_event_at, UniqueAt, Skeleton, Before}
+use Rattle.cp_model.specs.Skeleton.{SkeletonStrand, instance, skeleton_trace_or_none, UniqueAt, Skeleton, Before}
 use Rattle.cp_model.specs.Derivable.{IsOnInstance, DerivableAt}
-use Rattle.cp_model.specs.Realising.{OriginatesAtTerm, AllDerivable}
+use Rattle.cp_model.specs.Realising.{AllDerivable}
 use Rattle.cp_model.proofs.LawOrder.{before_leads, leads_before}
 use Rattle.cp_skel.specs.Ordered.{IsOrdered}
 use Rattle.cp_skel.specs.Events.{Occurrence, is_role_strand, occurrence_view, events_of}
@@ -22,7 +22,7 @@ use Rattle.cp_skel.specs.declared.events.Occurrence as program
 use Rattle.cp_skel.proofs.EventLists.{stands_among, listed_role, occurrence_at, listed_at}
 use Rattle.cp_collapse.specs.Having.{Has}
 use Rattle.cp_derive.specs.Unrealised.{ListsUnrealised}
-use Rattle.cp_normal.specs.Normalising.{IsAddedPair, IsContradictory, IsNormalised}
+use Rattle.cp_normal.specs.Normalising.{IsAddedPair, IsContradictory}
 use Rattle.cp_normal.specs.Narrowing.{IsStray, IsNormal}
 use Rattle.cp_normal.specs.Branching.{IsSettled}
 use Rattle.cp_normal.specs.Straying.{Strays}

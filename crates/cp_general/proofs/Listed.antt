@@ -1,5 +1,5 @@
 -- The list of all pairs of an order.
-use Rattle.std.proofs.Common.{◌≡◌, ◌≢◌, ◌↔◌, ◌⊎◌, inl, inr, ℕ, List, [], ◌∷◌, ◌++◌, map, Bool, true, false, if◌then◌else◌, ◌&&◌, refl, sym, ap, ◌∙◌, subst, arith}
+use Rattle.std.proofs.Common.{◌≡◌, ◌≢◌, ◌↔◌, ◌⊎◌, inl, inr, ℕ, List, [], ◌∷◌, ◌++◌, map, Bool, true, false, if◌then◌else◌, refl, sym, ap, ◌∙◌, subst, arith}
 use Rattle.std.specs.Prelude.{◌==◌, not, Some, length}
 use Rattle.std.proofs.lemmas.Bool.{and_from, and_parts}
 use Rattle.std.proofs.lemmas.Bool.Decides.{nat_tests}
@@ -10,7 +10,7 @@ use Rattle.cp_model.specs.Strand.{Event, send, recv}
 use Rattle.cp_model.specs.declared.node.Node.{Node}
 use Rattle.cp_model.specs.declared.node.OrderPair.{OrderPair}
 use Rattle.cp_model.specs.Order.{reaches, LeadsTo}
-use Rattle.cp_model.specs.Skeleton.{term_event_at, Skeleton, Before, IsOrderPair}
+use Rattle.cp_model.specs.Skeleton.{term_event_at, Skeleton, Before}
 use Rattle.cp_model.proofs.LawOrder.{before_leads, leads_before}
 use Rattle.cp_model.proofs.Reaching.{bounded_search}
 use Rattle.cp_strand.specs.View.{event_view}

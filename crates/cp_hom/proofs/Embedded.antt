@@ -82,6 +82,9 @@ item_taken a b f h item p = kind_taken a b f h item.kind item.index p
 pub embedding_apart : (a b : Skeleton) (f : SkeletonMap) → IsEmbedding a b f → KeepsApart a.strands f.strands
 embedding_apart a b f h s t p q e = h.injective s t p.role p.height p.terms q.role q.height q.terms p.on_instance q.on_instance e
 
+pub embedding_pairs : (a b : Skeleton) (f : SkeletonMap) → IsOrdered a → IsOrdered b → IsEmbedding a b f → KeepsPairs a.pairs b.pairs f
+embedding_pairs a b f order other h = pairs_kept a b f order other (record { instances = h.homomorphism.instances; listeners = h.homomorphism.listeners }) h.homomorphism.ordered
+
 -- ---- a map that takes each item as another is an embedding
 
 part_of : (f : Substitution) (from to st : SkeletonStrand) → from ≡ st → MakesPart f from to → MakesPart f st to
@@ -206,8 +209,7 @@ pairs_never a b given order other whole not_kept f follows h = not_kept (λ p in
     let pair : IsOrderPair a p = order.order_pairs p inp in
     let st = strand_of_event a.strands p.earlier _ pair.transmission in
     let su = strand_of_event a.strands p.later _ pair.reception in
-    let kept : IsKeptBy b.pairs f p =
-    pairs_kept a b f order other (record { instances = h.homomorphism.instances; listeners = h.homomorphism.listeners }) h.homomorphism.ordered p inp in
+    let kept : IsKeptBy b.pairs f p = embedding_pairs a b f order other h p inp in
     let e = one_node a b given whole f follows p.earlier st.0 st.1 in
     let l = one_node a b given whole f follows p.later su.0 su.1 in
     both_nodes b.pairs (mapped f p.earlier) (mapped (map_of given) p.earlier) (mapped f p.later) (mapped (map_of given) p.later) e l kept)

@@ -4,7 +4,9 @@ use Rattle.std.specs.Prelude.{Option, Some, None}
 use Rattle.std.proofs.lemmas.Bool.Decides.{Decides-eqb}
 use Rattle.cp_lists.proofs.Items.{item_last, item_apart, item_past, set_here, set_elsewhere}
 use Rattle.cp_lists.specs.Lists.{item_at, IsIn, here, there}
-use Rattle.cp_model.specs.Homomorphism.{number_or, strand_in}
+use Rattle.cp_model.specs.Bundle.{node_at}
+use Rattle.cp_model.specs.declared.node.Node.{Node}
+use Rattle.cp_model.specs.Homomorphism.{SkeletonMap, mapped, number_or, strand_in}
 use Rattle.cp_model.specs.Term.{Term, apply_to}
 use Rattle.cp_unify.specs.Bindings.{Binding}
 use Rattle.cp_unify.specs.Beside.{MatchesBeside, NeverMatchesBeside}
@@ -64,6 +66,10 @@ goes_there f (p ∷ ps) s t h e =
     by_strand p s (f s ≡ t)
     (λ same. let g : Some p.image ≡ Some t = sym (image_here p ps s same) ∙ e in let k : p.image ≡ t = cc in ap f (sym same) ∙ h.0 ∙ k)
     (λ other. goes_there f ps s t h.1 (sym (image_later p ps s other) ∙ e))
+
+-- So does a node on a strand that is placed.
+pub node_there : (f : SkeletonMap) (ps : List Placement) (n : Node) (t : ℕ) → image_in ps n.strand ≡ Some t → Places f.strands ps → node_at t n.index ≡ mapped f n
+node_there f ps n t at placed = ap (λ (s : ℕ). node_at s n.index) (sym (goes_there f.strands ps n.strand t placed at))
 
 places_like : (f g : ℕ → ℕ) (ps : List Placement) → ((p : Placement) → IsIn p ps → f p.strand ≡ g p.strand) → Places f ps → Places g ps
 places_like f g [] same h = tt

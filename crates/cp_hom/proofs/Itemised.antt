@@ -50,6 +50,10 @@ module _ (kind : Kind) (n : ℕ) (k : Skeleton) (old more new : List Item) where
   pub first_then : AddsFirst kind n k old more → AddsItems k more new → AddsFirst kind n k old new
   first_then h g = record { adds = adds_then k old more new h.adds g; all = λ i l. g.kept (record { kind = kind; index = i }) (h.all i l) }
 
+-- All of a kind are put behind items that were put behind others.
+pub all_behind : (kind : Kind) (k : Skeleton) (old more new : List Item) → AddsItems k old more → AddsAll kind k more new → AddsAll kind k old new
+all_behind kind k old more new h g = record { adds = adds_then k old more new h g.adds; all = g.all }
+
 module _ (k : Skeleton) (a b c d : List Item) (first : AddsAll Strands k [] a) (second : AddsAll NonOriginating k a b) (third : AddsAll PenetratorNonOriginating k b c) (fourth : AddsAll Uniques k c d) where
   by_kind : (kind : Kind) (i : ℕ) → i < count_of kind k → IsIn {A = Item} (record { kind = kind; index = i }) d
   by_kind Strands i l =

@@ -6,12 +6,13 @@ use Rattle.std.proofs.Math.Nat.{suc-mul}
 use Rattle.cp_lists.specs.Lists.{item_at, IsIn, here, there}
 use Rattle.cp_model.specs.Skeleton.{Skeleton}
 use Rattle.cp_model.specs.Homomorphism.{SkeletonMap, IsEmbedding}
+use Rattle.cp_skel.specs.Ordered.{IsOrdered}
 use Rattle.cp_lists.proofs.Members.{in_append, in_append_left, in_append_right}
 use Rattle.cp_hom.specs.Following.{PartialMap, partial_view, Follows, IsExtended, IsNever, FindsAmong}
-use Rattle.cp_hom.specs.Taking.{Takes, count_of, IsItemOf, AreItemsOf, KeepsApart}
+use Rattle.cp_hom.specs.Taking.{Takes, count_of, IsItemOf, AreItemsOf, KeepsOrderApart}
 use Rattle.cp_hom.specs.declared.searching.Branch.{Branch}
 use Rattle.cp_hom.specs.Opening.{OpenMap, branch_view, branches_view, next_maps, steps_left, steps_of, all_steps, IsPlaced, IsStarted, IsWhole, IsOpen, AreOpen, TakesFrom, IsWithin, IsWithinSome, TakePlace}
-use Rattle.cp_hom.proofs.Embedded.{embedding_apart, item_taken}
+use Rattle.cp_hom.proofs.Embedded.{embedding_apart, embedding_pairs, item_taken}
 use Rattle.cp_hom.specs.declared.partials.Partial.{Partial}
 use Rattle.cp_hom.specs.declared.items.Item.{Item}
 
@@ -189,9 +190,9 @@ fewer b items o i at l =
     omega (arith, e, g, m)
 
 module _ (a b : Skeleton) (items : List Item) (o : OpenMap) (old : List OpenMap) (i : Item) (at : item_at items o.done ≡ Some i) (l : o.choice < count_of i.kind b) (h : IsOpen a b items o) (are : AreOpen a b items old)
-    (among : AreItemsOf a items) where
+    (among : AreItemsOf a items) (order : IsOrdered a) (other : IsOrdered b) where
   -- Nothing is found by this choice.
-  choice_fails : IsNever (λ f. KeepsApart a.strands f.strands × Takes a b i o.choice f) o.given → TakePlace a b items o old (old ++ (tried o ∷ []))
+  choice_fails : IsNever (λ f. KeepsOrderApart a b f × Takes a b i o.choice f) o.given → TakePlace a b items o old (old ++ (tried o ∷ []))
   choice_fails never = record {
     are_open = open_more a b items old (tried o ∷ []) are (one_open a b items (tried o) (tried_open a b items o h));
     none_lost = λ f embeds w. elim (front_or_last a b items f o old w) as (λ _. IsWithinSome a b items f (old ++ (tried o ∷ []))) [
@@ -206,7 +207,7 @@ module _ (a b : Skeleton) (items : List Item) (o : OpenMap) (old : List OpenMap)
   }
     where
       later : (f : SkeletonMap) → IsEmbedding a b f → IsWithin a b items f o → Takes a b i o.choice f ⊎ IsWithin a b items f (tried o) → IsWithinSome a b items f (old ++ (tried o ∷ []))
-      later f embeds p (inl t) = absurd (never f p.0 (embedding_apart a b f embeds, t))
+      later f embeds p (inl t) = absurd (never f p.0 (record { apart = embedding_apart a b f embeds; pairs = embedding_pairs a b f order other embeds }, t))
       later f embeds p (inr q) = in_more a b items f old (tried o ∷ []) (tried o) here q
 
   -- This is found by it.
@@ -232,7 +233,7 @@ module _ (a b : Skeleton) (items : List Item) (o : OpenMap) (old : List OpenMap)
           (k.general f p.0 t, takes_next a b f embeds (drop (o.done + 1) items) (λ j r. among.only j (in_dropped items (o.done + 1) j r)))
       later f embeds p (inr r) = in_more a b items f old (tried o ∷ found_next o q ∷ []) (tried o) here r
 
-  pub choice_tried : (found : Option Partial) → FindsAmong (λ f. KeepsApart a.strands f.strands) (Takes a b i o.choice) o.given found → TakePlace a b items o old (old ++ next_maps o (option_map partial_view found))
+  pub choice_tried : (found : Option Partial) → FindsAmong (KeepsOrderApart a b) (Takes a b i o.choice) o.given found → TakePlace a b items o old (old ++ next_maps o (option_map partial_view found))
   choice_tried None never = choice_fails never
   choice_tried (Some q) k = choice_works (partial_view q) k
 

@@ -7,6 +7,7 @@ use Rattle.cp_model.specs.Skeleton.{SkeletonStrand, instance, listener, UniqueAt
 use Rattle.cp_model.specs.declared.node.OrderPair.{OrderPair}
 use Rattle.cp_model.specs.Order.{LeadsTo}
 use Rattle.cp_model.specs.Homomorphism.{SkeletonMap, mapped}
+use Rattle.cp_hom.specs.Following.{image_in}
 use Rattle.cp_hom.specs.declared.partials.Placement.{Placement}
 use Rattle.cp_hom.specs.declared.items.Kind.{Kind}
 use Rattle.cp_hom.specs.declared.items.Kind.TheVariants.{Strands, NonOriginating, PenetratorNonOriginating, Uniques}
@@ -131,9 +132,21 @@ pub record IsBlocked (strands : List SkeletonStrand) (item : Item) (image : ℕ)
   pub role_strand : IsRoleStrand strands item.index
   pub taken : IsTaken strands item.index image placements
 
+-- The item is a strand that is placed, and goes elsewhere.
+pub record IsElsewhere (item : Item) (image : ℕ) (placements : List Placement) : Type 0 where
+  pub strand : item.kind ≡ Strands
+  pub other : ℕ
+  pub placed : image_in placements item.index ≡ Some other
+  pub elsewhere : other ≢ image
+
 -- The image of the pair is kept: its earlier node leads to its later one, another, along the pairs.
 abbrev pub IsKeptBy : List OrderPair → SkeletonMap → OrderPair → Type 0
 IsKeptBy pairs f p = LeadsTo pairs (mapped f p.earlier) (mapped f p.later) × (mapped f p.earlier ≢ mapped f p.later)
 
 abbrev pub KeepsPairs : List OrderPair → List OrderPair → SkeletonMap → Type 0
 KeepsPairs ps pairs f = (p : OrderPair) → IsIn p ps → IsKeptBy pairs f p
+
+-- The map keeps role strands apart, and the order.
+pub record KeepsOrderApart (a b : Skeleton) (f : SkeletonMap) : Type 0 where
+  pub apart : KeepsApart a.strands f.strands
+  pub pairs : KeepsPairs a.pairs b.pairs f

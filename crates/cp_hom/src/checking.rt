@@ -3,12 +3,12 @@ ghost use Rattle.std.specs.Prelude.{◌≡◌, ◌≢◌, ◌↔◌, map, IsTrue
 ghost use Rattle.cp_model.specs.Order.{IsAtOrAfter, LeadsTo};
 ghost use Rattle.cp_strand.specs.View.{strand_view};
 ghost use Rattle.cp_hom.specs.Maps.{map_view};
-ghost use Rattle.cp_hom.specs.Taking.{IsRoleStrand, HoldsImage, IsTaken, IsBlocked, MeetsEarlier, KeepsApart, KeepsPairs};
+ghost use Rattle.cp_hom.specs.Taking.{IsRoleStrand, HoldsImage, IsTaken, IsBlocked, IsElsewhere, MeetsEarlier, KeepsApart, KeepsPairs};
 
 use crate::items::{Item, Kind};
 use crate::looking::strand_at;
 use crate::mapping::Map;
-use crate::partials::Placement;
+use crate::partials::{Placement, image_of};
 use cp_skel::{Leading, Node, OrderPair, Strand, StrandShape};
 use std::alloc::{AllocError, Global};
 
@@ -55,6 +55,19 @@ pub(crate) fn is_blocked(
     item.kind == Kind::Strands
         && is_role_strand(strands, item.index)
         && is_taken(strands, item.index, image, placements)
+}
+
+/// Whether an item is a strand that is placed, and goes to another image than this.
+pub(crate) fn is_elsewhere(item: Item, image: usize, placements: &[Placement]) -> bool
+    ensures { IsTrue result ↔ IsElsewhere item image placements.now }
+{
+    if item.kind != Kind::Strands {
+        return false;
+    }
+    match image_of(placements, item.index) {
+        Some(other) => other != image,
+        None => false,
+    }
 }
 
 /// Whether two strands are instances of roles and go to one strand.
@@ -122,7 +135,7 @@ fn leads_over_one(pairs: &[OrderPair], x: Node, y: Node) -> bool
 }
 
 /// Whether a node leads to another along strands and these pairs. The error is that memory ran out.
-fn leads_to_another(
+pub(crate) fn leads_to_another(
     alloc: Global,
     pairs: &[OrderPair],
     x: Node,

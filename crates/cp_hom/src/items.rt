@@ -3,6 +3,8 @@ ghost use Rattle.std.specs.Prelude.{◌≡◌, IfOk, OnOk};
 ghost use Rattle.cp_skel.specs.View.{skeleton_view};
 ghost use Rattle.cp_hom.specs.Taking.{count_of, AreItemsOf, AddsItems, AddsAll};
 
+use crate::sharing_strands::shares_all;
+use crate::slots::places_of;
 use cp_skel::Skeleton;
 use std::alloc::{AllocError, Global};
 
@@ -59,6 +61,23 @@ fn add_uniques_on(strand: usize, k: &Skeleton, items: &mut Vec<Item>) -> Result<
     Ok(())
 }
 
+/// Puts the strands all of whose values are the problem's or stand on other strands too behind other items, behind each the unique
+/// values with their origins on it. They can go to few strands, and those with values of their own to many.
+fn add_sharing_strands(alloc: Global, k: &Skeleton, items: &mut Vec<Item>) -> Result<(), AllocError>
+    ensures { OnOk result (AddsItems (skeleton_view k.now) items.old.items items.new.items) }
+{
+    let places = places_of(alloc, k)?;
+    for index in 0..count(Kind::Strands, k) {
+        if !shares_all(&places, index) {
+            continue;
+        }
+        let kind = Kind::Strands;
+        items.push(Item { kind, index })?;
+        add_uniques_on(index, k, items)?;
+    }
+    Ok(())
+}
+
 /// Puts the strands behind other items, behind each the unique values with their origins on it: these tell at once where
 /// the strand cannot go.
 fn add_strands(k: &Skeleton, items: &mut Vec<Item>) -> Result<(), AllocError>
@@ -72,11 +91,12 @@ fn add_strands(k: &Skeleton, items: &mut Vec<Item>) -> Result<(), AllocError>
     Ok(())
 }
 
-/// All items of a skeleton, its strands first.
+/// All items of a skeleton, its strands first, and of these those that share all their values.
 pub(crate) fn items(alloc: Global, k: &Skeleton) -> Result<Vec<Item>, AllocError>
     ensures { IfOk result (λ v. AreItemsOf (skeleton_view k.now) v.items) }
 {
     let mut items = Vec::new(alloc);
+    add_sharing_strands(alloc, k, &mut items)?;
     add_strands(k, &mut items)?;
     add_items(Kind::NonOriginating, k, &mut items)?;
     add_items(Kind::PenetratorNonOriginating, k, &mut items)?;

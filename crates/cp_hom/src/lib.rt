@@ -1,6 +1,7 @@
 //! Maps between skeletons: embeddings, and whether two skeletons are isomorphic.
 #![tactic(auto)]
 
+mod broken;
 mod checking;
 mod counting;
 mod embedding;
@@ -16,6 +17,7 @@ mod partition;
 mod placing;
 mod searching;
 mod sharing;
+mod sharing_strands;
 mod slots;
 mod starting;
 

@@ -25,7 +25,7 @@ pub(crate) struct Partial {
 }
 
 /// The image of a strand, if it is placed.
-fn image_of(placements: &[Placement], strand: usize) -> Option<usize>
+pub(crate) fn image_of(placements: &[Placement], strand: usize) -> Option<usize>
     ensures { result ≡ image_in placements.now strand }
 {
     for placement in placements {

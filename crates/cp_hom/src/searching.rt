@@ -5,10 +5,11 @@ ghost use Rattle.cp_skel.specs.Ordered.{IsOrdered};
 ghost use Rattle.cp_skel.specs.View.{skeleton_view};
 ghost use Rattle.cp_hom.specs.Maps.{map_view};
 ghost use Rattle.cp_hom.specs.Following.{partial_view, FindsAmong};
-ghost use Rattle.cp_hom.specs.Taking.{Takes, AreItemsOf, KeepsApart};
+ghost use Rattle.cp_hom.specs.Taking.{Takes, AreItemsOf, KeepsOrderApart};
 ghost use Rattle.cp_hom.specs.Opening.{branch_view, branches_view, next_maps, IsStarted, IsWhole, NeverEmbeds, IsOpen, AreOpen, TakePlace};
 
-use crate::checking::{is_blocked, keeps_apart, keeps_pairs};
+use crate::broken::breaks_order;
+use crate::checking::{is_blocked, is_elsewhere, keeps_apart, keeps_pairs};
 use crate::items::{Item, count};
 use crate::looking::item_at;
 use crate::mapping::Map;
@@ -75,7 +76,8 @@ fn push_next(
     Ok(())
 }
 
-/// Tries one choice for an item: a role strand does not go where another one goes.
+/// Tries one choice for an item: a role strand does not go where another one goes, nor a strand that is placed elsewhere than it is,
+/// nor one where the order of those that are placed would not be kept.
 fn try_choice(
     alloc: Global,
     a: &Skeleton,
@@ -84,14 +86,23 @@ fn try_choice(
     choice: usize,
     given: &Partial,
 ) -> Result<Option<Partial>, AllocError>
-    ensures { IfOk result (FindsAmong (λ f. KeepsApart (skeleton_view a.now).strands f.strands)
+    ensures { IfOk result (FindsAmong (KeepsOrderApart (skeleton_view a.now) (skeleton_view b.now))
         (Takes (skeleton_view a.now) (skeleton_view b.now) item choice) (partial_view given.now)) }
 {
     if is_blocked(a.strands(), item, choice, &given.placements) {
         return Ok(None);
     }
+    if is_elsewhere(item, choice, &given.placements) {
+        return Ok(None);
+    }
     let copy = given.copy(alloc)?;
-    place(alloc, a, b, item, choice, copy)
+    let Some(found) = place(alloc, a, b, item, choice, copy)? else {
+        return Ok(None);
+    };
+    if breaks_order(alloc, a, b, item, &found.placements)? {
+        return Ok(None);
+    }
+    Ok(Some(found))
 }
 
 /// Takes one step from a branch: tries the next choice for the next item, and puts what is left to try behind the other

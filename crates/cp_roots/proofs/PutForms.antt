@@ -14,7 +14,7 @@ use Rattle.cp_roots.specs.declared.root.Root.{Root}
 use Rattle.cp_hom.specs.FirstPlaces.{firsts}
 use Rattle.cp_roots.specs.RootView.{root_view}
 use Rattle.cp_roots.specs.Roots as plain
-use Rattle.cp_roots.specs.Roots.{in_report_order, living, first_roots}
+use Rattle.cp_roots.specs.Roots.{in_report_order, living}
 use Rattle.cp_roots.specs.Gathering.{AllHave, RootsHave, AreNormalForms, PutsForms, PutsCollapse, AreFirstRoots}
 
 -- The root that is made so, of this skeleton.

@@ -23,8 +23,9 @@ use std::alloc::{AllocError, Global};
 /// a collapse that has no normal form there is no root. Equal roots are kept. The assumptions of a root that is not dead are
 /// in the order of a report, each once.
 ///
-/// The problem has to be of the protocol, in that its strands' roles are, and to map to itself. The error is that memory ran
-/// out.
+/// The problem has to be of the protocol, in that its strands' roles are, and a point-of-view skeleton: it maps to itself, it
+/// declares the variables that occur in it, and its assumptions and its pairs are those that it states. The error is that memory
+/// ran out.
 pub fn roots(
     alloc: Global,
     protocol: &Protocol,

@@ -1,7 +1,7 @@
 -- The first label that is isomorphic to a skeleton.
-use Rattle.std.proofs.Common.{◌≡◌, ◌∙◌, ℕ, ◌+◌, ◌<◌, ◌≤◌, length, map, drop, get_or, Option, Some, None, Bool, true, false, arith, List, [], ◌∷◌, sym, ap, subst, ⊎_elim}
+use Rattle.std.proofs.Common.{◌≡◌, ◌≢◌, ◌∙◌, inl, inr, ℕ, ◌+◌, ◌<◌, ◌≤◌, length, map, drop, get_or, Option, Some, None, Bool, true, false, arith, List, [], ◌∷◌, sym, ap, subst, ⊎_elim}
 use Rattle.std.proofs.lemmas.List.{get_or_default}
-use Rattle.cp_lists.specs.Lists.{item_at, IsIn, here}
+use Rattle.cp_lists.specs.Lists.{item_at, IsIn, here, one_step, more_steps}
 use Rattle.cp_lists.proofs.Items.{item_below, place_of, at_place}
 use Rattle.cp_lists.proofs.Members.{drop_read, in_rest, next_or_rest, none_left}
 use Rattle.cp_model.specs.Skeleton.{Skeleton}
@@ -16,7 +16,7 @@ use Rattle.cp_search.specs.Sharing.{with_sharing}
 use Rattle.cp_search.proofs.Sharing.{there_listed, listed_there, AreAscending, are_ascending, ascending_from}
 use Rattle.cp_search.specs.Making.{made_way, AreFound, AreReaching, MayBeSeenIn, MayBeSeen}
 use Rattle.cp_search.proofs.Ways.{finds_alike}
-use Rattle.cp_tree.specs.Made.{Reaches}
+use Rattle.cp_tree.specs.Made.{IsEdge, Reaches}
 
 -- Isomorphic skeletons have the same number.
 same_number : (a b : Skeleton) → IsIsomorphic a b → (traits_of a).sharing ≡ (traits_of b).sharing
@@ -133,3 +133,20 @@ module _ (ms : List Made) (k : Skeleton) (parent : Option ℕ) where
     holds = record { other = first.holds.other; at = first.holds.at; allowed = free; isomorphic = first.holds.isomorphic };
     least = λ m l h. first.least m l (record { other = h.other; at = h.at; allowed = nothing_flagged m; isomorphic = h.isomorphic });
   })
+
+  -- So it is where no edge goes from it, and it is not the label from which the other is made.
+  pub seen_at_end : (p : ℕ) → parent ≡ Some p → (n : ℕ) → n ≢ p → ((j : ℕ) → IsEdge (map made_way ms) n j → ⊥) → FindsLeast (MayBeSeenIn ms [] k) (Some n) → FindsLeast (MayBeSeen ms parent k) (Some n)
+  seen_at_end p from n other none first = record {
+    holds = record {
+      other = first.holds.other;
+      at = first.holds.at;
+      allowed = λ q e. let same : p ≡ q = cc in never q (λ is. other (is ∙ sym same));
+      isomorphic = first.holds.isomorphic;
+    };
+    least = λ m l h. first.least m l (record { other = h.other; at = h.at; allowed = nothing_flagged m; isomorphic = h.isomorphic });
+  }
+    where
+      never : (q : ℕ) → (n ≡ q → ⊥) → Reaches (map made_way ms) n q → ⊥
+      never q apart (inl same) = apart same
+      never q apart (inr (one_step e)) = none q e
+      never q apart (inr (more_steps {y = y} e steps)) = none y e

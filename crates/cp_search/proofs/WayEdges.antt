@@ -1,5 +1,6 @@
 -- The edges of labels.
-use Rattle.std.proofs.Common.{◌≡◌, ◌⊎◌, ◌↔◌, inl, inr, ◌∙◌, ℕ, ◌<◌, List, [], ◌∷◌, ◌++◌, length, map, Bool, true, false, Option, Some, None, refl, sym, ap, subst, subst₂, arith}
+use Rattle.std.proofs.Common.{◌≡◌, ◌⊎◌, ◌↔◌, inl, inr, ◌∙◌, ℕ, ◌<◌, ◌≤◌, List, [], ◌∷◌, ◌++◌, length, map, Bool, true, false, Option, Some, None, refl, sym, ap, subst, subst₂, arith}
+use Rattle.std.specs.Prelude.{is_some, not, IsTrue}
 use Rattle.cp_lists.specs.Lists.{item_at, IsIn, Steps, one_step, more_steps}
 use Rattle.cp_lists.proofs.Items.{item_below, item_last, item_still, item_of_push, map_of_item, item_of_map}
 use Rattle.cp_lists.proofs.Members.{not_in_none, in_append_left, in_last, in_pushed}
@@ -8,7 +9,7 @@ use Rattle.cp_search.specs.declared.made.Made.{Made}
 use Rattle.cp_search.specs.declared.graph.Edge.{Edge}
 use Rattle.cp_search.specs.Finding.{FindsLeast, IsFlagged}
 use Rattle.cp_search.specs.Graph.{HasEdge, AddsEdge, Leads, AreWithin}
-use Rattle.cp_search.specs.Making.{made_way, IsEdgeOf, IsEdgeOfSome, AreEdgesOf, AreFound, AreReaching}
+use Rattle.cp_search.specs.Making.{made_way, IsEdgeOf, IsEdgeOfSome, AreEdgesOf, AreParentsWithin, AreFound, AreReaching}
 
 -- ---- one edge more
 
@@ -160,3 +161,30 @@ module _ (ms : List Made) (found : AreFound ms) (edges : List Edge) (all : (i j 
 
   pub reaching_along : (given : List Edge) → given ≡ edges → (flags : List Bool) → ((n : ℕ) → IsFlagged flags n ↔ Leads given n p) → AreReaching ms p flags
   reaching_along given e flags h = are_reaching flags (subst (λ (es : List Edge). (n : ℕ) → IsFlagged flags n ↔ Leads es n p) e h)
+
+-- ---- labels above all from which one was made
+
+module _ (ms : List Made) (old new : ℕ) (m : Made) (so_far : AreParentsWithin ms old) (kept : old ≤ new) (own : (p : ℕ) → m.parent ≡ Some p → p ≤ new) where
+  within_of : (i p : ℕ) (x : Made) → x.parent ≡ Some p → (item_at ms i ≡ Some x) ⊎ ((i ≡ length ms) × (m ≡ x)) → p ≤ new
+  within_of i p x e (inl at) = let l : p ≤ old = so_far i p x at e in omega (arith, l, kept)
+  within_of i p x e (inr same) = own p (ap (λ (y : Made). y.parent) same.1 ∙ e)
+
+  pub parents_within : (all : List Made) → all ≡ ms ++ m ∷ [] → AreParentsWithin all new
+  parents_within all behind = subst (λ (xs : List Made). AreParentsWithin xs new) (sym behind) (λ i p x at e. within_of i p x e (item_of_push ms m i x at))
+
+pub none_there : (o : Option ℕ) (b : Bool) → is_some o ≡ not b → IsTrue b → o ≡ None
+none_there None b e h = refl
+none_there (Some n) true e h = let f : true ≡ false = e in absurd (cc)
+none_there (Some n) false e h = let f : false ≡ true = h in absurd (cc)
+
+-- No edge goes from a label that is above all from which one was made, and is seen in none.
+pub no_edge_from : (ms : List Made) (latest n : ℕ) (m : Made) → AreParentsWithin ms latest → latest < n → item_at ms n ≡ Some m → m.seen_in ≡ None → (j : ℕ) → IsEdge (map made_way ms) n j → ⊥
+no_edge_from ms latest n m within above at none j (to_child {w = w} there parent) =
+    let x = item_of_map made_way ms j w there in
+    let l : n ≤ latest = within j n x.0 x.1 (ap (λ (v : Way). v.parent) x.2 ∙ parent) in
+    omega (arith, l, above)
+no_edge_from ms latest n m within above at none j (to_seen {w = w} there seen) =
+    let x = item_of_map made_way ms n w there in
+    let s : x.0.seen_in ≡ Some j = ap (λ (v : Way). v.seen_in) x.2 ∙ seen in
+    let a : item_at ms n ≡ Some x.0 = x.1 in
+    absurd (cc)

@@ -1,5 +1,5 @@
 -- What the program finds of each label as it makes it.
-use Rattle.std.specs.Prelude.{◌≡◌, ◌⊎◌, ◌↔◌, ◌<◌, ℕ, List, [], ◌∷◌, ◌++◌, length, map, Bool, true, false, Option, Some, None}
+use Rattle.std.specs.Prelude.{◌≡◌, ◌⊎◌, ◌↔◌, ◌<◌, ◌≤◌, ℕ, List, [], ◌∷◌, ◌++◌, length, map, Bool, true, false, Option, Some, None}
 use Rattle.cp_lists.specs.Lists.{item_at, IsIn}
 use Rattle.cp_model.specs.Strand.{Protocol}
 use Rattle.cp_model.specs.Skeleton.{Skeleton, IsSkeleton}
@@ -36,6 +36,10 @@ pub record IsEdgeOfSome (ms : List Made) (e : Edge) : Type 0 where
 -- These are the edges of the labels, and no others.
 abbrev pub AreEdgesOf : List Made → List Edge → Type 0
 AreEdgesOf ms edges = (e : Edge) → IsIn e edges ↔ IsEdgeOfSome ms e
+
+-- No label is made from one above this number.
+abbrev pub AreParentsWithin : List Made → ℕ → Type 0
+AreParentsWithin ms n = (i p : ℕ) (m : Made) → item_at ms i ≡ Some m → m.parent ≡ Some p → p ≤ n
 
 -- What is found of label i is true, where labels have these ways: of one that is dead from the start no unrealised receptions are
 -- listed, and it is seen nowhere; any other is seen in the least label to which it may point; and no step of generalising applies

@@ -53,8 +53,8 @@ fn first_copy(
 }
 
 /// The label in which one is seen that is made from this label, or from none: the first that is isomorphic to it and from which
-/// its parent cannot be reached. Which labels lead to the parent is asked only where one is isomorphic. The error is that memory
-/// ran out.
+/// its parent cannot be reached. Which labels lead to the parent is asked only where one is isomorphic from which an edge may go. The
+/// error is that memory ran out.
 pub(crate) fn copied_label(
     alloc: Global,
     made: &Labels,
@@ -73,6 +73,9 @@ pub(crate) fn copied_label(
     let Some(parent) = parent else {
         return Ok(Some(copy));
     };
+    if copy != parent && made.leads_nowhere(copy) {
+        return Ok(Some(copy));
+    }
     let leading = reaching(alloc, made, parent)?;
     if !is_flagged(&leading, copy) {
         return Ok(Some(copy));

@@ -1,9 +1,10 @@
 // The labels that were made, so kept that they are looked through quickly.
-ghost use Rattle.std.specs.Prelude.{◌≡◌, ◌<◌, nat_eq, ℕ, [], ◌∷◌, ◌++◌, if◌then◌else◌, length, Some, OnOk};
+ghost use Rattle.std.specs.Prelude.{◌≡◌, ◌<◌, ◌≤◌, nat_eq, ℕ, [], ◌∷◌, ◌++◌, if◌then◌else◌, length, map, Some, IsTrue, IfSome, OnOk};
 ghost use Rattle.cp_lists.specs.Lists.{item_at};
 ghost use Rattle.cp_search.specs.Graph.{AddsEdge};
-ghost use Rattle.cp_search.specs.Making.{AreEdgesOf};
+ghost use Rattle.cp_search.specs.Making.{made_way, AreEdgesOf, AreParentsWithin};
 ghost use Rattle.cp_search.specs.Sharing.{with_sharing, numbers_by};
+ghost use Rattle.cp_tree.specs.Made.{IsEdge};
 
 use crate::graph::Edge;
 use crate::made::Made;
@@ -12,13 +13,14 @@ use std::collections::HashMap;
 use std::marker::Model;
 
 /// The labels that were made, in their order; and, so that copies among them are found quickly, for each number of a fingerprint
-/// the labels that have it, and the edges between labels: to each from the one from which it was made, and from it to the one in
-/// which it is seen.
+/// the labels that have it; the edges between labels: to each from the one from which it was made, and from it to the one in
+/// which it is seen; and a number that no label is above from which one was made.
 #[derive(Drop)]
 pub(crate) struct Labels {
     all: Vec<Made>,
     alike: HashMap<usize, Vec<usize>>,
     edges: Vec<Edge>,
+    latest_parent: usize,
 }
 
 /// Adds the edge from one label to the other, where there are both.
@@ -54,24 +56,39 @@ fn add_alike(
     Ok(())
 }
 
+/// The greater of a number and that of a parent, if there is one.
+fn latest(number: usize, parent: Option<usize>) -> usize
+    ensures kept { number ≤ result }
+    ensures parent { IfSome parent (λ p. p ≤ result) }
+{
+    match parent {
+        Some(parent) => number.max(parent),
+        None => number,
+    }
+}
+
 /// Puts a label behind others, behind those that have its number, and its edges behind theirs.
 fn put_behind(
     alloc: Global,
     all: &mut Vec<Made>,
     alike: &mut HashMap<usize, Vec<usize>>,
     edges: &mut Vec<Edge>,
+    latest_parent: &mut usize,
     made: Made,
 ) -> Result<(), AllocError>
     requires alike { (q : ℕ) → numbers_by alike.old (λ v. v.items) q ≡ with_sharing q 0 all.old.items }
     requires edges { AreEdgesOf all.old.items edges.old.items }
+    requires parents { AreParentsWithin all.old.items latest_parent.old }
     ensures all { OnOk result (all.new.items ≡ all.old.items ++ made ∷ []) }
     ensures alike { OnOk result ((q : ℕ) → numbers_by alike.new (λ v. v.items) q ≡ with_sharing q 0 all.new.items) }
     ensures edges { OnOk result (AreEdgesOf all.new.items edges.new.items) }
+    ensures parents { OnOk result (AreParentsWithin all.new.items latest_parent.new) }
 {
     let number = all.len();
     add_edge(edges, made.parent, Some(number))?;
     add_edge(edges, Some(number), made.seen_in)?;
     add_alike(alloc, alike, made.fingerprint.sharing(), number)?;
+    *latest_parent = latest(*latest_parent, made.parent);
     all.push(made)?;
     Ok(())
 }
@@ -88,10 +105,10 @@ impl Model for Labels {
 
     ghost view = { λ l. l.all.items };
 
-    ghost use Rattle.cp_search.specs.Making.{AreEdgesOf};
+    ghost use Rattle.cp_search.specs.Making.{AreEdgesOf, AreParentsWithin};
     ghost use Rattle.cp_search.specs.Sharing.{with_sharing, numbers_by};
 
-    ghost invariant = { λ l. ((q : ℕ) → numbers_by l.alike (λ v. v.items) q ≡ with_sharing q 0 l.all.items) × AreEdgesOf l.all.items l.edges.items };
+    ghost invariant = { λ l. ((q : ℕ) → numbers_by l.alike (λ v. v.items) q ≡ with_sharing q 0 l.all.items) × AreEdgesOf l.all.items l.edges.items × AreParentsWithin l.all.items l.latest_parent };
 }
 
 impl Labels {
@@ -103,6 +120,7 @@ impl Labels {
             all: Vec::new(alloc),
             alike: HashMap::new(alloc),
             edges: Vec::new(alloc),
+            latest_parent: 0,
         }
     }
 
@@ -128,6 +146,15 @@ impl Labels {
         &self.all[number]
     }
 
+    /// Whether it is plain that no edge goes from the label: it is above all from which one was made, and is seen in none. Of others
+    /// nothing is said.
+    pub(crate) fn leads_nowhere(&self, number: usize) -> bool
+        requires { number < length self.now }
+        ensures { IsTrue result → (j : ℕ) → IsEdge (map made_way self.now) number j → ⊥ }
+    {
+        number > self.latest_parent && self.all[number].seen_in.is_none()
+    }
+
     /// The labels whose fingerprints have this number, in ascending order.
     pub(crate) fn with_sharing(&self, sharing: usize) -> &[usize]
         ensures { result.now ≡ with_sharing sharing 0 self.now }
@@ -149,8 +176,13 @@ impl Labels {
     pub(crate) fn push(&mut self, alloc: Global, made: Made) -> Result<(), AllocError>
         ensures { OnOk result (self.new ≡ self.old ++ made ∷ []) }
     {
-        let Labels { all, alike, edges } = self;
-        if put_behind(alloc, all, alike, edges, made).is_err() {
+        let Labels {
+            all,
+            alike,
+            edges,
+            latest_parent,
+        } = self;
+        if put_behind(alloc, all, alike, edges, latest_parent, made).is_err() {
             all.clear();
             alike.clear();
             edges.clear();

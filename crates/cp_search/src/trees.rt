@@ -45,8 +45,9 @@ use std::alloc::{AllocError, Global};
 /// The tree is lawful: its edges have no cycle, and each label that is neither a shape nor at a limit passes the problem's standings
 /// on to the labels to which its edges lead. A label that is dead stands apart in no bundle.
 ///
-/// The problem has to be of the protocol, in that its strands' roles are, and to map to itself; and the protocol's roles have to
-/// declare the variables of their events. The error is that memory ran out.
+/// The problem has to be of the protocol, in that its strands' roles are, and a point-of-view skeleton: it maps to itself, it
+/// declares the variables that occur in it, and its assumptions and its pairs are those that it states. The protocol's roles have
+/// to declare the variables of their events. The error is that memory ran out.
 pub fn search(
     alloc: Global,
     protocol: &Protocol,

@@ -11,6 +11,7 @@ use std::test::Fail;
 const PROTOCOL: &str = "(defprotocol e basic \
     (defrole speaker (vars (n text)) (trace (send n))) \
     (defrole caller (vars (n text)) (trace (send n))) \
+    (defrole relay (vars (n text)) (trace (recv n) (send n))) \
     (defrole chooser (vars (n text)) (trace (send n)) (uniq-orig n)))";
 
 const ONE: &str = "(defskeleton e (vars (x text)) (defstrand speaker 1 (n x)))";
@@ -35,6 +36,18 @@ const UNIQUE: &str = "(defskeleton e (vars (x text)) (defstrand speaker 1 (n x))
 const UNIQUE_SECOND: &str =
     "(defskeleton e (vars (y x text)) (defstrand speaker 1 (n x)) (uniq-orig x))";
 
+const CHAIN: &str = "(defskeleton e (vars (x text)) (defstrand speaker 1 (n x)) \
+    (defstrand relay 2 (n x)) (defstrand relay 2 (n x)) (defstrand relay 2 (n x)) \
+    (precedes ((1 1) (2 0)) ((2 1) (3 0))))";
+
+const CHAIN_BACKWARDS: &str = "(defskeleton e (vars (x text)) (defstrand speaker 1 (n x)) \
+    (defstrand relay 2 (n x)) (defstrand relay 2 (n x)) (defstrand relay 2 (n x)) \
+    (precedes ((3 1) (2 0)) ((2 1) (1 0))))";
+
+const FORK: &str = "(defskeleton e (vars (x text)) (defstrand speaker 1 (n x)) \
+    (defstrand relay 2 (n x)) (defstrand relay 2 (n x)) (defstrand relay 2 (n x)) \
+    (precedes ((1 1) (2 0)) ((1 1) (3 0))))";
+
 /// The skeleton of the problem, of which the first strand and so many variables alone are said to come from a problem.
 fn over(alloc: Global, problem: &str, count: usize) -> Result<Skeleton, Fail> {
     let k = skeleton_of(alloc, PROTOCOL, problem)?;
@@ -51,6 +64,8 @@ const ROWS: &[Row] = &[
     (SPEAKER_AND_CALLER, ANOTHER_FROM_PROBLEM, 1, false, false),
     (UNIQUE, UNIQUE_SECOND, 0, true, true),
     (ONE, UNIQUE, 0, true, false),
+    (CHAIN, CHAIN_BACKWARDS, 0, true, true),
+    (CHAIN, FORK, 0, false, true),
 ];
 
 /// Whether the first skeleton embeds in the second.

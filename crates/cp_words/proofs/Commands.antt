@@ -6,7 +6,8 @@ use Rattle.clap.specs.Words.{Text}
 use Rattle.clap.specs.Takes.{use_passes, walk_passes}
 use Rattle.clap.specs.Walk.{nothing_held}
 use Rattle.cp_model.specs.Tree.{Limits}
-use Rattle.cp_words.specs.Command.{number_of, Setting, first_setting, limits_of, limits_set, limits_behind_both, limits_behind, limits_by, Command, name_text, command_named, command_with, command_of}
+use Rattle.cp_words.specs.Command.{Command}
+use Rattle.cp_words.specs.CommandWords.{number_of, Setting, first_setting, limits_of, limits_set, limits_behind_both, limits_behind, limits_by, name_text, command_named, command_with, command_of}
 use Rattle.cp_words.specs.Parsed.{IsParsedAs}
 use Rattle.cp_words.specs.declared.command.CommandName.{CommandName}
 use Rattle.cp_words.specs.declared.command.CommandName.TheVariants.{Analyse, Shapes}

@@ -4,7 +4,7 @@ use Rattle.std.specs.List.{position_or_len, before_first, after_first}
 use Rattle.std.proofs.lemmas.Bool.{lt-ltb}
 use Rattle.std.proofs.lemmas.Bool.Decides.{nat_tests}
 use Rattle.std.proofs.lemmas.Str.Pattern.{IsSplitOnceResult, split_once_first}
-use Rattle.cp_words.specs.Command.{is_equals_sign, name_and_value}
+use Rattle.cp_words.specs.CommandWords.{is_equals_sign, name_and_value}
 
 none_where : {X : Type 0} (m n : ℕ) (x : X) → m ≡ n → None ≡ (if nat_lt m n then Some x else None)
 none_where m n x e = grind (arith, nat_tests)

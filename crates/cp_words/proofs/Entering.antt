@@ -7,7 +7,7 @@ use Rattle.clap.specs.Takes.{default_passes, entered_passes, is_valid, level_pas
 use Rattle.clap.specs.Walk.{Names, Walk, finished, nothing_held, rows_after, walk, walk_from}
 use Rattle.clap.proofs.OnLiterals.{clap_on_literals}
 use Rattle.clap.proofs.WalkLemmas.{walk_stopped}
-use Rattle.cp_words.specs.Command.{name_text}
+use Rattle.cp_words.specs.CommandWords.{name_text}
 use Rattle.cp_words.specs.Description.{described, described_as}
 use Rattle.cp_words.specs.declared.command.CommandName.{CommandName}
 use Rattle.cp_words.specs.declared.command.CommandName.TheVariants.{Analyse, Shapes}

@@ -6,7 +6,8 @@ use Rattle.clap.proofs.WalkLemmas.{first_value-rows}
 use Rattle.clap.specs.Words.{App, Row, Text, first_value, rows_of, subcommand_of, takes}
 use Rattle.clap.specs.declared.error.kind.ErrorKind.{ErrorKind}
 use Rattle.clap.specs.declared.error.kind.ErrorKind.TheVariants.{OutOfMemory}
-use Rattle.cp_words.specs.Command.{Command, command_of, number_of}
+use Rattle.cp_words.specs.Command.{Command}
+use Rattle.cp_words.specs.CommandWords.{command_of, number_of}
 use Rattle.cp_words.specs.Description.{described}
 use Rattle.cp_words.specs.Parsed.{cause_of, command_found, number_in}
 use Rattle.cp_words.specs.declared.error.WordsError.{WordsError}

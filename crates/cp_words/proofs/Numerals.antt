@@ -5,7 +5,7 @@ use Rattle.std.specs.Str.{all_ascii_digits}
 use Rattle.std.specs.Str.Parse.{IsNumeral, ParsesUnsigned, without_leading_plus, digits_value}
 use Rattle.std.proofs.lemmas.Bool.{ltb-true, lt-ltb}
 use Rattle.std.proofs.lemmas.Str.Parse.{numerals_by_value, tells_all_ascii_digits}
-use Rattle.cp_words.specs.Command.{is_numeral, number_of}
+use Rattle.cp_words.specs.CommandWords.{is_numeral, number_of}
 
 numeral_is : (ds : List ℕ) → IsNumeral 10 ds → is_numeral ds ≡ true
 numeral_is [] h = absurd (omega (arith, h.0))

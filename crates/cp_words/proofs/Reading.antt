@@ -6,7 +6,8 @@ use Rattle.clap.specs.Takes.{default_passes, is_valid, level_passes, settle_pass
 use Rattle.clap.specs.Walk.{Walk, nothing_held, rows_after, with_default}
 use Rattle.clap.proofs.OnLiterals.{clap_on_literals}
 use Rattle.cp_model.specs.Tree.{Limits}
-use Rattle.cp_words.specs.Command.{number_of, Command, name_text, command_named}
+use Rattle.cp_words.specs.Command.{Command}
+use Rattle.cp_words.specs.CommandWords.{number_of, name_text, command_named}
 use Rattle.cp_words.specs.Parsed.{limits_in, limits_from, command_found, IsParsedAs}
 use Rattle.cp_words.specs.declared.command.CommandName.{CommandName}
 use Rattle.cp_words.specs.declared.command.CommandName.TheVariants.{Analyse, Shapes}

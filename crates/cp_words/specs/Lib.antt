@@ -1,4 +1,5 @@
 pub mod Command
+pub mod CommandWords
 pub mod Settings
 pub mod Description
 pub mod Parsed

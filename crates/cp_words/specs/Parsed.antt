@@ -4,7 +4,8 @@ use Rattle.clap.specs.Words.{Row, Text, first_of, subcommand_of, takes}
 use Rattle.clap.specs.declared.error.kind.ErrorKind.{ErrorKind}
 use Rattle.clap.specs.declared.error.kind.ErrorKind.TheVariants.{OutOfMemory}
 use Rattle.cp_model.specs.Tree.{Limits}
-use Rattle.cp_words.specs.Command.{number_of, Command, command_named}
+use Rattle.cp_words.specs.Command.{Command}
+use Rattle.cp_words.specs.CommandWords.{number_of, command_named}
 use Rattle.cp_words.specs.Description.{described}
 use Rattle.cp_words.specs.declared.command.CommandName.{CommandName}
 use Rattle.cp_words.specs.declared.error.WordsError.{WordsError}

@@ -1,6 +1,6 @@
 // The words that are a command.
 ghost use Rattle.std.specs.Prelude.{◌≡◌, is_some, map, option_map, string_bytes};
-ghost use Rattle.cp_words.specs.Command.{number_of, setting_of, name_and_value, first_setting, limits_of, limits_set, limits_behind, limits_by, command_named, command_of};
+ghost use Rattle.cp_words.specs.CommandWords.{number_of, setting_of, name_and_value, first_setting, limits_of, limits_set, limits_behind, limits_by, command_named, command_of};
 ghost use Rattle.cp_words.specs.Settings.{setting_view, command_view};
 ghost use Rattle.cp_skel.specs.Trees.{limits_view};
 

@@ -1,6 +1,6 @@
 // The command that the words of the command line are.
 ghost use Rattle.std.specs.Prelude.{◌≡◌, ◌↔◌, IfErr, IfOk, None, Some, map, string_bytes};
-ghost use Rattle.cp_words.specs.Command.{command_of};
+ghost use Rattle.cp_words.specs.CommandWords.{command_of};
 ghost use Rattle.cp_words.specs.Settings.{command_view};
 ghost use Rattle.cp_words.specs.declared.error.WordsError.TheVariants.{Usage};
 

@@ -2,7 +2,8 @@
 ghost use Rattle.std.specs.Prelude.{◌≡◌, IfErr, IfOk, Some, map, option_map, string_bytes, true};
 ghost use Rattle.clap.specs.Words.{HasMatchesOf, app_of, found_of, rows_of, subcommand_rows_of, takes};
 ghost use Rattle.cp_skel.specs.Trees.{limits_view};
-ghost use Rattle.cp_words.specs.Command.{Command as CommandData, command_of};
+ghost use Rattle.cp_words.specs.Command.{Command as CommandData};
+ghost use Rattle.cp_words.specs.CommandWords.{command_of};
 ghost use Rattle.cp_words.specs.Description.{described, described_as};
 ghost use Rattle.cp_words.specs.Parsed.{command_found, limits_in, number_in};
 ghost use Rattle.cp_words.specs.Settings.{command_view};

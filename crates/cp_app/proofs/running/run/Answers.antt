@@ -1,6 +1,6 @@
 use Rattle.std.proofs.Common.{map, string_bytes}
 use Rattle.cp_base.specs.Outside.{Rose}
-use Rattle.cp_words.specs.Command.{command_of}
+use Rattle.cp_words.specs.CommandWords.{command_of}
 use Rattle.cp_app.proofs.Endings as endings
 use Rattle.cp_app.proofs.running.run.Goals as goal
 

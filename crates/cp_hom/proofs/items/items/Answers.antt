@@ -3,11 +3,12 @@ use Rattle.cp_skel.specs.View.{skeleton_view}
 use Rattle.cp_hom.specs.Taking.{AddsAll}
 use Rattle.cp_hom.specs.declared.items.Kind.TheVariants.{Strands}
 use Rattle.cp_hom.specs.declared.items.Item.{Item}
-use Rattle.cp_hom.proofs.Itemised.{all_of_them}
+use Rattle.cp_hom.proofs.Itemised.{all_behind, all_of_them}
 use Rattle.cp_hom.proofs.items.items.Goals as goal
 
 pub returns : goal.returns
 returns c =
     all_of_them (skeleton_view c.args.k.now) c.add_strands.new.items.items c.add_items.new.items.items c.add_items-2.new.items.items c.add_items-3.new.items.items
-    (subst (λ (xs : List Item). AddsAll Strands (skeleton_view c.args.k.now) xs c.add_strands.new.items.items) c.new-items.ensures.items c.in_ok-add_strands.ensures)
+    (subst (λ (xs : List Item). AddsAll Strands (skeleton_view c.args.k.now) xs c.add_strands.new.items.items) c.new-items.ensures.items
+    (all_behind Strands (skeleton_view c.args.k.now) c.new-items.result.items c.add_sharing_strands.new.items.items c.add_strands.new.items.items c.in_ok-add_sharing_strands.ensures c.in_ok-add_strands.ensures))
     c.in_ok-add_items.ensures c.in_ok-add_items-2.ensures c.in_ok-add_items-3.ensures

@@ -29,4 +29,4 @@ pub returns-clause-none : goal.returns-clause-none
 returns-clause-none c =
     subst (TakePlace (skeleton_view c.args.a.now) (skeleton_view c.args.b.now) c.args.items.now (branch_view c.args.branch) (branches_view c.args.branches.now.items)) (sym c.in_ok-push_next.ensures)
     (choice_tried (skeleton_view c.args.a.now) (skeleton_view c.args.b.now) c.args.items.now (branch_view c.args.branch) (branches_view c.args.branches.now.items) c.in-Some.item (sym c.in-Some.ensures)
-    (subst (λ (n : ℕ). c.args.branch.choice < n) c.count.ensures c.if-branch-count.false) c.requires.branch c.requires.branches c.requires.items c.in_ok-found.found c.in_ok-found.ensures)
+    (subst (λ (n : ℕ). c.args.branch.choice < n) c.count.ensures c.if-branch-count.false) c.requires.branch c.requires.branches c.requires.items c.requires.ordered c.requires.other_ordered c.in_ok-found.found c.in_ok-found.ensures)

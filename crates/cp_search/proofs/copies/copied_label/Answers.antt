@@ -5,7 +5,7 @@ use Rattle.cp_skel.specs.View.{skeleton_view}
 use Rattle.cp_term.proofs.CarriedTerms.{not_both}
 use Rattle.cp_search.specs.Finding.{FindsLeast}
 use Rattle.cp_search.specs.Making.{AreReaching, MayBeSeenIn}
-use Rattle.cp_search.proofs.AllowedCopies.{fingerprints_of, seen_nowhere, seen_in_any, seen_in_others, seen_in_first}
+use Rattle.cp_search.proofs.AllowedCopies.{fingerprints_of, seen_nowhere, seen_in_any, seen_in_others, seen_in_first, seen_at_end}
 use Rattle.cp_search.proofs.copies.copied_label.Goals.{In-Some}
 use Rattle.cp_search.proofs.copies.copied_label.Goals as goal
 
@@ -24,6 +24,11 @@ returns-in_default c =
 pub returns-in_default-parent : goal.returns-in_default-parent
 returns-in_default-parent c =
     seen_in_any c.args.made.now (skeleton_view c.args.skeleton.now) c.args.parent c.in_default-parent.is (Some c.in-Some.copy) (first (goal.at.returns-in_default-parent c).In-Some)
+
+pub returns-then-leads_nowhere : goal.returns-then-leads_nowhere
+returns-then-leads_nowhere c =
+    seen_at_end c.args.made.now (skeleton_view c.args.skeleton.now) c.args.parent c.in-Some-parent.parent c.in-Some-parent.is c.in-Some.copy
+    c.if-copy-parent.true (c.leads_nowhere.ensures c.if-leads_nowhere.true) (first (goal.at.returns-then-leads_nowhere c).In-Some)
 
 pub returns-then-not-is_flagged : goal.returns-then-not-is_flagged
 returns-then-not-is_flagged c =

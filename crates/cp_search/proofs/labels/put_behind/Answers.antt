@@ -1,9 +1,9 @@
 use Rattle.std.proofs.Common.{◌≡◌, ℕ, length, ◌++◌, ◌∷◌, [], ◌∙◌, sym, ap, if◌then◌else◌, subst, arith}
-use Rattle.std.specs.Prelude.{nat_eq, Some}
+use Rattle.std.specs.Prelude.{nat_eq, ◌≤◌, Option, Some, IfSome}
 use Rattle.cp_search.specs.Graph.{AddsEdge}
 use Rattle.cp_search.specs.Sharing.{with_sharing}
 use Rattle.cp_search.proofs.Sharing.{with_one_more}
-use Rattle.cp_search.proofs.WayEdges.{edges_more}
+use Rattle.cp_search.proofs.WayEdges.{edges_more, parents_within}
 use Rattle.cp_search.proofs.labels.put_behind.Goals as goal
 
 pub returns-clause-alike : goal.returns-clause-alike
@@ -21,3 +21,8 @@ returns-clause-edges c =
     (subst (λ (n : ℕ). AddsEdge c.args.made.parent (Some n) c.args.edges.now.items c.add_edge.new.edges.items) (c.len-number.ensures ∙ c.args.all.now.ok.0) c.in_ok-add_edge.ensures)
     (subst (λ (n : ℕ). AddsEdge (Some n) c.args.made.seen_in c.add_edge.new.edges.items c.add_edge-2.new.edges.items) (c.len-number.ensures ∙ c.args.all.now.ok.0) c.in_ok-add_edge-2.ensures)
     c.push.new.self.items c.in_ok-push.ensures.items
+
+pub returns-clause-parents : goal.returns-clause-parents
+returns-clause-parents c =
+    parents_within c.args.all.now.items c.args.latest_parent.now c.latest.result c.args.made c.requires.parents c.latest.ensures.kept
+    (λ p e. subst (λ (o : Option ℕ). IfSome o (λ q. q ≤ c.latest.result)) e c.latest.ensures.parent) c.push.new.self.items c.in_ok-push.ensures.items

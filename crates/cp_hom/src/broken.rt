@@ -1,0 +1,85 @@
+// Pairs of the order that a partial map breaks.
+ghost use Rattle.std.specs.Prelude.{◌≡◌, IsTrue, IfOk, IfSome};
+ghost use Rattle.cp_model.specs.Homomorphism.{SkeletonMap, mapped};
+ghost use Rattle.cp_skel.specs.View.{skeleton_view};
+ghost use Rattle.cp_hom.specs.Following.{Places};
+ghost use Rattle.cp_hom.specs.Taking.{IsKeptBy, KeepsPairs};
+
+use crate::checking::leads_to_another;
+use crate::items::{Item, Kind};
+use crate::partials::{Placement, image_of};
+use cp_skel::{Node, OrderPair, Skeleton};
+use std::alloc::{AllocError, Global};
+
+/// The image of a node, if its strand is placed.
+fn image_of_node(placements: &[Placement], node: Node) -> Option<Node>
+    ensures { IfSome result (λ x. (f : SkeletonMap) → Places f.strands placements.now → x ≡ mapped f node) }
+{
+    let strand = image_of(placements, node.strand)?;
+    Some(Node {
+        strand,
+        index: node.index,
+    })
+}
+
+/// Whether both strands of a pair are placed, and its image is not kept.
+fn is_broken(
+    alloc: Global,
+    pair: &OrderPair,
+    others: &[OrderPair],
+    placements: &[Placement],
+) -> Result<bool, AllocError>
+    ensures { IfOk result (λ broken. IsTrue broken → (f : SkeletonMap) → Places f.strands placements.now → IsKeptBy others.now f pair.now → ⊥) }
+{
+    let Some(x) = image_of_node(placements, pair.earlier) else {
+        return Ok(false);
+    };
+    let Some(y) = image_of_node(placements, pair.later) else {
+        return Ok(false);
+    };
+    let leads = leads_to_another(alloc, others, x, y)?;
+    Ok(!leads)
+}
+
+/// Whether the image of a pair is not kept, among those that have a node on this strand and whose strands are both placed.
+fn breaks_pairs(
+    alloc: Global,
+    pairs: &[OrderPair],
+    others: &[OrderPair],
+    strand: usize,
+    placements: &[Placement],
+) -> Result<bool, AllocError>
+    ensures { IfOk result (λ breaks. IsTrue breaks → (f : SkeletonMap) → Places f.strands placements.now → KeepsPairs pairs.now others.now f → ⊥) }
+{
+    for pair in pairs {
+        if pair.earlier.strand != strand && pair.later.strand != strand {
+            continue;
+        }
+        if is_broken(alloc, pair, others, placements)? {
+            return Ok(true);
+        }
+    }
+    Ok(false)
+}
+
+/// Whether the item is a strand, and the strands that are placed with it do not keep the order. The error is that memory ran out.
+pub(crate) fn breaks_order(
+    alloc: Global,
+    a: &Skeleton,
+    b: &Skeleton,
+    item: Item,
+    placements: &[Placement],
+) -> Result<bool, AllocError>
+    ensures { IfOk result (λ breaks. IsTrue breaks → (f : SkeletonMap) → Places f.strands placements.now → KeepsPairs (skeleton_view a.now).pairs (skeleton_view b.now).pairs f → ⊥) }
+{
+    if item.kind != Kind::Strands {
+        return Ok(false);
+    }
+    breaks_pairs(
+        alloc,
+        a.order().pairs(),
+        b.order().pairs(),
+        item.index,
+        placements,
+    )
+}
