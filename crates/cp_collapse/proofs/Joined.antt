@@ -12,8 +12,7 @@ use Rattle.cp_skel.specs.Changing.{IsClosedPrefix}
 use Rattle.cp_skel.specs.DeclaredPrefixes.{HasDeclaredPrefixes}
 use Rattle.cp_strand.specs.View.{instance_view, instance_as_data, strand_view}
 use Rattle.cp_skel.specs.View.{skeleton_view}
-use Rattle.cp_strand.specs.declared.strand.Instance.{Instance}
-use Rattle.cp_strand.specs.Data.{StrandData as Strand}
+use Rattle.cp_strand.specs.Data.{InstanceData, StrandData as Strand}
 use Rattle.cp_skel.specs.Data.{SkeletonData as Program}
 use Rattle.cp_collapse.specs.Extending.{IsPartitionOfFirst, IsExactFor, EqualAt, EqualsBlock}
 use Rattle.cp_collapse.specs.Partials.{AlsoEqual, IsNever, MayNotJoin}
@@ -34,7 +33,7 @@ alike_then ss s t u a b =
     let same : a.role ≡ b.role = cc in
     record { role = a.role; height = a.height; terms = a.terms; first = a.first; height' = b.height'; terms' = b.terms'; second = subst (λ (r : Role). item_at ss u ≡ Some (instance r b.height' b.terms')) (sym same) b.second }
 
-module _ (ss : List Strand) (s t : ℕ) (a b : Instance) (at : item_at ss s ≡ Some (instance_as_data a)) (bt : item_at ss t ≡ Some (instance_as_data b)) where
+module _ (ss : List Strand) (s t : ℕ) (a b : InstanceData) (at : item_at ss s ≡ Some (instance_as_data a)) (bt : item_at ss t ≡ Some (instance_as_data b)) where
   viewed_first : item_at (map strand_view ss) s ≡ Some (instance_view a)
   viewed_first = map_of_item strand_view ss s (instance_as_data a) at
 
@@ -81,7 +80,7 @@ module _ (ss : List Strand) (s t : ℕ) (a b : Instance) (at : item_at ss s ≡ 
     exact_strands r = exact_same (AlsoEqual given a b) (λ g. Meets g given × EqualAt k s t g) r to_strands of_strands
 
 -- The role of an instance declares the variables of its prefix.
-pub declared_at : (k : Program) (s : ℕ) (a : Instance) → HasDeclaredPrefixes (skeleton_view k) → item_at k.strands s ≡ Some (instance_as_data a) → IsClosedPrefix a.role a.height
+pub declared_at : (k : Program) (s : ℕ) (a : InstanceData) → HasDeclaredPrefixes (skeleton_view k) → item_at k.strands s ≡ Some (instance_as_data a) → IsClosedPrefix a.role a.height
 declared_at k s a all e = all s a.role a.height (substitution_by a.values) (map_of_item strand_view k.strands s (instance_as_data a) e)
 
 -- ---- strand by strand of a block

@@ -7,7 +7,7 @@ use Rattle.cp_model.specs.Homomorphism.{substitution_by}
 use Rattle.cp_model.specs.Skeleton.{Skeleton}
 use Rattle.cp_unify.specs.Bindings.{Binding, Meets, as_substitution}
 use Rattle.cp_unify.specs.Unifiers.{AreLaterToEarlier}
-use Rattle.cp_strand.specs.declared.strand.Instance.{Instance}
+use Rattle.cp_strand.specs.Data.{InstanceData}
 use Rattle.cp_collapse.specs.Partitions.{HaveEqualValues, IdentifiesValues}
 use Rattle.cp_collapse.specs.Collapsing.{IsNeverIdentified}
 use Rattle.cp_collapse.specs.Extending.{ArePartitionsOfFirst, MayHave, AreExtendedTo, IsExactFor}
@@ -19,7 +19,7 @@ abbrev pub AreSolved : List Binding → Type 0
 AreSolved r = AreLaterToEarlier r × ((g : Assignment) → Meets (after g (as_substitution r)) r)
 
 -- An assignment meets the bindings and gives two instances equal values.
-abbrev pub AlsoEqual : List Binding → Instance → Instance → Assignment → Type 0
+abbrev pub AlsoEqual : List Binding → InstanceData → InstanceData → Assignment → Type 0
 AlsoEqual given a b g = Meets g given × HaveEqualValues a.role a.height (substitution_by a.values) b.height (substitution_by b.values) g
 
 -- The fact is true of no assignment.

@@ -8,7 +8,7 @@ use Rattle.cp_model.specs.declared.node.Node.{Node}
 use Rattle.cp_model.specs.Skeleton.{instance, listener, Skeleton, OrderStep, along_strand_of, along_pair, Before}
 use Rattle.cp_model.specs.declared.node.OrderPair.{OrderPair}
 use Rattle.cp_model.specs.Homomorphism.{SkeletonMap, GoesToInstance, IsHomomorphism, substitution_by, text_in, datum_in, name_in, skey_in, akey_in, map_from_problem, CarriesHomomorphism}
-use Rattle.cp_model.specs.Problem.{variables_of_strands, variables_of_atoms, variables_of_uniques, variables_of_assumptions, variables_of_skeleton, variable_terms, declared_sort, IsDeclared, IsPointOfView}
+use Rattle.cp_model.specs.Problem.{variables_of_strands, variables_of_atoms, variables_of_uniques, variables_of_assumptions, variables_of_skeleton, variable_terms, declared_sort, IsDeclared, MapsToItself}
 use Rattle.cp_lists.proofs.Members.{in_append_left, in_append_right, into_map}
 use Rattle.cp_lists.proofs.Items.{map_of_item}
 use Rattle.cp_model.proofs.LawTerms.{atom_composed}
@@ -116,7 +116,7 @@ each_same : (f g h : Term → Term) (ts : List Term) → ((t : Term) → IsIn t 
 each_same f g h [] e = refl
 each_same f g h (t ∷ ts) e = ap₂ ◌∷◌ (e t here) (each_same f g h ts (λ u p. e u (there p)))
 
-module _ (variables : List Declaration) (problem k : Skeleton) (s : Substitution) (own : IsPointOfView variables problem) (carries : CarriesHomomorphism problem k) where
+module _ (variables : List Declaration) (problem k : Skeleton) (s : Substitution) (own : MapsToItself variables problem) (carries : CarriesHomomorphism problem k) where
   abbrev before : Substitution
   before = substitution_by k.from_problem.values
 

@@ -12,6 +12,7 @@ use Rattle.cp_model.specs.Stated.{unique_image, HasOwnAssumptions, KeepsStated}
 use Rattle.cp_lists.proofs.Members.{in_append_left, in_append_right}
 use Rattle.cp_model.proofs.LawTerms.{atom_composed}
 use Rattle.cp_model.proofs.Images.{images_then, mapped_images, images_within}
+use Rattle.cp_model.proofs.SingleMaps.{itself}
 use Rattle.cp_model.proofs.StatedStays.{stated_stays}
 use Rattle.cp_completeness.specs.Normal.{with_pairs, strand_under, unique_under, skeleton_under}
 use Rattle.cp_completeness.proofs.Under.{in_atoms, in_uniques}
@@ -57,7 +58,7 @@ module _ (variables : List Declaration) (problem k : Skeleton) (s : Substitution
 
   -- The terms of the map, under the substitution, are those of the new map.
   pub value_under : (v : AtomTerm) → ((x : Variable) → IsIn x (variables_of_atom v) → IsDeclared variables x) → apply_to_atom after_all v ≡ apply_to_atom s (apply_to_atom before v)
-  value_under v declared = sym (agree_atom (composed before s) after_all v (λ x i. agree_declared variables problem k s own carries x (declared x i))) ∙ atom_composed before s v
+  value_under v declared = sym (agree_atom (composed before s) after_all v (λ x i. agree_declared variables problem k s (itself own) carries x (declared x i))) ∙ atom_composed before s v
 
   unique_goes : (u : UniqueAt) → ((x : Variable) → IsIn x (variables_of_atom u.value) → IsDeclared variables x) → unique_image (map_from_problem (skeleton_under s k)) u ≡ unique_under s (unique_image (map_from_problem k) u)
   unique_goes u declared = λ i. record { value = value_under u.value declared i; origin = mapped (map_from_problem k) u.origin }

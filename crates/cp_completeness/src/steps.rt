@@ -9,7 +9,7 @@ ghost use Rattle.cp_model.specs.Skeleton.{UniqueAt, Skeleton, Before, IsSkeleton
 ghost use Rattle.cp_model.specs.declared.node.OrderPair.{OrderPair};
 ghost use Rattle.cp_model.specs.Standing.{Standing, StandsIn, StandsApart};
 ghost use Rattle.cp_model.specs.Homomorphism.{CarriesHomomorphism, FactorsThrough, Covers};
-ghost use Rattle.cp_model.specs.Problem.{IsPointOfView};
+ghost use Rattle.cp_model.specs.Problem.{IsPointOfView, MapsToItself};
 ghost use Rattle.cp_model.specs.Realising.{OriginatesAtTerm};
 ghost use Rattle.cp_model.specs.Stated.{KeepsStated};
 ghost use Rattle.cp_completeness.specs.Normal.{IsCarriedAt, with_pairs, AddOnlyOriginPairs, skeleton_under, LosesNoStanding, AreBranches, SaysNoMore};
@@ -60,7 +60,7 @@ pub fn skeletons_stay_skeletons()
 
 /// A skeleton that carries a homomorphism from its problem carries one under a substitution, and with more pairs.
 pub fn homomorphisms_stay()
-    ensures substitution { (variables : List Declaration) (problem k : Skeleton) (s : Substitution) → IsPointOfView variables problem → CarriesHomomorphism problem k → CarriesHomomorphism problem (skeleton_under s k) }
+    ensures substitution { (variables : List Declaration) (problem k : Skeleton) (s : Substitution) → MapsToItself variables problem → CarriesHomomorphism problem k → CarriesHomomorphism problem (skeleton_under s k) }
     ensures pairs { (problem k : Skeleton) (pairs : List OrderPair) → ((p : OrderPair) → IsIn p k.pairs → IsIn p pairs) → CarriesHomomorphism problem k → CarriesHomomorphism problem (with_pairs k pairs) }
 {}
 

@@ -1,5 +1,6 @@
 pub mod Agreed
 pub mod Becoming
+pub mod Beforehand
 pub mod Blocked
 pub mod Crowded
 pub mod Embedded

@@ -1,5 +1,5 @@
 -- Role strands of a skeleton that embeds in another share values there at least as much.
-use Rattle.std.proofs.Common.{◌≡◌, ℕ, suc, ◌+◌, ◌-◌, ◌*◌, ◌^◌, ◌<◌, ◌≤◌, Bool, true, false, if◌then◌else◌, min, List, [], ◌∷◌, ◌++◌, map, drop, length, get_or, refl, sym, ap, ap₂, ◌∙◌, subst, subst₂, arith, ◌⊎◌, inl, inr}
+use Rattle.std.proofs.Common.{◌≡◌, ℕ, suc, ◌+◌, ◌-◌, ◌*◌, ◌^◌, ◌<◌, ◌≤◌, Bool, true, false, if◌then◌else◌, min, List, [], ◌∷◌, ◌++◌, map, drop, length, get_or, refl, sym, ap, ap₂, ◌∙◌, subst, subst₂, arith, le_refl, ◌⊎◌, inl, inr}
 use Rattle.std.specs.Prelude.{Some, Vec}
 use Rattle.std.specs.Bool.{Decides}
 use Rattle.std.proofs.lemmas.Bool.{cases_lt}
@@ -7,7 +7,7 @@ use Rattle.std.proofs.Math.Nat.{min-eq_left, min-eq_right, min-le_right, mul-le-
 use Rattle.cp_lists.specs.Lists.{item_at, IsIn}
 use Rattle.cp_lists.proofs.Members.{drop_read}
 use Rattle.cp_lists.proofs.Items.{map_of_item}
-use Rattle.cp_model.specs.Term.{Term, Variable, Substitution, atom_term, atom_of_variable, apply_to, apply_to_atom, composed, AgreeOnTerms}
+use Rattle.cp_model.specs.Term.{Term, Variable, Substitution, tag_term, atom_term, pair_term, enc_term, text_variable, datum_variable, name_variable, key_term, symmetric_term, asymmetric_term, skey_variable, ltk_term, akey_variable, pubk_term, atom_of_variable, apply_to, apply_to_atom, composed, AgreeOnTerms}
 use Rattle.cp_model.specs.Strand.{Event, Role, Declaration, variables_of_trace, variables_of_prefix}
 use Rattle.cp_model.specs.Skeleton.{SkeletonStrand, instance, listener, Skeleton}
 use Rattle.cp_model.specs.Homomorphism.{SkeletonMap, IsEmbedding, Embeds}
@@ -16,7 +16,7 @@ use Rattle.cp_model.proofs.LawTerms.{atom_composed}
 use Rattle.cp_model.proofs.LawPrefixes.{variables_of_higher}
 use Rattle.cp_model.proofs.SameTests.{variable_in, in_has_variable}
 use Rattle.cp_term.proofs.SameTerms.{same_Decides, test_is}
-use Rattle.cp_hom.specs.Sharing.{place_weight, text_number, value_slots, declared_variable, declared_slots, strand_slots, strung, slots_of, lists_of, listened, heard_weight, kept, weight_from, part_of, share_from, squared, squares_from, sharing_of}
+use Rattle.cp_hom.specs.Sharing.{place_weight, text_number, value_slots, declared_variable, declared_slots, strand_slots, strung, slots_of, lists_of, listened, heard_weight, kept, weight_from, named_from, value_weight, part_of, share_from, squared, squares_from, sharing_of}
 use Rattle.cp_hom.specs.declared.slots.Slot.{Slot}
 use Rattle.cp_hom.proofs.Listened.{heard_more, heard_within}
 use Rattle.cp_hom.proofs.StrandSums.{sum_of, sum_append, total_map, GoesToMore, GoApart, no_more_in_all}
@@ -91,6 +91,47 @@ weight_is n t (x ∷ xs) l = step (λ k h. weight_is k t xs h) (same_term x.valu
 
 weight_sum : (n : ℕ) (t : Term) (xs : List Slot) → n ≤ bound → weight_from n t xs ≡ kept (n + sum_of (here t) xs)
 weight_sum n t xs l = weight_is n t xs l ∙ (sym (min-eq_left (bounded_within bound (here t) n xs l)) ∙ bounded_is bound (here t) n xs)
+
+le_trans : {a b c : ℕ} → a ≤ b → b ≤ c → a ≤ c
+le_trans {a} {b} {c} l m = omega (arith, l, m)
+
+from_within : (n : ℕ) (t : Term) (xs : List Slot) → n ≤ bound → weight_from n t xs ≤ bound
+from_within n t xs l = subst (λ (k : ℕ). k ≤ bound) (sym (weight_is n t xs l)) (bounded_within bound (here t) n xs l)
+
+from_no_less : (n : ℕ) (t : Term) (xs : List Slot) → n ≤ bound → n ≤ weight_from n t xs
+from_no_less n t xs l =
+    subst (λ (k : ℕ). n ≤ k) (sym (weight_sum n t xs l))
+    (subst (λ (k : ℕ). k ≤ kept (n + sum_of (here t) xs)) (min-eq_left l) (min_no_more bound n (n + sum_of (here t) xs) (omega arith)))
+
+named_within : (n : ℕ) (t : Term) (xs : List Slot) → n ≤ bound → named_from n t xs ≤ bound
+named_within n (atom_term (key_term (symmetric_term (ltk_term c d)))) xs l =
+    let name : ℕ → Term = λ k. atom_term (name_variable k) in
+    from_within (weight_from (weight_from n (name c) xs) (name d) xs) (name d) xs (from_within (weight_from n (name c) xs) (name d) xs (from_within n (name c) xs l))
+named_within n (atom_term (key_term (asymmetric_term flag (pubk_term purpose c)))) xs l = from_within n (atom_term (name_variable c)) xs l
+named_within n (tag_term bytes) xs l = l
+named_within n (atom_term (text_variable x)) xs l = l
+named_within n (atom_term (datum_variable x)) xs l = l
+named_within n (atom_term (name_variable x)) xs l = l
+named_within n (atom_term (key_term (symmetric_term (skey_variable x)))) xs l = l
+named_within n (atom_term (key_term (asymmetric_term flag (akey_variable x)))) xs l = l
+named_within n (pair_term t u) xs l = l
+named_within n (enc_term t k) xs l = l
+
+named_no_less : (n : ℕ) (t : Term) (xs : List Slot) → n ≤ bound → n ≤ named_from n t xs
+named_no_less n (atom_term (key_term (symmetric_term (ltk_term c d)))) xs l =
+    let name : ℕ → Term = λ k. atom_term (name_variable k) in
+    let one = from_within n (name c) xs l in
+    let two = from_within (weight_from n (name c) xs) (name d) xs one in
+    le_trans (from_no_less n (name c) xs l) (le_trans (from_no_less (weight_from n (name c) xs) (name d) xs one) (from_no_less (weight_from (weight_from n (name c) xs) (name d) xs) (name d) xs two))
+named_no_less n (atom_term (key_term (asymmetric_term flag (pubk_term purpose c)))) xs l = from_no_less n (atom_term (name_variable c)) xs l
+named_no_less n (tag_term bytes) xs l = le_refl n
+named_no_less n (atom_term (text_variable x)) xs l = le_refl n
+named_no_less n (atom_term (datum_variable x)) xs l = le_refl n
+named_no_less n (atom_term (name_variable x)) xs l = le_refl n
+named_no_less n (atom_term (key_term (symmetric_term (skey_variable x)))) xs l = le_refl n
+named_no_less n (atom_term (key_term (asymmetric_term flag (akey_variable x)))) xs l = le_refl n
+named_no_less n (pair_term t u) xs l = le_refl n
+named_no_less n (enc_term t k) xs l = le_refl n
 
 share_is : (n : ℕ) (es : List (Event Term)) (all xs : List Slot) → share_from n es all xs ≡ bounded_from bound (part_of es all) n xs
 share_is n es all [] = refl
@@ -266,21 +307,49 @@ module _ (a b : Skeleton) (f : SkeletonMap) (emb : IsEmbedding a b f) where
       by true false on = absurd (let h : false ≡ true = on refl in cc)
       by false q on = omega arith
 
+  -- The weight of the places of a value, with first numbers of which the second is no less.
+  from_more : (t : Term) (m n : ℕ) → m ≤ n → n ≤ bound → weight_from m t (slots_of a) ≤ weight_from n (apply_to f.terms t) (slots_of b)
+  from_more t m n less within =
+      let u = apply_to f.terms t in
+      let all : sum_of (here t) (slots_of a) ≤ sum_of (here u) (slots_of b) = all_more f (here t) (here u) (here_more t) a b emb in
+      let own : m ≤ bound = omega (arith, less, within) in
+      subst₂ (λ (i j : ℕ). i ≤ j) (sym (weight_sum m t (slots_of a) own)) (sym (weight_sum n u (slots_of b) within))
+      (min_no_more bound (m + sum_of (here t) (slots_of a)) (n + sum_of (here u) (slots_of b)) (let l : m + sum_of (here t) (slots_of a) ≤ n + sum_of (here u) (slots_of b) = omega (arith, less, all) in l))
+
+  -- The same of the names of a key. A variable may become a key, which weighs no less.
+  named_more : (t : Term) (m n : ℕ) → m ≤ n → n ≤ bound → named_from m t (slots_of a) ≤ named_from n (apply_to f.terms t) (slots_of b)
+  named_more (atom_term (key_term (symmetric_term (ltk_term c d)))) m n less within =
+      let name : ℕ → Term = λ k. atom_term (name_variable k) in
+      let one = from_more (name c) m n less within in
+      let below : weight_from n (name (f.terms.names c)) (slots_of b) ≤ bound = from_within n (name (f.terms.names c)) (slots_of b) within in
+      let two = from_more (name d) (weight_from m (name c) (slots_of a)) (weight_from n (name (f.terms.names c)) (slots_of b)) one below in
+      from_more (name d) (weight_from (weight_from m (name c) (slots_of a)) (name d) (slots_of a)) (weight_from (weight_from n (name (f.terms.names c)) (slots_of b)) (name (f.terms.names d)) (slots_of b)) two
+      (from_within (weight_from n (name (f.terms.names c)) (slots_of b)) (name (f.terms.names d)) (slots_of b) below)
+  named_more (atom_term (key_term (asymmetric_term flag (pubk_term purpose c)))) m n less within = from_more (atom_term (name_variable c)) m n less within
+  named_more (tag_term bytes) m n less within = less
+  named_more (atom_term (text_variable x)) m n less within = less
+  named_more (atom_term (datum_variable x)) m n less within = less
+  named_more (atom_term (name_variable x)) m n less within = less
+  named_more (atom_term (key_term (symmetric_term (skey_variable x)))) m n less within =
+      le_trans less (named_no_less n (apply_to f.terms (atom_term (key_term (symmetric_term (skey_variable x))))) (slots_of b) within)
+  named_more (atom_term (key_term (asymmetric_term flag (akey_variable x)))) m n less within =
+      le_trans less (named_no_less n (apply_to f.terms (atom_term (key_term (asymmetric_term flag (akey_variable x))))) (slots_of b) within)
+  named_more (pair_term t u) m n less within = less
+  named_more (enc_term t k) m n less within = less
+
   abbrev weight_here : Term → ℕ
-  weight_here t = weight_from (heard_weight (listened a.strands) t) t (slots_of a)
+  weight_here = value_weight (listened a.strands) (slots_of a)
 
   abbrev weight_there : Term → ℕ
-  weight_there t = weight_from (heard_weight (listened b.strands) t) t (slots_of b)
+  weight_there = value_weight (listened b.strands) (slots_of b)
 
   weight_more : (t : Term) → weight_here t ≤ weight_there (apply_to f.terms t)
   weight_more t =
       let u = apply_to f.terms t in
       let m = heard_weight (listened a.strands) t in
       let n = heard_weight (listened b.strands) u in
-      let heard : m ≤ n = heard_more a b f emb t in
-      let all : sum_of (here t) (slots_of a) ≤ sum_of (here u) (slots_of b) = all_more f (here t) (here u) (here_more t) a b emb in
-      subst₂ (λ (i j : ℕ). i ≤ j) (sym (weight_sum m t (slots_of a) (heard_within (variables_of_trace (listened a.strands)) t))) (sym (weight_sum n u (slots_of b) (heard_within (variables_of_trace (listened b.strands)) u)))
-      (min_no_more bound (m + sum_of (here t) (slots_of a)) (n + sum_of (here u) (slots_of b)) (let l : m + sum_of (here t) (slots_of a) ≤ n + sum_of (here u) (slots_of b) = omega (arith, heard, all) in l))
+      let within : n ≤ bound = heard_within (variables_of_trace (listened b.strands)) u in
+      from_more t (named_from m t (slots_of a)) (named_from n u (slots_of b)) (named_more t m n (heard_more a b f emb t) within) (named_within n u (slots_of b) within)
 
   abbrev part_here : Slot → ℕ
   part_here = part_of (listened a.strands) (slots_of a)

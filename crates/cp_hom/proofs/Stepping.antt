@@ -1,6 +1,6 @@
 -- The steps of the search: what takes the place of a partial map, and that the steps come to an end.
 use Rattle.std.proofs.Common.{◌≡◌, ℕ, zero, suc, ◌+◌, ◌-◌, ◌*◌, ◌<◌, ◌≤◌, List, [], ◌∷◌, ◌++◌, length, take, drop, refl, sym, ap, ◌∙◌, subst, arith, ◌⊎◌, inl, inr, eq-or-lt_of_le}
-use Rattle.std.specs.Prelude.{Option, Some, None, option_map, IfNone}
+use Rattle.std.specs.Prelude.{Option, Some, None, true, false, option_map, IfNone}
 use Rattle.std.proofs.lemmas.List.{map-append}
 use Rattle.std.proofs.Math.Nat.{suc-mul}
 use Rattle.cp_lists.specs.Lists.{item_at, IsIn, here, there}
@@ -8,10 +8,10 @@ use Rattle.cp_model.specs.Skeleton.{Skeleton}
 use Rattle.cp_model.specs.Homomorphism.{SkeletonMap, IsEmbedding}
 use Rattle.cp_skel.specs.Ordered.{IsOrdered}
 use Rattle.cp_lists.proofs.Members.{in_append, in_append_left, in_append_right}
-use Rattle.cp_hom.specs.Following.{PartialMap, partial_view, Follows, IsExtended, IsNever, FindsAmong}
+use Rattle.cp_hom.specs.Following.{PartialMap, partial_view, Follows, IsExtended, IsNever, FindsAmong, IsKnown}
 use Rattle.cp_hom.specs.Taking.{Takes, count_of, IsItemOf, AreItemsOf, KeepsOrderApart}
 use Rattle.cp_hom.specs.declared.searching.Branch.{Branch}
-use Rattle.cp_hom.specs.Opening.{OpenMap, branch_view, branches_view, next_maps, steps_left, steps_of, all_steps, IsPlaced, IsStarted, IsWhole, IsOpen, AreOpen, TakesFrom, IsWithin, IsWithinSome, TakePlace}
+use Rattle.cp_hom.specs.Opening.{OpenMap, branch_view, branches_view, next_maps, placed_map, steps_left, steps_of, all_steps, IsPlaced, IsStarted, IsWhole, IsOpen, AreOpen, TakesFrom, IsWithin, IsWithinSome, TakePlace}
 use Rattle.cp_hom.proofs.Embedded.{embedding_apart, embedding_pairs, item_taken}
 use Rattle.cp_hom.specs.declared.partials.Partial.{Partial}
 use Rattle.cp_hom.specs.declared.items.Item.{Item}
@@ -232,6 +232,41 @@ module _ (a b : Skeleton) (items : List Item) (o : OpenMap) (old : List OpenMap)
           in_more a b items f old (tried o ∷ found_next o q ∷ []) (found_next o q) (there here)
           (k.general f p.0 t, takes_next a b f embeds (drop (o.done + 1) items) (λ j r. among.only j (in_dropped items (o.done + 1) j r)))
       later f embeds p (inr r) = in_more a b items f old (tried o ∷ found_next o q ∷ []) (tried o) here r
+
+  -- The item is placed already: all maps that follow the partial one take some choice for it.
+  pub choice_placed : IsPlaced a b o.given i → TakePlace a b items o old (old ++ (placed_map o ∷ []))
+  choice_placed placed = record {
+    are_open = open_more a b items old (placed_map o ∷ []) are (one_open a b items (placed_map o) (placed_open placed));
+    none_lost = λ f embeds w. elim (front_or_last a b items f o old w) as (λ _. IsWithinSome a b items f (old ++ (placed_map o ∷ []))) [
+      | inl p ↦ in_longer a b items f old (placed_map o ∷ []) p
+      | inr p ↦ in_more a b items f old (placed_map o ∷ []) (placed_map o) here (p.0, takes_next a b f embeds (drop (o.done + 1) items) (λ j r. among.only j (in_dropped items (o.done + 1) j r)))
+    ];
+    fewer_steps =
+        let e = steps_append b items old (o ∷ []) in
+        let g = steps_append b items old (placed_map o ∷ []) in
+        let m = fewer b items o i at l in
+        omega (arith, e, g, m);
+  }
+    where
+      placed_now : IsPlaced a b o.given i → (item : Item) → IsIn item (take o.done items) ⊎ IsIn item (i ∷ []) → IsPlaced a b o.given item
+      placed_now placed item (inl p) = h.placed item p
+      placed_now placed item (inr here) = placed
+      placed_now placed item (inr (there p)) = elim p [ ]
+
+      placed_open : IsPlaced a b o.given i → IsOpen a b items (placed_map o)
+      placed_open placed = record {
+        consistent = h.consistent;
+        problem = h.problem;
+        placed = λ item p. placed_now placed item (in_append (take o.done items) (i ∷ []) (subst (IsIn item) (taken_item items o.done i at) p));
+        within = within_length items o.done i at;
+      }
+
+  -- It is known that this choice takes it, or that it does not.
+  pub choice_sure : (p : Partial) → o.given ≡ partial_view p → IsKnown (Takes a b i o.choice) p (Some true) → TakePlace a b items o old (old ++ (placed_map o ∷ []))
+  choice_sure p same known = choice_placed (o.choice, λ f follows. known.sound f (subst (Follows f) same follows))
+
+  pub choice_never : (p : Partial) → o.given ≡ partial_view p → IsKnown (Takes a b i o.choice) p (Some false) → TakePlace a b items o old (old ++ next_maps o None)
+  choice_never p same never = choice_fails (λ f follows w. never f (subst (Follows f) same follows) w.1)
 
   pub choice_tried : (found : Option Partial) → FindsAmong (KeepsOrderApart a b) (Takes a b i o.choice) o.given found → TakePlace a b items o old (old ++ next_maps o (option_map partial_view found))
   choice_tried None never = choice_fails never

@@ -1,5 +1,5 @@
 -- Partial maps of skeletons: what is known so far of a map that is looked for.
-use Rattle.std.specs.Prelude.{◌≡◌, ℕ, List, [], ◌∷◌, Option, Some, None, MatchOption, ◌==◌, if◌then◌else◌}
+use Rattle.std.specs.Prelude.{◌≡◌, ℕ, Bool, List, [], ◌∷◌, Option, Some, None, IfSome, MatchOption, ◌==◌, if◌then◌else◌}
 use Rattle.cp_model.specs.Homomorphism.{SkeletonMap, number_or}
 use Rattle.cp_unify.specs.Bindings.{Binding, as_substitution}
 use Rattle.cp_unify.specs.Beside.{Agrees}
@@ -59,3 +59,8 @@ Finds fact given answer = MatchOption answer (IsNever fact given) (λ q. IsExten
 -- The same among maps of which a condition is true: nothing may also be found where none of these has the fact.
 abbrev pub FindsAmong : (SkeletonMap → Type 0) → (SkeletonMap → Type 0) → PartialMap → Option Partial → Type 0
 FindsAmong condition fact given answer = MatchOption answer (IsNever (λ f. condition f × fact f) given) (λ q. IsExtended fact given (partial_view q))
+
+-- What is known of a fact beforehand, if anything is: that all maps that follow the given one have it, so that the given one
+-- itself is found; or that none has it.
+abbrev pub IsKnown : (SkeletonMap → Type 0) → Partial → Option Bool → Type 0
+IsKnown fact given known = IfSome known (λ has. Finds fact (partial_view given) (if has then Some given else None))

@@ -26,6 +26,10 @@ abbrev pub next_maps : OpenMap → Option PartialMap → List OpenMap
 next_maps o None = record { done = o.done; choice = o.choice + 1; given = o.given } ∷ []
 next_maps o (Some found) = record { done = o.done; choice = o.choice + 1; given = o.given } ∷ record { done = o.done + 1; choice = 0; given = found } ∷ []
 
+-- What follows on a partial map by which the next item is placed already.
+abbrev pub placed_map : OpenMap → OpenMap
+placed_map o = record { done = o.done + 1; choice = 0; given = o.given }
+
 -- How many steps are left at most, where these items are still to be placed, the first of them from this number on.
 abbrev pub steps_left : Skeleton → List Item → ℕ → ℕ
 steps_left b [] choice = 1

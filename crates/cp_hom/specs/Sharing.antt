@@ -1,6 +1,6 @@
 -- A number that tells how the role strands of a skeleton share values. No embedding makes it smaller.
 use Rattle.std.specs.Prelude.{◌+◌, ◌-◌, ◌*◌, ◌%◌, ◌^◌, ℕ, suc, Bool, true, List, [], ◌∷◌, ◌++◌, min, map, if◌then◌else◌, Vec}
-use Rattle.cp_model.specs.Term.{text_sort, datum_sort, name_sort, skey_sort, Variable, skey_variable, ltk_term, symmetric_term, asymmetric_term, text_variable, datum_variable, name_variable, key_term, Term, tag_term, atom_term, pair_term, enc_term, Substitution, atom_of_variable, apply_to}
+use Rattle.cp_model.specs.Term.{text_sort, datum_sort, name_sort, skey_sort, Variable, skey_variable, ltk_term, pubk_term, symmetric_term, asymmetric_term, text_variable, datum_variable, name_variable, key_term, Term, tag_term, atom_term, pair_term, enc_term, Substitution, atom_of_variable, apply_to}
 use Rattle.cp_model.specs.Strand.{Event, recv, Declaration, variables_of_trace, variables_of_prefix}
 use Rattle.cp_model.specs.Skeleton.{SkeletonStrand, instance, listener, Skeleton}
 use Rattle.cp_model.specs.Same.{same_term, has_variable}
@@ -64,6 +64,14 @@ abbrev pub weight_from : ℕ → Term → List Slot → ℕ
 weight_from n t [] = n
 weight_from n t (x ∷ xs) = weight_from (if same_term x.value t then kept (n + x.weight) else n) t xs
 
+-- With n, how much the places weigh at which the names of a key stand: of a long-term key its second name counts twice, so that
+-- most keys are told apart that have the same names in another order.
+abbrev pub named_from : ℕ → Term → List Slot → ℕ
+named_from n (atom_term (key_term (symmetric_term (ltk_term a b)))) all =
+    weight_from (weight_from (weight_from n (atom_term (name_variable a)) all) (atom_term (name_variable b)) all) (atom_term (name_variable b)) all
+named_from n (atom_term (key_term (asymmetric_term flag (pubk_term purpose a)))) all = weight_from n (atom_term (name_variable a)) all
+named_from n _ all = n
+
 -- What the listeners hear.
 abbrev pub listened : List SkeletonStrand → List (Event Term)
 listened [] = []
@@ -86,9 +94,13 @@ is_heard xs (enc_term t k) = true
 abbrev pub heard_weight : List (Event Term) → Term → ℕ
 heard_weight es t = if is_heard (variables_of_trace es) t then 4099 else 0
 
--- The weight of a place, as often as the places of its value weigh and that it is heard.
+-- How much a value weighs: that it is heard, the places of its names, where it is a key, and its own places.
+abbrev pub value_weight : List (Event Term) → List Slot → Term → ℕ
+value_weight es all t = weight_from (named_from (heard_weight es t) t all) t all
+
+-- The weight of a place, as often as its value weighs.
 abbrev pub part_of : List (Event Term) → List Slot → Slot → ℕ
-part_of es all x = kept (x.weight * weight_from (heard_weight es x.value) x.value all)
+part_of es all x = kept (x.weight * value_weight es all x.value)
 
 -- With n, how much the places xs share with all places: their parts, added up.
 abbrev pub share_from : ℕ → List (Event Term) → List Slot → List Slot → ℕ

@@ -9,6 +9,7 @@ mod fingerprint;
 mod first_places;
 mod heights;
 mod items;
+mod known;
 mod looking;
 mod mapping;
 mod matching;

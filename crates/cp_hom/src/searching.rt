@@ -1,16 +1,18 @@
 // The search for an embedding: one item after the other is placed, and where that fails the next choice is tried.
-ghost use Rattle.std.specs.Prelude.{◌≡◌, ◌<◌, ◌-◌, ◌++◌, ◌^◌, option_map, IfOk, OnOk, IfSome, IfNone};
+ghost use Rattle.std.specs.Prelude.{◌≡◌, ◌↔◌, ◌<◌, ◌-◌, [], ◌∷◌, ◌++◌, ◌^◌, take, option_map, IsTrue, IfOk, OnOk, IfSome, IfNone};
+ghost use Rattle.cp_lists.specs.Lists.{IsIn};
 ghost use Rattle.cp_model.specs.Homomorphism.{IsEmbedding};
 ghost use Rattle.cp_skel.specs.Ordered.{IsOrdered};
 ghost use Rattle.cp_skel.specs.View.{skeleton_view};
 ghost use Rattle.cp_hom.specs.Maps.{map_view};
 ghost use Rattle.cp_hom.specs.Following.{partial_view, FindsAmong};
 ghost use Rattle.cp_hom.specs.Taking.{Takes, AreItemsOf, KeepsOrderApart};
-ghost use Rattle.cp_hom.specs.Opening.{branch_view, branches_view, next_maps, IsStarted, IsWhole, NeverEmbeds, IsOpen, AreOpen, TakePlace};
+ghost use Rattle.cp_hom.specs.Opening.{branch_view, branches_view, next_maps, placed_map, IsStarted, IsWhole, NeverEmbeds, IsOpen, AreOpen, TakePlace};
 
 use crate::broken::breaks_order;
 use crate::checking::{is_blocked, is_elsewhere, keeps_apart, keeps_pairs};
 use crate::items::{Item, count};
+use crate::known::known_place;
 use crate::looking::item_at;
 use crate::mapping::Map;
 use crate::partials::Partial;
@@ -105,8 +107,41 @@ fn try_choice(
     Ok(Some(found))
 }
 
-/// Takes one step from a branch: tries the next choice for the next item, and puts what is left to try behind the other
-/// branches. The embedding, if it was the last step to one.
+/// Whether the items are the same.
+fn is_same_item(x: Item, y: Item) -> bool
+    ensures { IsTrue result ↔ (x ≡ y) }
+{
+    x.kind == y.kind && x.index == y.index
+}
+
+/// Whether an item is one of these.
+fn is_listed(items: &[Item], item: Item) -> bool
+    ensures { IsTrue result → IsIn item items.now }
+{
+    for other in items {
+        if is_same_item(*other, item) {
+            return true;
+        }
+    }
+    false
+}
+
+/// Puts what follows on a branch behind others, where its next item is placed already.
+fn push_placed(branch: Branch, branches: &mut Vec<Branch>) -> Result<(), AllocError>
+    requires done { branch.done < 2 ^ 64 - 1 }
+    ensures { OnOk result (branches_view branches.new.items ≡ branches_view branches.old.items ++ (placed_map (branch_view branch) ∷ [])) }
+{
+    branches.push(Branch {
+        done: branch.done + 1,
+        choice: 0,
+        given: branch.given,
+    })?;
+    Ok(())
+}
+
+/// Takes one step from a branch: goes on behind the next item, where it is placed already or the next choice for it holds for
+/// sure; passes over a choice that holds for no map; tries any other; and puts what is left to try behind the other branches. The
+/// embedding, if it was the last step to one.
 fn advance(
     alloc: Global,
     a: &Skeleton,
@@ -130,8 +165,18 @@ fn advance(
     if branch.choice >= count(item.kind, b) {
         return Ok(None);
     }
-    let found = try_choice(alloc, a, b, item, branch.choice, &branch.given)?;
-    push_next(branch, found, branches)?;
+    if is_listed(&items[..branch.done], item) {
+        push_placed(branch, branches)?;
+        return Ok(None);
+    }
+    match known_place(a, b, item, branch.choice, &branch.given) {
+        Some(true) => push_placed(branch, branches)?,
+        Some(false) => push_next(branch, None, branches)?,
+        None => {
+            let found = try_choice(alloc, a, b, item, branch.choice, &branch.given)?;
+            push_next(branch, found, branches)?;
+        }
+    }
     Ok(None)
 }
 

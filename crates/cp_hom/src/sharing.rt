@@ -3,11 +3,11 @@ ghost use Rattle.std.specs.Prelude.{◌≡◌, map, IfOk};
 ghost use Rattle.cp_model.specs.Strand.{variables_of_trace};
 ghost use Rattle.cp_strand.specs.View.{event_view, strand_view};
 ghost use Rattle.cp_skel.specs.View.{skeleton_view};
-ghost use Rattle.cp_hom.specs.Sharing.{lists_of, slots_in, listened, is_heard, heard_weight, weight_from, share_from, squares_from, sharing_of};
+ghost use Rattle.cp_hom.specs.Sharing.{lists_of, slots_in, listened, is_heard, heard_weight, weight_from, named_from, value_weight, share_from, squares_from, sharing_of};
 
 use crate::slots::{Places, Slot, places_of};
 use cp_skel::{Event, Skeleton, Strand, StrandShape, occurs};
-use cp_term::{Shape, Sort, Term};
+use cp_term::{Shape, Sort, Term, var};
 use std::alloc::{AllocError, Global};
 
 /// What the listeners hear.
@@ -67,30 +67,73 @@ fn weight_of(first: usize, value: &Term, places: &Places) -> usize
     weight
 }
 
-/// How much some of the places share: the weight of each as often as the places of its value weigh and that it is heard, all
-/// added up.
-fn share_of(heard: &[Event], places: &Places, slots: &[Slot]) -> usize
-    ensures { result ≡ share_from 0 (map event_view heard.now) (slots_in places.now) slots.now }
+/// With a first weight, how much the places weigh at which the names of a key stand: of a long-term key its second name counts
+/// twice.
+fn names_weight(
+    alloc: Global,
+    first: usize,
+    value: &Term,
+    places: &Places,
+) -> Result<usize, AllocError>
+    ensures { IfOk result (λ n. n ≡ named_from first value.now (slots_in places.now)) }
+{
+    match value.shape() {
+        Shape::Ltk(a, b) => {
+            let a = var(alloc, a, Sort::Name)?;
+            let b = var(alloc, b, Sort::Name)?;
+            let weight = weight_of(first, &a, places);
+            let weight = weight_of(weight, &b, places);
+            Ok(weight_of(weight, &b, places))
+        }
+        Shape::Pubk(_, _, a) => {
+            let a = var(alloc, a, Sort::Name)?;
+            Ok(weight_of(first, &a, places))
+        }
+        _ => Ok(first),
+    }
+}
+
+/// How much a value weighs: that it is heard, the places of its names, where it is a key, and its own places.
+fn value_weight(
+    alloc: Global,
+    heard: &[Event],
+    value: &Term,
+    places: &Places,
+) -> Result<usize, AllocError>
+    ensures { IfOk result (λ n. n ≡ value_weight (map event_view heard.now) (slots_in places.now) value.now) }
+{
+    let first = heard_weight(heard, value);
+    let weight = names_weight(alloc, first, value, places)?;
+    Ok(weight_of(weight, value, places))
+}
+
+/// How much some of the places share: the weight of each as often as its value weighs, all added up.
+fn share_of(
+    alloc: Global,
+    heard: &[Event],
+    places: &Places,
+    slots: &[Slot],
+) -> Result<usize, AllocError>
+    ensures { IfOk result (λ n. n ≡ share_from 0 (map event_view heard.now) (slots_in places.now) slots.now) }
 {
     let mut share: usize = 0;
     for slot in slots {
-        let first = heard_weight(heard, &slot.value);
-        let weight = weight_of(first, &slot.value, places);
+        let weight = value_weight(alloc, heard, &slot.value, places)?;
         share = share.saturating_add(slot.weight.saturating_mul(weight));
     }
-    share
+    Ok(share)
 }
 
 /// How much the problem's places share, and for each strand how much its own share, squared, all added up.
-fn sharing(heard: &[Event], places: &Places) -> usize
-    ensures { result ≡ squares_from (share_from 0 (map event_view heard.now) (slots_in places.now) places.now.values.items) (map event_view heard.now) (slots_in places.now) (lists_of places.now.strands.items) }
+fn sharing(alloc: Global, heard: &[Event], places: &Places) -> Result<usize, AllocError>
+    ensures { IfOk result (λ n. n ≡ squares_from (share_from 0 (map event_view heard.now) (slots_in places.now) places.now.values.items) (map event_view heard.now) (slots_in places.now) (lists_of places.now.strands.items)) }
 {
-    let mut sharing = share_of(heard, places, &places.values);
+    let mut sharing = share_of(alloc, heard, places, &places.values)?;
     for slots in &places.strands {
-        let share = share_of(heard, places, slots);
+        let share = share_of(alloc, heard, places, slots)?;
         sharing = sharing.saturating_add(share.saturating_mul(share));
     }
-    sharing
+    Ok(sharing)
 }
 
 /// How the role strands of a skeleton share values, and on which strands the places are that share.
@@ -99,5 +142,5 @@ pub(crate) fn sharing_of(alloc: Global, k: &Skeleton) -> Result<usize, AllocErro
 {
     let heard = listened(alloc, k.strands())?;
     let places = places_of(alloc, k)?;
-    Ok(sharing(&heard, &places))
+    sharing(alloc, &heard, &places)
 }

@@ -4,7 +4,7 @@ use Rattle.cp_lists.specs.Lists.{item_at}
 use Rattle.cp_model.specs.Term.{Sort, text_sort, datum_sort, name_sort, skey_sort, akey_sort, skey_variable, akey_variable, Term, atom_term, atom_of_variable, apply_to, unchanged}
 use Rattle.cp_model.specs.Strand.{Declaration}
 use Rattle.cp_model.specs.Skeleton.{Skeleton}
-use Rattle.cp_model.specs.Problem.{numbers_from, variable_terms, IsPointOfView}
+use Rattle.cp_model.specs.Problem.{numbers_from, variable_terms, MapsToItself, IsPointOfView}
 use Rattle.cp_model.specs.Homomorphism.{SkeletonMap, IsHomomorphism, CarriesHomomorphism, text_in, datum_in, name_in, skey_in, akey_in, substitution_by, number_or, strand_in, map_from_problem}
 use Rattle.cp_lists.proofs.Mapped.{map_same}
 use Rattle.cp_model.proofs.LawTerms.{term_unchanged}
@@ -64,17 +64,21 @@ own_substitution ds = λ i. record {
   akeys = λ n. (own_at ds n).4 i;
 }
 
-pub own_map : (variables : List Declaration) (k : Skeleton) → IsPointOfView variables k → map_from_problem k ≡ same_map
+-- A point-of-view skeleton maps its strands and variables to themselves.
+pub itself : {variables : List Declaration} {k : Skeleton} → IsPointOfView variables k → MapsToItself variables k
+itself own = record { strands = own.strands; values = own.values; closed = own.closed }
+
+pub own_map : (variables : List Declaration) (k : Skeleton) → MapsToItself variables k → map_from_problem k ≡ same_map
 own_map variables k own =
     let p : strand_in k.from_problem.strands ≡ (λ s. s) = ap strand_in own.strands ∙ λ i s. own_strands k.strands s i in
     let q : substitution_by k.from_problem.values ≡ unchanged = ap substitution_by own.values ∙ own_substitution variables in
     λ i. record { strands = p i; terms = q i }
 
-pub own_homomorphism : (variables : List Declaration) (k : Skeleton) → IsPointOfView variables k → IsHomomorphism k k (map_from_problem k)
+pub own_homomorphism : (variables : List Declaration) (k : Skeleton) → MapsToItself variables k → IsHomomorphism k k (map_from_problem k)
 own_homomorphism variables k own = subst (IsHomomorphism k k) (sym (own_map variables k own)) (same_homomorphism k)
 
 -- A problem's own skeleton carries a homomorphism from itself.
-pub own_carries : (variables : List Declaration) (k : Skeleton) → IsPointOfView variables k → CarriesHomomorphism k k
+pub own_carries : (variables : List Declaration) (k : Skeleton) → MapsToItself variables k → CarriesHomomorphism k k
 own_carries variables k own = record {
   homomorphism = own_homomorphism variables k own;
   strands = ap (λ (f : SkeletonMap). map f.strands k.from_problem.strands) (own_map variables k own) ∙ map_same (λ s. s) (λ s. refl) k.from_problem.strands;

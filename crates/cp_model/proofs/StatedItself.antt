@@ -11,7 +11,7 @@ use Rattle.cp_model.specs.Stated.{unique_image, pair_image, IsImageOfOne, AreIma
 use Rattle.cp_model.proofs.Images.{own_images}
 use Rattle.cp_model.proofs.LawTerms.{atom_unchanged}
 use Rattle.cp_model.proofs.LawEmbeddings.{same_map}
-use Rattle.cp_model.proofs.SingleMaps.{own_map}
+use Rattle.cp_model.proofs.SingleMaps.{itself, own_map}
 
 below : {A : Type 0} (n : ℕ) (xs : List A) (s : ℕ) → IsIn s (numbers_from n xs) → s < n + length xs
 below n [] s i = elim i [ ]
@@ -23,7 +23,7 @@ numbers_below xs s i = let l : s < 0 + length xs = below 0 xs s i in omega (arit
 
 module _ (protocol : Protocol) (variables : List Declaration) (k : Skeleton) (sk : IsSkeleton protocol k) (own : IsPointOfView variables k) where
   still : same_map ≡ map_from_problem k
-  still = sym (own_map variables k own)
+  still = sym (own_map variables k (itself own))
 
   pairs_stay : (p : OrderPair) → IsIn p k.from_problem.pairs ↔ (IsImageOfOne (pair_image same_map) k.from_problem.pairs p × (p.earlier.strand ≡ p.later.strand → ⊥))
   pairs_stay p = (

@@ -56,6 +56,13 @@ pub record AssumesNoMore (k : Skeleton) : Type 0 where
   pub penetrator_non : (v : AtomTerm) → IsIn v k.assumptions.penetrator_non_originating → IsIn v k.from_problem.assumptions.penetrator_non_originating ⊎ IsIn v (given_penetrator_non k.strands)
   pub unique : (u : UniqueAt) → IsIn u k.assumptions.uniquely_originating → IsIn u k.from_problem.assumptions.uniquely_originating ⊎ IsIn u (given_uniques 0 k.strands)
 
+-- The skeleton maps each of its strands and each of these variables to itself, and all variables that occur in it are
+-- among them.
+pub record MapsToItself (variables : List Declaration) (k : Skeleton) : Type 0 where
+  pub strands : k.from_problem.strands ≡ numbers_from 0 k.strands
+  pub values : k.from_problem.values ≡ variable_terms 0 variables
+  pub closed : (x : Variable) → IsIn x (variables_of_skeleton k) → IsDeclared variables x
+
 -- A point-of-view skeleton (CPSA Primer, "Input"): the skeleton of a problem with these variables. It maps each of its
 -- strands and each of its variables to itself; all variables that occur in it are among them; it assumes what the problem
 -- states itself and what its strands' roles give, and no more; and the pairs that the problem states are its own.

@@ -3,7 +3,7 @@
 ghost use Rattle.std.specs.Prelude.{◌≡◌, ℕ, List, [], ◌∷◌};
 ghost use Rattle.cp_model.specs.Example.{example_protocol, example_role, example_skeleton};
 ghost use Rattle.cp_model.specs.Homomorphism.{CarriesHomomorphism, IsCompleteList};
-ghost use Rattle.cp_model.specs.Problem.{IsPointOfView};
+ghost use Rattle.cp_model.specs.Problem.{IsPointOfView, MapsToItself};
 ghost use Rattle.cp_model.specs.Single.{IsOneSendingStrand};
 ghost use Rattle.cp_model.specs.Skeleton.{IsSkeleton, Skeleton, instance};
 ghost use Rattle.cp_model.specs.Standing.{IsRealised};
@@ -26,7 +26,7 @@ pub fn one_strand_is_its_own_complete_list()
 
 /// The law that the skeleton of a problem carries a homomorphism from itself, its own map.
 pub fn skeleton_maps_from_itself()
-    ensures { (variables : List Declaration) (k : Skeleton) → IsPointOfView variables k → CarriesHomomorphism k k }
+    ensures { (variables : List Declaration) (k : Skeleton) → MapsToItself variables k → CarriesHomomorphism k k }
 {}
 
 /// The law that the skeleton of a problem keeps what it states itself.

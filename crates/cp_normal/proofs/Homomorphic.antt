@@ -5,7 +5,7 @@ use Rattle.cp_model.specs.Term.{Substitution, apply_to, apply_to_atom}
 use Rattle.cp_model.specs.Strand.{Role, Declaration}
 use Rattle.cp_model.specs.Skeleton.{Assumptions, FromProblem, Skeleton}
 use Rattle.cp_model.specs.Homomorphism.{SkeletonMap, mapped, GoesToInstance, IsHomomorphism, substitution_by, strand_in, map_from_problem, CarriesHomomorphism}
-use Rattle.cp_model.specs.Problem.{IsPointOfView}
+use Rattle.cp_model.specs.Problem.{MapsToItself}
 use Rattle.cp_model.proofs.LawPrefixes.{variables_of_higher}
 use Rattle.cp_completeness.specs.Normal.{skeleton_under}
 use Rattle.cp_completeness.proofs.Mapped.{carried_under, carried_with_pairs}
@@ -43,7 +43,7 @@ module _ (problem k l : Skeleton) (s : SaysTheSame k l) where
     values = subst (λ (f : FromProblem). map (apply_to (substitution_by f.values)) problem.from_problem.values ≡ f.values) s.from_problem c.values;
   }
 
-module _ (variables : List Declaration) (problem : Skeleton) (own : IsPointOfView variables problem) where
+module _ (variables : List Declaration) (problem : Skeleton) (own : MapsToItself variables problem) where
   pub narrowed_carries : (k l : Skeleton) → IsNarrowed k l → CarriesHomomorphism problem k → CarriesHomomorphism problem l
   narrowed_carries k l s c = same_carries problem (skeleton_under s.unifier k) l s.same (carried_under variables problem k s.unifier own c)
 

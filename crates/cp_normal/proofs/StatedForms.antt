@@ -12,6 +12,7 @@ use Rattle.cp_collapse.specs.Agreeing.{SaysTheSame}
 use Rattle.cp_normal.specs.Narrowing.{NarrowsTo, none, one, IsNormalFormOf}
 use Rattle.cp_collapse.proofs.SameStrands.{as_many}
 use Rattle.cp_collapse.proofs.SameFacts.{same_assumptions, same_before}
+use Rattle.cp_model.proofs.SingleMaps.{itself}
 use Rattle.cp_normal.proofs.Homomorphic.{narrowed_carries}
 
 same_keeps : (problem k l : Skeleton) → SaysTheSame k l → KeepsStated problem k → KeepsStated problem l
@@ -22,7 +23,7 @@ module _ (variables : List Declaration) (problem : Skeleton) (own : IsPointOfVie
   narrows_keeps : {k l : Skeleton} → NarrowsTo k l → CarriesHomomorphism problem k → KeepsStated problem k → KeepsStated problem l
   narrows_keeps none c keeps = keeps
   narrows_keeps {k} (one {l = m} s p) c keeps =
-      narrows_keeps p (narrowed_carries variables problem own k m s c) (same_keeps problem (skeleton_under s.unifier k) m s.same (stated_under variables problem k s.unifier own c keeps))
+      narrows_keeps p (narrowed_carries variables problem (itself own) k m s c) (same_keeps problem (skeleton_under s.unifier k) m s.same (stated_under variables problem k s.unifier own c keeps))
 
   pub form_keeps : (k r : Skeleton) → IsNormalFormOf k r → CarriesHomomorphism problem k → KeepsStated problem k → KeepsStated problem r
   form_keeps k r f c keeps =

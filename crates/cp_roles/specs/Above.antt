@@ -3,9 +3,8 @@ use Rattle.std.specs.Prelude.{ℕ, List, [], ◌∷◌, map}
 use Rattle.std.specs.declared.rc.Rc.{Rc}
 use Rattle.std.specs.declared.alloc.Global.{Global}
 use Rattle.cp_model.specs.Strand as strand
-use Rattle.cp_strand.specs.declared.protocol.Protocol.{Protocol}
 
-abbrev pub protocols_view : List (Rc Protocol Global) → List strand.Protocol
+abbrev pub protocols_view : List (Rc strand.Protocol Global) → List strand.Protocol
 protocols_view = map (λ p. p.value)
 
 abbrev pub names_of_protocols : List strand.Protocol → List (List ℕ)

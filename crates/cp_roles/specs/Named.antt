@@ -5,16 +5,15 @@ use Rattle.std.specs.declared.alloc.Global.{Global}
 use Rattle.cp_model.specs.Strand as strand
 use Rattle.cp_language.specs.Roles.{Headed, is_role_item, role_of}
 use Rattle.cp_language.specs.Words.{item_head}
-use Rattle.cp_strand.specs.declared.protocol.Role.{Role}
 
-abbrev pub shared_roles_view : List (Rc Role Global) → List strand.Role
+abbrev pub shared_roles_view : List (Rc strand.Role Global) → List strand.Role
 shared_roles_view = map (λ r. r.value)
 
 abbrev pub names_of_roles : List strand.Role → List (List ℕ)
 names_of_roles [] = []
 names_of_roles (r ∷ rs) = r.name ∷ names_of_roles rs
 
-abbrev pub role_names : List (Rc Role Global) → List (List ℕ)
+abbrev pub role_names : List (Rc strand.Role Global) → List (List ℕ)
 role_names rs = names_of_roles (shared_roles_view rs)
 
 -- The roles with that of an item behind them, if it defines one.

@@ -12,7 +12,7 @@ use Rattle.cp_model.specs.Problem.{numbers_from, variable_terms, IsDeclared, IsP
 use Rattle.cp_model.specs.Homomorphism.{GoesToInstance, IsHomomorphism, substitution_by, number_or, strand_in, map_from_problem, CarriesHomomorphism}
 use Rattle.cp_lists.proofs.Items.{item_below, map_of_item, place_of}
 use Rattle.cp_model.proofs.LawStandings.{strand_of_event}
-use Rattle.cp_model.proofs.SingleMaps.{own_carries}
+use Rattle.cp_model.proofs.SingleMaps.{itself, own_carries}
 use Rattle.cp_completeness.specs.Normal.{skeleton_under}
 use Rattle.cp_completeness.proofs.Mapped.{changed, carried_under}
 use Rattle.cp_model.proofs.DeclaredVariables.{declared_at}
@@ -91,7 +91,7 @@ module _ (protocol : Protocol) (variables : List Declaration) (k l : Skeleton) (
 
   -- The problem under the unifier carries a homomorphism by the same terms.
   under : CarriesHomomorphism k (skeleton_under f k)
-  under = carried_under variables k k f own (own_carries variables k own)
+  under = carried_under variables k k f (itself own) (own_carries variables k (itself own))
 
   by_values : substitution_by l.from_problem.values ≡ substitution_by (map (apply_to f) k.from_problem.values)
   by_values = ap substitution_by c.from_problem.values

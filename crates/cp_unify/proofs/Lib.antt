@@ -12,3 +12,4 @@ pub mod Composed
 pub mod Differing
 pub mod Answered
 pub mod MatchedTerms
+pub mod KnownMatches

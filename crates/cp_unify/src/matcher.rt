@@ -30,7 +30,7 @@ fn is_local(locals: Option<&[VarId]>, variable: VarId) -> bool
 }
 
 /// Whether a term has this sort.
-fn is_of_sort(term: &Term, sort: Sort) -> bool
+pub(crate) fn is_of_sort(term: &Term, sort: Sort) -> bool
     ensures atom { IsTrue result → IsAtom term.now }
     ensures sort { IsAtom term.now → (n : ℕ)
         → result ≡ is_same_sort (atom_of (variable_term sort n)) (atom_of term.now) }
@@ -44,7 +44,7 @@ fn is_of_sort(term: &Term, sort: Sort) -> bool
 }
 
 /// Whether a term is this variable of this sort.
-fn is_variable(term: &Term, sort: Sort, variable: VarId) -> bool
+pub(crate) fn is_variable(term: &Term, sort: Sort, variable: VarId) -> bool
     ensures { IsTrue result ↔ (term.now ≡ variable_term sort variable) }
 {
     match term.shape() {
@@ -54,7 +54,7 @@ fn is_variable(term: &Term, sort: Sort, variable: VarId) -> bool
 }
 
 /// Whether a variable of this sort is bound to the term, if it is bound.
-fn is_bound_to(given: &Subst, sort: Sort, variable: VarId, term: &Term) -> Option<bool>
+pub(crate) fn is_bound_to(given: &Subst, sort: Sort, variable: VarId, term: &Term) -> Option<bool>
     requires { IsAtom term.now }
     ensures { result ≡ option_map (λ t. same_atom t (atom_of term.now))
         (bound_term given.now (variable_term sort variable)) }

@@ -101,7 +101,7 @@ impl Subst {
     pub fn copy(&self, alloc: Global) -> Result<Subst, AllocError>
         ensures { IfOk result (λ s. s ≡ self.now) }
     {
-        let mut bindings = Vec::new(alloc);
+        let mut bindings = Vec::with_capacity(alloc, self.bindings.len())?;
         for binding in self.bindings() {
             bindings.push(binding.copy()?)?;
         }

@@ -1,0 +1,146 @@
+// What is known of a choice for an item before it is tried.
+ghost use Rattle.std.specs.Prelude.{◌≡◌, map, IsTrue};
+ghost use Rattle.cp_model.specs.Term.{Substitution, apply_to};
+ghost use Rattle.cp_strand.specs.View.{strand_view};
+ghost use Rattle.cp_skel.specs.View.{skeleton_view};
+ghost use Rattle.cp_hom.specs.Following.{IsKnown};
+ghost use Rattle.cp_hom.specs.Taking.{MakesPart, GoesToStrand, BecomesAtom, BecomesUnique, Takes};
+
+use crate::items::{Item, Kind};
+use crate::looking::{atom_at, strand_at, unique_at};
+use crate::partials::{Partial, image_of};
+use cp_skel::{Atom, Skeleton, Strand, StrandShape, UniqueAt};
+use cp_term::Term;
+use cp_unify::known_match;
+
+/// Whether a strand goes to this image, if it is placed.
+fn known_number(strand: usize, image: usize, given: &Partial) -> Option<bool>
+    ensures { IsKnown (λ f. f.strands strand ≡ image) given.now result }
+{
+    match image_of(&given.placements, strand) {
+        Some(other) => Some(other == image),
+        None => None,
+    }
+}
+
+/// Whether a term becomes another, if that is known.
+fn known_term(from: &Term, to: &Term, given: &Partial) -> Option<bool>
+    ensures { IsKnown (λ f. apply_to f.terms from.now ≡ to.now) given.now result }
+{
+    known_match(from, to, &given.values)
+}
+
+/// Whether a strand cannot become a part of another: one of them alone is a listener, or the other is shorter or of a role with
+/// another name. False also where more would have to be looked at.
+fn is_no_part(from: &Strand, to: &Strand) -> bool
+    ensures { IsTrue result → (f : Substitution) → MakesPart f (strand_view from.now) (strand_view to.now) → ⊥ }
+{
+    match (from.shape(), to.shape()) {
+        (StrandShape::Instance(first), StrandShape::Instance(second)) => {
+            first.height() > second.height()
+                || first.role().name().as_str() != second.role().name().as_str()
+        }
+        (StrandShape::Listener(_), StrandShape::Listener(_)) => false,
+        _ => true,
+    }
+}
+
+/// That a strand does not go to one of others and become a part of it, if that is known.
+fn known_strand(
+    strands: &[Strand],
+    others: &[Strand],
+    strand: usize,
+    image: usize,
+    given: &Partial,
+) -> Option<bool>
+    ensures { IsKnown (GoesToStrand (map strand_view strands.now) (map strand_view others.now) strand image) given.now result }
+{
+    let Some(from) = strand_at(strands, strand) else {
+        return Some(false);
+    };
+    let Some(to) = strand_at(others, image) else {
+        return Some(false);
+    };
+    if is_no_part(from, to) {
+        return Some(false);
+    }
+    None
+}
+
+/// Whether an atom becomes one of others, if that is known.
+fn known_atom(
+    atoms: &[Atom],
+    others: &[Atom],
+    index: usize,
+    image: usize,
+    given: &Partial,
+) -> Option<bool>
+    ensures { IsKnown (BecomesAtom atoms.now others.now index image) given.now result }
+{
+    let Some(from) = atom_at(atoms, index) else {
+        return Some(false);
+    };
+    let Some(to) = atom_at(others, image) else {
+        return Some(false);
+    };
+    known_term(from.as_term(), to.as_term(), given)
+}
+
+/// Whether a unique value with its origin becomes one of others, if that is known.
+fn known_unique(
+    uniques: &[UniqueAt],
+    others: &[UniqueAt],
+    index: usize,
+    image: usize,
+    given: &Partial,
+) -> Option<bool>
+    ensures { IsKnown (BecomesUnique uniques.now others.now index image) given.now result }
+{
+    let Some(from) = unique_at(uniques, index) else {
+        return Some(false);
+    };
+    let Some(to) = unique_at(others, image) else {
+        return Some(false);
+    };
+    let first = from.origin();
+    let second = to.origin();
+    if first.index != second.index {
+        return Some(false);
+    }
+    if known_number(first.strand, second.strand, given)? {
+        known_term(from.value().as_term(), to.value().as_term(), given)
+    } else {
+        Some(false)
+    }
+}
+
+/// Whether an item of the first skeleton becomes the item with this number of the second, if that is known.
+pub(crate) fn known_place(
+    a: &Skeleton,
+    b: &Skeleton,
+    item: Item,
+    image: usize,
+    given: &Partial,
+) -> Option<bool>
+    ensures { IsKnown (Takes (skeleton_view a.now) (skeleton_view b.now) item image) given.now result }
+{
+    let index = item.index;
+    let assumed = a.assumptions();
+    let others = b.assumptions();
+    match item.kind {
+        Kind::Strands => known_strand(a.strands(), b.strands(), index, image, given),
+        Kind::NonOriginating => {
+            let atoms = assumed.non_originating();
+            known_atom(atoms, others.non_originating(), index, image, given)
+        }
+        Kind::PenetratorNonOriginating => {
+            let atoms = assumed.penetrator_non_originating();
+            let others = others.penetrator_non_originating();
+            known_atom(atoms, others, index, image, given)
+        }
+        Kind::Uniques => {
+            let uniques = assumed.uniquely_originating();
+            known_unique(uniques, others.uniquely_originating(), index, image, given)
+        }
+    }
+}
