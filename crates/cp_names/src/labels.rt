@@ -26,12 +26,15 @@ fn add_test_variables(test: &Option<Test>, out: &mut Vec<Variable>) -> Result<()
     }
 }
 
+/// As many variables as occur in most label forms, with those that occur again.
+const ROOM: usize = 60;
+
 /// The variables that occur in a label form.
 fn occurring(alloc: Global, label: &TreeNode) -> Result<Vec<Variable>, AllocError>
     ensures { IfOk result (λ xs. map variable_view xs.items ≡ occurring (label_view label.now)) }
 {
     let skeleton = &label.skeleton;
-    let mut variables = Vec::new(alloc);
+    let mut variables = Vec::with_capacity(alloc, ROOM)?;
     add_strands(alloc, skeleton.strands(), &mut variables)?;
     add_assumptions(skeleton.assumptions(), &mut variables)?;
     add_terms(skeleton.from_problem().values(), &mut variables)?;

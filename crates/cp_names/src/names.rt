@@ -16,7 +16,7 @@ use std::alloc::{AllocError, Global};
 pub(crate) fn declarations(alloc: Global, table: &VarTable) -> Result<Vec<Declaration>, AllocError>
     ensures { IfOk result (λ ds. map declaration_view ds.items ≡ variables_view table.now) }
 {
-    let mut declarations = Vec::new(alloc);
+    let mut declarations = Vec::with_capacity(alloc, table.len())?;
     for number in 0..table.len() {
         let id = VarId::numbered(number);
         let identifier = Text::new(alloc, table.root(id))?;

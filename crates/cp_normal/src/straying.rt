@@ -1,5 +1,5 @@
 // Unique values that originate elsewhere than at their recorded origins.
-ghost use Rattle.std.specs.Prelude.{◌≡◌, ◌↔◌, map, IsTrue, IfOk, MatchOption};
+ghost use Rattle.std.specs.Prelude.{◌≡◌, ◌↔◌, false, map, IsTrue, IfOk, MatchOption};
 ghost use Rattle.cp_model.specs.Given.{listed};
 ghost use Rattle.cp_lists.specs.Lists.{IsIn, item_at};
 ghost use Rattle.cp_model.specs.Skeleton.{UniqueAt as Plain};
@@ -62,6 +62,22 @@ fn first_at(
     Ok(None)
 }
 
+/// Whether some unique value strays, where these are the events of the skeleton.
+fn some_strays(k: &Skeleton, occurrences: &[Occurrence]) -> Result<bool, AllocError>
+    requires listed { map occurrence_view occurrences.now ≡ events_of (skeleton_view k.now) }
+    ensures none { IfOk result (λ found. found ≡ false → IsSettled (skeleton_view k.now)) }
+    ensures some { IfOk result (λ found. IsTrue found → IsSettled (skeleton_view k.now) → ⊥) }
+{
+    let uniques = k.assumptions().uniquely_originating();
+    for occurrence in occurrences {
+        match first_at(k, occurrences, occurrence, uniques)? {
+            Some(_) => return Ok(true),
+            None => {}
+        }
+    }
+    Ok(false)
+}
+
 /// The first unique value that strays, where these are the events of the skeleton, and its unique values in the order
 /// in which a report lists them.
 fn first_among(
@@ -88,7 +104,8 @@ fn first_among(
 }
 
 /// The first unique value that strays, where these are the events of the skeleton: by the strand and then the index of the
-/// node where it does, and then in the order in which a report lists unique values.
+/// node where it does, and then in the order in which a report lists unique values. They are put in this order only where
+/// some strays.
 pub(crate) fn first_stray(
     alloc: Global,
     k: &Skeleton,
@@ -99,6 +116,9 @@ pub(crate) fn first_stray(
         (IsSettled (skeleton_view k.now))
         (λ s. IsFirstStray (skeleton_view k.now) s.value s.node)) }
 {
+    if !some_strays(k, occurrences)? {
+        return Ok(None);
+    }
     let assumptions = listed(alloc, k)?;
     first_among(k, occurrences, assumptions.uniquely_originating())
 }

@@ -56,7 +56,7 @@ pub(crate) fn forms_of<T: Printed>(
 ) -> Result<Vec<Form>, AllocError>
     ensures { IfOk result (λ fs. map view fs.items ≡ map (T.printed (named_in naming.now)) items.now) }
 {
-    let mut forms = Vec::new(alloc);
+    let mut forms = Vec::with_capacity(alloc, items.len().saturating_add(1))?;
     for item in items {
         forms.push(item.form(alloc, naming)?)?;
     }
@@ -86,7 +86,7 @@ fn value_forms(
 ) -> Result<Vec<Form>, AllocError>
     ensures { IfOk result (λ fs. map view fs.items ≡ value_forms (named_in naming.now) names.now values.now) }
 {
-    let mut forms = Vec::new(alloc);
+    let mut forms = Vec::with_capacity(alloc, values.len().saturating_add(2))?;
     for number in 0..names.len().min(values.len()) {
         forms.push(value_form(alloc, naming, &names[number], &values[number])?)?;
     }
@@ -135,7 +135,7 @@ pub(crate) fn pattern_forms(
 ) -> Result<Vec<Form>, AllocError>
     ensures { IfOk result (λ fs. map view fs.items ≡ map (pattern_form (named_by names.now)) patterns.now) }
 {
-    let mut forms = Vec::new(alloc);
+    let mut forms = Vec::with_capacity(alloc, patterns.len().saturating_add(1))?;
     for pattern in patterns {
         forms.push(pattern_form(alloc, names, pattern)?)?;
     }

@@ -30,7 +30,7 @@ pub(crate) fn add_unless_empty(
 pub(crate) fn numerals(alloc: Global, numbers: &[usize]) -> Result<Vec<Form>, AllocError>
     ensures { IfOk result (λ fs. map view fs.items ≡ map numeral numbers.now) }
 {
-    let mut forms = Vec::new(alloc);
+    let mut forms = Vec::with_capacity(alloc, numbers.len().saturating_add(1))?;
     for number in numbers {
         forms.push(numeral(*number)?)?;
     }
@@ -50,7 +50,7 @@ pub(crate) fn node_form(alloc: Global, node: Node) -> Result<Form, AllocError>
 pub(crate) fn node_forms(alloc: Global, nodes: &[Node]) -> Result<Vec<Form>, AllocError>
     ensures { IfOk result (λ fs. map view fs.items ≡ map node_form nodes.now) }
 {
-    let mut forms = Vec::new(alloc);
+    let mut forms = Vec::with_capacity(alloc, nodes.len().saturating_add(1))?;
     for node in nodes {
         forms.push(node_form(alloc, *node)?)?;
     }

@@ -93,6 +93,9 @@ fn add_result_items(
     add_mark(alloc, label.mark, items)
 }
 
+/// As many items as a label form has besides its strands.
+const ITEMS: usize = 14;
+
 /// A label form: its number, and its items, where these are the names of the problem's variables.
 pub(crate) fn label_form(
     alloc: Global,
@@ -113,7 +116,8 @@ pub(crate) fn label_form(
         names: &variables.names,
         locals: &[],
     };
-    let mut items = Vec::new(alloc);
+    let room = label.skeleton.strands().len().saturating_add(ITEMS);
+    let mut items = Vec::with_capacity(alloc, room)?;
     items.push(numeral(number)?)?;
     add_strand_items(alloc, &naming, vars, label, &mut items)?;
     add_assumption_items(alloc, &naming, &label.skeleton, &mut items)?;

@@ -58,20 +58,21 @@ pub(crate) fn headed_list(
     Ok(Form::List(no_place(), items))
 }
 
-/// One form.
+/// One form, with room for a head.
 pub(crate) fn one(alloc: Global, form: Form) -> Result<Vec<Form>, AllocError>
     ensures { IfOk result (λ forms. forms.items ≡ form ∷ []) }
 {
-    let mut forms = Vec::new(alloc);
+    let mut forms = Vec::with_capacity(alloc, 2)?;
     forms.push(form)?;
     Ok(forms)
 }
 
-/// Two forms.
+/// Two forms, with room for a head.
 pub(crate) fn two(alloc: Global, first: Form, second: Form) -> Result<Vec<Form>, AllocError>
     ensures { IfOk result (λ forms. forms.items ≡ first ∷ second ∷ []) }
 {
-    let mut forms = one(alloc, first)?;
+    let mut forms = Vec::with_capacity(alloc, 3)?;
+    forms.push(first)?;
     forms.push(second)?;
     Ok(forms)
 }

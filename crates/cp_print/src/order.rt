@@ -47,7 +47,7 @@ fn marks_before(
     ensures { IfOk result (λ marks. marks.items ≡ marks_before pairs.now y nodes.now) }
 {
     let leading = Leading::new(alloc, pairs, y)?;
-    let mut marks = Vec::new(alloc);
+    let mut marks = Vec::with_capacity(alloc, nodes.len())?;
     for x in nodes {
         marks.push(is_before(&leading, *x, y))?;
     }
@@ -58,7 +58,7 @@ fn marks_before(
 fn in_order(alloc: Global, pairs: &[OrderPair], nodes: &[Node]) -> Result<Vec<Ordered>, AllocError>
     ensures { IfOk result (λ all. map ordered_view all.items ≡ map (in_order pairs.now nodes.now) nodes.now) }
 {
-    let mut all = Vec::new(alloc);
+    let mut all = Vec::with_capacity(alloc, nodes.len())?;
     for node in nodes {
         let before = marks_before(alloc, pairs, nodes, *node)?;
         all.push(Ordered {
@@ -175,7 +175,7 @@ fn nodes_on_pairs(
 ) -> Result<Vec<Node>, AllocError>
     ensures { IfOk result (λ found. found.items ≡ nodes_on_pairs pairs.now nodes.now) }
 {
-    let mut found = Vec::new(alloc);
+    let mut found = Vec::with_capacity(alloc, nodes.len())?;
     for node in nodes {
         if is_on_pairs(pairs, *node) {
             found.push(*node)?;
@@ -188,7 +188,7 @@ fn nodes_on_pairs(
 fn covered(alloc: Global, all: &[Ordered]) -> Result<Vec<Form>, AllocError>
     ensures { IfOk result (λ fs. map view fs.items ≡ all_covered (map ordered_view all.now) 0 (map ordered_view all.now)) }
 {
-    let mut forms = Vec::new(alloc);
+    let mut forms = Vec::with_capacity(alloc, all.len().saturating_add(1))?;
     for number in 0..all.len() {
         add_covered(alloc, all, number, all[number].node, &mut forms)?;
     }

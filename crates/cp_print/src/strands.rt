@@ -1,5 +1,5 @@
 // The variables and the strands of a label form.
-ghost use Rattle.std.specs.Prelude.{◌≡◌, ◌++◌, [], ◌∷◌, map, IfOk, OnOk};
+ghost use Rattle.std.specs.Prelude.{◌≡◌, ◌++◌, [], ◌∷◌, count_by, map, IfOk, OnOk};
 ghost use Rattle.cp_model.specs.Homomorphism.{substitution_by};
 ghost use Rattle.cp_model.specs.Term.{atom_of_variable, apply_to_atom};
 ghost use Rattle.cp_language.specs.Names.{sort_text};
@@ -28,6 +28,13 @@ fn var_form(alloc: Global, name: &str, sort: Sort) -> Result<Form, AllocError>
     Ok(plain_list(two(alloc, name, sort)?))
 }
 
+/// How many are marked.
+fn marked_count(marks: &[bool]) -> usize
+    ensures { result ≡ count_by (λ mark. mark) marks.now }
+{
+    marks.iter().filter(|mark| **mark).count()
+}
+
 /// The marked variables, each with its sort.
 pub(crate) fn vars(
     alloc: Global,
@@ -37,7 +44,7 @@ pub(crate) fn vars(
 ) -> Result<Vec<Form>, AllocError>
     ensures { IfOk result (λ fs. map view fs.items ≡ vars_by names.now marks.now 0 (map declaration_view variables.now)) }
 {
-    let mut forms = Vec::new(alloc);
+    let mut forms = Vec::with_capacity(alloc, marked_count(marks).saturating_add(1))?;
     for number in 0..variables.len() {
         if !is_marked(marks, number) {
             continue;
@@ -89,7 +96,7 @@ fn maplets(
 ) -> Result<Vec<Form>, AllocError>
     ensures { IfOk result (λ fs. map view fs.items ≡ maplets_by (named_in naming.now) marks.now (substitution_by values.now) 0 (map declaration_view variables.now)) }
 {
-    let mut forms = Vec::new(alloc);
+    let mut forms = Vec::with_capacity(alloc, marked_count(marks).saturating_add(3))?;
     for number in 0..variables.len() {
         if !is_marked(marks, number) {
             continue;

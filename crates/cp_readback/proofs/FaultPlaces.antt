@@ -8,10 +8,10 @@ use Rattle.cp_base.specs.declared.place.Refusal.{Refusal}
 use Rattle.cp_language.specs.Faults.{rank_of, comes_before}
 use Rattle.cp_forms.specs.FirstFault as faults
 use Rattle.cp_report.specs.ReadBack.{fault_places}
-use Rattle.cp_spelled.specs.FirstMisfit.{earlier_of, first_onto, merged}
+use Rattle.cp_variables.specs.FirstMisfit.{earlier_of, first_onto, merged}
 use Rattle.cp_report.specs.Misfits.{stands_before}
 use Rattle.cp_forms.proofs.FirstOf.{first_onto-append, first_onto-merged, first_onto-swap}
-use Rattle.cp_spelled.proofs.Firsts.{in_order}
+use Rattle.cp_variables.proofs.Firsts.{in_order}
 
 -- By place alone, or by place and then by kind: what comes before, and what does not, at another place.
 by_place : (a b c d e : Bool) (p q : Place) → (b ≡ true → d ≡ true → q ≡ p)

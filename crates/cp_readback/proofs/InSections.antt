@@ -18,7 +18,7 @@ use Rattle.cp_forms.specs.FirstFault as faults
 use Rattle.cp_forms.proofs.Firsts as faults_met
 use Rattle.cp_load.proofs.TopForms.{behind-turned}
 use Rattle.cp_report.specs.ReadBack.{Section, next_place, tree_misfits, trees_misfits, tree_of, tree_onto}
-use Rattle.cp_spelled.specs.FirstMisfit.{first_onto}
+use Rattle.cp_variables.specs.FirstMisfit.{first_onto}
 use Rattle.cp_report.specs.Misfits.{stands_before}
 use Rattle.cp_forms.proofs.FirstOf.{first_onto-append}
 use Rattle.cp_readback.specs.Sections.{section_view}

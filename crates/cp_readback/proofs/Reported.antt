@@ -24,10 +24,10 @@ use Rattle.cp_load.specs.declared.input.Problem as loaded
 use Rattle.cp_load.proofs.SoundDrafts.{drafts_sound}
 use Rattle.cp_load.proofs.TopForms.{entries-finished}
 use Rattle.cp_report.specs.ReadBack.{Section, Sections, sections_of, input_forms, fault_places, first_place, next_place, places_of, tree_misfits, trees_misfits, tree_onto, trees_from, misfits, report_of, IsReadBack}
-use Rattle.cp_spelled.specs.FirstMisfit.{first_onto, merged}
+use Rattle.cp_variables.specs.FirstMisfit.{first_onto, merged}
 use Rattle.cp_report.specs.Misfits.{stands_before}
 use Rattle.cp_forms.proofs.FirstOf.{first_then, none_found}
-use Rattle.cp_spelled.proofs.Firsts.{first_found}
+use Rattle.cp_variables.proofs.Firsts.{first_found}
 use Rattle.cp_stated.proofs.NoMisfits.{none_in_both}
 use Rattle.cp_readback.specs.Sections.{section_view}
 use Rattle.cp_readback.specs.declared.sections.Section as of_program

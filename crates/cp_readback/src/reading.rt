@@ -8,7 +8,7 @@ ghost use Rattle.cp_roles.specs.Above.{protocols_view};
 ghost use Rattle.cp_skel.specs.Trees.{tree_view};
 ghost use Rattle.cp_load.specs.Drafts.{draft_view};
 ghost use Rattle.cp_report.specs.ReadBack.{IsReadBack, sections_of, next_place, first_place, trees_misfits, misfits};
-ghost use Rattle.cp_spelled.specs.FirstMisfit.{first_onto, merged};
+ghost use Rattle.cp_variables.specs.FirstMisfit.{first_onto, merged};
 ghost use Rattle.cp_readback.specs.Sections.{section_view};
 ghost use Rattle.cp_readback.specs.Reports.{report_view, forms_in, problems_stated, drafts_view, problem_at, trees_by, HaveTrees, HaveDeclaredVariables};
 ghost use Rattle.cp_readback.specs.declared.error.ReadBackError.TheVariants.{NotReport};
@@ -22,7 +22,7 @@ use cp_reading::{behind_misfits, none_may_stand, tree_of};
 use cp_scope::Taken;
 use cp_sexpr::Form;
 use cp_skel::{Protocol, Tree};
-use cp_spelled::FirstMisfit;
+use cp_variables::FirstMisfit;
 use std::alloc::{AllocError, Global};
 use std::rc::Rc;
 

@@ -14,12 +14,13 @@ use Rattle.cp_report.specs.Skeletons.{declarations_of_label, vars_item_misfits, 
 use Rattle.cp_report.specs.Spelled.{pattern_misfits}
 use Rattle.cp_report.specs.Labels.{missing_misfits, operation_misfits, about_strands_misfits, mark_misfits, has_children, items_misfits, behind_number, items_of_label, numbered_misfits, label_misfits}
 use Rattle.cp_report.proofs.LabelItems.{front_in_order}
-use Rattle.cp_spelled.specs.FirstMisfit.{first_onto}
+use Rattle.cp_variables.specs.FirstMisfit.{first_onto}
 use Rattle.cp_forms.proofs.FirstOf.{first_then}
-use Rattle.cp_reading.specs.Parts.{is_fitting, operation_item_misfits, mark_item_misfits, no_parent_item_misfits, parent_item_misfits, operation_of_item_misfits, escape_of_items_misfits, children_item_misfits}
+use Rattle.cp_items.specs.Parts.{is_fitting, operation_item_misfits}
+use Rattle.cp_reading.specs.Parts.{mark_item_misfits, no_parent_item_misfits, parent_item_misfits, operation_of_item_misfits, escape_of_items_misfits, children_item_misfits}
 use Rattle.cp_reading.specs.Items.{HasFitting}
-use Rattle.cp_reading.proofs.Fitting.{fitting-both, unless-found}
-use Rattle.cp_reading.proofs.InBlocks.{operation-counted}
+use Rattle.cp_items.proofs.Fitting.{fitting-both, unless-found}
+use Rattle.cp_items.proofs.InBlocks.{operation-counted}
 
 mark-is : (tree : Option (List Form)) (items : List Form) (o : Option Form) → mark_item_misfits tree (has_children items) o ≡ mark_misfits tree items o
 mark-is tree items None = refl

@@ -21,8 +21,8 @@ use Rattle.cp_report.specs.ReadBack as report
 use Rattle.cp_report.specs.ReadBack.{word_misfits, count_misfits, behind_outcome}
 use Rattle.cp_reading.specs.Counting.{AreCountsOf, AreCountsIn, is_tested, is_shape_mark, is_shape, count_of, count_kinds, status_entries_misfits, status_form_misfits}
 use Rattle.cp_reading.specs.declared.status.Counts.{Counts}
-use Rattle.cp_reading.specs.Parts.{is_fitting}
-use Rattle.cp_reading.proofs.Fitting.{symbol-fits, symbol-unknown}
+use Rattle.cp_items.specs.Parts.{is_fitting}
+use Rattle.cp_items.proofs.Fitting.{symbol-fits, symbol-unknown}
 
 expanded_by : (s : Scope) (o : Option Form) → is_expanded (test_of s o) ≡ (if is_known o then 1 else 0)
 expanded_by s None = refl

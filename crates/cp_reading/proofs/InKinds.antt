@@ -7,8 +7,8 @@ use Rattle.cp_sexpr.specs.Syntax.{Form}
 use Rattle.cp_sexpr.specs.View.{view}
 use Rattle.cp_sexpr.specs.declared.form.Form as program
 use Rattle.cp_report.specs.Misfits.{misfit, entries_misfits}
-use Rattle.cp_spelled.specs.FirstMisfit.{first_onto}
-use Rattle.cp_spelled.proofs.InOrder.{entry-missing, entry-taken}
+use Rattle.cp_variables.specs.FirstMisfit.{first_onto}
+use Rattle.cp_variables.proofs.InOrder.{entry-missing, entry-taken}
 
 none_left : (fs : List program.Form) → length fs ≡ 0 → fs ≡ []
 none_left [] e = refl

@@ -10,7 +10,7 @@ use Rattle.cp_language.specs.Faults.{place_of}
 use Rattle.cp_language.specs.Problems.{is_not_empty}
 use Rattle.cp_report.specs.Misfits.{stands_before, misfit_unless}
 use Rattle.cp_report.specs.Heads.{Line, lines_from, lines_behind, order_misfits}
-use Rattle.cp_spelled.specs.FirstMisfit.{first_onto}
+use Rattle.cp_variables.specs.FirstMisfit.{first_onto}
 use Rattle.cp_forms.proofs.FirstOf.{first_onto-append}
 
 module _ (fs : List program.Form) (k : ℕ) where

@@ -10,7 +10,7 @@ use Rattle.cp_sexpr.specs.declared.form.Form as program
 use Rattle.cp_language.specs.Problems.{Problem}
 use Rattle.cp_report.specs.Labels.{label_misfits, label_of}
 use Rattle.cp_report.specs.ReadBack.{labels_misfits, places_of, if_whole, ending_misfits, labels_in_front, behind_labels, tree_misfits}
-use Rattle.cp_spelled.specs.FirstMisfit.{first_onto}
+use Rattle.cp_variables.specs.FirstMisfit.{first_onto}
 use Rattle.cp_report.specs.Misfits.{stands_before}
 use Rattle.cp_forms.proofs.FirstOf.{first_onto-append, first_then}
 use Rattle.cp_reading.specs.Counting.{AreCountsIn, ending_form_misfits}

@@ -9,8 +9,8 @@ use Rattle.cp_report.specs.Heads.{entries_under, item_with, mark_heads}
 use Rattle.cp_report.specs.Spelled.{Scope, pattern_of}
 use Rattle.cp_report.specs.Skeletons.{declarations_of_label, scope_of, node_or_first, skeleton_stated}
 use Rattle.cp_report.specs.Labels.{number_in_front, operation_by, word_of_label, test_of, label_by}
-use Rattle.cp_spelled.specs.LocalViews.{local_view}
-use Rattle.cp_spelled.specs.declared.locals.Local.{Local}
+use Rattle.cp_variables.specs.LocalViews.{local_view}
+use Rattle.cp_variables.specs.declared.locals.Local.{Local}
 use Rattle.cp_reading.specs.Parts.{mark_of_item}
 
 -- The scope of the variables that items declare, without locals.

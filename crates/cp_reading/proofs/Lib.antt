@@ -1,11 +1,8 @@
 pub mod InLine
 pub mod Relations
 pub mod InFront
-pub mod InBlocks
 pub mod InKinds
-pub mod Fitting
 pub mod Counted
-pub mod EachAsked
 pub mod AllItems
 pub mod InTree
 pub mod LabelsFit

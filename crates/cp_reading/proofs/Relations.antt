@@ -13,7 +13,7 @@ use Rattle.cp_sexpr.specs.declared.form.Form as program
 use Rattle.cp_language.specs.Problems.{number_of}
 use Rattle.cp_report.specs.Misfits.{stands_before, number_misfits}
 use Rattle.cp_report.specs.Labels.{is_among, is_number, stated_number, numbers_onto, numbers_in, stated_parent, stated_children, has_parent, has_child, has_parent_in, children_misfits}
-use Rattle.cp_spelled.specs.FirstMisfit.{first_onto}
+use Rattle.cp_variables.specs.FirstMisfit.{first_onto}
 use Rattle.cp_forms.proofs.FirstOf.{first_onto-append}
 use Rattle.cp_reading.specs.Families.{AreNumbers, is_same_child, names_child, child_from, AreChildren, parent_in}
 

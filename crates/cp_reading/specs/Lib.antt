@@ -1,6 +1,5 @@
 pub mod Lines
 pub mod Families
-pub mod Words
 pub mod Parts
 pub mod Kinds
 pub mod Counting

@@ -5,18 +5,18 @@ ghost use Rattle.cp_strand.specs.View.{declaration_view, strand_view};
 ghost use Rattle.cp_report.specs.Heads.{item_with, entries_under, optional_misfits};
 ghost use Rattle.cp_report.specs.Skeletons.{declarations_of_label, scope_of};
 ghost use Rattle.cp_report.specs.Labels.{word_of_label, operation_place_misfits, unrealised_misfits, test_misfits};
-ghost use Rattle.cp_spelled.specs.FirstMisfit.{first_onto};
+ghost use Rattle.cp_variables.specs.FirstMisfit.{first_onto};
 ghost use Rattle.cp_spelled.specs.Views.{scope_view};
 ghost use Rattle.cp_reading.specs.Parts.{about_these_misfits, escape_of_items_misfits};
 
 use crate::items::{has_item, word_of_label};
-use crate::places::operation_place_misfits;
-use crate::testing::{escape_misfits, test_misfits, unrealised_misfits};
 use cp_forms::{items_behind, later_items, place_of};
+use cp_items::{escape_misfits, operation_place_misfits, test_misfits, unrealised_misfits};
 use cp_sexpr::Form;
 use cp_skel::Strand;
-use cp_spelled::{FirstMisfit, Scope, Variables, entries_under};
+use cp_spelled::Scope;
 use cp_stated::item_with;
+use cp_variables::{FirstMisfit, Variables, entries_under};
 use std::alloc::{AllocError, Global};
 
 /// The strand and the event that the operation names have to be there.

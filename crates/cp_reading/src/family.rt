@@ -5,16 +5,15 @@ ghost use Rattle.cp_lists.specs.Lists.{item_at};
 ghost use Rattle.cp_sexpr.specs.View.{view};
 ghost use Rattle.cp_report.specs.Misfits.{number_misfits};
 ghost use Rattle.cp_report.specs.Labels.{stated_parent, stated_children, has_parent, has_parent_in, has_child_in, is_label_in, parent_misfits, children_misfits};
-ghost use Rattle.cp_spelled.specs.FirstMisfit.{first_onto};
+ghost use Rattle.cp_variables.specs.FirstMisfit.{first_onto};
 ghost use Rattle.cp_reading.specs.Families.{is_same_child, names_child, labels_of, parent_in, IsFamily};
 
-use crate::heads::items_of_label;
-use crate::numbers::{number_in_front, stated_number};
 use cp_base::Place;
 use cp_forms::place_of;
+use cp_items::{items_of_label, number_in_front, stated_number};
 use cp_sexpr::Form;
-use cp_spelled::{FirstMisfit, entries_under, no_more};
 use cp_stated::number_of;
+use cp_variables::{FirstMisfit, entries_under, no_more};
 use std::alloc::{AllocError, Global};
 use std::collections::HashSet;
 

@@ -5,7 +5,7 @@ ghost use Rattle.cp_report.specs.Heads.{has_head};
 ghost use Rattle.cp_report.specs.ReadBack.{labels_in_front, behind_labels};
 ghost use Rattle.cp_reading.specs.InFront.{leading};
 
-use crate::heads::has_one_of;
+use cp_items::has_one_of;
 use cp_sexpr::Form;
 
 /// How many of the forms that stand first are lists with one of these heads.

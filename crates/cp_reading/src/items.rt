@@ -6,21 +6,20 @@ ghost use Rattle.cp_strand.specs.View.{declaration_view, strand_view};
 ghost use Rattle.cp_report.specs.Heads.{item_with};
 ghost use Rattle.cp_report.specs.Skeletons.{declarations_of_label, vars_item_misfits};
 ghost use Rattle.cp_report.specs.Labels.{word_of_label, wants_parent, has_children, has_mark, missing_misfits};
-ghost use Rattle.cp_spelled.specs.FirstMisfit.{first_onto};
+ghost use Rattle.cp_variables.specs.FirstMisfit.{first_onto};
 ghost use Rattle.cp_reading.specs.Families.{labels_of, IsFamily};
 ghost use Rattle.cp_reading.specs.Parts.{no_parent_item_misfits, parent_item_misfits, operation_of_item_misfits, children_item_misfits};
-ghost use Rattle.cp_reading.specs.Words.{word_view};
+ghost use Rattle.cp_items.specs.Words.{word_view};
 
 use crate::family::{Family, children_misfits, parent_misfits};
-use crate::heads::mark_item;
-use crate::operations::{
-    OperationWord, is_operation, makes_root, operation_misfits, word_in_front,
-};
 use cp_base::Place;
 use cp_forms::{items_behind, place_of};
+use cp_items::{
+    OperationWord, is_operation, makes_root, mark_item, operation_misfits, word_in_front,
+};
 use cp_sexpr::Form;
-use cp_spelled::{FirstMisfit, Variables, entries_under, lacking, variables_of};
 use cp_stated::item_with;
+use cp_variables::{FirstMisfit, Variables, entries_under, lacking, variables_of};
 use std::alloc::{AllocError, Global};
 
 /// Whether one of the items has this head.

@@ -6,15 +6,14 @@ ghost use Rattle.cp_report.specs.Skeletons.{scope_of, strands_misfits, around_st
 ghost use Rattle.cp_report.specs.Misfits.{number_misfits, first_or};
 ghost use Rattle.cp_report.specs.Heads.{up_to_strands, lines_of_label, order_misfits};
 ghost use Rattle.cp_report.specs.Labels.{about_strands_misfits, items_misfits, label_misfits};
-ghost use Rattle.cp_spelled.specs.FirstMisfit.{first_onto};
+ghost use Rattle.cp_variables.specs.FirstMisfit.{first_onto};
 ghost use Rattle.cp_spelled.specs.Views.{scope_view};
 ghost use Rattle.cp_reading.specs.Families.{labels_of};
-ghost use Rattle.cp_reading.specs.Parts.{is_fitting};
+ghost use Rattle.cp_items.specs.Parts.{is_fitting};
 ghost use Rattle.cp_reading.specs.Items.{IsSetting};
 
 use crate::about::{about_strands_misfits, escape_item_misfits};
 use crate::family::Family;
-use crate::heads::{items_of_label, mark_item, up_to_strands};
 use crate::items::{
     children_item_misfits, has_children, missing_if, no_parent_misfits, operation_item_misfits,
     parent_item_misfits, variables_item,
@@ -23,11 +22,13 @@ use crate::marks::mark_misfits;
 use crate::order::{are_in_order, order_misfits, place_of_lack};
 use cp_base::Place;
 use cp_forms::{items_behind, place_of};
+use cp_items::{items_of_label, mark_item, up_to_strands};
 use cp_load::Draft;
 use cp_sexpr::Form;
 use cp_skel::Strand;
-use cp_spelled::{FirstMisfit, Locals, Scope, Variables};
+use cp_spelled::Scope;
 use cp_stated::{around_strands_misfits, strands_misfits, strands_of};
+use cp_variables::{FirstMisfit, Locals, Variables};
 use std::alloc::{AllocError, Global};
 
 /// What label forms are judged by: the problem, its variables under their names in a report, and the family of the tree,

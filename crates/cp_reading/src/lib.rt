@@ -3,20 +3,14 @@
 
 mod about;
 mod family;
-mod heads;
 mod in_front;
 mod items;
 mod labels;
 mod making;
 mod marks;
-mod numbers;
-mod operations;
 mod order;
-mod places;
 mod status;
-mod testing;
 mod trees;
 
-pub use heads::is_of_tree;
 pub use in_front::count_in_front;
 pub use trees::{behind_misfits, none_may_stand, tree_of};

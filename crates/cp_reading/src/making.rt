@@ -13,18 +13,19 @@ ghost use Rattle.cp_skel.specs.Sound.{DeclaresItsVariables};
 ghost use Rattle.cp_skel.specs.Trees.{operation_view, label_view};
 ghost use Rattle.cp_reading.specs.Items.{HasFitting};
 
-use crate::heads::{items_of_label, mark_item};
 use crate::items::word_of_label;
 use crate::marks::mark_of;
-use crate::numbers::{number_in_front, numbers_of};
-use crate::operations::operation_by;
-use crate::testing::{nodes_of, patterns_of, test_of};
 use cp_forms::later_items;
+use cp_items::{
+    items_of_label, mark_item, nodes_of, number_in_front, numbers_of, operation_by, patterns_of,
+    test_of,
+};
 use cp_load::Draft;
 use cp_sexpr::Form;
 use cp_skel::{Operation, TreeNode};
-use cp_spelled::{Locals, Scope, Variables, declarations_of_label, entries_under};
+use cp_spelled::Scope;
 use cp_stated::{item_with, skeleton_stated, strands_of};
+use cp_variables::{Locals, Variables, declarations_of_label, entries_under};
 use std::alloc::{AllocError, Global};
 
 /// The operation that the items of a label form state.

@@ -7,18 +7,17 @@ ghost use Rattle.cp_language.specs.Roles.{headed};
 ghost use Rattle.cp_report.specs.Misfits.{entries_misfits, number_misfits, symbol_misfits};
 ghost use Rattle.cp_report.specs.Labels.{is_label_in, mark_kinds, mark_by, mark_of, headed_mark_misfits};
 ghost use Rattle.cp_skel.specs.Trees.{mark_view};
-ghost use Rattle.cp_spelled.specs.FirstMisfit.{first_onto};
+ghost use Rattle.cp_variables.specs.FirstMisfit.{first_onto};
 ghost use Rattle.cp_reading.specs.Families.{labels_of};
 ghost use Rattle.cp_reading.specs.Parts.{mark_item_misfits, mark_of_item};
 
 use crate::family::{Family, is_label_in};
-use crate::heads::name_in_front;
-use crate::numbers::number_stated;
 use cp_base::Place;
 use cp_forms::{headed, is_word, place_of};
+use cp_items::{name_in_front, number_stated};
 use cp_sexpr::Form;
 use cp_skel::Mark;
-use cp_spelled::{FirstMisfit, no_more};
+use cp_variables::{FirstMisfit, no_more};
 
 /// The number of a label has to stand here.
 fn label_number_misfits(tree: Option<&Family<'_>>, form: &Form, first: &mut FirstMisfit)

@@ -3,15 +3,15 @@ ghost use Rattle.std.specs.Prelude.{◌≡◌, map};
 ghost use Rattle.cp_sexpr.specs.View.{view};
 ghost use Rattle.cp_report.specs.Misfits.{first_or};
 ghost use Rattle.cp_report.specs.Heads.{lines_of_label, lines_from, lines_behind, order_misfits};
-ghost use Rattle.cp_spelled.specs.FirstMisfit.{first_onto};
+ghost use Rattle.cp_variables.specs.FirstMisfit.{first_onto};
 ghost use Rattle.cp_reading.specs.Lines.{line_view};
-ghost use Rattle.cp_reading.specs.Parts.{is_fitting};
+ghost use Rattle.cp_items.specs.Parts.{is_fitting};
 
-use crate::heads::{MARK_HEADS, has_one_of};
 use cp_base::Place;
 use cp_forms::place_of;
+use cp_items::{MARK_HEADS, has_one_of};
 use cp_sexpr::Form;
-use cp_spelled::FirstMisfit;
+use cp_variables::FirstMisfit;
 
 /// One kind of item: its heads, and whether it may stand again and again.
 #[derive(Clone, Copy)]

@@ -5,19 +5,19 @@ ghost use Rattle.cp_language.specs.Words.{is_one_of};
 ghost use Rattle.cp_report.specs.Misfits.{symbol_misfits, entries_misfits};
 ghost use Rattle.cp_report.specs.ReadBack.{word_misfits, count_misfits, behind_outcome, outcome_of};
 ghost use Rattle.cp_skel.specs.Trees.{outcome_view};
-ghost use Rattle.cp_spelled.specs.FirstMisfit.{first_onto};
-ghost use Rattle.cp_reading.specs.Parts.{is_fitting};
+ghost use Rattle.cp_variables.specs.FirstMisfit.{first_onto};
+ghost use Rattle.cp_items.specs.Parts.{is_fitting};
 ghost use Rattle.cp_reading.specs.Kinds.{kind_misfits};
 ghost use Rattle.cp_reading.specs.Counting.{AreCountsIn, is_tested, is_shape, count_of, count_kinds, status_entries_misfits, status_form_misfits, outcome_in};
 
-use crate::heads::{items_of_label, mark_item, name_in_front};
 use crate::marks::{limit_misfits, mark_of};
 use cp_base::Place;
 use cp_forms::{is_word, items_behind, place_of, symbol_or_empty};
+use cp_items::{items_of_label, mark_item, name_in_front};
 use cp_sexpr::Form;
 use cp_skel::{Mark, Outcome};
-use cp_spelled::{FirstMisfit, no_more};
 use cp_stated::item_with;
+use cp_variables::{FirstMisfit, no_more};
 
 /// How many labels a tree has, how many of them have a test, and how many are shapes.
 #[derive(Clone, Copy)]

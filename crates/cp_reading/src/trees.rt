@@ -8,7 +8,7 @@ ghost use Rattle.cp_skel.specs.Sound.{DeclaresItsVariables};
 ghost use Rattle.cp_skel.specs.Trees.{tree_view};
 ghost use Rattle.cp_load.specs.Drafts.{draft_view};
 ghost use Rattle.cp_report.specs.ReadBack.{places_of, labels_misfits, if_whole, tree_misfits, tree_of};
-ghost use Rattle.cp_spelled.specs.FirstMisfit.{first_onto};
+ghost use Rattle.cp_variables.specs.FirstMisfit.{first_onto};
 ghost use Rattle.cp_reading.specs.Families.{labels_of, IsFamily};
 ghost use Rattle.cp_reading.specs.Items.{IsSetting};
 ghost use Rattle.cp_reading.specs.Counting.{ending_form_misfits};
@@ -23,8 +23,8 @@ use cp_forms::place_of;
 use cp_load::Draft;
 use cp_sexpr::Form;
 use cp_skel::Tree;
-use cp_spelled::FirstMisfit;
 use cp_stated::problem_variables;
+use cp_variables::FirstMisfit;
 use std::alloc::{AllocError, Global};
 
 /// None of these forms may stand where it does.

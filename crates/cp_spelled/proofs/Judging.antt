@@ -10,10 +10,10 @@ use Rattle.cp_language.specs.Roles.{Headed, headed, front_of, last_form}
 use Rattle.cp_report.specs.Misfits.{stands_before, lacking, all_misfits, each_misfits}
 use Rattle.cp_report.specs.Spelled.{Scope, local_misfits, name_misfits, variables_misfits, spread_misfits, last_key_misfits, applied_misfits, term_misfits, each_term_misfits, value_misfits}
 use Rattle.cp_model.specs.Term.{Variable, name_sort}
-use Rattle.cp_spelled.specs.FirstMisfit.{first_onto}
+use Rattle.cp_variables.specs.FirstMisfit.{first_onto}
 use Rattle.cp_spelled.specs.Own.{wanted_sort_misfits, own_misfits, judged, headed_misfits, headed_judged}
 use Rattle.cp_forms.proofs.FirstOf.{moved_behind, moved_behind_two}
-use Rattle.cp_spelled.proofs.Firsts.{in_order}
+use Rattle.cp_variables.proofs.Firsts.{in_order}
 use Rattle.cp_scope.specs.OwnFaults.{behind_purpose}
 use Rattle.cp_scope.proofs.Judged.{smaller_none}
 use Rattle.cp_scope.proofs.Sizes.{forms_size}

@@ -1,12 +1,7 @@
-pub mod Firsts
-pub mod InOrder
-pub mod Tabled
-pub mod Clashing
-pub mod Stated
 pub mod Judging
 pub mod Scoped
 pub mod Meanings
-pub mod Declared
+pub mod Mapped
 pub mod Noted
 pub mod Gathered
 pub mod Patterned

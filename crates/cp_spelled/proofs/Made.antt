@@ -7,9 +7,9 @@ use Rattle.cp_model.specs.Strand.{Declaration}
 use Rattle.cp_sexpr.specs.Syntax.{Form}
 use Rattle.cp_report.specs.Spelled.{term_in, pattern_scope, pattern_misfits, pattern_of, variables_of_locals}
 use Rattle.cp_term.specs.Patterns.{pattern_by}
-use Rattle.cp_spelled.specs.FirstMisfit.{first_onto}
-use Rattle.cp_spelled.specs.LocalViews.{local_view}
-use Rattle.cp_spelled.specs.declared.locals.Local as program
+use Rattle.cp_variables.specs.FirstMisfit.{first_onto}
+use Rattle.cp_variables.specs.LocalViews.{local_view}
+use Rattle.cp_variables.specs.declared.locals.Local as program
 use Rattle.cp_report.specs.Misfits.{stands_before}
 use Rattle.cp_forms.proofs.FirstOf.{none_found}
 use Rattle.cp_spelled.proofs.ReadPatterns.{differ, pattern-by}

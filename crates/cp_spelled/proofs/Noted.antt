@@ -9,11 +9,11 @@ use Rattle.cp_language.specs.Faults.{place_of}
 use Rattle.cp_report.specs.Misfits.{stands_before, misfit_unless}
 use Rattle.cp_report.specs.Heads.{has_head}
 use Rattle.cp_report.specs.Spelled.{LocalAt, term_misfits, clash_misfits, locals_in, locals_onto, pattern_scope, pattern_misfits}
-use Rattle.cp_spelled.specs.FirstMisfit.{first_onto}
-use Rattle.cp_spelled.specs.LocalViews.{local_view}
-use Rattle.cp_spelled.specs.declared.locals.Local as program
+use Rattle.cp_variables.specs.FirstMisfit.{first_onto}
+use Rattle.cp_variables.specs.LocalViews.{local_view}
+use Rattle.cp_variables.specs.declared.locals.Local as program
 use Rattle.cp_forms.proofs.FirstOf.{first_then_three, first_onto-swap}
-use Rattle.cp_spelled.proofs.Firsts.{in_order}
+use Rattle.cp_variables.proofs.Firsts.{in_order}
 
 pub locals-noted : (ds : List Declaration) (f : Form) (found : List LocalAt) (ls : List program.Local) → found ≡ locals_in f → map local_view ls ≡ locals_onto [] found → map local_view ls ≡ (pattern_scope ds f).locals
 locals-noted ds f found ls e g = g ∙ ap (locals_onto []) e

@@ -1,25 +1,16 @@
 -- What stands where a variable may, and the sorts of terms.
-use Rattle.std.proofs.Common.{◌≡◌, ℕ, List, [], ◌∷◌, Bool, true, false, if◌then◌else◌, refl, sym, ap, ◌∙◌}
+use Rattle.std.proofs.Common.{◌≡◌, ℕ, List, Bool, true, false, if◌then◌else◌, refl, sym, ap, ◌∙◌}
 use Rattle.std.specs.Prelude.{Option, Some, None, option_map}
 use Rattle.cp_model.specs.Term.{Sort, Variable}
-use Rattle.cp_model.specs.Same.{same_text, same_sort}
+use Rattle.cp_model.specs.Same.{same_sort}
 use Rattle.cp_sexpr.specs.Syntax.{Form, symbol, string, number, list}
 use Rattle.cp_language.specs.Words.{term_head}
 use Rattle.cp_language.specs.Roles.{Headed, headed}
 use Rattle.cp_language.specs.Terms.{TermSort, of_atoms, variable_named, sort_of_variable}
 use Rattle.cp_forms.specs.Forms.{symbol_in}
 use Rattle.cp_forms.proofs.Views.{headed_is, same_value}
-use Rattle.cp_report.specs.Heads.{has_head, is_headed_by, entries_of}
+use Rattle.cp_report.specs.Heads.{entries_of}
 use Rattle.cp_report.specs.Spelled.{Scope, Local, is_local, local_by, variable_of_local, variable_in, sort_of_head, sort_by_shape, known_or, sort_in, is_of_sort}
-use Rattle.cp_spelled.proofs.InOrder.{or_false}
-
--- ---- heads
-
-pub head-is : (w : List ℕ) (f : Form) (h : Headed) → Some h ≡ headed f → same_text h.head w ≡ has_head (w ∷ []) f
-head-is w f h e = or_false (same_text h.head w) ∙ ap (is_headed_by (w ∷ [])) e
-
-pub head-none : (w : List ℕ) (f : Form) → None ≡ headed f → false ≡ has_head (w ∷ []) f
-head-none w f e = ap (is_headed_by (w ∷ [])) e
 
 -- ---- variables
 

@@ -1,5 +1,2 @@
-pub mod FirstMisfit
-pub mod Tables
-pub mod LocalViews
 pub mod Views
 pub mod Own

@@ -1,29 +1,16 @@
 -- Terms one level at a time: where a list does not fit but for what is inside its items, and what it stands for.
 use Rattle.std.specs.Prelude.{ℕ, List, [], ◌∷◌, ◌++◌, ◌&&◌, if◌then◌else◌, codes, Option, Some, None}
 use Rattle.cp_base.specs.declared.place.Place.{Place}
-use Rattle.cp_model.specs.Term.{Sort, Variable, name_sort, akey_sort, Term, tag_term}
+use Rattle.cp_model.specs.Term.{Variable, name_sort, akey_sort, Term, tag_term}
 use Rattle.cp_model.specs.Same.{same_text}
-use Rattle.cp_sexpr.specs.Syntax.{Form, symbol, string, number, list}
-use Rattle.cp_language.specs.Words.{sort_word, TermHead, cat, encrypt, long_term_key, public_key, private_key, inverse_key, operation_out_of_profile, no_operation, term_head}
+use Rattle.cp_sexpr.specs.Syntax.{Form}
+use Rattle.cp_language.specs.Words.{TermHead, cat, encrypt, long_term_key, public_key, private_key, inverse_key, operation_out_of_profile, no_operation, term_head}
 use Rattle.cp_language.specs.Roles.{front_of, last_form, list_items}
 use Rattle.cp_language.specs.Problems.{second_form}
 use Rattle.cp_language.specs.Terms.{term_of_variable, applied}
 use Rattle.cp_report.specs.Misfits.{misfit, lacking}
 use Rattle.cp_report.specs.Skeletons.{term_or_tag}
-use Rattle.cp_report.specs.Spelled.{Scope, Local, sort_or_none, local_with, local_by, variable_of_local, local_misfits, sort_misfits, variables_misfits, name_misfits, spread_misfits, last_key_misfits}
-
--- The sort that a symbol names.
-abbrev pub sort_symbol : Form → Option Sort
-sort_symbol (symbol at t) = sort_or_none (sort_word t)
-sort_symbol (string at t) = None
-sort_symbol (number at n) = None
-sort_symbol (list at fs) = None
-
--- The local whose number stands alone behind its sort.
-abbrev pub local_alone : Option Sort → List Form → Option Local
-local_alone s [] = None
-local_alone s (f ∷ []) = local_with s f
-local_alone s (f ∷ g ∷ fs) = None
+use Rattle.cp_report.specs.Spelled.{Scope, local_by, variable_of_local, local_misfits, sort_misfits, variables_misfits, name_misfits, spread_misfits, last_key_misfits}
 
 -- The sort that is wanted, where there is a variable.
 abbrev pub wanted_sort_misfits : Scope → Option Variable → Form → List Place

@@ -9,22 +9,20 @@ ghost use Rattle.cp_report.specs.Spelled.{value_misfits};
 ghost use Rattle.cp_report.specs.Skeletons.{identifier_of, maplet_misfits, maplets_misfits, are_mapped, mapping_misfits, value_mapped, values_mapped};
 ghost use Rattle.cp_strand.specs.View.{declaration_view};
 ghost use Rattle.cp_scope.specs.Terms.{variable_view};
-ghost use Rattle.cp_spelled.specs.FirstMisfit.{first_onto};
+ghost use Rattle.cp_variables.specs.FirstMisfit.{first_onto};
 ghost use Rattle.cp_spelled.specs.Own.{value_of_item};
 ghost use Rattle.cp_spelled.specs.Views.{scope_view};
 
-use crate::entries::no_more;
-use crate::first_misfit::FirstMisfit;
 use crate::misfits::value_misfits;
 use crate::scope::Scope;
 use crate::terms::term_or_tag;
-use crate::variables::{Variables, identifier_of, second};
 use cp_base::Place;
 use cp_forms::{item_at, list_items, place_of, symbol_or_empty};
 use cp_scope::{Taken, Variable, no_term};
 use cp_sexpr::Form;
 use cp_strand::Declaration;
 use cp_term::Term;
+use cp_variables::{FirstMisfit, Variables, identifier_of, no_more, second};
 use std::alloc::{AllocError, Global};
 
 /// The identifier of a wanted variable that was not mapped before has to stand here.

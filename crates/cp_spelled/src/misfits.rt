@@ -11,13 +11,10 @@ ghost use Rattle.cp_language.specs.Faults.{place_of};
 ghost use Rattle.cp_strand.specs.View.{sort_view};
 ghost use Rattle.cp_scope.specs.Terms.{variable_view};
 ghost use Rattle.cp_scope.specs.OwnFaults.{is_purpose, behind_purpose};
-ghost use Rattle.cp_spelled.specs.FirstMisfit.{first_onto};
+ghost use Rattle.cp_variables.specs.FirstMisfit.{first_onto};
 ghost use Rattle.cp_spelled.specs.Views.{scope_view};
 ghost use Rattle.cp_spelled.specs.Own.{wanted_sort_misfits, own_misfits, judged, headed_misfits, headed_judged};
 
-use crate::entries::{has_head, lacking, no_more};
-use crate::first_misfit::FirstMisfit;
-use crate::locals::local_misfits;
 use crate::scope::{
     Scope, has_atom_sort, has_key_sort, has_sort, is_local, is_local_head, is_variable_of,
 };
@@ -29,6 +26,7 @@ use cp_forms::{
 use cp_scope::Variable;
 use cp_sexpr::Form;
 use cp_term::Sort;
+use cp_variables::{FirstMisfit, has_head, lacking, local_misfits, no_more};
 
 /// A term has to have this sort.
 pub(crate) fn sort_misfits(scope: Scope<'_>, sort: Sort, form: &Form, first: &mut FirstMisfit)

@@ -10,15 +10,14 @@ ghost use Rattle.cp_report.specs.Spelled.{is_local, local_by, variable_of_local,
 ghost use Rattle.cp_forms.specs.Heads.{term_head_view};
 ghost use Rattle.cp_strand.specs.View.{sort_view};
 ghost use Rattle.cp_scope.specs.Terms.{term_sort_view};
-ghost use Rattle.cp_spelled.specs.LocalViews.{local_view};
+ghost use Rattle.cp_variables.specs.LocalViews.{local_view};
 ghost use Rattle.cp_spelled.specs.Views.{scope_view};
 
-use crate::locals::{Local, Locals, is_any, is_same_sort, local_by};
-use crate::variables::Variables;
 use cp_forms::{TermHead, headed, is_word, items_behind, symbol, term_head};
 use cp_scope::TermSort;
 use cp_sexpr::Form;
 use cp_term::Sort;
+use cp_variables::{Local, Locals, Variables, is_any, is_same_sort, local_by};
 
 /// What may stand where a variable may: the variables of a label form by their identifiers, and in a pattern its locals.
 #[derive(Clone, Copy)]

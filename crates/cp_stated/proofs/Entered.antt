@@ -10,7 +10,7 @@ use Rattle.cp_language.specs.Roles.{Headed, headed}
 use Rattle.cp_language.specs.Problems.{first_form, second_form}
 use Rattle.cp_report.specs.Misfits.{stands_before, lacking}
 use Rattle.cp_report.specs.Heads.{entries_of, optional_misfits, is_headed_by, has_head}
-use Rattle.cp_spelled.specs.FirstMisfit.{first_onto}
+use Rattle.cp_variables.specs.FirstMisfit.{first_onto}
 use Rattle.cp_forms.proofs.FirstOf.{first_then}
 
 pub first-item : (fs : List Form) → item_at fs 0 ≡ first_form fs

@@ -10,7 +10,7 @@ use Rattle.cp_sexpr.specs.View.{view}
 use Rattle.cp_sexpr.specs.declared.form.Form as program
 use Rattle.cp_report.specs.Misfits.{stands_before, each_misfits}
 use Rattle.cp_report.specs.Heads.{has_head, items_with}
-use Rattle.cp_spelled.specs.FirstMisfit.{first_onto}
+use Rattle.cp_variables.specs.FirstMisfit.{first_onto}
 use Rattle.cp_forms.proofs.FirstOf.{first_onto-append}
 
 -- ---- each is asked with what those before it stand for

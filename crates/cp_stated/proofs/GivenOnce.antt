@@ -24,9 +24,9 @@ use Rattle.cp_report.specs.Spelled.{Scope}
 use Rattle.cp_report.specs.Skeletons.{scope_of, strands_of_label, precedes_misfits, pairs_under, has_atoms, atoms_misfits, atoms_under, assumption_misfits, values_misfits, has_uniques, uniques_misfits, uniques_under, all_uniques_misfits, map_misfits, problem_variables, strands_mapped, values_of_map, assumptions_under, from_problem_of, around_strands_misfits, skeleton_stated}
 use Rattle.cp_report.proofs.PrintedAssumptions.{all_atoms}
 use Rattle.cp_report.proofs.PrintedUniques.{all_uniques}
-use Rattle.cp_spelled.specs.FirstMisfit.{first_onto, merged, onto_none}
+use Rattle.cp_variables.specs.FirstMisfit.{first_onto, merged, onto_none}
 use Rattle.cp_forms.proofs.FirstOf.{first_onto-append}
-use Rattle.cp_spelled.proofs.Firsts.{merged-unless}
+use Rattle.cp_variables.proofs.Firsts.{merged-unless}
 use Rattle.cp_stated.specs.Assuming.{assumptions_misfits, uniques_item_misfits}
 use Rattle.cp_stated.specs.Mapping.{map_misfits_to, values_by, from_problem_to}
 use Rattle.cp_stated.proofs.FittingValues.{given_atoms, given_there}

@@ -22,7 +22,7 @@ use Rattle.cp_strand.specs.declared.protocol.Declaration as declared
 use Rattle.cp_skel.specs.Trees.{variables_view}
 use Rattle.cp_report.specs.Misfits.{stands_before, misfit, misfit_unless}
 use Rattle.cp_report.specs.Skeletons.{declared_in_prefix, named_declarations, strand_number_misfits}
-use Rattle.cp_spelled.specs.FirstMisfit.{first_onto}
+use Rattle.cp_variables.specs.FirstMisfit.{first_onto}
 use Rattle.cp_forms.proofs.FirstOf.{first_onto-append}
 use Rattle.cp_stated.specs.Mapping.{strands_of_problem_misfits}
 

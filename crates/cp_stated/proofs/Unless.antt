@@ -4,8 +4,8 @@ use Rattle.std.specs.Prelude.{Option, Some, None, is_none}
 use Rattle.cp_base.specs.declared.place.Place.{Place}
 use Rattle.cp_forms.proofs.FirstOf as first
 use Rattle.cp_report.specs.Misfits.{stands_before, unless_misfit}
-use Rattle.cp_spelled.specs.FirstMisfit.{first_onto, merged, onto_none}
-use Rattle.cp_spelled.proofs.Firsts.{merged-unless}
+use Rattle.cp_variables.specs.FirstMisfit.{first_onto, merged, onto_none}
+use Rattle.cp_variables.proofs.Firsts.{merged-unless}
 
 module _ (o i j k : Option Place) (b : Bool) (rs others : List Place) (found : i ≡ first_onto None rs) (test : b ≡ is_none i) (whole : k ≡ merged o j) where
   pub asked : b ≡ true → j ≡ first_onto i others → k ≡ first_onto o (unless_misfit rs others)

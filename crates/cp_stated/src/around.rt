@@ -5,7 +5,7 @@ ghost use Rattle.cp_sexpr.specs.View.{view};
 ghost use Rattle.cp_strand.specs.View.{declaration_view, strand_view};
 ghost use Rattle.cp_load.specs.Drafts.{draft_view};
 ghost use Rattle.cp_report.specs.Skeletons.{scope_of, problem_variables, strands_of_label, around_strands_misfits};
-ghost use Rattle.cp_spelled.specs.FirstMisfit.{first_onto};
+ghost use Rattle.cp_variables.specs.FirstMisfit.{first_onto};
 ghost use Rattle.cp_spelled.specs.Views.{scope_view};
 ghost use Rattle.cp_stated.specs.Assuming.{no_assumptions};
 
@@ -17,7 +17,8 @@ use cp_base::Place;
 use cp_load::Draft;
 use cp_sexpr::Form;
 use cp_skel::{Assumptions, Strand, add_given};
-use cp_spelled::{FirstMisfit, Scope, Variables};
+use cp_spelled::Scope;
+use cp_variables::{FirstMisfit, Variables};
 use std::alloc::{AllocError, Global};
 
 /// What the roles of these strands give, each once.

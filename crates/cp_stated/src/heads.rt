@@ -6,7 +6,7 @@ ghost use Rattle.cp_report.specs.Heads.{has_head, item_with, place_or, strand_he
 use cp_base::Place;
 use cp_forms::place_of;
 use cp_sexpr::Form;
-use cp_spelled::has_head;
+use cp_variables::has_head;
 
 /// Whether a form is headed as an instance or as a listener.
 pub(crate) fn is_strand(form: &Form) -> bool

@@ -15,8 +15,9 @@ use cp_forms::{item_at, items_behind, symbol_or_empty};
 use cp_roles::role_named;
 use cp_sexpr::Form;
 use cp_skel::{Instance, Role, Strand};
-use cp_spelled::{Scope, has_head, term_or_tag, values_mapped};
+use cp_spelled::{Scope, term_or_tag, values_mapped};
 use cp_term::tag;
+use cp_variables::has_head;
 use std::alloc::{AllocError, Global};
 use std::rc::Rc;
 

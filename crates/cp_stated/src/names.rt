@@ -9,8 +9,8 @@ use cp_base::Text;
 use cp_load::Draft;
 use cp_names::problem_names;
 use cp_skel::Declaration;
-use cp_spelled::Variables;
 use cp_term::{VarId, VarTable};
+use cp_variables::Variables;
 use std::alloc::{AllocError, Global};
 
 /// Whether the table has a variable of this number.

@@ -8,7 +8,7 @@ ghost use Rattle.cp_load.specs.Acyclic.{IsAcyclicIf};
 ghost use Rattle.cp_report.specs.Misfits.{entries_misfits, list_misfits};
 ghost use Rattle.cp_report.specs.Heads.{item_with, optional_misfits};
 ghost use Rattle.cp_report.specs.Skeletons.{node_misfits, has_pair, is_further_pair, pair_stated, pair_misfits, pairs_misfits, precedes_misfits, pairs_under};
-ghost use Rattle.cp_spelled.specs.FirstMisfit.{first_onto};
+ghost use Rattle.cp_variables.specs.FirstMisfit.{first_onto};
 
 use crate::heads::item_with;
 use crate::nodes::{node_misfits, one_node_misfits};
@@ -20,7 +20,7 @@ use cp_load::{
 };
 use cp_sexpr::Form;
 use cp_skel::{Node, OrderPair, Strand};
-use cp_spelled::{FirstMisfit, entries_under, lacking};
+use cp_variables::{FirstMisfit, entries_under, lacking};
 use std::alloc::{AllocError, Global};
 
 /// Whether the two nodes are one.

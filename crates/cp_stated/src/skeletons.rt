@@ -21,8 +21,9 @@ use crate::values::atoms_under;
 use cp_load::{Draft, table_of};
 use cp_sexpr::Form;
 use cp_skel::{Assumptions, FromProblem, Order, OrderPair, Skeleton, Strand};
-use cp_spelled::{Scope, Variables, entries_under};
+use cp_spelled::Scope;
 use cp_term::Term;
+use cp_variables::{Variables, entries_under};
 use std::alloc::{AllocError, Global};
 
 /// The assumptions that the items of a label form state.

@@ -15,7 +15,7 @@ ghost use Rattle.cp_report.specs.Misfits.{lacking, entries_misfits, list_misfits
 ghost use Rattle.cp_report.specs.Heads.{optional_misfits, entries_or_none};
 ghost use Rattle.cp_report.specs.Spelled.{atom_misfits};
 ghost use Rattle.cp_report.specs.Skeletons.{scope_of, term_or_tag, node_misfits, carries_value, may_be_origin, unique_of, second_place, unique_misfits, uniques_misfits, has_uniques, uniques_under};
-ghost use Rattle.cp_spelled.specs.FirstMisfit.{first_onto};
+ghost use Rattle.cp_variables.specs.FirstMisfit.{first_onto};
 ghost use Rattle.cp_spelled.specs.Views.{scope_view};
 ghost use Rattle.cp_stated.specs.Assuming.{may_be_origin_on, uniques_item_misfits};
 
@@ -27,8 +27,9 @@ use cp_load::carries_under;
 use cp_scope::no_atom;
 use cp_sexpr::Form;
 use cp_skel::{Atom, Event, Instance, Node, Strand, StrandShape, UniqueAt, prefix_of};
-use cp_spelled::{FirstMisfit, Scope, atom_in, atom_misfits, entries_under, lacking};
+use cp_spelled::{Scope, atom_in, atom_misfits};
 use cp_term::Term;
+use cp_variables::{FirstMisfit, entries_under, lacking};
 use std::alloc::{AllocError, Global};
 
 /// Whether a unique value with its origin is one of these.

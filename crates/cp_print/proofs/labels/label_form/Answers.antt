@@ -26,7 +26,7 @@ returns c =
     ∙ ap₂ (λ (ms : List Bool) (es : List Declaration). vars_by names ms 0 es) c.deref-2.ensures.value (ap (map declaration_view) c.deref-3.ensures.value ∙ known.declared)
     ∙ vars-by xs (length ds) marks known.marks names ds refl in
     let first : map view c.push.new.self.items ≡ _ ∷ [] =
-    ap (map view) (c.in_ok-push.ensures.items ∙ ap (λ gs. gs ++ c.in_ok-numeral.field-0 ∷ []) c.new-items.ensures.items) ∙ ap (λ f. f ∷ []) c.in_ok-numeral.ensures in
+    ap (map view) (c.in_ok-push.ensures.items ∙ ap (λ gs. gs ++ c.in_ok-numeral.field-0 ∷ []) c.in_ok-items.ensures.items) ∙ ap (λ f. f ∷ []) c.in_ok-numeral.ensures in
     IfOk-weaker c.headed_list.result _ _ (λ f e.
     label_whole of_problem l c.args.number c.deref-4.result.now fs (map view c.push.new.self.items) (map view c.add_strand_items.new.items.items)
     (map view c.add_assumption_items.new.items.items) (map view c.add_result_items.new.items.items) (view f)

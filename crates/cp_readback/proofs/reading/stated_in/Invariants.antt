@@ -3,7 +3,7 @@ use Rattle.cp_language.specs.Input.{faults_from, protocols_in}
 use Rattle.cp_roles.specs.Above.{protocols_view, names_of_protocols, turned}
 use Rattle.cp_forms.specs.FirstFault as faults
 use Rattle.cp_report.specs.ReadBack.{trees_misfits}
-use Rattle.cp_spelled.specs.FirstMisfit.{first_onto}
+use Rattle.cp_variables.specs.FirstMisfit.{first_onto}
 use Rattle.cp_readback.specs.Sections.{section_view}
 use Rattle.cp_readback.specs.Reports.{forms_in, drafts_view}
 use Rattle.cp_readback.proofs.InSections.{problems_from}

@@ -6,10 +6,10 @@ use Rattle.cp_language.specs.Problems.{is_known}
 use Rattle.cp_strand.specs.View.{declaration_view}
 use Rattle.cp_report.specs.Heads.{item_with}
 use Rattle.cp_report.specs.Labels.{escape_misfits}
-use Rattle.cp_spelled.specs.FirstMisfit.{first_onto}
+use Rattle.cp_variables.specs.FirstMisfit.{first_onto}
 use Rattle.cp_stated.proofs.Entered.{item-asked, item-missing}
 use Rattle.cp_stated.proofs.Results.{when_ok}
-use Rattle.cp_reading.specs.Parts.{escape_item_misfits}
+use Rattle.cp_items.specs.Parts.{escape_item_misfits}
 use Rattle.cp_reading.proofs.about.escape_item_misfits.Goals as goal
 
 pub returns-in_default : goal.returns-in_default

@@ -3,7 +3,7 @@ use Rattle.cp_sexpr.specs.Syntax.{Form}
 use Rattle.cp_strand.specs.View.{strand_view}
 use Rattle.cp_sexpr.specs.View.{view}
 use Rattle.cp_report.specs.Labels.{OperationWord, word_of_label, operation_place_misfits}
-use Rattle.cp_spelled.specs.FirstMisfit.{first_onto}
+use Rattle.cp_variables.specs.FirstMisfit.{first_onto}
 use Rattle.cp_reading.proofs.about.operation_at_misfits.Goals as goal
 
 pub returns : goal.returns

@@ -6,7 +6,7 @@ use Rattle.cp_report.specs.Heads.{item_with}
 use Rattle.cp_report.specs.Spelled.{Scope}
 use Rattle.cp_report.specs.Skeletons.{scope_of}
 use Rattle.cp_report.specs.Labels.{test_misfits}
-use Rattle.cp_spelled.specs.FirstMisfit.{first_onto}
+use Rattle.cp_variables.specs.FirstMisfit.{first_onto}
 use Rattle.cp_stated.proofs.Entered.{item-asked, item-missing}
 use Rattle.cp_reading.proofs.about.test_item_misfits.Goals as goal
 

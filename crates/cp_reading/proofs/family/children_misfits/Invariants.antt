@@ -2,7 +2,7 @@ use Rattle.std.proofs.Common.{◌≡◌, ℕ, List, [], map, drop}
 use Rattle.std.specs.Prelude.{option_map}
 use Rattle.cp_sexpr.specs.View.{view}
 use Rattle.cp_report.specs.Labels.{children_misfits}
-use Rattle.cp_spelled.specs.FirstMisfit.{first_onto}
+use Rattle.cp_variables.specs.FirstMisfit.{first_onto}
 use Rattle.cp_reading.specs.Families.{labels_of, AreNumbers}
 use Rattle.cp_reading.proofs.family.children_misfits.Given as goal
 

@@ -1,7 +1,7 @@
 use Rattle.std.proofs.Common.{ℕ, ◌++◌, ◌∷◌, [], Option, map, ap, ◌∙◌}
 use Rattle.cp_sexpr.specs.View.{view}
 use Rattle.cp_report.specs.Labels.{stated_parent}
-use Rattle.cp_spelled.proofs.Declared.{each-made, all-made}
+use Rattle.cp_variables.proofs.Declared.{each-made, all-made}
 use Rattle.cp_reading.specs.Families.{child_from}
 use Rattle.cp_reading.proofs.Relations.{family-taken, family-done, children_at}
 use Rattle.cp_reading.proofs.family.family_of.Goals as goal

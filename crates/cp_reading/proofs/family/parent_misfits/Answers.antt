@@ -1,7 +1,7 @@
 use Rattle.std.specs.Prelude.{[], option_map}
 use Rattle.cp_report.specs.Misfits.{number_misfits}
 use Rattle.cp_report.specs.Labels.{has_child_in}
-use Rattle.cp_spelled.proofs.InOrder.{entry-taken}
+use Rattle.cp_variables.proofs.InOrder.{entry-taken}
 use Rattle.cp_reading.specs.Families.{labels_of}
 use Rattle.cp_reading.proofs.family.parent_misfits.Goals as goal
 

@@ -6,7 +6,7 @@ use Rattle.cp_forms.proofs.FirstOf as first
 use Rattle.cp_report.specs.Misfits.{misfit_unless, stands_before}
 use Rattle.cp_report.specs.Heads.{item_with}
 use Rattle.cp_report.specs.Labels.{wants_parent, has_children, has_mark}
-use Rattle.cp_spelled.specs.FirstMisfit.{first_onto}
+use Rattle.cp_variables.specs.FirstMisfit.{first_onto}
 use Rattle.cp_reading.proofs.items.missing_misfits.Goals as goal
 
 pub returns : goal.returns

@@ -4,7 +4,7 @@ use Rattle.cp_sexpr.specs.View.{view}
 use Rattle.cp_report.specs.Misfits.{misfit_unless}
 use Rattle.cp_report.specs.Heads.{entries_of, item_with}
 use Rattle.cp_report.specs.Labels.{makes_root, no_parent_misfits}
-use Rattle.cp_spelled.specs.FirstMisfit.{first_onto}
+use Rattle.cp_variables.specs.FirstMisfit.{first_onto}
 use Rattle.cp_stated.proofs.Entered.{item-asked, item-missing}
 use Rattle.cp_reading.proofs.items.no_parent_misfits.Goals as goal
 

@@ -3,7 +3,7 @@ use Rattle.std.specs.Prelude.{codes}
 use Rattle.cp_sexpr.specs.View.{view}
 use Rattle.cp_report.specs.Heads.{item_with}
 use Rattle.cp_stated.proofs.Entered.{item-asked, item-missing}
-use Rattle.cp_reading.specs.Parts.{operation_item_misfits}
+use Rattle.cp_items.specs.Parts.{operation_item_misfits}
 use Rattle.cp_reading.proofs.items.operation_item_misfits.Goals as goal
 
 pub returns-in_default : goal.returns-in_default

@@ -9,7 +9,7 @@ use Rattle.cp_report.specs.Heads.{items_with, strand_heads, lines_of_label, orde
 use Rattle.cp_report.specs.Spelled.{Scope}
 use Rattle.cp_report.specs.Skeletons.{strand_of, around_strands_misfits}
 use Rattle.cp_report.specs.Labels.{about_strands_misfits}
-use Rattle.cp_spelled.specs.FirstMisfit.{first_onto}
+use Rattle.cp_variables.specs.FirstMisfit.{first_onto}
 use Rattle.cp_spelled.specs.Views.{scope_view}
 use Rattle.cp_report.specs.Misfits.{stands_before, first_or}
 use Rattle.cp_forms.proofs.FirstOf.{first_then}

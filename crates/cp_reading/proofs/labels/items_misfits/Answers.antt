@@ -6,8 +6,9 @@ use Rattle.cp_report.specs.Misfits.{first_or}
 use Rattle.cp_report.specs.Heads.{up_to_strands, lines_of_label, order_misfits}
 use Rattle.cp_report.specs.Skeletons.{around_strands_misfits}
 use Rattle.cp_report.specs.Labels.{about_strands_misfits, has_children}
-use Rattle.cp_spelled.specs.FirstMisfit.{first_onto}
-use Rattle.cp_reading.specs.Parts.{is_fitting, mark_item_misfits}
+use Rattle.cp_variables.specs.FirstMisfit.{first_onto}
+use Rattle.cp_items.specs.Parts.{is_fitting}
+use Rattle.cp_reading.specs.Parts.{mark_item_misfits}
 use Rattle.cp_reading.specs.Families.{labels_of}
 use Rattle.cp_reading.proofs.AllItems.{all-items}
 use Rattle.cp_reading.proofs.labels.items_misfits.Goals as goal

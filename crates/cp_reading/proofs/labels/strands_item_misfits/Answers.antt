@@ -8,11 +8,11 @@ use Rattle.cp_report.specs.Misfits.{stands_before, each_misfits}
 use Rattle.cp_report.specs.Heads.{items_with, strand_heads}
 use Rattle.cp_report.specs.Spelled.{Scope}
 use Rattle.cp_report.specs.Skeletons.{strand_misfits, strands_misfits}
-use Rattle.cp_spelled.specs.FirstMisfit.{first_onto, merged}
+use Rattle.cp_variables.specs.FirstMisfit.{first_onto, merged}
 use Rattle.cp_spelled.specs.Views.{scope_view}
 use Rattle.cp_forms.proofs.FirstOf.{first_onto-merged}
-use Rattle.cp_spelled.proofs.Firsts.{in_order}
-use Rattle.cp_reading.proofs.Fitting.{fitting-found}
+use Rattle.cp_variables.proofs.Firsts.{in_order}
+use Rattle.cp_items.proofs.Fitting.{fitting-found}
 use Rattle.cp_reading.proofs.labels.strands_item_misfits.Goals as goal
 
 -- what was met inside

@@ -11,7 +11,7 @@ use Rattle.cp_report.specs.Heads.{items_with, strand_heads}
 use Rattle.cp_report.specs.Spelled.{Scope, pattern_misfits, pattern_of}
 use Rattle.cp_report.specs.Skeletons.{declarations_of_label, scope_of, node_or_first, strand_of}
 use Rattle.cp_report.specs.Labels.{items_of_label, number_in_front, test_of}
-use Rattle.cp_spelled.specs.LocalViews.{local_view}
+use Rattle.cp_variables.specs.LocalViews.{local_view}
 use Rattle.cp_reading.specs.Items.{HasFitting}
 use Rattle.cp_reading.specs.Parts.{mark_of_item}
 use Rattle.cp_reading.proofs.LabelParts.{scope-is, label-is}

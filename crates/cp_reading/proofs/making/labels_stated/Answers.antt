@@ -6,7 +6,7 @@ use Rattle.cp_sexpr.specs.View.{view}
 use Rattle.cp_load.specs.Drafts.{draft_view}
 use Rattle.cp_report.specs.Labels.{label_of}
 use Rattle.cp_skel.specs.Trees.{label_view}
-use Rattle.cp_spelled.proofs.Declared.{each-made, all-made}
+use Rattle.cp_variables.proofs.Declared.{each-made, all-made}
 use Rattle.cp_reading.proofs.making.labels_stated.Goals as goal
 
 pub label_of-requires-clause-fits : goal.label_of-requires-clause-fits

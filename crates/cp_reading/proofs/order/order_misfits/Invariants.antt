@@ -1,7 +1,7 @@
 use Rattle.std.proofs.Common.{◌≡◌, map, drop}
 use Rattle.cp_sexpr.specs.View.{view}
 use Rattle.cp_report.specs.Heads.{lines_of_label, order_misfits}
-use Rattle.cp_spelled.specs.FirstMisfit.{first_onto}
+use Rattle.cp_variables.specs.FirstMisfit.{first_onto}
 use Rattle.cp_reading.specs.Lines.{line_view}
 use Rattle.cp_reading.proofs.order.order_misfits.Given as goal
 

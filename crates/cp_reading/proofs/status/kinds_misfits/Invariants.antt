@@ -1,7 +1,7 @@
 use Rattle.std.proofs.Common.{◌≡◌, map, drop}
 use Rattle.cp_sexpr.specs.View.{view}
 use Rattle.cp_report.specs.Misfits.{entries_misfits}
-use Rattle.cp_spelled.specs.FirstMisfit.{first_onto}
+use Rattle.cp_variables.specs.FirstMisfit.{first_onto}
 use Rattle.cp_reading.specs.Kinds.{kind_misfits}
 use Rattle.cp_reading.proofs.status.kinds_misfits.Given as goal
 

@@ -3,7 +3,7 @@ use Rattle.std.specs.Prelude.{option_map}
 use Rattle.cp_sexpr.specs.View.{view}
 use Rattle.cp_load.specs.Drafts.{draft_view}
 use Rattle.cp_report.specs.ReadBack.{labels_misfits}
-use Rattle.cp_spelled.specs.FirstMisfit.{first_onto}
+use Rattle.cp_variables.specs.FirstMisfit.{first_onto}
 use Rattle.cp_reading.specs.Families.{labels_of}
 use Rattle.cp_reading.proofs.trees.labels_misfits.Given as goal
 

@@ -3,7 +3,7 @@ use Rattle.std.proofs.lemmas.Result.{IfOk-weaker}
 use Rattle.cp_sexpr.specs.View.{view}
 use Rattle.cp_spelled.specs.Own.{value_of_item}
 use Rattle.cp_spelled.specs.Views.{scope_view}
-use Rattle.cp_spelled.proofs.Declared.{value-missing, value-found}
+use Rattle.cp_spelled.proofs.Mapped.{value-missing, value-found}
 use Rattle.cp_spelled.proofs.maplets.value_mapped.Goals as goal
 
 pub returns-in_default : goal.returns-in_default

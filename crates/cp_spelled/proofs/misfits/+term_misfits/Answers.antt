@@ -4,7 +4,7 @@ use Rattle.cp_report.specs.Misfits.{stands_before, each_misfits}
 use Rattle.cp_report.specs.Spelled.{term_misfits}
 use Rattle.cp_forms.specs.Forms.{headed_view}
 use Rattle.cp_scope.proofs.Sizes.{headed_smaller, item_smaller, forms_size}
-use Rattle.cp_spelled.specs.FirstMisfit.{first_onto}
+use Rattle.cp_variables.specs.FirstMisfit.{first_onto}
 use Rattle.cp_spelled.specs.Own.{headed_misfits}
 use Rattle.cp_spelled.specs.Views.{scope_view}
 use Rattle.cp_forms.proofs.EachForm.{next_asked, all_asked}

@@ -3,7 +3,7 @@ use Rattle.std.specs.Prelude.{option_map}
 use Rattle.cp_sexpr.specs.View.{view}
 use Rattle.cp_scope.specs.Terms.{variable_view}
 use Rattle.cp_report.specs.Spelled.{term_misfits}
-use Rattle.cp_spelled.specs.FirstMisfit.{first_onto}
+use Rattle.cp_variables.specs.FirstMisfit.{first_onto}
 use Rattle.cp_spelled.specs.Own.{wanted_sort_misfits}
 use Rattle.cp_spelled.specs.Views.{scope_view}
 use Rattle.cp_report.specs.Misfits.{stands_before}

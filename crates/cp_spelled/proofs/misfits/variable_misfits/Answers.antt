@@ -6,9 +6,9 @@ use Rattle.cp_strand.specs.View.{sort_view}
 use Rattle.cp_report.specs.Misfits.{misfit_unless}
 use Rattle.cp_report.specs.Heads.{entries_of}
 use Rattle.cp_report.specs.Spelled.{is_local, is_of_sort, local_misfits, variable_in}
-use Rattle.cp_spelled.specs.FirstMisfit.{first_onto, onto_none}
+use Rattle.cp_variables.specs.FirstMisfit.{first_onto, onto_none}
 use Rattle.cp_spelled.specs.Views.{scope_view}
-use Rattle.cp_spelled.proofs.Firsts.{merged-unless}
+use Rattle.cp_variables.proofs.Firsts.{merged-unless}
 use Rattle.cp_spelled.proofs.misfits.variable_misfits.Goals as goal
 
 pub returns : goal.returns

@@ -4,7 +4,7 @@ use Rattle.cp_language.specs.Problems.{role_named, is_known}
 use Rattle.cp_roles.specs.Named.{shared_roles_view}
 use Rattle.cp_report.specs.Misfits.{stands_before, symbol_misfits, unless_misfit}
 use Rattle.cp_report.specs.Skeletons.{height_misfits, prefix_misfits}
-use Rattle.cp_spelled.specs.FirstMisfit.{first_onto}
+use Rattle.cp_variables.specs.FirstMisfit.{first_onto}
 use Rattle.cp_spelled.specs.Views.{scope_view}
 use Rattle.cp_forms.proofs.FirstOf.{first_then}
 use Rattle.cp_stated.proofs.InstanceEntries.{few-entries, instance-read}

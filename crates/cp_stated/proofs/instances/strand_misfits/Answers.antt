@@ -6,7 +6,7 @@ use Rattle.cp_report.specs.Misfits.{entries_misfits}
 use Rattle.cp_report.specs.Heads.{entries_of}
 use Rattle.cp_report.specs.Spelled.{term_misfits}
 use Rattle.cp_report.specs.Skeletons.{instance_misfits}
-use Rattle.cp_spelled.specs.FirstMisfit.{first_onto}
+use Rattle.cp_variables.specs.FirstMisfit.{first_onto}
 use Rattle.cp_spelled.specs.Views.{scope_view}
 use Rattle.cp_stated.proofs.Results.{when_ok}
 use Rattle.cp_stated.proofs.instances.strand_misfits.Goals as goal

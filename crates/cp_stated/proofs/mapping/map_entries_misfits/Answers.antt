@@ -4,7 +4,7 @@ use Rattle.cp_sexpr.specs.declared.form.Form as program
 use Rattle.cp_strand.specs.View.{declaration_view, strand_view}
 use Rattle.cp_report.specs.Misfits.{stands_before, list_misfits}
 use Rattle.cp_report.specs.Skeletons.{mapping_misfits}
-use Rattle.cp_spelled.specs.FirstMisfit.{first_onto}
+use Rattle.cp_variables.specs.FirstMisfit.{first_onto}
 use Rattle.cp_spelled.specs.Views.{scope_view}
 use Rattle.cp_forms.proofs.FirstOf.{first_then}
 use Rattle.cp_stated.specs.Mapping.{strands_of_problem_misfits, map_misfits_to}

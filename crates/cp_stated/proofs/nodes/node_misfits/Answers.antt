@@ -5,7 +5,7 @@ use Rattle.cp_language.specs.Problems.{node_of}
 use Rattle.cp_strand.specs.View.{strand_view}
 use Rattle.cp_report.specs.Misfits.{stands_before, any_number_misfits, entries_misfits, list_misfits}
 use Rattle.cp_report.specs.Skeletons.{there_misfits}
-use Rattle.cp_spelled.specs.FirstMisfit.{first_onto}
+use Rattle.cp_variables.specs.FirstMisfit.{first_onto}
 use Rattle.cp_forms.proofs.FirstOf.{first_then}
 use Rattle.cp_stated.proofs.nodes.node_misfits.Goals as goal
 

@@ -10,8 +10,8 @@ use Rattle.cp_load.proofs.NoCycles.{first-pair}
 use Rattle.cp_report.specs.Misfits.{stands_before}
 use Rattle.cp_report.specs.Skeletons.{pair_misfits, pairs_misfits}
 use Rattle.cp_forms.proofs.FirstOf.{first_onto-merged}
-use Rattle.cp_spelled.specs.FirstMisfit.{first_onto, merged}
-use Rattle.cp_spelled.proofs.Firsts.{in_order}
+use Rattle.cp_variables.specs.FirstMisfit.{first_onto, merged}
+use Rattle.cp_variables.proofs.Firsts.{in_order}
 use Rattle.cp_stated.proofs.Gathering.{gathered-taken}
 use Rattle.cp_stated.proofs.order.pairs_misfits.Goals as goal
 

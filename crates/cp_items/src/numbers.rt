@@ -1,0 +1,50 @@
+// Numbers that stand in a list.
+ghost use Rattle.std.specs.Prelude.{◌≡◌, map, IfOk};
+ghost use Rattle.cp_sexpr.specs.View.{view};
+ghost use Rattle.cp_language.specs.Problems.{number_of};
+ghost use Rattle.cp_report.specs.Labels.{stated_number, number_in_front, number_stated};
+
+use cp_sexpr::Form;
+use cp_stated::number_of;
+use std::alloc::{AllocError, Global};
+
+/// The number that a form is, if it is one.
+pub fn stated_number(form: &Form) -> Option<usize>
+    ensures { result ≡ stated_number (view form.now) }
+{
+    match form {
+        Form::Number(_, number) => Some(*number),
+        _ => None,
+    }
+}
+
+/// The number that stands first, if one does.
+pub fn number_in_front(items: &[Form]) -> Option<usize>
+    ensures { result ≡ number_in_front (map view items.now) }
+{
+    match items {
+        [] => None,
+        [item, ..] => stated_number(item),
+    }
+}
+
+/// The number that stands first; where none does nought.
+pub fn number_stated(items: &[Form]) -> usize
+    ensures { result ≡ number_stated (map view items.now) }
+{
+    match items {
+        [] => 0,
+        [item, ..] => number_of(item),
+    }
+}
+
+/// The numbers that forms are; nought for a form that is none. The error is that memory ran out.
+pub fn numbers_of(alloc: Global, items: &[Form]) -> Result<Vec<usize>, AllocError>
+    ensures { IfOk result (λ v. v.items ≡ map number_of (map view items.now)) }
+{
+    let mut numbers = Vec::new(alloc);
+    for item in items {
+        numbers.push(number_of(item))?;
+    }
+    Ok(numbers)
+}

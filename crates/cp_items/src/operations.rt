@@ -1,0 +1,201 @@
+// Operations: where they do not fit, and which they are.
+ghost use Rattle.std.specs.Prelude.{◌≡◌, nat_le, ◌&&◌, [], ◌∷◌, map, IfOk};
+ghost use Rattle.cp_lists.specs.Lists.{item_at};
+ghost use Rattle.cp_sexpr.specs.View.{view};
+ghost use Rattle.cp_language.specs.Problems.{number_of, name_in_front};
+ghost use Rattle.cp_skel.specs.Trees.{operation_view};
+ghost use Rattle.cp_report.specs.Misfits.{any_number_misfits, entries_misfits, symbol_misfits};
+ghost use Rattle.cp_report.specs.Labels.{operation_word, is_operation, makes_root, is_number, block_misfits, node_stated, operation_by};
+ghost use Rattle.cp_variables.specs.FirstMisfit.{first_onto};
+ghost use Rattle.cp_items.specs.Parts.{blocks_of, kinds_behind, operation_item_misfits, is_fitting};
+ghost use Rattle.cp_items.specs.Words.{word_view};
+
+use crate::heads::name_in_front;
+use crate::numbers::{number_stated, numbers_of};
+use cp_base::Place;
+use cp_forms::{is_word, item_at, later_items, place_of, symbol_or_empty};
+use cp_sexpr::Form;
+use cp_skel::{Node, Operation};
+use cp_stated::{number_of, two_numbers_misfits};
+use cp_variables::{FirstMisfit, no_more, one_number_misfits};
+use std::alloc::{AllocError, Global};
+
+/// What the word behind `by` names.
+#[derive(Clone, Copy)]
+pub enum OperationWord {
+    Problem,
+    Collapsed,
+    Contracted,
+    Displaced,
+    AddedStrand,
+    AddedListener,
+    Generalised,
+    Unknown,
+}
+
+/// What a word names.
+pub(crate) fn operation_word(word: &[u8]) -> OperationWord
+    ensures { word_view result ≡ operation_word word.now }
+{
+    if is_word(word, b"problem") {
+        OperationWord::Problem
+    } else if is_word(word, b"collapsed") {
+        OperationWord::Collapsed
+    } else if is_word(word, b"contracted") {
+        OperationWord::Contracted
+    } else if is_word(word, b"displaced") {
+        OperationWord::Displaced
+    } else if is_word(word, b"added-strand") {
+        OperationWord::AddedStrand
+    } else if is_word(word, b"added-listener") {
+        OperationWord::AddedListener
+    } else if is_word(word, b"generalised") {
+        OperationWord::Generalised
+    } else {
+        OperationWord::Unknown
+    }
+}
+
+/// What the word that stands first among entries names.
+pub fn word_in_front(items: &[Form]) -> OperationWord
+    ensures { word_view result ≡ operation_word (name_in_front (map view items.now)) }
+{
+    operation_word(name_in_front(items))
+}
+
+/// Whether a word names an operation.
+pub fn is_operation(word: OperationWord) -> bool
+    ensures { result ≡ is_operation (word_view word) }
+{
+    !matches!(word, OperationWord::Unknown)
+}
+
+/// Whether an operation makes roots.
+pub fn makes_root(word: OperationWord) -> bool
+    ensures { result ≡ makes_root (word_view word) }
+{
+    matches!(word, OperationWord::Problem | OperationWord::Collapsed)
+}
+
+/// Whether a number is at most the place of its entry, and names a strand that names itself.
+fn is_block(items: &[Form], place: usize, number: usize) -> bool
+    ensures { result ≡ (nat_le number place && is_number number (item_at (map number_of (map view items.now)) number)) }
+{
+    if number > place {
+        return false;
+    }
+    match item_at(items, number) {
+        Some(item) => number_of(item) == number,
+        None => false,
+    }
+}
+
+/// The entry of a partition at this place has to be at most its place, and a strand that names itself.
+fn block_misfits(items: &[Form], place: usize, form: &Form, first: &mut FirstMisfit)
+    ensures { first.new ≡ first_onto first.old (block_misfits (map number_of (map view items.now)) place (view form.now)) }
+{
+    match form {
+        Form::Number(at, number) => first.note_unless(is_block(items, place, *number), *at),
+        _ => first.note(place_of(form)),
+    }
+}
+
+/// The entries of a partition of as many strands have to stand in a list at this place.
+fn partition_misfits(strands: usize, place: Place, items: &[Form], first: &mut FirstMisfit)
+    ensures { first.new ≡ first_onto first.old (entries_misfits (blocks_of (map number_of (map view items.now)) 0 strands) place (map view items.now)) }
+{
+    for number in 0..strands {
+        let Some(item) = item_at(items, number) else {
+            first.note(place);
+            return;
+        };
+        block_misfits(items, number, item, first);
+    }
+    no_more(later_items(items, strands), first);
+}
+
+/// What stands behind the word has to belong to it, where the problem has so many strands.
+fn behind_word_misfits(
+    strands: usize,
+    word: OperationWord,
+    place: Place,
+    items: &[Form],
+    first: &mut FirstMisfit,
+)
+    ensures { first.new ≡ first_onto first.old (entries_misfits (kinds_behind strands (word_view word) (map view items.now)) place (map view items.now)) }
+{
+    match word {
+        OperationWord::Collapsed => partition_misfits(strands, place, items, first),
+        OperationWord::Contracted | OperationWord::Displaced => {
+            two_numbers_misfits(place, items, first);
+        }
+        OperationWord::AddedStrand | OperationWord::AddedListener => {
+            one_number_misfits(place, items, first);
+        }
+        OperationWord::Problem | OperationWord::Generalised | OperationWord::Unknown => {
+            no_more(items, first);
+        }
+    }
+}
+
+/// Whether a form is a word that names an operation.
+fn names_operation(form: &Form) -> bool
+    ensures { result ≡ is_fitting (symbol_misfits (λ t. is_operation (operation_word t)) (view form.now)) }
+{
+    match form {
+        Form::Symbol(_, word) => is_operation(operation_word(word.as_bytes())),
+        _ => false,
+    }
+}
+
+/// A word that names an operation has to stand in a list at this place, and what belongs to it, where the problem has so
+/// many strands.
+pub fn operation_misfits(strands: usize, place: Place, items: &[Form], first: &mut FirstMisfit)
+    ensures { first.new ≡ first_onto first.old (operation_item_misfits strands place (map view items.now)) }
+{
+    let Some((word, rest)) = items.split_first() else {
+        first.note(place);
+        return;
+    };
+    if names_operation(word) {
+        let named = operation_word(symbol_or_empty(word));
+        behind_word_misfits(strands, named, place, rest, first);
+    } else {
+        first.note(place_of(word));
+    }
+}
+
+/// The node that two numbers in front are; where there are no two forms the first node.
+fn node_stated(items: &[Form]) -> Node
+    ensures { result ≡ node_stated (map view items.now) }
+{
+    match items {
+        [strand, index, ..] => Node {
+            strand: number_of(strand),
+            index: number_of(index),
+        },
+        _ => Node {
+            strand: 0,
+            index: 0,
+        },
+    }
+}
+
+/// The operation that a word and what stands behind it name. The error is that memory ran out.
+pub fn operation_by(
+    alloc: Global,
+    word: OperationWord,
+    items: &[Form],
+) -> Result<Operation, AllocError>
+    ensures { IfOk result (λ o. operation_view o ≡ operation_by (word_view word) (map view items.now)) }
+{
+    match word {
+        OperationWord::Problem | OperationWord::Unknown => Ok(Operation::Problem),
+        OperationWord::Collapsed => Ok(Operation::Collapsed(numbers_of(alloc, items)?)),
+        OperationWord::Contracted => Ok(Operation::Contracted(node_stated(items))),
+        OperationWord::Displaced => Ok(Operation::Displaced(node_stated(items))),
+        OperationWord::AddedStrand => Ok(Operation::AddedStrand(number_stated(items))),
+        OperationWord::AddedListener => Ok(Operation::AddedListener(number_stated(items))),
+        OperationWord::Generalised => Ok(Operation::Generalised),
+    }
+}

@@ -1,0 +1,146 @@
+// Unrealised nodes, tests and escapes of labels: where they do not fit, and what they are.
+ghost use Rattle.std.specs.Prelude.{◌≡◌, [], ◌∷◌, map, option_map, Some, IfOk, OnOk};
+ghost use Rattle.cp_sexpr.specs.View.{view};
+ghost use Rattle.cp_language.specs.Problems.{option_node};
+ghost use Rattle.cp_strand.specs.View.{declaration_view, strand_view};
+ghost use Rattle.cp_skel.specs.Trees.{test_view};
+ghost use Rattle.cp_report.specs.Misfits.{each_misfits};
+ghost use Rattle.cp_report.specs.Spelled.{pattern_misfits, pattern_of};
+ghost use Rattle.cp_report.specs.Skeletons.{node_misfits, node_or_first};
+ghost use Rattle.cp_report.specs.Labels.{unrealised_misfits, test_misfits, test_of};
+ghost use Rattle.cp_variables.specs.FirstMisfit.{first_onto};
+ghost use Rattle.cp_spelled.specs.Views.{scope_view};
+ghost use Rattle.cp_items.specs.Parts.{escape_item_misfits};
+
+use cp_base::Place;
+use cp_forms::{item_at, items_behind};
+use cp_sexpr::Form;
+use cp_skel::{Node, Strand, Test};
+use cp_spelled::{Scope, pattern_misfits, pattern_of, term_or_tag};
+use cp_stated::{node_misfits, node_or_first, one_term_misfits};
+use cp_term::Pattern;
+use cp_variables::{FirstMisfit, Variables, lacking};
+use std::alloc::{AllocError, Global};
+
+/// Each of these forms has to be a node that is there.
+fn nodes_misfits(strands: &[Strand], items: &[Form], first: &mut FirstMisfit)
+    ensures { first.new ≡ first_onto first.old (each_misfits (node_misfits (map strand_view strands.now)) (map view items.now)) }
+{
+    for item in items {
+        node_misfits(strands, item, first);
+    }
+}
+
+/// Nodes that are there have to stand in a list at this place, at least one.
+pub fn unrealised_misfits(strands: &[Strand], place: Place, items: &[Form], first: &mut FirstMisfit)
+    ensures { first.new ≡ first_onto first.old (unrealised_misfits (map strand_view strands.now) place (map view items.now)) }
+{
+    lacking(1, place, items, first);
+    nodes_misfits(strands, items, first);
+}
+
+/// The nodes that forms state; the first node for a form that states none. The error is that memory ran out.
+pub fn nodes_of(alloc: Global, items: &[Form]) -> Result<Vec<Node>, AllocError>
+    ensures { IfOk result (λ v. v.items ≡ map (λ f. node_or_first (option_node (Some f))) (map view items.now)) }
+{
+    let mut nodes = Vec::new(alloc);
+    for item in items {
+        nodes.push(node_or_first(Some(item)))?;
+    }
+    Ok(nodes)
+}
+
+/// A node that is there and a term have to stand in a list at this place.
+pub fn test_misfits(
+    scope: Scope<'_>,
+    strands: &[Strand],
+    place: Place,
+    items: &[Form],
+    first: &mut FirstMisfit,
+)
+    ensures { first.new ≡ first_onto first.old (test_misfits (scope_view scope.entry) (map strand_view strands.now) place (map view items.now)) }
+{
+    let Some((node, rest)) = items.split_first() else {
+        first.note(place);
+        return;
+    };
+    node_misfits(strands, node, first);
+    one_term_misfits(scope, place, rest, first);
+}
+
+/// The test that an item states, if it is there. The error is that memory ran out.
+pub fn test_of(
+    alloc: Global,
+    scope: Scope<'_>,
+    item: Option<&Form>,
+) -> Result<Option<Test>, AllocError>
+    ensures { IfOk result (λ t. option_map test_view t ≡ test_of (scope_view scope.entry) (option_map (λ f. view f.now) item.entry)) }
+{
+    let Some(item) = item else {
+        return Ok(None);
+    };
+    let entries = items_behind(item);
+    let node = node_or_first(item_at(entries, 0));
+    let term = term_or_tag(alloc, scope, item_at(entries, 1))?;
+    Ok(Some(Test { node, term }))
+}
+
+/// Each of these forms has to be a pattern.
+fn patterns_misfits(
+    alloc: Global,
+    variables: &Variables,
+    items: &[Form],
+    first: &mut FirstMisfit,
+) -> Result<(), AllocError>
+    ensures { OnOk result (first.new ≡ first_onto first.old (each_misfits (pattern_misfits (map declaration_view variables.now)) (map view items.now))) }
+{
+    for item in items {
+        pattern_misfits(alloc, variables, item, first)?;
+    }
+    Ok(())
+}
+
+/// Patterns have to stand in a list at this place, at least one, where the label has a test. The error is that memory ran
+/// out.
+pub fn escape_misfits(
+    alloc: Global,
+    has_test: bool,
+    variables: &Variables,
+    place: Place,
+    items: &[Form],
+    first: &mut FirstMisfit,
+) -> Result<(), AllocError>
+    ensures { OnOk result (first.new ≡ first_onto first.old (escape_item_misfits has_test (map declaration_view variables.now) place (map view items.now))) }
+{
+    first.note_unless(has_test, place);
+    lacking(1, place, items, first);
+    patterns_misfits(alloc, variables, items, first)
+}
+
+/// The pattern that a form is, where it is one.
+fn pattern_stated(alloc: Global, variables: &Variables, form: &Form) -> Result<Pattern, AllocError>
+    requires { pattern_misfits (map declaration_view variables.now) (view form.now) ≡ [] }
+    ensures { IfOk result (λ p. p ≡ pattern_of (map declaration_view variables.now) (view form.now)) }
+{
+    match pattern_of(alloc, variables, form)? {
+        Some(pattern) => Ok(pattern),
+        None => unreachable!(),
+    }
+}
+
+/// The patterns that forms are, where each is one. The error is that memory ran out.
+pub fn patterns_of(
+    alloc: Global,
+    variables: &Variables,
+    items: &[Form],
+) -> Result<Vec<Pattern>, AllocError>
+    requires { each_misfits (pattern_misfits (map declaration_view variables.now)) (map view items.now) ≡ [] }
+    ensures { IfOk result (λ v. v.items ≡ map (pattern_of (map declaration_view variables.now)) (map view items.now)) }
+{
+    let mut patterns = Vec::new(alloc);
+    for item in items {
+        let pattern = pattern_stated(alloc, variables, item)?;
+        patterns.push(pattern)?;
+    }
+    Ok(patterns)
+}

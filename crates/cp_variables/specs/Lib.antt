@@ -1,0 +1,4 @@
+pub mod FirstMisfit
+pub mod Tables
+pub mod LocalViews
+pub mod LocalParts
