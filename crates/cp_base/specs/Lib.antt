@@ -1,4 +1,5 @@
 pub mod Codes
+pub mod Held
 pub mod InMemory
 pub mod Outside
 pub mod Statuses

@@ -1,12 +1,12 @@
--- An added listener, whose transmission is put before a node; and events that a strand has, or has not.
-use Rattle.std.proofs.Common.{◌≡◌, ℕ, ◌<◌, ◌≤◌, List, [], ◌∷◌, ◌++◌, length, map, take, Option, Some, refl, sym, ap, ◌∙◌, subst, arith}
+-- An added listener, whose transmission is put before a node.
+use Rattle.std.proofs.Common.{◌≡◌, ℕ, ◌<◌, List, [], ◌∷◌, ◌++◌, length, map, Option, refl, sym, ap, ◌∙◌, subst, arith}
 use Rattle.cp_lists.specs.Lists.{item_at, one_step, more_steps}
-use Rattle.cp_lists.proofs.Items.{item_still, item_last, item_there, item_of_map, item_of_take}
-use Rattle.cp_model.specs.Term.{Term, Substitution, apply_to}
-use Rattle.cp_model.specs.Strand.{recv, event_map, Declaration, Role}
+use Rattle.cp_lists.proofs.Items.{item_still, item_last}
+use Rattle.cp_model.specs.Term.{Term}
+use Rattle.cp_model.specs.Strand.{recv, Declaration}
 use Rattle.cp_model.specs.Bundle.{node_at}
 use Rattle.cp_model.specs.declared.node.Node.{Node}
-use Rattle.cp_model.specs.Skeleton.{SkeletonStrand, instance, listener, skeleton_trace_or_none, Skeleton, Before, OrderStep, along_strand_of, along_pair, IsNodeOf, IsOrderPair}
+use Rattle.cp_model.specs.Skeleton.{SkeletonStrand, listener, skeleton_trace_or_none, Skeleton, Before, OrderStep, along_strand_of, along_pair, IsOrderPair}
 use Rattle.cp_model.specs.Tree.{by_added_listener}
 use Rattle.cp_guard.specs.Critical.{IsTest}
 use Rattle.cp_skel.specs.Changing.{AddsListener}
@@ -15,12 +15,11 @@ use Rattle.cp_skel.specs.Sound.{IsSound}
 use Rattle.cp_skel.specs.View.{skeleton_view}
 use Rattle.cp_term.specs.declared.path.Step.{Step}
 use Rattle.cp_answers.specs.Covering.{put_before}
-use Rattle.cp_answers.proofs.Places.{node_before}
 use Rattle.cp_normal.specs.Exact.{HasForms}
 use Rattle.cp_covering.specs.Children.{Child, child}
 use Rattle.cp_covering.specs.Cohort.{Question, Listens}
 use Rattle.cp_cohort.specs.Growing.{AreForms}
-use Rattle.cp_cohort.proofs.Letting.{event_stays, instance_event, strand_there}
+use Rattle.cp_cohort.proofs.Letting.{event_stays, strand_there}
 
 module _ (q : Question) (t : Term) (test : IsTest q.skeleton q.node q.critical) where
   abbrev heard : Skeleton
@@ -90,20 +89,3 @@ module _ (q : Question) (t : Term) (test : IsTest q.skeleton q.node q.critical) 
 pub listener_added : (k copied new : SkeletonData) (t message : Term) → copied ≡ k → message ≡ t → AddsListener message (skeleton_view copied) (skeleton_view new) → AddsListener t (skeleton_view k) (skeleton_view new)
 listener_added k copied new t message same is adds =
     adds ∙ ap (λ (z : SkeletonData). record (skeleton_view z) { strands = (skeleton_view z).strands ++ listener message ∷ [] }) same ∙ ap (λ (u : Term). record (skeleton_view k) { strands = (skeleton_view k).strands ++ listener u ∷ [] }) is
-
--- ---- events that a strand has, or has not
-
-module _ (k : Skeleton) (s : ℕ) (role : Role) (height : ℕ) (terms : Substitution) (on : item_at k.strands s ≡ Some (instance role height terms)) (j : ℕ) where
-  pub has_event : IsSound k → j < height → IsNodeOf k.strands (node_at s j)
-  has_event sound below =
-      let h = sound.skeleton.heights s role height terms on in
-      let r = item_there role.trace j (omega (arith, h.1)) in
-      (event_map (apply_to terms) r.0, instance_event k.strands s role height j terms r.0 on r.1 below)
-
-  pub has_none : IsSound k → height ≤ j → (n : Node) → Before k (node_at s j) n → ⊥
-  has_none sound above n b =
-      let r = node_before sound.protocol k sound.skeleton b in
-      let at : item_at (map (event_map (apply_to terms)) (take height role.trace)) j ≡ Some r.0 = ap (λ (o : Option SkeletonStrand). item_at (skeleton_trace_or_none o) j) (sym on) ∙ r.1 in
-      let u = item_of_map (event_map (apply_to terms)) (take height role.trace) j r.0 at in
-      let v = item_of_take height role.trace j u.0 u.1 in
-      absurd (omega (arith, v.0))

@@ -1,14 +1,13 @@
 // Contracted children: the term at a position of what was sent before is made the critical one.
 ghost use Rattle.std.specs.Prelude.{OnOk};
-ghost use Rattle.cp_lists.specs.Lists.{IsIn};
 ghost use Rattle.cp_model.specs.Skeleton.{IsNodeOf};
 ghost use Rattle.cp_model.specs.Strand.{payload};
-ghost use Rattle.cp_skel.specs.Events.{occurrence_view, events_of};
+ghost use Rattle.cp_skel.specs.Events.{occurrence_view};
 ghost use Rattle.cp_skel.specs.Trees.{variables_view};
 ghost use Rattle.cp_skel.specs.View.{skeleton_view};
 ghost use Rattle.cp_covering.specs.Cohort.{Contracts, AreContracted};
 ghost use Rattle.cp_cohort.specs.Growing.{AreForms, ContractsEvent, IsPosition};
-ghost use Rattle.cp_cohort.specs.Views.{question_view, made_view, PutsChildren};
+ghost use Rattle.cp_cohort.specs.Views.{question_view, made_view, IsGathered, PutsChildren};
 
 use crate::child::{Child, Made, put_children};
 use crate::question::Question;
@@ -77,10 +76,15 @@ fn contract_event(
     children: &mut Vec<Child>,
 ) -> Result<(), AllocError>
     requires there { IsNodeOf (question_view question.now).skeleton.strands (question_view question.now).node }
-    requires listed { IsIn (occurrence_view occurrence.now) (events_of (question_view question.now).skeleton) }
+    requires gathered { IsGathered question.now }
     ensures { OnOk result (PutsChildren (ContractsEvent (question_view question.now) (occurrence_view occurrence.now)) children.old.items children.new.items) }
 {
-    if !is_sent_before(question.skeleton, question.node, occurrence) {
+    if !is_sent_before(
+        question.skeleton,
+        question.leading,
+        question.node,
+        occurrence,
+    ) {
         return Ok(());
     }
     let paths = positions_for(alloc, occurrence.event.payload(), question.critical)?;
@@ -96,7 +100,8 @@ pub(crate) fn contract(
     question: &Question,
     children: &mut Vec<Child>,
 ) -> Result<(), AllocError>
-    requires { IsNodeOf (question_view question.now).skeleton.strands (question_view question.now).node }
+    requires there { IsNodeOf (question_view question.now).skeleton.strands (question_view question.now).node }
+    requires gathered { IsGathered question.now }
     ensures { OnOk result (PutsChildren (AreContracted (question_view question.now)) children.old.items children.new.items) }
 {
     let occurrences = question.skeleton.events(alloc)?;

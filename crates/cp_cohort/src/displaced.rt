@@ -1,36 +1,22 @@
 // Displaced children: an event of a strand that is there is put before the node, to release the critical term.
-ghost use Rattle.std.specs.Prelude.{◌≡◌, ◌≢◌, ◌↔◌, ◌<◌, Some, length, IsTrue, OnOk};
+ghost use Rattle.std.specs.Prelude.{◌≡◌, ◌≢◌, ◌<◌, Some, length, OnOk};
 ghost use Rattle.cp_guard.specs.Critical.{IsTest};
-ghost use Rattle.cp_model.specs.Bundle.{node_at};
 ghost use Rattle.cp_model.specs.Problem.{numbers_from};
-ghost use Rattle.cp_model.specs.Skeleton.{Before, IsNodeOf};
 ghost use Rattle.cp_lists.specs.Lists.{item_at};
 ghost use Rattle.cp_strand.specs.View.{strand_view};
 ghost use Rattle.cp_covering.specs.Cohort.{DisplacesEvent, DisplacesStrand};
 ghost use Rattle.cp_cohort.specs.Growing.{IsThere};
 ghost use Rattle.cp_covering.specs.Listing.{EachGives};
-ghost use Rattle.cp_cohort.specs.Views.{question_view, PutsChildren};
+ghost use Rattle.cp_cohort.specs.Views.{question_view, IsGathered, PutsChildren};
 
 use crate::child::{Child, Made};
 use crate::growing::with_events;
 use crate::question::Question;
 use crate::releasing::release;
 use crate::sending::is_sent;
+use cp_covering::comes_before;
 use cp_skel::{Instance, Node, Strand, StrandShape};
 use std::alloc::{AllocError, Global};
-
-/// Whether the event of this index of the instance on this strand is before the node. One that it does not have is not.
-fn is_before(question: &Question, instance: &Instance, node: Node) -> bool
-    requires asked { IsNodeOf (question_view question.now).skeleton.strands (question_view question.now).node }
-    requires there { IsThere (question_view question.now).skeleton node.strand instance.now }
-    ensures { IsTrue result ↔ Before (question_view question.now).skeleton node (question_view question.now).node }
-{
-    question.skeleton.is_sound();
-    if node.index >= instance.height() {
-        return false;
-    }
-    question.skeleton.before(node, question.node)
-}
 
 /// Puts what an event of the role of the instance on this strand gives behind others.
 fn displace_event(
@@ -42,6 +28,7 @@ fn displace_event(
     children: &mut Vec<Child>,
 ) -> Result<(), AllocError>
     requires test { IsTest (question_view question.now).skeleton (question_view question.now).node (question_view question.now).critical }
+    requires gathered { IsGathered question.now }
     requires there { IsThere (question_view question.now).skeleton strand instance.now }
     requires other { strand ≢ (question_view question.now).node.strand }
     requires reached { index < length instance.now.role.trace }
@@ -51,7 +38,7 @@ fn displace_event(
         return Ok(());
     }
     let node = Node { strand, index };
-    if is_before(question, instance, node) {
+    if comes_before(question.skeleton, question.leading, node, question.node) {
         return Ok(());
     }
     let height = index + 1;
@@ -75,6 +62,7 @@ fn displace_strand(
     children: &mut Vec<Child>,
 ) -> Result<(), AllocError>
     requires test { IsTest (question_view question.now).skeleton (question_view question.now).node (question_view question.now).critical }
+    requires gathered { IsGathered question.now }
     requires there { item_at (question_view question.now).skeleton.strands number ≡ Some (strand_view strand.now) }
     ensures { OnOk result (PutsChildren (DisplacesStrand (question_view question.now) number) children.old.items children.new.items) }
 {
@@ -97,7 +85,8 @@ pub(crate) fn displace(
     question: &Question,
     children: &mut Vec<Child>,
 ) -> Result<(), AllocError>
-    requires { IsTest (question_view question.now).skeleton (question_view question.now).node (question_view question.now).critical }
+    requires test { IsTest (question_view question.now).skeleton (question_view question.now).node (question_view question.now).critical }
+    requires gathered { IsGathered question.now }
     ensures { OnOk result (PutsChildren (EachGives (DisplacesStrand (question_view question.now)) (numbers_from 0 (question_view question.now).skeleton.strands)) children.old.items children.new.items) }
 {
     for (number, strand) in question.skeleton.strands().iter().enumerate() {

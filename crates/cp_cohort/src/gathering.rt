@@ -24,7 +24,7 @@ use crate::displaced::displace;
 use crate::listeners::listen;
 use crate::question::Question;
 use cp_covering::{children_are_sound, cohorts_cover, operations_are_true};
-use cp_skel::{Node, Protocol, Skeleton};
+use cp_skel::{Leading, Node, Protocol, Skeleton};
 use cp_term::{Pattern, Term};
 use std::alloc::{AllocError, Global};
 
@@ -72,9 +72,11 @@ pub fn cohort(
     cohorts_cover();
     children_are_sound();
     operations_are_true();
+    let leading = Leading::new(alloc, k.order().pairs(), node)?;
     let question = Question {
         skeleton: k,
         node,
+        leading: &leading,
         critical,
         patterns,
     };

@@ -1,5 +1,5 @@
 // What is asked of a cohort.
-use cp_skel::{Node, Skeleton};
+use cp_skel::{Leading, Node, Skeleton};
 use cp_term::{Pattern, Term};
 
 /// Under which patterns which component of the message received at a node of a skeleton is to be released.
@@ -7,6 +7,8 @@ use cp_term::{Pattern, Term};
 pub(crate) struct Question<'a> {
     pub(crate) skeleton: &'a Skeleton,
     pub(crate) node: Node,
+    /// The nodes that lead to the node along the skeleton's pairs.
+    pub(crate) leading: &'a Leading<'a>,
     pub(crate) critical: &'a Term,
     pub(crate) patterns: &'a [Pattern],
 }

@@ -12,9 +12,9 @@ use Rattle.cp_completeness.specs.Normal.{strand_under, assumptions_under, from_p
 use Rattle.cp_unify.specs.Bindings.{sort_of}
 use Rattle.cp_skel.specs.Changing.{IsClosedPrefix}
 use Rattle.cp_term.specs.Table.{Declared}
-use Rattle.cp_strand.specs.Data.{StrandData}
+use Rattle.cp_strand.specs.Data.{InstanceData, StrandData}
 use Rattle.cp_skel.specs.Data.{SkeletonData, skeleton_of}
-use Rattle.cp_strand.specs.View.{strand_view}
+use Rattle.cp_strand.specs.View.{instance_as_data, strand_view}
 use Rattle.cp_skel.specs.View.{skeleton_view}
 use Rattle.cp_skel.specs.DeclaredPrefixes.{HasDeclaredPrefixes}
 use Rattle.cp_strand.specs.Occurring.{declared_variables, terms_of}
@@ -92,3 +92,13 @@ pub made_under : (s : Substitution) (k : SkeletonData) (variables : List Declare
     map strand_view strands ≡ map (declared_under s) (map strand_view k.strands) → order ≡ k.order → assumptions ≡ assumptions_under s k.assumptions → from_problem ≡ from_problem_under s k.from_problem →
     SaysTheSame (skeleton_under s (skeleton_view k)) (skeleton_view (skeleton_of variables strands order assumptions from_problem))
 made_under s k variables strands order assumptions from_problem = says_the_same s (skeleton_view k) (skeleton_view (skeleton_of variables strands order assumptions from_problem))
+
+-- ---- strands under substitutions
+
+-- An instance with the terms of its declared variables under a substitution is the strand under it.
+pub declared_is : (s : Substitution) (i : InstanceData) (k : StrandData) (us vs : List Term) (ds : List Declaration) → instance_as_data i ≡ k → us ≡ i.values → ds ≡ i.role.variables →
+    vs ≡ terms_of (composed (substitution_by us) s) (declared_variables 0 ds) → strand_view (instance_as_data (record i { values = vs })) ≡ declared_under s (strand_view k)
+declared_is s i k us vs ds is own all e =
+    ap (λ (ts : List Term). instance i.role i.height (substitution_by ts))
+    (e ∙ ap (λ (ts : List Term). terms_of (composed (substitution_by ts) s) (declared_variables 0 ds)) own ∙ ap (λ (es : List Declaration). terms_of (composed (substitution_by i.values) s) (declared_variables 0 es)) all)
+    ∙ ap (λ (x : StrandData). declared_under s (strand_view x)) is

@@ -7,14 +7,14 @@ use cp_skel::{Leading, Node, OrderPair, UniqueAt};
 use std::alloc::{AllocError, Global};
 
 /// Whether the pair goes from the node to one that leads to the other node.
-fn leads_on(leading: &Leading, node: Node, pair: &OrderPair) -> bool
+fn leads_on(leading: &Leading<'_>, node: Node, pair: &OrderPair) -> bool
     ensures { IsTrue result ↔ LeadsOn leading.now.pairs node leading.now.node pair.now }
 {
     pair.earlier == node && leading.has(pair.later)
 }
 
 /// Whether one of the pairs goes from the node to one that leads to the other node.
-fn some_leads_on(leading: &Leading, node: Node, pairs: &[OrderPair]) -> bool
+fn some_leads_on(leading: &Leading<'_>, node: Node, pairs: &[OrderPair]) -> bool
     ensures { IsTrue result ↔ Has (λ p. LeadsOn leading.now.pairs node leading.now.node p) pairs.now }
 {
     for pair in pairs {

@@ -22,4 +22,4 @@ pub use cycles::some_is_closed;
 pub use examples::two_strands_of_one_role_example;
 pub use identifying::collapses;
 pub use laws::{agreeing_skeletons_stand_alike, unifiers_are_determined};
-pub use substituting::under;
+pub use substituting::{are_same_terms, under};

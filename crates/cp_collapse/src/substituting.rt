@@ -1,9 +1,9 @@
 // Skeletons under substitutions.
-ghost use Rattle.std.specs.Prelude.{◌≡◌, map, IfOk};
+ghost use Rattle.std.specs.Prelude.{◌≡◌, ◌↔◌, map, IsTrue, IfOk};
 ghost use Rattle.cp_model.specs.Term.{Substitution, apply_to, apply_to_atom};
 ghost use Rattle.cp_completeness.specs.Normal.{unique_under, assumptions_under, from_problem_under, skeleton_under};
 ghost use Rattle.cp_unify.specs.Bindings.{as_substitution};
-ghost use Rattle.cp_strand.specs.View.{instance_view, strand_view};
+ghost use Rattle.cp_strand.specs.View.{instance_as_data, strand_view};
 ghost use Rattle.cp_skel.specs.View.{skeleton_view};
 ghost use Rattle.cp_collapse.specs.Agreeing.{SaysTheSame};
 ghost use Rattle.cp_collapse.specs.Values.{declared_under};
@@ -32,7 +32,7 @@ pub(crate) fn each_under<T: Substituted + Drop>(
 ) -> Result<Vec<T>, AllocError>
     ensures { IfOk result (λ v. v.items ≡ map (T.becomes (as_substitution s.now)) items.now) }
 {
-    let mut changed = Vec::new(alloc);
+    let mut changed = Vec::with_capacity(alloc, items.len())?;
     for item in items {
         changed.push(item.under(alloc, s)?)?;
     }
@@ -92,22 +92,53 @@ impl Substituted for FromProblem {
     }
 }
 
-/// An instance under a substitution: the term of each variable that its role declares.
-fn instance_under(alloc: Global, instance: &Instance, s: &Subst) -> Result<Instance, AllocError>
-    ensures { IfOk result (λ i. instance_view i ≡ declared_under (as_substitution s.now) (instance_view instance.now)) }
+/// Whether the terms are the same, one by one.
+pub fn are_same_terms(a: &[Term], b: &[Term]) -> bool
+    ensures { IsTrue result ↔ (a.now ≡ b.now) }
 {
-    let role = instance.role().clone()?;
-    let values = declared_terms(alloc, role.variables(), instance.values(), s)?;
-    Ok(Instance::new(role, instance.height(), values))
+    if a.len() != b.len() {
+        return false;
+    }
+    for index in 0..a.len() {
+        if !a[index].same(&b[index]) {
+            return false;
+        }
+    }
+    true
 }
 
-/// A strand under a substitution: the terms of an instance, and the message of a listener.
+/// The strand of an instance with these terms in place of its own: the strand itself, which both share, where they are the
+/// same. It holds its events where the strand does.
+fn with_values(
+    alloc: Global,
+    strand: &Strand,
+    instance: &Instance,
+    values: Vec<Term>,
+) -> Result<Strand, AllocError>
+    requires { strand.now ≡ instance_as_data instance.now }
+    ensures { IfOk result (λ t. t ≡ instance_as_data (record instance.now { values = values.items })) }
+{
+    if are_same_terms(&values, instance.values()) {
+        return strand.copy();
+    }
+    let role = instance.role().clone()?;
+    let changed = Instance::new(role, instance.height(), values);
+    match strand.held() {
+        Some(_) => Strand::with_events(alloc, changed),
+        None => Strand::instance(alloc, changed),
+    }
+}
+
+/// A strand under a substitution: the term of each variable that the role of an instance declares, and the message of a
+/// listener. Where nothing changes of an instance, both share it.
 pub(crate) fn strand_under(alloc: Global, strand: &Strand, s: &Subst) -> Result<Strand, AllocError>
     ensures { IfOk result (λ t. strand_view t ≡ declared_under (as_substitution s.now) (strand_view strand.now)) }
 {
     match strand.shape() {
         StrandShape::Instance(instance) => {
-            Strand::instance(alloc, instance_under(alloc, instance, s)?)
+            let declarations = instance.role().variables();
+            let values = declared_terms(alloc, declarations, instance.values(), s)?;
+            with_values(alloc, strand, instance, values)
         }
         StrandShape::Listener(message) => Strand::listener(alloc, apply(alloc, s, message)?),
     }
@@ -116,7 +147,7 @@ pub(crate) fn strand_under(alloc: Global, strand: &Strand, s: &Subst) -> Result<
 fn strands_under(alloc: Global, strands: &[Strand], s: &Subst) -> Result<Vec<Strand>, AllocError>
     ensures { IfOk result (λ v. map strand_view v.items ≡ map (declared_under (as_substitution s.now)) (map strand_view strands.now)) }
 {
-    let mut changed = Vec::new(alloc);
+    let mut changed = Vec::with_capacity(alloc, strands.len())?;
     for strand in strands {
         changed.push(strand_under(alloc, strand, s)?)?;
     }

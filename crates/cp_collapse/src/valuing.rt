@@ -7,8 +7,8 @@ ghost use Rattle.cp_strand.specs.View.{sort_view, declaration_view};
 ghost use Rattle.cp_unify.specs.Bindings.{as_substitution};
 ghost use Rattle.cp_collapse.specs.Values.{term_of_variable};
 
-use cp_skel::{Declaration, applied};
-use cp_term::{Sort, Term, VarId, var};
+use cp_skel::{Declaration, value_of_variable};
+use cp_term::{Sort, Term, VarId};
 use cp_unify::{Subst, apply};
 use std::alloc::{AllocError, Global};
 
@@ -22,8 +22,7 @@ pub(crate) fn term_of_variable(
 ) -> Result<Term, AllocError>
     ensures { IfOk result (λ t. t ≡ term_of_variable (substitution_by terms.now) (record { sort = sort_view sort; number = id })) }
 {
-    let variable = var(alloc, id, sort)?;
-    applied(alloc, terms, &variable)
+    value_of_variable(alloc, terms, id, sort)
 }
 
 /// The terms of the declared variables under a substitution.
@@ -35,7 +34,7 @@ pub(crate) fn declared_terms(
 ) -> Result<Vec<Term>, AllocError>
     ensures { IfOk result (λ v. v.items ≡ terms_of (composed (substitution_by terms.now) (as_substitution s.now)) (declared_variables 0 (map declaration_view declarations.now))) }
 {
-    let mut changed = Vec::new(alloc);
+    let mut changed = Vec::with_capacity(alloc, declarations.len())?;
     for (number, declaration) in declarations.iter().enumerate() {
         let id = VarId::numbered(number);
         let term = term_of_variable(alloc, terms, id, declaration.sort)?;

@@ -1,24 +1,40 @@
-// What role strands send before a node.
-ghost use Rattle.std.specs.Prelude.{◌↔◌, IsTrue};
-ghost use Rattle.cp_lists.specs.Lists.{IsIn};
-ghost use Rattle.cp_model.specs.Skeleton.{IsNodeOf};
-ghost use Rattle.cp_skel.specs.Events.{occurrence_view, events_of};
+// What is before a node, and what role strands send there.
+ghost use Rattle.std.specs.Prelude.{◌≡◌, ◌↔◌, IsTrue};
+ghost use Rattle.cp_model.specs.Skeleton.{IsNodeOf, Before};
+ghost use Rattle.cp_skel.specs.Events.{occurrence_view};
 ghost use Rattle.cp_skel.specs.View.{skeleton_view};
 ghost use Rattle.cp_covering.specs.Children.{IsSentBefore};
 
-use cp_skel::{Event, Node, Occurrence, Skeleton};
+use cp_skel::{Event, Leading, Node, Occurrence, Skeleton};
 
-/// Whether an event of the skeleton is a transmission of a role strand before the node. The node has to be there.
-pub fn is_sent_before(k: &Skeleton, node: Node, occurrence: &Occurrence) -> bool
+/// Whether n is before m in the skeleton's order, by the nodes that lead to m along its pairs, which were gathered. The node m
+/// has to be there.
+pub fn comes_before(k: &Skeleton, leading: &Leading<'_>, n: Node, m: Node) -> bool
+    requires there { IsNodeOf (skeleton_view k.now).strands m }
+    requires gathered { leading.now ≡ record { pairs = k.now.order; node = m } }
+    ensures { IsTrue result ↔ Before (skeleton_view k.now) n m }
+{
+    k.is_sound();
+    n != m && leading.has(n)
+}
+
+/// Whether an event is a transmission of a role strand before the node, by the nodes that lead to this along the skeleton's
+/// pairs, which were gathered. The node has to be there.
+pub fn is_sent_before(
+    k: &Skeleton,
+    leading: &Leading<'_>,
+    node: Node,
+    occurrence: &Occurrence,
+) -> bool
     requires there { IsNodeOf (skeleton_view k.now).strands node }
-    requires listed { IsIn (occurrence_view occurrence.now) (events_of (skeleton_view k.now)) }
+    requires gathered { leading.now ≡ record { pairs = k.now.order; node = node } }
     ensures { IsTrue result ↔ IsSentBefore (skeleton_view k.now) node (occurrence_view occurrence.now) }
 {
     if !occurrence.by_role {
         return false;
     }
     match &occurrence.event {
-        Event::Send(_) => k.before(occurrence.node, node),
+        Event::Send(_) => comes_before(k, leading, occurrence.node, node),
         Event::Receive(_) => false,
     }
 }

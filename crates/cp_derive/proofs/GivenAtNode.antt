@@ -23,12 +23,12 @@ use Rattle.cp_derive.specs.Given.{Given, IsDerivable, IsGivenAt}
 use Rattle.cp_skel.specs.Events.{occurrence_view, events_of}
 use Rattle.cp_derive.specs.Transmissions.{Transmission}
 use Rattle.cp_derive.specs.Before.{LeadsToOther, ArePlacesBefore, messages_at, transmissions_of, given_by}
-use Rattle.cp_derive.specs.Unrealised.{IsUnrealisedAt, IsRealisedAt, ListsUnrealised}
+use Rattle.cp_derive.specs.Unrealised.{IsUnrealisedAt, IsRealisedAt}
 use Rattle.cp_derive.proofs.FromLaw.{given_at}
 use Rattle.cp_skel.proofs.EventLists.{listed_event}
 use Rattle.cp_derive.proofs.Sending.{transmission_listed, listed_on_role, listed_transmission}
 use Rattle.cp_derive.proofs.Placing.{IsMessageAt, message_at, at_message}
-use Rattle.cp_derive.proofs.Picking.{Picks, no_more, picks, passes, lists_unrealised}
+use Rattle.cp_derive.specs.Picked.{AreAmong, Picks, no_more, picks, passes}
 use Rattle.cp_derive.proofs.Secrets.{secret_values}
 
 -- The order of a sound skeleton is one.
@@ -110,17 +110,14 @@ module _ (k : Skeleton) (os : List program.Occurrence) (i : ℕ) (o : program.Oc
       (subst (λ xs. Picks k xs (o.node ∷ ns)) (sym next_occurrence)
       (picks {o = occurrence_view o} u (subst (λ j. Picks k (map occurrence_view (drop j os)) ns) plus_one more))))
 
-  pub event_at : map occurrence_view os ≡ events_of k → term_event_at k.strands o.node ≡ Some (event_view o.event)
-  event_at all =
-      listed_event k (occurrence_view o)
-      (subst (IsIn (occurrence_view o)) all (at_place (map occurrence_view os) i (occurrence_view o) (map_of_read occurrence_view os i o h is)))
+  pub event_at : AreAmong (map occurrence_view os) (events_of k) → term_event_at k.strands o.node ≡ Some (event_view o.event)
+  event_at among =
+      listed_event k (occurrence_view o) (among (occurrence_view o) (at_place (map occurrence_view os) i (occurrence_view o) (map_of_read occurrence_view os i o h is)))
 
-pub all_passed : (k : Skeleton) (os : List program.Occurrence) (i : ℕ) (nodes : List Node) → length os ≤ i → map occurrence_view os ≡ events_of k →
-    ((ns : List Node) → Picks k (map occurrence_view (drop i os)) ns → Picks k (map occurrence_view os) (nodes ++ ns)) → ListsUnrealised k nodes
-all_passed k os i nodes past all so_far =
-    lists_unrealised k nodes
-    (subst (λ xs. Picks k xs nodes) all
-    (subst (Picks k (map occurrence_view os)) (append-nil nodes) (so_far [] (subst (λ xs. Picks k (map occurrence_view xs) []) (sym (drop_all i os past)) no_more))))
+pub all_passed : (k : Skeleton) (os : List program.Occurrence) (i : ℕ) (nodes : List Node) → length os ≤ i →
+    ((ns : List Node) → Picks k (map occurrence_view (drop i os)) ns → Picks k (map occurrence_view os) (nodes ++ ns)) → Picks k (map occurrence_view os) nodes
+all_passed k os i nodes past so_far =
+    subst (Picks k (map occurrence_view os)) (append-nil nodes) (so_far [] (subst (λ xs. Picks k (map occurrence_view xs) []) (sym (drop_all i os past)) no_more))
 
 -- An event that is no reception is realised.
 pub other_realised : (k : Skeleton) (n : Node) (e : ProgramEvent) → term_event_at k.strands n ≡ Some (event_view e) → ((m : Term) → e ≡ Receive m → ⊥) → IsRealisedAt k n

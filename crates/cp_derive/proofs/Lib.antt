@@ -11,3 +11,5 @@ pub mod Picking
 pub mod Extending
 pub mod Placing
 pub mod GivenAtNode
+pub mod Growing
+pub mod ByStrand

@@ -8,14 +8,9 @@ use Rattle.cp_model.specs.Strand.{Event, recv}
 use Rattle.cp_model.specs.declared.node.Node.{Node}
 use Rattle.cp_model.specs.Skeleton.{SkeletonStrand, skeleton_trace, Skeleton}
 use Rattle.cp_skel.specs.Events.{Occurrence, is_role_strand, occurrences_on, occurrences_from, events_of}
+use Rattle.cp_derive.specs.Picked.{Picks, no_more, picks, passes}
 use Rattle.cp_derive.specs.Unrealised.{IsUnrealisedAt, IsRealisedAt, IsListedBefore, AreRising, ListsUnrealised}
 use Rattle.cp_skel.proofs.EventLists.{stands_on, stands_among, event_listed}
-
--- The nodes are those of the events that are unrealised receptions, in their order.
-pub data Picks (k : Skeleton) : List Occurrence → List Node → Type 0 where
-  no_more : Picks k [] []
-  picks : {o : Occurrence} {os : List Occurrence} {ns : List Node} → IsUnrealisedAt k o.node → Picks k os ns → Picks k (o ∷ os) (o.node ∷ ns)
-  passes : {o : Occurrence} {os : List Occurrence} {ns : List Node} → IsRealisedAt k o.node → Picks k os ns → Picks k (o ∷ os) ns
 
 abbrev pub node_of : Occurrence → Node
 node_of o = o.node
@@ -50,6 +45,12 @@ others_passed k _ _ (picks {o = x} {os} {ns} h more) o i =
     ]
 others_passed k _ _ (passes {o = x} {os} {ns} h more) o i =
     elim (in_cases i) [ inl e ↦ inr (subst (λ (y : Occurrence). IsRealisedAt k y.node) e h) | inr j ↦ others_passed k os ns more o j ]
+
+-- what is picked of two lists, one behind the other
+pub picked_both : (k : Skeleton) (os ps : List Occurrence) (ns ms : List Node) → Picks k os ns → Picks k ps ms → Picks k (os ++ ps) (ns ++ ms)
+picked_both k _ ps _ ms no_more h = h
+picked_both k _ ps _ ms (picks {o} {os} {ns} u more) h = picks {o = o} u (picked_both k os ps ns ms more h)
+picked_both k _ ps _ ms (passes {o} {os} {ns} r more) h = passes {o = o} r (picked_both k os ps ns ms more h)
 
 -- ---- in order
 

@@ -143,3 +143,7 @@ module _ (ps : List ℕ) (i : ℕ) (ts : List Transmission) (old new whole : Lis
 pub ok_then : {A E : Type 0} (P Q : A → Type 0) (r : Result A E) → ((x : A) → P x → Q x) → IfOk r P → IfOk r Q
 ok_then P Q (Ok x) f h = f x h
 ok_then P Q (Err e) f h = tt
+
+pub ok_both : {A E : Type 0} (P Q R : A → Type 0) (r : Result A E) → ((x : A) → P x → Q x → R x) → IfOk r P → IfOk r Q → IfOk r R
+ok_both P Q R (Ok x) f h i = f x h i
+ok_both P Q R (Err e) f h i = tt

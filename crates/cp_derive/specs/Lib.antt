@@ -9,3 +9,5 @@ pub mod Unrealised
 pub mod Transmissions
 pub mod Assumed
 pub mod Before
+pub mod Places
+pub mod Picked

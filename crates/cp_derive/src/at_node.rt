@@ -17,7 +17,7 @@ use crate::component::Critical;
 use crate::knowledge::Known;
 use crate::transmission::{Transmission, transmissions};
 use crate::walk::critical_in;
-use cp_skel::{Node, Skeleton};
+use cp_skel::{Node, Skeleton, SortedPairs};
 use cp_term::Term;
 use std::alloc::{AllocError, Global};
 
@@ -37,7 +37,8 @@ pub fn known(alloc: Global, k: &Skeleton, node: Node) -> Result<Known, AllocErro
 {
     k.is_sound();
     let transmissions = transmissions_of(alloc, k)?;
-    let places = places_before(alloc, k.order().pairs(), &transmissions, node)?;
+    let sorted = SortedPairs::new(alloc, k.order().pairs())?;
+    let places = places_before(alloc, &sorted, &transmissions, node)?;
     let sent = messages_at(alloc, &places, &transmissions)?;
     let secrets = assumed_values(alloc, k.assumptions())?;
     Known::new(alloc, sent, secrets)

@@ -5,20 +5,20 @@ ghost use Rattle.cp_derive.specs.Transmissions.{transmission_view};
 ghost use Rattle.cp_derive.specs.Before.{ArePlacesBefore, messages_at};
 
 use crate::transmission::Transmission;
-use cp_skel::{Leading, Node, OrderPair};
+use cp_skel::{Node, SortedPairs};
 use cp_term::Term;
 use std::alloc::{AllocError, Global};
 
 /// The places of the transmissions that lead to another node, this one.
 pub(crate) fn places_before(
     alloc: Global,
-    pairs: &[OrderPair],
+    sorted: &SortedPairs<'_>,
     transmissions: &[Transmission],
     node: Node,
 ) -> Result<Vec<usize>, AllocError>
-    ensures { IfOk result (λ ps. ArePlacesBefore pairs.now node (map transmission_view transmissions.now) ps.items) }
+    ensures { IfOk result (λ ps. ArePlacesBefore sorted.now node (map transmission_view transmissions.now) ps.items) }
 {
-    let leading = Leading::new(alloc, pairs, node)?;
+    let leading = sorted.leading_to(alloc, node)?;
     let mut places = Vec::new(alloc);
     for (place, transmission) in transmissions.iter().enumerate() {
         if leading.has(transmission.node) && transmission.node != node {

@@ -7,12 +7,14 @@ ghost use Rattle.cp_skel.specs.Ordered.{IsOrdered};
 ghost use Rattle.cp_skel.specs.View.{skeleton_view};
 ghost use Rattle.cp_derive.specs.Before.{messages_at, transmissions_of, given_by};
 ghost use Rattle.cp_derive.specs.Given.{IsDerivable};
+ghost use Rattle.cp_derive.specs.Places.{AreSamePlaces};
 ghost use Rattle.cp_derive.specs.Transmissions.{transmission_view};
 
 use crate::before::{messages_at, places_before};
 use crate::knowledge::Known;
+use crate::marks::places_behind;
 use crate::transmission::Transmission;
-use cp_skel::{Node, Skeleton};
+use cp_skel::{Node, Skeleton, SortedPairs};
 use std::alloc::{AllocError, Global};
 
 /// The places of the transmissions that came before the last node, and what is known from them.
@@ -22,50 +24,63 @@ pub(crate) struct Front {
     pub(crate) known: Known,
 }
 
-/// What is known from the transmissions at these places, where it was known from those at the last ones: what was
-/// opened is kept, where the last ones begin these.
-fn known_from(
+/// Goes over to these places, in some order: what was opened is kept, where all the last ones are among them. On one
+/// strand they mostly begin these, which is found without marks.
+fn moved(
     alloc: Global,
     transmissions: &[Transmission],
-    last: &[usize],
-    places: &[usize],
-    known: Known,
-) -> Result<Known, AllocError>
-    requires { known.sent ≡ messages_at last.now (map transmission_view transmissions.now) }
-    ensures { IfOk result (λ k. k ≡ record { sent = messages_at places.now (map transmission_view transmissions.now); secrets = known.secrets }) }
+    front: Front,
+    places: Vec<usize>,
+) -> Result<Front, AllocError>
+    requires { front.known.sent ≡ messages_at front.places.items (map transmission_view transmissions.now) }
+    ensures known { IfOk result (λ f. f.known ≡ record { sent = messages_at f.places.items (map transmission_view transmissions.now); secrets = front.known.secrets }) }
+    ensures places { IfOk result (λ f. AreSamePlaces places.items f.places.items) }
 {
-    match places.strip_prefix(last) {
-        Some(more) => {
-            let more = messages_at(alloc, more, transmissions)?;
-            known.extended(alloc, more)
+    let Front {
+        places: mut last,
+        known,
+    } = front;
+    if let Some(more) = places.strip_prefix(&*last) {
+        let messages = messages_at(alloc, more, transmissions)?;
+        let known = known.extended(alloc, messages)?;
+        return Ok(Front { places, known });
+    }
+    match places_behind(alloc, transmissions.len(), &last, &places)? {
+        Some(mut more) => {
+            let messages = messages_at(alloc, &more, transmissions)?;
+            let known = known.extended(alloc, messages)?;
+            last.append(&mut more)?;
+            Ok(Front {
+                places: last,
+                known,
+            })
         }
         None => {
-            let sent = messages_at(alloc, places, transmissions)?;
-            known.restarted(alloc, sent)
+            let sent = messages_at(alloc, &places, transmissions)?;
+            let known = known.restarted(alloc, sent)?;
+            Ok(Front { places, known })
         }
     }
 }
 
-/// Goes on to a node.
+/// Goes on to a node, by the sorted pairs and the transmissions of the skeleton. The skeleton is only there for what is
+/// promised.
 pub(crate) fn front_at(
     alloc: Global,
     k: &Skeleton,
+    sorted: &SortedPairs<'_>,
     transmissions: &[Transmission],
     node: Node,
     front: Front,
 ) -> Result<Front, AllocError>
     requires ordered { IsOrdered (skeleton_view k.now) }
+    requires pairs { sorted.now ≡ k.now.order }
     requires there { IsNodeOf (skeleton_view k.now).strands node }
     requires all { map transmission_view transmissions.now ≡ transmissions_of (skeleton_view k.now) }
     requires given { front.known ≡ given_by (skeleton_view k.now) front.places.items }
     ensures given { IfOk result (λ f. f.known ≡ given_by (skeleton_view k.now) f.places.items) }
     ensures at_node { IfOk result (λ f. (t : Plain) → DerivableAt (skeleton_view k.now) node t ↔ IsDerivable f.known t) }
 {
-    let places = places_before(alloc, k.order().pairs(), transmissions, node)?;
-    let Front {
-        places: last,
-        known,
-    } = front;
-    let known = known_from(alloc, transmissions, &last, &places, known)?;
-    Ok(Front { places, known })
+    let places = places_before(alloc, sorted, transmissions, node)?;
+    moved(alloc, transmissions, front, places)
 }

@@ -10,6 +10,7 @@ mod form;
 mod front;
 mod knowledge;
 mod laws;
+mod marks;
 mod opening;
 mod receptions;
 mod transmission;

@@ -1,44 +1,115 @@
 // The receptions whose messages cannot be derived.
-ghost use Rattle.std.specs.Prelude.{◌≡◌, map, IfOk};
+ghost use Rattle.std.specs.Prelude.{◌≡◌, ◌<◌, map, length, IfOk};
 ghost use Rattle.cp_skel.specs.Ordered.{IsOrdered};
 ghost use Rattle.cp_skel.specs.View.{skeleton_view};
 ghost use Rattle.cp_derive.specs.Before.{transmissions_of, given_by};
 ghost use Rattle.cp_skel.specs.Events.{occurrence_view, events_of};
 ghost use Rattle.cp_derive.specs.Transmissions.{transmission_view};
+ghost use Rattle.cp_derive.specs.Picked.{AreAmong, Picks};
 ghost use Rattle.cp_derive.specs.Unrealised.{ListsUnrealised};
 
 use crate::assumed::assumed_values;
 use crate::front::{Front, front_at};
 use crate::knowledge::{Known, buildable};
 use crate::transmission::{Transmission, transmissions};
-use cp_skel::{Event, Node, Occurrence, Skeleton};
+use cp_skel::{Event, Node, Occurrence, OrderPair, Skeleton, SortedPairs};
 use std::alloc::{AllocError, Global};
 
-/// The nodes of those among these events, all that there are, that are receptions whose message cannot be derived there.
+/// The nodes of those among these events of the skeleton that are receptions whose message cannot be derived there, in
+/// their order, and the front behind them.
 fn unrealised_among(
     alloc: Global,
     k: &Skeleton,
+    sorted: &SortedPairs<'_>,
     transmissions: &[Transmission],
     occurrences: &[Occurrence],
     mut front: Front,
-) -> Result<Vec<Node>, AllocError>
+) -> Result<(Vec<Node>, Front), AllocError>
     requires ordered { IsOrdered (skeleton_view k.now) }
+    requires pairs { sorted.now ≡ k.now.order }
     requires all { map transmission_view transmissions.now ≡ transmissions_of (skeleton_view k.now) }
-    requires listed { map occurrence_view occurrences.now ≡ events_of (skeleton_view k.now) }
+    requires among { AreAmong (map occurrence_view occurrences.now) (events_of (skeleton_view k.now)) }
     requires given { front.known ≡ given_by (skeleton_view k.now) front.places.items }
-    ensures { IfOk result (λ nodes. ListsUnrealised (skeleton_view k.now) nodes.items) }
+    ensures picks { IfOk result (λ r. Picks (skeleton_view k.now) (map occurrence_view occurrences.now) r.0.items) }
+    ensures given { IfOk result (λ r. r.1.known ≡ given_by (skeleton_view k.now) r.1.places.items) }
 {
     let mut nodes = Vec::new(alloc);
     for occurrence in occurrences {
         let Event::Receive(message) = &occurrence.event else {
             continue;
         };
-        front = front_at(alloc, k, transmissions, occurrence.node, front)?;
+        front = front_at(alloc, k, sorted, transmissions, occurrence.node, front)?;
         if buildable(&front.known, message) {
             continue;
         }
         nodes.push(occurrence.node)?;
     }
+    Ok((nodes, front))
+}
+
+/// Where the last of these events that stand on one strand begin.
+fn start_of_last(occurrences: &[Occurrence]) -> usize
+    requires { 0 < length occurrences.now }
+    ensures { result < length occurrences.now }
+{
+    let mut start = occurrences.len() - 1;
+    while start > 0 && occurrences[start - 1].node.strand == occurrences[start].node.strand {
+        start -= 1;
+    }
+    start
+}
+
+/// Whether most pairs lead from a strand to one behind it, so that strands mostly stand in the order of time.
+fn come_in_order(pairs: &[OrderPair]) -> bool {
+    let behind = pairs
+        .iter()
+        .filter(|pair| pair.earlier.strand < pair.later.strand)
+        .count();
+    behind > pairs.len() / 2
+}
+
+/// Where those of these events begin that are gone through next: all of them where strands come in order, and else those on
+/// the last strand.
+fn start_of_next(occurrences: &[Occurrence], in_order: bool) -> usize
+    requires { 0 < length occurrences.now }
+    ensures { result < length occurrences.now }
+{
+    if in_order {
+        return 0;
+    }
+    start_of_last(occurrences)
+}
+
+/// The nodes of those among these events, all that there are, that are receptions whose message cannot be derived
+/// there. Strands are gone through in the order of time, so that what is known grows: from the last to the first, since a
+/// search adds behind the others what comes before them; or from the first to the last, where most pairs lead so.
+fn unrealised_by_strand(
+    alloc: Global,
+    k: &Skeleton,
+    sorted: &SortedPairs<'_>,
+    transmissions: &[Transmission],
+    occurrences: &[Occurrence],
+    mut front: Front,
+) -> Result<Vec<Node>, AllocError>
+    requires ordered { IsOrdered (skeleton_view k.now) }
+    requires pairs { sorted.now ≡ k.now.order }
+    requires all { map transmission_view transmissions.now ≡ transmissions_of (skeleton_view k.now) }
+    requires listed { map occurrence_view occurrences.now ≡ events_of (skeleton_view k.now) }
+    requires given { front.known ≡ given_by (skeleton_view k.now) front.places.items }
+    ensures { IfOk result (λ nodes. ListsUnrealised (skeleton_view k.now) nodes.items) }
+{
+    let in_order = come_in_order(k.order().pairs());
+    let mut nodes = Vec::new(alloc);
+    let mut left = occurrences;
+    while !left.is_empty() {
+        let (before, on) = left.split_at(start_of_next(left, in_order));
+        let (mut more, next) = unrealised_among(alloc, k, sorted, transmissions, on, front)?;
+        more.reverse();
+        nodes.append(&mut more)?;
+        front = next;
+        left = before;
+    }
+    nodes.reverse();
     Ok(nodes)
 }
 
@@ -51,9 +122,10 @@ pub fn unrealised(alloc: Global, k: &Skeleton) -> Result<Vec<Node>, AllocError>
     let occurrences = k.events(alloc)?;
     let transmissions = transmissions(alloc, &occurrences)?;
     let secrets = assumed_values(alloc, k.assumptions())?;
+    let sorted = SortedPairs::new(alloc, k.order().pairs())?;
     let front = Front {
         places: Vec::new(alloc),
         known: Known::new(alloc, Vec::new(alloc), secrets)?,
     };
-    unrealised_among(alloc, k, &transmissions, &occurrences, front)
+    unrealised_by_strand(alloc, k, &sorted, &transmissions, &occurrences, front)
 }

@@ -6,24 +6,10 @@ ghost use Rattle.cp_model.specs.Strand.{variables_of_trace};
 ghost use Rattle.cp_model.specs.Term.{AgreeOnTerms, apply_to};
 ghost use Rattle.cp_strand.specs.View.{event_view, instance_view, strand_view};
 
+use cp_collapse::are_same_terms;
 use cp_skel::{Event, Instance, Strand, StrandShape, applied, is_same_role, prefix_of};
 use cp_term::Term;
 use std::alloc::{AllocError, Global};
-
-/// Whether the terms are the same, one by one.
-pub(crate) fn are_same_terms(a: &[Term], b: &[Term]) -> bool
-    ensures { IsTrue result ↔ (a.now ≡ b.now) }
-{
-    if a.len() != b.len() {
-        return false;
-    }
-    for index in 0..a.len() {
-        if !a[index].same(&b[index]) {
-            return false;
-        }
-    }
-    true
-}
 
 /// Whether the message of a role's event is the same under these values and under those.
 fn is_same_message(

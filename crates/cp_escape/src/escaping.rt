@@ -17,7 +17,7 @@ ghost use Rattle.cp_escape.specs.Sent.{CarriesBefore};
 use crate::closing::add_closed;
 use cp_covering::is_sent_before;
 use cp_derive::{Known, known};
-use cp_skel::{Node, Skeleton};
+use cp_skel::{Leading, Node, Skeleton};
 use cp_term::{Locals, Pattern, Term};
 use std::alloc::{AllocError, Global};
 
@@ -34,9 +34,10 @@ fn closed_before(
     ensures { IfOk result (λ es. AreClosedBefore (skeleton_view k.now) node critical.now es.items) }
 {
     let mut encryptions = Vec::new(alloc);
+    let leading = Leading::new(alloc, k.order().pairs(), node)?;
     let occurrences = k.events(alloc)?;
     for occurrence in &occurrences {
-        if !is_sent_before(k, node, occurrence) {
+        if !is_sent_before(k, &leading, node, occurrence) {
             continue;
         }
         let message = occurrence.event.payload();

@@ -10,8 +10,9 @@ ghost use Rattle.cp_escape.specs.Escape.{IsFirstWith};
 ghost use Rattle.cp_escape.specs.Widening.{BindsNothing, EndsBySending, StaysClosed, WidensBy};
 
 use crate::above::encryptions_above;
-use crate::agreeing::{are_same_strands, are_same_terms};
+use crate::agreeing::are_same_strands;
 use crate::used::new_variables;
+use cp_collapse::are_same_terms;
 use cp_skel::{Atom, Event, Skeleton, StrandShape, has_atom};
 use cp_term::{Path, Pattern, Shape, Term, invert};
 use std::alloc::{AllocError, Global};

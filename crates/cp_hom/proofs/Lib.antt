@@ -10,6 +10,7 @@ pub mod Images
 pub mod Itemised
 pub mod Listed
 pub mod Listened
+pub mod Messages
 pub mod NoMore
 pub mod Ordering
 pub mod SharedMore

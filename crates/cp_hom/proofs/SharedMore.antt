@@ -17,7 +17,7 @@ use Rattle.cp_model.proofs.LawPrefixes.{variables_of_higher}
 use Rattle.cp_model.proofs.SameTests.{variable_in, in_has_variable}
 use Rattle.cp_term.proofs.SameTerms.{same_Decides, test_is}
 use Rattle.cp_hom.specs.Sharing.{place_weight, text_number, value_slots, declared_variable, declared_slots, strand_slots, strung, slots_of, lists_of, listened, heard_weight, kept, weight_from, named_from, value_weight, part_of, share_from, squared, squares_from, sharing_of}
-use Rattle.cp_hom.specs.declared.slots.Slot.{Slot}
+use Rattle.cp_hom.specs.Slots.{Slot}
 use Rattle.cp_hom.proofs.Listened.{heard_more, heard_within}
 use Rattle.cp_hom.proofs.StrandSums.{sum_of, sum_append, total_map, GoesToMore, GoApart, no_more_in_all}
 

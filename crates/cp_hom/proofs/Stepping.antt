@@ -1,17 +1,20 @@
 -- The steps of the search: what takes the place of a partial map, and that the steps come to an end.
 use Rattle.std.proofs.Common.{◌≡◌, ℕ, zero, suc, ◌+◌, ◌-◌, ◌*◌, ◌<◌, ◌≤◌, List, [], ◌∷◌, ◌++◌, length, take, drop, refl, sym, ap, ◌∙◌, subst, arith, ◌⊎◌, inl, inr, eq-or-lt_of_le}
-use Rattle.std.specs.Prelude.{Option, Some, None, true, false, option_map, IfNone}
+use Rattle.std.specs.Prelude.{Option, Some, None, option_map, IfNone, IsTrue}
 use Rattle.std.proofs.lemmas.List.{map-append}
-use Rattle.std.proofs.Math.Nat.{suc-mul}
+use Rattle.std.proofs.Math.Nat.{suc-mul, mul-le-mul_right}
+use Rattle.std.proofs.lemmas.Bool.{cases_lt}
 use Rattle.cp_lists.specs.Lists.{item_at, IsIn, here, there}
 use Rattle.cp_model.specs.Skeleton.{Skeleton}
 use Rattle.cp_model.specs.Homomorphism.{SkeletonMap, IsEmbedding}
 use Rattle.cp_skel.specs.Ordered.{IsOrdered}
 use Rattle.cp_lists.proofs.Members.{in_append, in_append_left, in_append_right}
-use Rattle.cp_hom.specs.Following.{PartialMap, partial_view, Follows, IsExtended, IsNever, FindsAmong, IsKnown}
+use Rattle.cp_hom.specs.Following.{PartialMap, partial_view, Follows, IsExtended, IsNever, FindsAmong}
 use Rattle.cp_hom.specs.Taking.{Takes, count_of, IsItemOf, AreItemsOf, KeepsOrderApart}
+use Rattle.cp_hom.specs.Choices.{ArePassed, IsNextChoice}
+use Rattle.cp_hom.specs.declared.known.Choice.{Choice}
 use Rattle.cp_hom.specs.declared.searching.Branch.{Branch}
-use Rattle.cp_hom.specs.Opening.{OpenMap, branch_view, branches_view, next_maps, placed_map, steps_left, steps_of, all_steps, IsPlaced, IsStarted, IsWhole, IsOpen, AreOpen, TakesFrom, IsWithin, IsWithinSome, TakePlace}
+use Rattle.cp_hom.specs.Opening.{OpenMap, branch_view, branches_view, next_maps, from_choice, placed_map, steps_left, steps_of, all_steps, IsPlaced, IsStarted, IsWhole, IsOpen, AreOpen, TakesFrom, IsWithin, IsWithinSome, TakePlace}
 use Rattle.cp_hom.proofs.Embedded.{embedding_apart, embedding_pairs, item_taken}
 use Rattle.cp_hom.specs.declared.partials.Partial.{Partial}
 use Rattle.cp_hom.specs.declared.items.Item.{Item}
@@ -261,16 +264,70 @@ module _ (a b : Skeleton) (items : List Item) (o : OpenMap) (old : List OpenMap)
         within = within_length items o.done i at;
       }
 
-  -- It is known that this choice takes it, or that it does not.
-  pub choice_sure : (p : Partial) → o.given ≡ partial_view p → IsKnown (Takes a b i o.choice) p (Some true) → TakePlace a b items o old (old ++ (placed_map o ∷ []))
-  choice_sure p same known = choice_placed (o.choice, λ f follows. known.sound f (subst (Follows f) same follows))
-
-  pub choice_never : (p : Partial) → o.given ≡ partial_view p → IsKnown (Takes a b i o.choice) p (Some false) → TakePlace a b items o old (old ++ next_maps o None)
-  choice_never p same never = choice_fails (λ f follows w. never f (subst (Follows f) same follows) w.1)
-
+  -- This choice is tried.
   pub choice_tried : (found : Option Partial) → FindsAmong (KeepsOrderApart a b) (Takes a b i o.choice) o.given found → TakePlace a b items o old (old ++ next_maps o (option_map partial_view found))
   choice_tried None never = choice_fails never
   choice_tried (Some q) k = choice_works (partial_view q) k
+
+-- ---- choices that are passed over
+
+module _ (a b : Skeleton) (items : List Item) (o : OpenMap) (i : Item) (at : item_at items o.done ≡ Some i) where
+  -- All choices that are left hold for no map.
+  pub none_left_to_try : ArePassed a b i o.given o.choice (count_of i.kind b) → (f : SkeletonMap) → IsEmbedding a b f → IsWithin a b items f o → ⊥
+  none_left_to_try passed f h w =
+      let t = subst (λ (is : List Item). TakesFrom a b is o.choice f) (next_item items o.done i at) w.1 in
+      passed t.0 t.1 t.2 f w.0 t.3
+
+  module _ (n : ℕ) (passed : ArePassed a b i o.given o.choice n) where
+    -- What can still be found can be found from a later choice.
+    found_later : (f : SkeletonMap) → IsWithin a b items f o → IsWithin a b items f (from_choice o n)
+    found_later f w =
+        let t = subst (λ (is : List Item). TakesFrom a b is o.choice f) (next_item items o.done i at) w.1 in
+        (w.0, subst (λ (is : List Item). TakesFrom a b is n f) (sym (next_item items o.done i at)) (t.0, not_passed t.0 t.1 t.3 (cases_lt t.0 n), t.2, t.3))
+      where
+        not_passed : (image : ℕ) → o.choice ≤ image → Takes a b i image f → (image < n) ⊎ (n ≤ image) → n ≤ image
+        not_passed image l t (inl k) = absurd (passed image l k f w.0 t)
+        not_passed image l t (inr k) = k
+
+    no_more_left : o.choice ≤ n → steps_of b items (from_choice o n) ≤ steps_of b items o
+    no_more_left l =
+        let w : ℕ = suc (steps_left b (drop (o.done + 1) items) 0) in
+        let e = steps_at b items o i at in
+        let g = steps_at b items (from_choice o n) i at in
+        let m : (count_of i.kind b - n) * w ≤ (count_of i.kind b - o.choice) * w = mul-le-mul_right w (omega (arith, l)) in
+        omega (arith, e, g, m)
+
+    -- What takes the place of the same partial map with a later choice takes its place.
+    from_later : (old new : List OpenMap) → o.choice ≤ n → TakePlace a b items (from_choice o n) old new → TakePlace a b items o old new
+    from_later old new l t = record {
+      are_open = t.are_open;
+      none_lost = λ f embeds w. elim (front_or_last a b items f o old w) as (λ _. IsWithinSome a b items f new) [
+        | inl p ↦ t.none_lost f embeds (in_longer a b items f old (from_choice o n ∷ []) p)
+        | inr p ↦ t.none_lost f embeds (in_more a b items f old (from_choice o n ∷ []) (from_choice o n) here (found_later f p))
+      ];
+      fewer_steps =
+          let e = steps_append b items old (o ∷ []) in
+          let g = steps_append b items old (from_choice o n ∷ []) in
+          let m = no_more_left l in
+          let k = t.fewer_steps in
+          omega (arith, e, g, m, k);
+    }
+
+module _ (a b : Skeleton) (items : List Item) (o : OpenMap) (old : List OpenMap) (i : Item) (at : item_at items o.done ≡ Some i) (h : IsOpen a b items o) (are : AreOpen a b items old)
+    (among : AreItemsOf a items) (order : IsOrdered a) (other : IsOrdered b) (n : Choice) (next : IsNextChoice a b i o.given o.choice n) where
+  -- The next choice holds for sure.
+  pub next_sure : IsTrue n.is_sure → TakePlace a b items o old (old ++ (placed_map o ∷ []))
+  next_sure sure =
+      let l : o.choice ≤ n.number = next.behind in
+      let k : n.number < count_of i.kind b = next.within in
+      choice_placed a b items o old i at (omega (arith, l, k)) h are among order other (n.number, next.sure sure)
+
+  -- It is tried.
+  pub next_tried : (found : Option Partial) → FindsAmong (KeepsOrderApart a b) (Takes a b i n.number) o.given found →
+      TakePlace a b items o old (old ++ next_maps (from_choice o n.number) (option_map partial_view found))
+  next_tried found k =
+      from_later a b items o i at n.number next.passed old (old ++ next_maps (from_choice o n.number) (option_map partial_view found)) next.behind
+      (choice_tried a b items (from_choice o n.number) old i at next.within (record { consistent = h.consistent; problem = h.problem; placed = h.placed; within = h.within }) are among order other found k)
 
 -- ---- the whole search
 

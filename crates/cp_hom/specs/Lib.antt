@@ -1,3 +1,4 @@
+pub mod Choices
 pub mod Counting
 pub mod Fingerprints
 pub mod FirstPlaces
@@ -8,4 +9,5 @@ pub mod Mixing
 pub mod Opening
 pub mod Partition
 pub mod Sharing
+pub mod Slots
 pub mod Taking

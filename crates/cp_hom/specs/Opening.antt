@@ -26,6 +26,10 @@ abbrev pub next_maps : OpenMap → Option PartialMap → List OpenMap
 next_maps o None = record { done = o.done; choice = o.choice + 1; given = o.given } ∷ []
 next_maps o (Some found) = record { done = o.done; choice = o.choice + 1; given = o.given } ∷ record { done = o.done + 1; choice = 0; given = found } ∷ []
 
+-- The partial map with another number from which on its next item is still to be tried.
+abbrev pub from_choice : OpenMap → ℕ → OpenMap
+from_choice o n = record { done = o.done; choice = n; given = o.given }
+
 -- What follows on a partial map by which the next item is placed already.
 abbrev pub placed_map : OpenMap → OpenMap
 placed_map o = record { done = o.done + 1; choice = 0; given = o.given }

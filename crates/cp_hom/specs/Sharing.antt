@@ -5,7 +5,7 @@ use Rattle.cp_model.specs.Strand.{Event, recv, Declaration, variables_of_trace, 
 use Rattle.cp_model.specs.Skeleton.{SkeletonStrand, instance, listener, Skeleton}
 use Rattle.cp_model.specs.Same.{same_term, has_variable}
 use Rattle.cp_hom.specs.Mixing.{mixed}
-use Rattle.cp_hom.specs.declared.slots.Slot.{Slot}
+use Rattle.cp_hom.specs.Slots.{Slot}
 use Rattle.cp_hom.specs.declared.slots.Places.{Places}
 
 -- The number of a text.

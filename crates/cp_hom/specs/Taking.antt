@@ -18,6 +18,12 @@ abbrev pub MakesEvents : Substitution → List (Event Term) → Substitution →
 MakesEvents f [] s t = Unit {0}
 MakesEvents f (e ∷ es) s t = (apply_to f (apply_to s (payload e)) ≡ apply_to t (payload e)) × MakesEvents f es s t
 
+-- The substitution makes the messages of some events those of the first so many others.
+abbrev pub MakesMessages : Substitution → List (Event Term) → List (Event Term) → Type 0
+MakesMessages f [] ys = Unit {0}
+MakesMessages f (x ∷ xs) [] = ⊥
+MakesMessages f (x ∷ xs) (y ∷ ys) = (apply_to f (payload x) ≡ payload y) × MakesMessages f xs ys
+
 -- The substitution makes a strand a part of another: an instance one of the same role that is no taller, a listener the
 -- same listener.
 abbrev pub MakesPart : Substitution → SkeletonStrand → SkeletonStrand → Type 0

@@ -18,7 +18,7 @@ pub(crate) struct RoleHeight {
 pub(crate) fn heights_of(alloc: Global, strands: &[Strand]) -> Result<Vec<RoleHeight>, AllocError>
     ensures { IfOk result (λ v. v.items ≡ heights_of (map strand_view strands.now)) }
 {
-    let mut heights = Vec::new(alloc);
+    let mut heights = Vec::with_capacity(alloc, strands.len())?;
     for strand in strands {
         let StrandShape::Instance(instance) = strand.shape() else {
             continue;

@@ -1,17 +1,25 @@
 // What is known of a choice for an item before it is tried.
-ghost use Rattle.std.specs.Prelude.{◌≡◌, map, IsTrue};
+ghost use Rattle.std.specs.Prelude.{◌≡◌, map, IsTrue, MatchOption};
 ghost use Rattle.cp_model.specs.Term.{Substitution, apply_to};
 ghost use Rattle.cp_strand.specs.View.{strand_view};
 ghost use Rattle.cp_skel.specs.View.{skeleton_view};
-ghost use Rattle.cp_hom.specs.Following.{IsKnown};
-ghost use Rattle.cp_hom.specs.Taking.{MakesPart, GoesToStrand, BecomesAtom, BecomesUnique, Takes};
+ghost use Rattle.cp_hom.specs.Following.{partial_view, IsKnown};
+ghost use Rattle.cp_hom.specs.Taking.{MakesPart, GoesToStrand, BecomesAtom, BecomesUnique, count_of, Takes};
+ghost use Rattle.cp_hom.specs.Choices.{ArePassed, IsNextChoice};
 
-use crate::items::{Item, Kind};
+use crate::items::{Item, Kind, count};
 use crate::looking::{atom_at, strand_at, unique_at};
 use crate::partials::{Partial, image_of};
 use cp_skel::{Atom, Skeleton, Strand, StrandShape, UniqueAt};
 use cp_term::Term;
 use cp_unify::known_match;
+
+/// A choice for an item, and whether it is sure that it holds.
+#[derive(Clone, Copy, Debug, PartialEq, Eq)]
+pub(crate) struct Choice {
+    pub(crate) number: usize,
+    pub(crate) is_sure: bool,
+}
 
 /// Whether a strand goes to this image, if it is placed.
 fn known_number(strand: usize, image: usize, given: &Partial) -> Option<bool>
@@ -115,7 +123,7 @@ fn known_unique(
 }
 
 /// Whether an item of the first skeleton becomes the item with this number of the second, if that is known.
-pub(crate) fn known_place(
+fn known_place(
     a: &Skeleton,
     b: &Skeleton,
     item: Item,
@@ -143,4 +151,32 @@ pub(crate) fn known_place(
             known_unique(uniques, others.uniquely_originating(), index, image, given)
         }
     }
+}
+
+/// The first choice for an item, from this one on, of which it is not known that it holds for no map.
+pub(crate) fn next_choice(
+    a: &Skeleton,
+    b: &Skeleton,
+    item: Item,
+    from: usize,
+    given: &Partial,
+) -> Option<Choice>
+    ensures { MatchOption result
+        (ArePassed (skeleton_view a.now) (skeleton_view b.now) item (partial_view given.now) from (count_of item.kind (skeleton_view b.now)))
+        (IsNextChoice (skeleton_view a.now) (skeleton_view b.now) item (partial_view given.now) from) }
+{
+    for number in from..count(item.kind, b) {
+        match known_place(a, b, item, number, given) {
+            Some(true) => {
+                let is_sure = true;
+                return Some(Choice { number, is_sure });
+            }
+            Some(false) => continue,
+            None => {
+                let is_sure = false;
+                return Some(Choice { number, is_sure });
+            }
+        }
+    }
+    None
 }

@@ -1,10 +1,10 @@
 // Strands that become parts of others.
-ghost use Rattle.std.specs.Prelude.{◌≡◌, map, IfOk};
+ghost use Rattle.std.specs.Prelude.{◌≡◌, ◌≤◌, length, map, IfOk};
 ghost use Rattle.cp_model.specs.Homomorphism.{substitution_by};
 ghost use Rattle.cp_model.specs.Term.{apply_to};
 ghost use Rattle.cp_strand.specs.View.{event_view, strand_view};
 ghost use Rattle.cp_hom.specs.Following.{partial_view, Finds};
-ghost use Rattle.cp_hom.specs.Taking.{MakesEvents, MakesPart};
+ghost use Rattle.cp_hom.specs.Taking.{MakesEvents, MakesMessages, MakesPart};
 
 use crate::partials::{Partial, match_terms};
 use cp_skel::{Event, Strand, StrandShape, applied, is_same_role, prefix_of};
@@ -50,7 +50,34 @@ fn match_events(
     Ok(Some(found))
 }
 
-/// Makes a strand a part of another.
+/// Makes the messages of some events those of the first so many others.
+fn match_messages(
+    alloc: Global,
+    events: &[Event],
+    others: &[Event],
+    given: Partial,
+) -> Result<Option<Partial>, AllocError>
+    requires { length events.now ≤ length others.now }
+    ensures { IfOk result (Finds
+        (λ f. MakesMessages f.terms (map event_view events.now) (map event_view others.now))
+        (partial_view given)) }
+{
+    let mut found = given;
+    for index in 0..events.len() {
+        match match_terms(
+            alloc,
+            events[index].payload(),
+            others[index].payload(),
+            found,
+        )? {
+            Some(next) => found = next,
+            None => return Ok(None),
+        }
+    }
+    Ok(Some(found))
+}
+
+/// Makes a strand a part of another. Where both hold their events, their messages are matched as they are.
 pub(crate) fn match_strands(
     alloc: Global,
     from: &Strand,
@@ -63,6 +90,9 @@ pub(crate) fn match_strands(
         (StrandShape::Instance(first), StrandShape::Instance(second)) => {
             if first.height() > second.height() || !is_same_role(first.role(), second.role()) {
                 return Ok(None);
+            }
+            if let (Some(events), Some(others)) = (from.held(), to.held()) {
+                return match_messages(alloc, events, others, given);
             }
             let events = prefix_of(first.role(), first.height());
             match_events(alloc, events, first.values(), second.values(), given)

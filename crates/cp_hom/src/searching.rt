@@ -7,12 +7,12 @@ ghost use Rattle.cp_skel.specs.View.{skeleton_view};
 ghost use Rattle.cp_hom.specs.Maps.{map_view};
 ghost use Rattle.cp_hom.specs.Following.{partial_view, FindsAmong};
 ghost use Rattle.cp_hom.specs.Taking.{Takes, AreItemsOf, KeepsOrderApart};
-ghost use Rattle.cp_hom.specs.Opening.{branch_view, branches_view, next_maps, placed_map, IsStarted, IsWhole, NeverEmbeds, IsOpen, AreOpen, TakePlace};
+ghost use Rattle.cp_hom.specs.Opening.{branch_view, branches_view, next_maps, from_choice, placed_map, IsStarted, IsWhole, NeverEmbeds, IsOpen, AreOpen, TakePlace};
 
 use crate::broken::breaks_order;
 use crate::checking::{is_blocked, is_elsewhere, keeps_apart, keeps_pairs};
 use crate::items::{Item, count};
-use crate::known::known_place;
+use crate::known::next_choice;
 use crate::looking::item_at;
 use crate::mapping::Map;
 use crate::partials::Partial;
@@ -51,21 +51,23 @@ fn finish(
     Ok(Some(mapping))
 }
 
-/// Puts what follows on a branch behind others: the next choice, and before it what was found by this one.
+/// Puts what follows on a branch, of which this choice was tried, behind others: the next choice, and before it what was found by
+/// this one.
 fn push_next(
     branch: Branch,
+    choice: usize,
     found: Option<Partial>,
     branches: &mut Vec<Branch>,
 ) -> Result<(), AllocError>
     requires done { branch.done < 2 ^ 64 - 1 }
-    requires choice { branch.choice < 2 ^ 64 - 1 }
+    requires choice { choice < 2 ^ 64 - 1 }
     ensures { OnOk result (branches_view branches.new.items
-        ≡ branches_view branches.old.items ++ next_maps (branch_view branch) (option_map partial_view found)) }
+        ≡ branches_view branches.old.items ++ next_maps (from_choice (branch_view branch) choice) (option_map partial_view found)) }
 {
     let done = branch.done;
     branches.push(Branch {
         done,
-        choice: branch.choice + 1,
+        choice: choice + 1,
         given: branch.given,
     })?;
     if let Some(given) = found {
@@ -139,9 +141,9 @@ fn push_placed(branch: Branch, branches: &mut Vec<Branch>) -> Result<(), AllocEr
     Ok(())
 }
 
-/// Takes one step from a branch: goes on behind the next item, where it is placed already or the next choice for it holds for
-/// sure; passes over a choice that holds for no map; tries any other; and puts what is left to try behind the other branches. The
-/// embedding, if it was the last step to one.
+/// Takes one step from a branch: goes on behind the next item, where it is placed already; passes over choices for it that hold
+/// for no map; goes on behind it too where the next choice holds for sure; tries it else; and puts what is left to try behind the
+/// other branches. The embedding, if it was the last step to one.
 fn advance(
     alloc: Global,
     a: &Skeleton,
@@ -165,18 +167,20 @@ fn advance(
     if branch.choice >= count(item.kind, b) {
         return Ok(None);
     }
-    if is_listed(&items[..branch.done], item) {
+    // A choice behind the first is left only where the item is not placed yet.
+    if branch.choice == 0 && is_listed(&items[..branch.done], item) {
         push_placed(branch, branches)?;
         return Ok(None);
     }
-    match known_place(a, b, item, branch.choice, &branch.given) {
-        Some(true) => push_placed(branch, branches)?,
-        Some(false) => push_next(branch, None, branches)?,
-        None => {
-            let found = try_choice(alloc, a, b, item, branch.choice, &branch.given)?;
-            push_next(branch, found, branches)?;
-        }
+    let Some(next) = next_choice(a, b, item, branch.choice, &branch.given) else {
+        return Ok(None);
+    };
+    if next.is_sure {
+        push_placed(branch, branches)?;
+        return Ok(None);
     }
+    let found = try_choice(alloc, a, b, item, next.number, &branch.given)?;
+    push_next(branch, next.number, found, branches)?;
     Ok(None)
 }
 

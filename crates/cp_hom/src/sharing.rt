@@ -5,7 +5,7 @@ ghost use Rattle.cp_strand.specs.View.{event_view, strand_view};
 ghost use Rattle.cp_skel.specs.View.{skeleton_view};
 ghost use Rattle.cp_hom.specs.Sharing.{lists_of, slots_in, listened, is_heard, heard_weight, weight_from, named_from, value_weight, share_from, squares_from, sharing_of};
 
-use crate::slots::{Places, Slot, places_of};
+use crate::slots::{Places, Slot, key_of, places_of};
 use cp_skel::{Event, Skeleton, Strand, StrandShape, occurs};
 use cp_term::{Shape, Sort, Term, var};
 use std::alloc::{AllocError, Global};
@@ -46,12 +46,13 @@ fn heard_weight(events: &[Event], value: &Term) -> usize
 fn weight_among(first: usize, value: &Term, slots: &[Slot]) -> usize
     ensures { result ≡ weight_from first value.now slots.now }
 {
+    let key = key_of(value);
     let mut weight = first;
     for slot in slots {
-        if !slot.value.same(value) {
+        if !slot.has(key, value) {
             continue;
         }
-        weight = weight.saturating_add(slot.weight);
+        weight = weight.saturating_add(slot.weight());
     }
     weight
 }
@@ -118,8 +119,8 @@ fn share_of(
 {
     let mut share: usize = 0;
     for slot in slots {
-        let weight = value_weight(alloc, heard, &slot.value, places)?;
-        share = share.saturating_add(slot.weight.saturating_mul(weight));
+        let weight = value_weight(alloc, heard, slot.value(), places)?;
+        share = share.saturating_add(slot.weight().saturating_mul(weight));
     }
     Ok(share)
 }

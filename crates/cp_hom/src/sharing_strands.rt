@@ -1,13 +1,14 @@
 // Strands whose values stand elsewhere too. Which these are decides only in which order an embedding places strands, so that no clause
 // speaks of it.
 
-use crate::slots::{Places, Slot};
+use crate::slots::{Places, Slot, key_of};
 use cp_term::Term;
 
 /// Whether the value stands at one of these places.
 fn stands_in(value: &Term, slots: &[Slot]) -> bool {
+    let key = key_of(value);
     for slot in slots {
-        if slot.value.same(value) {
+        if slot.has(key, value) {
             return true;
         }
     }
@@ -36,7 +37,7 @@ pub(crate) fn shares_all(places: &Places, strand: usize) -> bool {
         return true;
     };
     for slot in slots {
-        if !is_shared(&slot.value, places, strand) {
+        if !is_shared(slot.value(), places, strand) {
             return false;
         }
     }

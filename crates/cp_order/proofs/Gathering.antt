@@ -1,8 +1,6 @@
 -- The search for the nodes that lead to one node: what a step keeps, and what there is at the end.
 use Rattle.std.proofs.Common.{◌≡◌, ◌⊎◌, inl, inr, ℕ, suc, ◌+◌, ◌<◌, ◌≤◌, List, [], ◌∷◌, ◌++◌, length, Bool, true, false, not, ◌&&◌, ◌||◌, if◌then◌else◌, refl, sym, ap, ap₂, ◌∙◌, subst, arith}
-use Rattle.std.specs.Prelude.{nat_eq, Option, Some, None}
-use Rattle.std.specs.HashMap.{HashMap}
-use Rattle.std.specs.Map.{lookup}
+use Rattle.std.specs.Prelude.{Option, Some, None}
 use Rattle.std.proofs.lemmas.Bool.Decides.{nat_tests}
 use Rattle.std.proofs.lemmas.Bool.{or_left, or_right, and_from, and_parts, not_from_false}
 use Rattle.std.proofs.lemmas.List.{append-nil, length-append}
@@ -11,7 +9,7 @@ use Rattle.cp_lists.proofs.Members.{only_item, in_append_left, in_append_right, 
 use Rattle.cp_model.specs.declared.node.Node.{Node}
 use Rattle.cp_model.specs.declared.node.OrderPair.{OrderPair}
 use Rattle.cp_model.specs.Order.{IsAtOrAfter, LeadsTo, on_strand, over_pair, at_or_after}
-use Rattle.cp_order.specs.Leading.{Tops, is_within, is_below, AreTops, is_reached, reached, Takes, waiting, IsGathered, tops_of}
+use Rattle.cp_order.specs.Leading.{Tops, is_within, is_below, AreTops, is_reached, reached, Takes, waiting, IsGathered}
 use Rattle.cp_model.proofs.Reaching.{after_true, true_after, after_leads}
 
 -- ---- tests
@@ -176,19 +174,19 @@ waits_less pairs n old new rest more t =
 
 -- ---- the whole search
 
-pub gathered_first : {S : Type 0} (pairs : List OrderPair) (y : Node) (m : HashMap ℕ ℕ S) (work : List Node) → m.entries ≡ [] → work ≡ y ∷ [] → IsGathered pairs y (tops_of m) work
-gathered_first pairs y m work e w = record {
+pub gathered_first : (pairs : List OrderPair) (y : Node) (tops : Tops) (work : List Node) → ((s : ℕ) → tops s ≡ None) → work ≡ y ∷ [] → IsGathered pairs y tops work
+gathered_first pairs y tops work e w = record {
   below = λ x h. absurd (not_below x h);
   to_take = λ x i. subst (λ (z : Node). LeadsTo pairs z y) (sym (only_item (subst (IsIn x) w i))) (on_strand (refl, omega arith));
   target = inr (subst (IsIn y) (sym w) here);
   closed = λ p i h. absurd (not_below p.later h);
 }
   where
-    none_below : (x : Node) → is_below (tops_of m) x ≡ false
-    none_below x = ap (λ es. is_within (lookup (nat_eq x.strand) es) x.index) e
+    none_below : (x : Node) → is_below tops x ≡ false
+    none_below x = ap (λ top. is_within top x.index) (e x.strand)
 
-    not_below : (x : Node) → is_below (tops_of m) x ≡ true → ⊥
-    not_below x h = let f : is_below (tops_of m) x ≡ false = none_below x in cc
+    not_below : (x : Node) → is_below tops x ≡ true → ⊥
+    not_below x h = let f : is_below tops x ≡ false = none_below x in cc
 
 module _ (pairs : List OrderPair) (y n : Node) (old new : Tops) (work rest more : List Node) (popped : work ≡ rest ++ n ∷ []) (t : Takes pairs n old new rest more) where
   pub gathered_next : IsGathered pairs y old work → IsGathered pairs y new more

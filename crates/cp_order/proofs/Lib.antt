@@ -3,4 +3,4 @@ pub mod Composing
 pub mod JoinedPairs
 mod LookedUp
 mod Gathering
-mod SortedPairs
+mod Sorting

@@ -1,10 +1,11 @@
 -- Which nodes lead to one node, and the search for them.
-use Rattle.std.specs.Prelude.{◌≡◌, ◌==◌, ◌&&◌, ◌||◌, nat_le, ◌⊎◌, ◌↔◌, ℕ, suc, List, [], ◌∷◌, ◌++◌, Bool, true, false, not, if◌then◌else◌, Option, Some, None, nat_eq}
+use Rattle.std.specs.Prelude.{◌≡◌, ◌&&◌, ◌||◌, nat_le, nat_lt, ◌⊎◌, ◌↔◌, ℕ, suc, List, [], ◌∷◌, ◌++◌, Bool, true, false, not, if◌then◌else◌, Option, Some, None, nat_eq}
 use Rattle.std.specs.HashMap.{HashMap, get}
-use Rattle.cp_lists.specs.Lists.{IsIn}
+use Rattle.cp_lists.specs.Lists.{IsIn, item_at}
 use Rattle.cp_model.specs.declared.node.Node.{Node}
 use Rattle.cp_model.specs.declared.node.OrderPair.{OrderPair}
 use Rattle.cp_model.specs.Order.{LeadsTo, at_or_after}
+use Rattle.cp_order.specs.declared.tops.Tops as program
 
 -- Pairs, and the node that others lead to along them.
 pub record Target : Type 0 where
@@ -31,6 +32,18 @@ AreTops pairs y tops = (x : Node) → (is_below tops x ≡ true) ↔ LeadsTo pai
 
 abbrev pub tops_of : {S : Type 0} → HashMap ℕ ℕ S → Tops
 tops_of m = get nat_eq m
+
+abbrev pub top_or_none : Option (Option ℕ) → Option ℕ
+top_or_none None = None
+top_or_none (Some top) = top
+
+-- Tops at the places of their strands.
+abbrev pub tops_at : List (Option ℕ) → Tops
+tops_at tops s = top_or_none (item_at tops s)
+
+-- The tops of low strands stand in a list, and those of high strands in a map.
+abbrev pub tops_in : program.Tops → Tops
+tops_in tops s = if nat_lt s 64 then tops_at tops.low.items s else tops_of tops.high s
 
 -- ---- the search
 

@@ -1,33 +1,52 @@
 // The nodes that lead to a node.
 ghost use Rattle.std.specs.Prelude.{◌≡◌, ◌↔◌, ◌++◌, IsTrue, IfOk, OnOk};
 ghost use Rattle.cp_model.specs.Order.{LeadsTo, at_or_after};
-ghost use Rattle.cp_order.specs.Leading.{AreTops, tops_of, Takes, reached};
+ghost use Rattle.cp_order.specs.Leading.{AreTops, tops_in, Takes, reached};
 ghost use Rattle.cp_order.specs.Sorted.{AreSorted, is_passed, first_nodes};
 ghost use Rattle.std.specs.List.Sorted.{IsPermutation};
 
-use crate::tops::{is_below, is_within};
+use crate::tops::{Tops, is_within};
 use cp_model::{Node, OrderPair};
 use std::alloc::{AllocError, Global};
-use std::collections::HashMap;
 use std::marker::Model;
 
 /// The nodes that lead to one node along strands and these pairs.
 #[derive(Drop)]
-pub struct Leading {
-    pairs: Vec<OrderPair>,
+pub struct Leading<'a> {
+    pairs: &'a [OrderPair],
     node: Node,
     /// For each strand with a node that leads there, the greatest index of such a node.
-    tops: HashMap<usize, usize>,
+    tops: Tops,
 }
 
-impl Model for Leading {
-    ghost use Rattle.cp_order.specs.Leading.{Target, AreTops, tops_of};
+impl<'a> Model for Leading<'a> {
+    ghost use Rattle.cp_order.specs.Leading.{Target, AreTops, tops_in};
 
     ghost Value = { Target };
 
-    ghost view = { λ l. record { pairs = l.pairs.items; node = l.node } };
+    ghost view = { λ l. record { pairs = l.pairs.now; node = l.node } };
 
-    ghost invariant = { λ l. AreTops l.pairs.items l.node (tops_of l.tops) };
+    ghost invariant = { λ l. AreTops l.pairs.now l.node (tops_in l.tops) };
+}
+
+/// Pairs, and the same in the order of their later nodes: for the nodes that lead to one node after another along them.
+#[derive(Drop)]
+pub struct SortedPairs<'a> {
+    pairs: &'a [OrderPair],
+    sorted: Vec<OrderPair>,
+}
+
+impl<'a> Model for SortedPairs<'a> {
+    ghost use Rattle.std.specs.Prelude.{List};
+    ghost use Rattle.std.specs.List.Sorted.{IsPermutation};
+    ghost use Rattle.cp_model.specs.declared.node.OrderPair.{OrderPair};
+    ghost use Rattle.cp_order.specs.Sorted.{AreSorted};
+
+    ghost Value = { List OrderPair };
+
+    ghost view = { λ s. s.pairs.now };
+
+    ghost invariant = { λ s. AreSorted s.sorted.items × IsPermutation s.pairs.now s.sorted.items };
 }
 
 /// Whether a node is on an earlier strand, or on this one at its top or below.
@@ -76,30 +95,26 @@ fn push_reached(
 fn take(
     pairs: &[OrderPair],
     node: Node,
-    tops: &mut HashMap<usize, usize>,
+    tops: &mut Tops,
     work: &mut Vec<Node>,
 ) -> Result<(), AllocError>
     requires { AreSorted pairs.now }
-    ensures { OnOk result (Takes pairs.now node (tops_of tops.old) (tops_of tops.new) work.old.items work.new.items) }
+    ensures { OnOk result (Takes pairs.now node (tops_in tops.old) (tops_in tops.new) work.old.items work.new.items) }
 {
-    let top = tops.get(&node.strand).copied();
+    let top = tops.top(node.strand);
     if !is_within(top, node.index) {
-        tops.insert(node.strand, node.index)?;
+        tops.put(node)?;
         push_reached(pairs, top, node, work)?;
     }
     Ok(())
 }
 
 /// The greatest indices of the nodes that lead to a node along these pairs.
-fn tops_to(
-    alloc: Global,
-    pairs: &[OrderPair],
-    node: Node,
-) -> Result<HashMap<usize, usize>, AllocError>
+fn tops_to(alloc: Global, pairs: &[OrderPair], node: Node) -> Result<Tops, AllocError>
     requires { AreSorted pairs.now }
-    ensures { IfOk result (λ tops. AreTops pairs.now node (tops_of tops)) }
+    ensures { IfOk result (λ tops. AreTops pairs.now node (tops_in tops)) }
 {
-    let mut tops = HashMap::new(alloc);
+    let mut tops = Tops::new(alloc, pairs.len().saturating_add(1))?;
     let mut work = Vec::new(alloc);
     work.push(node)?;
     while let Some(next) = work.pop() {
@@ -118,21 +133,41 @@ fn sorted(alloc: Global, pairs: &[OrderPair]) -> Result<Vec<OrderPair>, AllocErr
     Ok(sorted)
 }
 
-impl Leading {
-    /// The nodes that lead to the node along strands and these pairs. The error is that memory ran out.
-    pub fn new(alloc: Global, pairs: &[OrderPair], node: Node) -> Result<Leading, AllocError>
-        ensures { IfOk result (λ l. l ≡ record { pairs = pairs.now; node = node }) }
+impl<'a> SortedPairs<'a> {
+    /// Puts the pairs in order. The error is that memory ran out.
+    pub fn new(alloc: Global, pairs: &'a [OrderPair]) -> Result<SortedPairs<'a>, AllocError>
+        ensures { IfOk result (λ s. s ≡ pairs.now) }
     {
         let sorted = sorted(alloc, pairs)?;
-        let tops = tops_to(alloc, &sorted, node)?;
-        let pairs = Vec::from_slice(alloc, pairs)?;
-        Ok(Leading { pairs, node, tops })
+        Ok(SortedPairs { pairs, sorted })
+    }
+
+    /// The nodes that lead to the node along strands and these pairs. The error is that memory ran out.
+    pub fn leading_to(&self, alloc: Global, node: Node) -> Result<Leading<'a>, AllocError>
+        ensures { IfOk result (λ l. l ≡ record { pairs = self.now; node = node }) }
+    {
+        let tops = tops_to(alloc, &self.sorted, node)?;
+        Ok(Leading {
+            pairs: self.pairs,
+            node,
+            tops,
+        })
+    }
+}
+
+impl<'a> Leading<'a> {
+    /// The nodes that lead to the node along strands and these pairs. The error is that memory ran out.
+    pub fn new(alloc: Global, pairs: &'a [OrderPair], node: Node) -> Result<Leading<'a>, AllocError>
+        ensures { IfOk result (λ l. l ≡ record { pairs = pairs.now; node = node }) }
+    {
+        let sorted = SortedPairs::new(alloc, pairs)?;
+        sorted.leading_to(alloc, node)
     }
 
     /// Whether a node leads to that node.
     pub fn has(&self, node: Node) -> bool
         ensures { IsTrue result ↔ LeadsTo self.now.pairs node self.now.node }
     {
-        is_below(&self.tops, node)
+        is_within(self.tops.top(node.strand), node.index)
     }
 }

@@ -8,5 +8,5 @@ mod order;
 mod tops;
 mod ways;
 
-pub use leading::Leading;
+pub use leading::{Leading, SortedPairs};
 pub use order::Order;

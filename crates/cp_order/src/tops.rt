@@ -1,11 +1,11 @@
 // The greatest indices of nodes on strands.
-ghost use Rattle.std.specs.Prelude.{◌≡◌, ◌||◌, OnOk};
+ghost use Rattle.std.specs.Prelude.{◌≡◌, ◌==◌, ◌<◌, ◌||◌, ℕ, None, Some, if◌then◌else◌, vec_len, IfOk, OnOk};
 ghost use Rattle.cp_model.specs.declared.node.Node.{Node};
 ghost use Rattle.cp_model.specs.Order.{at_or_after};
-ghost use Rattle.cp_order.specs.Leading.{tops_of, is_within, is_below};
+ghost use Rattle.cp_order.specs.Leading.{tops_of, tops_at, tops_in, is_within, is_below};
 
 use cp_model::Node;
-use std::alloc::AllocError;
+use std::alloc::{AllocError, Global};
 use std::collections::HashMap;
 
 /// Whether an index is at the top of its strand or below.
@@ -33,4 +33,77 @@ pub(crate) fn raise(tops: &mut HashMap<usize, usize>, node: Node) -> Result<(), 
         tops.insert(node.strand, node.index)?;
     }
     Ok(())
+}
+
+/// Strands below this number have their tops in a list.
+const LISTED: usize = 64;
+
+/// For each strand the greatest index that is known, if any is: of low strands in a list, at the strand's place, and of
+/// high ones in a map, since pairs that nobody has checked can state any number.
+#[derive(Drop)]
+pub(crate) struct Tops {
+    low: Vec<Option<usize>>,
+    high: HashMap<usize, usize>,
+}
+
+/// The top of a strand, where tops stand at the places of their strands.
+fn top_at(tops: &[Option<usize>], strand: usize) -> Option<usize>
+    ensures { result ≡ tops_at tops.now strand }
+{
+    match tops.get(strand) {
+        Some(top) => *top,
+        None => None,
+    }
+}
+
+/// Makes room for the top of a strand.
+fn make_room(tops: &mut Vec<Option<usize>>, strand: usize) -> Result<(), AllocError>
+    ensures room { OnOk result (strand < vec_len tops.new) }
+    ensures same { OnOk result ((s : ℕ) → tops_at tops.new.items s ≡ tops_at tops.old.items s) }
+{
+    while tops.len() <= strand {
+        tops.push(None)?;
+    }
+    Ok(())
+}
+
+/// Puts the top of a node's strand at the node, where tops stand at the places of their strands.
+fn put_at(tops: &mut Vec<Option<usize>>, node: Node) -> Result<(), AllocError>
+    ensures { OnOk result ((s : ℕ) → tops_at tops.new.items s ≡ (if s == node.strand then Some node.index else tops_at tops.old.items s)) }
+{
+    make_room(tops, node.strand)?;
+    tops[node.strand] = Some(node.index);
+    Ok(())
+}
+
+impl Tops {
+    /// No strand has a top. There is room for the tops of a few strands.
+    pub(crate) fn new(alloc: Global, few: usize) -> Result<Tops, AllocError>
+        ensures { IfOk result (λ tops. (s : ℕ) → tops_in tops s ≡ None) }
+    {
+        let low = Vec::with_capacity(alloc, few.min(LISTED))?;
+        let high = HashMap::new(alloc);
+        Ok(Tops { low, high })
+    }
+
+    /// The top of a strand, if it has one.
+    pub(crate) fn top(&self, strand: usize) -> Option<usize>
+        ensures { result ≡ tops_in self.now strand }
+    {
+        if strand < LISTED {
+            return top_at(&self.low, strand);
+        }
+        self.high.get(&strand).copied()
+    }
+
+    /// Puts the top of a node's strand at the node.
+    pub(crate) fn put(&mut self, node: Node) -> Result<(), AllocError>
+        ensures { OnOk result ((s : ℕ) → tops_in self.new s ≡ (if s == node.strand then Some node.index else tops_in self.old s)) }
+    {
+        if node.strand < LISTED {
+            return put_at(&mut self.low, node);
+        }
+        self.high.insert(node.strand, node.index)?;
+        Ok(())
+    }
 }

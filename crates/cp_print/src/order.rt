@@ -13,7 +13,7 @@ use crate::items::node_form;
 use crate::making::{plain_list, two};
 use cp_names::is_marked;
 use cp_sexpr::Form;
-use cp_skel::{Leading, Node, OrderPair, Skeleton, Strand, StrandShape};
+use cp_skel::{Leading, Node, OrderPair, Skeleton, SortedPairs, Strand, StrandShape};
 use std::alloc::{AllocError, Global};
 
 /// A node, and for each node of its skeleton whether it is before this one.
@@ -24,14 +24,14 @@ struct Ordered {
 }
 
 /// Whether a node leads to the one that is asked about.
-fn leads(leading: &Leading, x: Node) -> bool
+fn leads(leading: &Leading<'_>, x: Node) -> bool
     ensures { result ≡ reaches (length leading.now.pairs) leading.now.pairs x leading.now.node }
 {
     leading.has(x)
 }
 
 /// Whether a node leads to the one that is asked about and is not this one.
-fn is_before(leading: &Leading, x: Node, y: Node) -> bool
+fn is_before(leading: &Leading<'_>, x: Node, y: Node) -> bool
     ensures { result ≡ (not (same_node x y) && reaches (length leading.now.pairs) leading.now.pairs x leading.now.node) }
 {
     x != y && leads(leading, x)
@@ -40,13 +40,13 @@ fn is_before(leading: &Leading, x: Node, y: Node) -> bool
 /// For each of these nodes whether it is before y.
 fn marks_before(
     alloc: Global,
-    pairs: &[OrderPair],
+    sorted: &SortedPairs<'_>,
     nodes: &[Node],
     y: Node,
 ) -> Result<Vec<bool>, AllocError>
-    ensures { IfOk result (λ marks. marks.items ≡ marks_before pairs.now y nodes.now) }
+    ensures { IfOk result (λ marks. marks.items ≡ marks_before sorted.now y nodes.now) }
 {
-    let leading = Leading::new(alloc, pairs, y)?;
+    let leading = sorted.leading_to(alloc, y)?;
     let mut marks = Vec::with_capacity(alloc, nodes.len())?;
     for x in nodes {
         marks.push(is_before(&leading, *x, y))?;
@@ -58,9 +58,10 @@ fn marks_before(
 fn in_order(alloc: Global, pairs: &[OrderPair], nodes: &[Node]) -> Result<Vec<Ordered>, AllocError>
     ensures { IfOk result (λ all. map ordered_view all.items ≡ map (in_order pairs.now nodes.now) nodes.now) }
 {
+    let sorted = SortedPairs::new(alloc, pairs)?;
     let mut all = Vec::with_capacity(alloc, nodes.len())?;
     for node in nodes {
-        let before = marks_before(alloc, pairs, nodes, *node)?;
+        let before = marks_before(alloc, &sorted, nodes, *node)?;
         all.push(Ordered {
             node: *node,
             before,

@@ -1,6 +1,6 @@
 -- Labels of a tree are put together one by one.
 use Rattle.std.proofs.Common.{◌≡◌, ℕ, suc, ◌+◌, ◌<◌, ◌≤◌, List, [], ◌∷◌, ◌++◌, length, map, drop, get_or, reverse, option_map, Option, Some, None, sym, ap, subst, ◌∙◌, refl}
-use Rattle.std.proofs.lemmas.List.{append_assoc, append-nil, map-append, reverse-append, reverse-reverse, drop_all}
+use Rattle.std.proofs.lemmas.List.{append_assoc, map-append, drop_all}
 use Rattle.cp_lists.specs.Lists.{IsIn, here, there}
 use Rattle.cp_lists.proofs.Items.{at_place, map_of_read}
 use Rattle.cp_lists.proofs.Members.{drop_read}
@@ -19,21 +19,14 @@ use Rattle.cp_search.specs.declared.settled.Expanded.{Expanded}
 use Rattle.cp_search.specs.Labelling.{label_with, labels_with}
 use Rattle.cp_search.specs.Settling.{AreExpandedOf}
 
--- The labels so far with those of the rest are all; both rests are kept last first.
+-- The labels so far with those of the rest are all; of the rests, the marks alone are kept last first.
 pub record AreLabelledSoFar (all : List Label) (labels : List TreeNode) (ms : List Made) (ss : List Settled) (marks : List Mark) : Type 0 where
-  pub told : map label_view labels ++ labels_with (reverse ms) (reverse ss) (map mark_view (reverse marks)) ≡ all
-  pub same : AreExpandedOf (reverse ms) (reverse ss)
+  pub told : map label_view labels ++ labels_with ms ss (map mark_view (reverse marks)) ≡ all
+  pub same : AreExpandedOf ms ss
 
-last_first : {A : Type 0} (xs new : List A) (x : A) → xs ≡ new ++ x ∷ [] → reverse xs ≡ x ∷ reverse new
-last_first xs new x e = ap reverse e ∙ reverse-append new (x ∷ [])
-
-no_label : (ms : List Made) (marks : List tree.Mark) → labels_with ms [] marks ≡ []
-no_label [] marks = refl
-no_label (m ∷ ms) marks = refl
-
-module _ (all : List Label) (labels : List TreeNode) (ms ms' : List Made) (ss ss' : List Settled) (marks : List Mark) (m : Made) (s : Settled) (so_far : AreLabelledSoFar all labels ms ss marks) (m_last : ms ≡ ms' ++ m ∷ []) (s_last : ss ≡ ss' ++ s ∷ []) where
-  both : AreExpandedOf (m ∷ reverse ms') (s ∷ reverse ss')
-  both = subst (λ (xs : List Settled). AreExpandedOf (m ∷ reverse ms') xs) (last_first ss ss' s s_last) (subst (λ (xs : List Made). AreExpandedOf xs (reverse ss)) (last_first ms ms' m m_last) so_far.same)
+module _ (all : List Label) (labels : List TreeNode) (ms ms' : List Made) (ss ss' : List Settled) (marks : List Mark) (m : Made) (s : Settled) (so_far : AreLabelledSoFar all labels ms ss marks) (m_first : ms ≡ m ∷ ms') (s_first : ss ≡ s ∷ ss') where
+  both : AreExpandedOf (m ∷ ms') (s ∷ ss')
+  both = subst (λ (xs : List Settled). AreExpandedOf (m ∷ ms') xs) s_first (subst (λ (xs : List Made). AreExpandedOf xs ss) m_first so_far.same)
 
   pub same_here : (e : Expanded) → s ≡ settled.Expanded e → skeleton_view e.skeleton ≡ skeleton_view m.skeleton
   same_here e is = both 0 m e refl (ap (λ x. Some x) is)
@@ -42,38 +35,17 @@ module _ (all : List Label) (labels : List TreeNode) (ms ms' : List Made) (ss ss
       → ((x : Made) (xs : List Made) (ys : List Settled) → labels_with (x ∷ xs) (s ∷ ys) (map mark_view (reverse marks)) ≡ label_with x s (option_map mark_view mark) ∷ labels_with xs ys (map mark_view (reverse marks')))
       → (t : TreeNode) → label_view t ≡ label_with m s (option_map mark_view mark) → (new : List TreeNode) → new ≡ labels ++ t ∷ [] → AreLabelledSoFar all new ms' ss' marks'
   next_labelled mark marks' marked t is new pushed =
-      let rest = labels_with (reverse ms') (reverse ss') (map mark_view (reverse marks')) in
-      let taken : labels_with (reverse ms) (reverse ss) (map mark_view (reverse marks)) ≡ label_view t ∷ rest =
-      ap (λ (xs : List Made). labels_with xs (reverse ss) (map mark_view (reverse marks))) (last_first ms ms' m m_last)
-      ∙ (ap (λ (xs : List Settled). labels_with (m ∷ reverse ms') xs (map mark_view (reverse marks))) (last_first ss ss' s s_last)
-      ∙ (marked m (reverse ms') (reverse ss') ∙ ap (λ (l : Label). l ∷ rest) (sym is))) in
+      let rest = labels_with ms' ss' (map mark_view (reverse marks')) in
+      let taken : labels_with ms ss (map mark_view (reverse marks)) ≡ label_view t ∷ rest =
+      ap (λ (xs : List Made). labels_with xs ss (map mark_view (reverse marks))) m_first
+      ∙ (ap (λ (xs : List Settled). labels_with (m ∷ ms') xs (map mark_view (reverse marks))) s_first
+      ∙ (marked m ms' ss' ∙ ap (λ (l : Label). l ∷ rest) (sym is))) in
       record {
         told =
             ap (λ (xs : List TreeNode). map label_view xs ++ rest) pushed ∙ (ap (λ (ls : List Label). ls ++ rest) (map-append label_view labels (t ∷ []))
             ∙ (append_assoc (map label_view labels) (label_view t ∷ []) rest ∙ (ap (λ (ls : List Label). map label_view labels ++ ls) (sym taken) ∙ so_far.told)));
         same = λ i x e at au. both (suc i) x e at au;
       }
-
-pub all_labelled : (all : List Label) (labels : List TreeNode) (ms : List Made) (ss : List Settled) (marks : List Mark) → AreLabelledSoFar all labels ms ss marks → ms ≡ [] → map label_view labels ≡ all
-all_labelled all labels ms ss marks so_far none =
-    sym (append-nil (map label_view labels)) ∙ (ap (λ (xs : List Made). map label_view labels ++ labels_with (reverse xs) (reverse ss) (map mark_view (reverse marks))) (sym none) ∙ so_far.told)
-
-pub none_settled_left : (all : List Label) (labels : List TreeNode) (ms : List Made) (ss : List Settled) (marks : List Mark) → AreLabelledSoFar all labels ms ss marks → ss ≡ [] → map label_view labels ≡ all
-none_settled_left all labels ms ss marks so_far none =
-    sym (append-nil (map label_view labels)) ∙ (ap (λ (ls : List Label). map label_view labels ++ ls) (sym (no_label (reverse ms) (map mark_view (reverse marks))))
-    ∙ (ap (λ (xs : List Settled). map label_view labels ++ labels_with (reverse ms) (reverse xs) (map mark_view (reverse marks))) (sym none) ∙ so_far.told))
-
-pub first_labelled : (ms : List Made) (ss : List Settled) (marks : List Mark) (labels : List TreeNode) (ms' : List Made) (ss' : List Settled) (marks' : List Mark) → AreExpandedOf ms ss → labels ≡ [] → ms' ≡ reverse ms → ss' ≡ reverse ss → marks' ≡ reverse marks
-    → AreLabelledSoFar (labels_with ms ss (map mark_view marks)) labels ms' ss' marks'
-first_labelled ms ss marks labels ms' ss' marks' same none m s k =
-    let back_m : reverse ms' ≡ ms = ap reverse m ∙ reverse-reverse ms in
-    let back_s : reverse ss' ≡ ss = ap reverse s ∙ reverse-reverse ss in
-    let back_k : reverse marks' ≡ marks = ap reverse k ∙ reverse-reverse marks in
-    record {
-      told = ap (λ (xs : List TreeNode). map label_view xs ++ labels_with (reverse ms') (reverse ss') (map mark_view (reverse marks'))) none
-          ∙ (ap (λ (xs : List Made). labels_with xs (reverse ss') (map mark_view (reverse marks'))) back_m ∙ (ap (λ (xs : List Settled). labels_with ms xs (map mark_view (reverse marks'))) back_s ∙ ap (λ (xs : List Mark). labels_with ms ss (map mark_view xs)) back_k));
-      same = subst (λ (xs : List Made). AreExpandedOf xs (reverse ss')) (sym back_m) (subst (λ (xs : List Settled). AreExpandedOf ms xs) (sym back_s) same);
-    }
 
 -- ---- labels with a mark
 

@@ -13,6 +13,7 @@ pub mod SearchedFrom
 pub mod SettledLeaves
 pub mod SettledNext
 pub mod SettledAs
+pub mod StillToCome
 pub mod Waiting
 pub mod LabelGeneralised
 pub mod Sharing

@@ -1,6 +1,6 @@
 -- Labels that are made one after the other.
-use Rattle.std.proofs.Common.{◌≡◌, ◌∙◌, ℕ, suc, ◌+◌, List, [], ◌∷◌, ◌++◌, length, map, reverse, false, Some, refl, sym, ap, subst, arith}
-use Rattle.std.proofs.lemmas.List.{append_assoc, append-nil, length-append, length-map, map-append, reverse-append, reverse-reverse}
+use Rattle.std.proofs.Common.{◌≡◌, ◌∙◌, ℕ, suc, ◌+◌, List, [], ◌∷◌, ◌++◌, length, map, false, Some, refl, sym, ap, subst, arith}
+use Rattle.std.proofs.lemmas.List.{append_assoc, append-nil, length-append, length-map, map-append}
 use Rattle.cp_model.specs.Problem.{numbers_from}
 use Rattle.cp_skel.specs.Data.{SkeletonData}
 use Rattle.cp_skel.specs.View.{skeleton_view}
@@ -14,6 +14,7 @@ use Rattle.cp_tree.specs.Made.{made_of_child}
 use Rattle.cp_search.specs.declared.made.Made.{Made}
 use Rattle.cp_search.specs.Making.{made_view, AreFound, AddsMade, AddMade}
 use Rattle.cp_search.specs.Roots.{root_made}
+use Rattle.cp_search.proofs.StillToCome.{next_whole}
 
 -- ---- one more
 
@@ -28,30 +29,25 @@ one_more_made ms m old mid new so_far next = record {
   found = next.found;
 }
 
-next_whole : {A : Type 0} (whole done left rest : List A) (x : A) → done ++ reverse left ≡ whole → left ≡ rest ++ x ∷ [] → (done ++ x ∷ []) ++ reverse rest ≡ whole
-next_whole whole done left rest x so_far popped =
-    append_assoc done (x ∷ []) (reverse rest)
-    ∙ (ap (λ ys. done ++ ys) (sym (ap reverse popped ∙ reverse-append rest (x ∷ []))) ∙ so_far)
-
 -- ---- roots
 
--- Of the roots, which are taken from the end of their reverse, those in front of what is left are made.
+-- Of the roots, which are taken in their order, those in front of what is left are made.
 pub record AreRootsMade (roots left : List Root) (new : List Made) : Type 0 where
   pub done : List Root
-  pub whole : done ++ reverse left ≡ roots
+  pub whole : done ++ left ≡ roots
   pub made : AddMade (map root_made done) [] new
 
-pub no_roots_yet : (roots left : List Root) (new : List Made) → left ≡ reverse roots → new ≡ [] → AreRootsMade roots left new
-no_roots_yet roots left new turned none = record {
+pub no_roots_yet : (roots left : List Root) (new : List Made) → left ≡ roots → new ≡ [] → AreRootsMade roots left new
+no_roots_yet roots left new all none = record {
   done = [];
-  whole = ap reverse turned ∙ reverse-reverse roots;
+  whole = all;
   made = subst (λ (ms : List Made). AddMade [] [] ms) (sym none) (none_made [] (record { each = λ i m at. absurd (cc); later = λ i p m at from. absurd (cc) }));
 }
 
-pub next_root : (roots left rest : List Root) (root : Root) (old new : List Made) → AreRootsMade roots left old → left ≡ rest ++ root ∷ [] → AddsMade (root_made root) old new → AreRootsMade roots rest new
-next_root roots left rest root old new so_far popped next = record {
+pub next_root : (roots left rest : List Root) (root : Root) (old new : List Made) → AreRootsMade roots left old → left ≡ root ∷ rest → AddsMade (root_made root) old new → AreRootsMade roots rest new
+next_root roots left rest root old new so_far taken next = record {
   done = so_far.done ++ root ∷ [];
-  whole = next_whole roots so_far.done left rest root so_far.whole popped;
+  whole = next_whole roots so_far.done left rest root so_far.whole taken;
   made = subst (λ (ms : List plain.Made). AddMade ms [] new) (sym (map-append root_made so_far.done (root ∷ []))) (one_more_made (map root_made so_far.done) (root_made root) [] old new so_far.made next);
 }
 
@@ -69,17 +65,17 @@ child_made parent c k old new listed same adds =
     let same_made : made ≡ made_of_child parent (child_view c) = λ i. record { parent = Some parent; operation = operation_view c.operation; variables = variables_view (same i); skeleton = listed i; dead = false } in
     subst (λ (m : plain.Made). AddsMade m old new) same_made adds
 
--- Of the children, which are taken from the end of their reverse, those in front of what is left are made, with these numbers.
+-- Of the children, which are taken in their order, those in front of what is left are made, with these numbers.
 pub record AreChildrenMade (parent : ℕ) (children left : List Child) (old new : List Made) (numbers : List ℕ) : Type 0 where
   pub done : List Child
-  pub whole : done ++ reverse left ≡ children
+  pub whole : done ++ left ≡ children
   pub made : AddMade (map (made_of_child parent) (map child_view done)) old new
   pub numbered : numbers ≡ numbers_from (length old) done
 
-pub no_child_made : (parent : ℕ) (children left : List Child) (old : List Made) (numbers : List ℕ) → left ≡ reverse children → AreFound old → numbers ≡ [] → AreChildrenMade parent children left old old numbers
+pub no_child_made : (parent : ℕ) (children left : List Child) (old : List Made) (numbers : List ℕ) → left ≡ children → AreFound old → numbers ≡ [] → AreChildrenMade parent children left old old numbers
 no_child_made parent children left old numbers e found none = record {
   done = [];
-  whole = ap reverse e ∙ reverse-reverse children;
+  whole = e;
   made = none_made old found;
   numbered = none;
 }
@@ -95,14 +91,14 @@ module _ (parent : ℕ) (children left : List Child) (old mid : List Made) (numb
       let f : length (map child_view so_far.done) ≡ length so_far.done = length-map so_far.done child_view in
       omega arith
 
-  module _ (rest : List Child) (c : Child) (popped : left ≡ rest ++ c ∷ []) (new : List Made) (next : AddsMade (made_of_child parent (child_view c)) mid new) where
+  module _ (rest : List Child) (c : Child) (taken : left ≡ c ∷ rest) (new : List Made) (next : AddsMade (made_of_child parent (child_view c)) mid new) where
     maps_after : map (made_of_child parent) (map child_view (so_far.done ++ c ∷ [])) ≡ map (made_of_child parent) (map child_view so_far.done) ++ made_of_child parent (child_view c) ∷ []
     maps_after = ap (map (made_of_child parent)) (map-append child_view so_far.done (c ∷ [])) ∙ map-append (made_of_child parent) (map child_view so_far.done) (child_view c ∷ [])
 
     pub next_child : (more : List ℕ) → more ≡ numbers ++ length mid ∷ [] → AreChildrenMade parent children rest old new more
     next_child more e = record {
       done = so_far.done ++ c ∷ [];
-      whole = next_whole children so_far.done left rest c so_far.whole popped;
+      whole = next_whole children so_far.done left rest c so_far.whole taken;
       made = subst (λ (ms : List plain.Made). AddMade ms old new) (sym maps_after) (one_more_made (map (made_of_child parent) (map child_view so_far.done)) (made_of_child parent (child_view c)) old mid new so_far.made next);
       numbered = e ∙ (ap (λ (ns : List ℕ). ns ++ length mid ∷ []) so_far.numbered ∙ (ap (λ (n : ℕ). numbers_from (length old) so_far.done ++ n ∷ []) count ∙ sym (numbers_push (length old) so_far.done c)));
     }

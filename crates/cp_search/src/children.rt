@@ -23,10 +23,8 @@ pub(crate) fn make_children(
     ensures made { OnOk result (AddMade (map (made_of_child parent) (map child_view children.items)) made.old made.new) }
     ensures numbers { IfOk result (λ numbers. numbers.items ≡ numbers_from (length made.old) children.items) }
 {
-    let mut rest = children;
-    rest.reverse();
-    let mut numbers = Vec::new(alloc);
-    while let Some(child) = rest.pop() {
+    let mut numbers = Vec::with_capacity(alloc, children.len())?;
+    for child in children {
         numbers.push(made.len())?;
         let Child {
             mut skeleton,

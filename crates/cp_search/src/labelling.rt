@@ -129,15 +129,12 @@ fn labels(
     requires same { AreExpandedOf made.items settled.items }
     ensures { IfOk result (λ ls. map label_view ls.items ≡ labels_with made.items settled.items (map mark_view marks.items)) }
 {
-    let mut rest = made;
-    rest.reverse();
-    let mut rest_settled = settled;
-    rest_settled.reverse();
+    let mut labels = Vec::with_capacity(alloc, made.len())?;
+    let mut rest_settled = settled.into_iter();
     let mut rest_marks = marks;
     rest_marks.reverse();
-    let mut labels = Vec::new(alloc);
-    while let Some(made) = rest.pop() {
-        let Some(settled) = rest_settled.pop() else {
+    for made in made {
+        let Some(settled) = rest_settled.next() else {
             return Ok(labels);
         };
         let mark = next_mark(&settled, &mut rest_marks);

@@ -28,10 +28,8 @@ fn make_root(alloc: Global, made: &mut Labels, root: Root) -> Result<(), AllocEr
 pub(crate) fn make_roots(alloc: Global, roots: Vec<Root>) -> Result<Labels, AllocError>
     ensures { IfOk result (λ ms. AddMade (map root_made roots.items) [] ms) }
 {
-    let mut rest = roots;
-    rest.reverse();
     let mut made = Labels::new(alloc);
-    while let Some(root) = rest.pop() {
+    for root in roots {
         make_root(alloc, &mut made, root)?;
     }
     Ok(made)

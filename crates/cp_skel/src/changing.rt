@@ -50,7 +50,7 @@ impl Skeleton {
         let number = self.strands.len();
         let instance = instance_of(alloc, role, 0, height, &[], values)?;
         let more = missing(alloc, number, &instance, &self.assumptions)?;
-        let strand = Strand::instance(alloc, instance)?;
+        let strand = Strand::with_events(alloc, instance)?;
         let mut assumptions = self.assumptions.copy(alloc)?;
         assumptions.append(more)?;
         self.strands.push(strand)?;
@@ -86,7 +86,7 @@ impl Skeleton {
             values,
         )?;
         let more = missing(alloc, strand, &instance, &self.assumptions)?;
-        let grown = Strand::instance(alloc, instance)?;
+        let grown = Strand::with_events(alloc, instance)?;
         self.assumptions.append(more)?;
         self.strands[strand] = grown;
         Ok(())

@@ -30,10 +30,10 @@ pub use changes_laws::{
     changes_keep_homomorphisms, changes_keep_what_is_stated, extensions_fit, order_keeps_skeletons,
 };
 pub use collecting::{add_atom, add_atoms, add_unique};
-pub use cp_order::{Leading, Order};
+pub use cp_order::{Leading, Order, SortedPairs};
 pub use cp_strand::{
     Atom, Declaration, Event, Instance, Protocol, Role, Strand, StrandShape, all_occur, applied,
-    applied_atom, has_atom, is_same_role, occurs, origin, prefix_of,
+    applied_atom, has_atom, is_same_role, occurs, origin, prefix_of, value_of_variable,
 };
 pub use events::Occurrence;
 pub use from_problem::FromProblem;

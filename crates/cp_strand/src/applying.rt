@@ -1,5 +1,5 @@
 // Terms and events of instances.
-ghost use Rattle.std.specs.Prelude.{◌≡◌, map, option_map, IfOk};
+ghost use Rattle.std.specs.Prelude.{◌≡◌, map, option_map, IfOk, IfSome};
 ghost use Rattle.cp_lists.specs.Lists.{item_at};
 ghost use Rattle.cp_model.specs.Term.{apply_to, apply_to_atom};
 ghost use Rattle.cp_model.specs.Strand.{event_map};
@@ -8,8 +8,9 @@ ghost use Rattle.cp_model.specs.Homomorphism.{substitution_by};
 ghost use Rattle.cp_strand.specs.View.{event_view, instance_view, strand_view};
 
 use crate::atom::Atom;
+use crate::occurring::prefix_of;
 use crate::protocol::Event;
-use crate::strand::{Instance, Strand, StrandShape};
+use crate::strand::{Body, Instance, Strand};
 use crate::substituting::ByNumber;
 use cp_term::{Term, substituted};
 use std::alloc::{AllocError, Global};
@@ -66,6 +67,52 @@ fn instance_event(
     }
 }
 
+/// The events of an instance.
+fn instance_events(alloc: Global, instance: &Instance) -> Result<Vec<Event>, AllocError>
+    ensures { IfOk result (λ es. map event_view es.items ≡ skeleton_trace (instance_view instance.now)) }
+{
+    let events = prefix_of(instance.role(), instance.height());
+    let mut applied = Vec::with_capacity(alloc, events.len())?;
+    for event in events {
+        applied.push(applied_event(alloc, instance.values(), event)?)?;
+    }
+    Ok(applied)
+}
+
+/// The events of an instance that a strand holds: all of them where its role is small, and else none, since those of many
+/// strands could take much memory.
+pub(crate) fn held_events(
+    alloc: Global,
+    instance: &Instance,
+) -> Result<Option<Vec<Event>>, AllocError>
+    ensures { IfOk result (λ held. IfSome held (λ es. map event_view es.items ≡ skeleton_trace (instance_view instance.now))) }
+{
+    if !instance.role().is_small() {
+        return Ok(None);
+    }
+    Ok(Some(instance_events(alloc, instance)?))
+}
+
+/// The same event again.
+fn copy_of(event: &Event) -> Result<Event, AllocError>
+    ensures { IfOk result (λ e. event_view e ≡ event_view event.now) }
+{
+    match event {
+        Event::Send(message) => Ok(Event::Send(message.copy()?)),
+        Event::Receive(message) => Ok(Event::Receive(message.copy()?)),
+    }
+}
+
+/// The event at a place among these, counted from 0.
+fn copy_at(events: &[Event], index: usize) -> Result<Option<Event>, AllocError>
+    ensures { IfOk result (λ e. option_map event_view e ≡ item_at (map event_view events.now) index) }
+{
+    match event_at(events, index) {
+        Some(event) => Ok(Some(copy_of(event)?)),
+        None => Ok(None),
+    }
+}
+
 /// The event at a place of a listener, counted from 0.
 fn listener_event(message: &Term, index: usize) -> Result<Option<Event>, AllocError>
     ensures { IfOk result (λ e. option_map event_view e ≡ item_at (skeleton_trace (listener message.now)) index) }
@@ -78,13 +125,24 @@ fn listener_event(message: &Term, index: usize) -> Result<Option<Event>, AllocEr
 }
 
 impl Strand {
+    /// The events of the strand, where it holds them.
+    pub fn held(&self) -> Option<&[Event]>
+        ensures { IfSome result (λ es. map event_view es.now ≡ skeleton_trace (strand_view self.now)) }
+    {
+        match self.body() {
+            Body::Instance(_, Some(events)) => Some(events),
+            _ => None,
+        }
+    }
+
     /// The event at a place of the strand, counted from 0. The error is that memory ran out.
     pub fn event(&self, alloc: Global, index: usize) -> Result<Option<Event>, AllocError>
         ensures { IfOk result (λ e. option_map event_view e ≡ item_at (skeleton_trace (strand_view self.now)) index) }
     {
-        match self.shape() {
-            StrandShape::Instance(instance) => instance_event(alloc, instance, index),
-            StrandShape::Listener(message) => listener_event(message, index),
+        match self.body() {
+            Body::Instance(_, Some(events)) => copy_at(events, index),
+            Body::Instance(instance, None) => instance_event(alloc, instance, index),
+            Body::Listener(message) => listener_event(message, index),
         }
     }
 }

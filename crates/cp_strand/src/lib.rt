@@ -24,4 +24,5 @@ pub use protocol::{Declaration, Event, Protocol, Role};
 pub use same::{Same, has};
 pub use same_role::is_same_role;
 pub use strand::{Instance, Strand, StrandShape};
+pub use substituting::value_of_variable;
 pub use valuing::instance_of;

@@ -1,11 +1,11 @@
 // Declarations, events, roles and protocols.
-ghost use Rattle.std.specs.Prelude.{◌≡◌, map};
+ghost use Rattle.std.specs.Prelude.{◌≡◌, ◌≤◌, map};
 ghost use Rattle.cp_model.specs.Strand.{payload};
 ghost use Rattle.cp_strand.specs.View.{declaration_view, event_view};
 
 use crate::atom::Atom;
 use cp_base::Text;
-use cp_term::{Sort, Term};
+use cp_term::{Shape, Sort, Term};
 use std::marker::Model;
 use std::rc::Rc;
 
@@ -36,7 +36,8 @@ impl Event {
     }
 }
 
-/// A role: its name, its variables, its events, and its assumptions.
+/// A role: its name, its variables, its events, and its assumptions. Beside these it is kept whether it is small; contracts see
+/// nothing of that.
 #[derive(Drop)]
 pub struct Role {
     name: Text,
@@ -45,6 +46,41 @@ pub struct Role {
     non_originating: Vec<Atom>,
     penetrator_non_originating: Vec<Atom>,
     uniquely_originating: Vec<Atom>,
+    is_small: bool,
+}
+
+/// The messages of a small role have fewer parts than this.
+const PARTS: usize = 64;
+
+/// What is left of so many parts when those of a message are taken away, down to 0; the key of an encryption is not counted.
+fn left_over(parts: usize, message: &Term) -> usize
+    ensures { result ≤ parts }
+{
+    let mut left = parts;
+    let mut rest = message;
+    loop {
+        if left == 0 {
+            return 0;
+        }
+        left -= 1;
+        match rest.shape() {
+            Shape::Pair(first, second) => {
+                left = left_over(left, first);
+                rest = second;
+            }
+            Shape::Encryption(body, _) => rest = body,
+            _ => return left,
+        }
+    }
+}
+
+/// Whether the messages of all these events have few parts together.
+fn are_small(events: &[Event]) -> bool {
+    let mut left = PARTS;
+    for event in events {
+        left = left_over(left, event.payload());
+    }
+    left > 0
 }
 
 impl Model for Role {
@@ -80,6 +116,7 @@ impl Role {
           uniquely_originating = uniquely_originating.items;
         } }
     {
+        let is_small = are_small(&trace);
         Role {
             name,
             variables,
@@ -87,7 +124,13 @@ impl Role {
             non_originating,
             penetrator_non_originating,
             uniquely_originating,
+            is_small,
         }
+    }
+
+    /// Whether the messages of its events have few parts together, so that strands may hold their events.
+    pub(crate) fn is_small(&self) -> bool {
+        self.is_small
     }
 
     /// Its name.

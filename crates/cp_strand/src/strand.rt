@@ -1,10 +1,12 @@
 // Strands of skeletons, as handles that copies share.
 ghost use Rattle.std.specs.Prelude.{◌≡◌, IfOk};
+ghost use Rattle.cp_strand.specs.Bodies.{strand_of_body, HasItsEvents};
 ghost use Rattle.cp_strand.specs.Data.{listener_data};
 ghost use Rattle.cp_strand.specs.Shapes.{strand_of_shape};
 ghost use Rattle.cp_strand.specs.View.{instance_as_data};
 
-use crate::protocol::Role;
+use crate::applying::held_events;
+use crate::protocol::{Event, Role};
 use cp_term::Term;
 use std::alloc::{AllocError, Global};
 use std::marker::Model;
@@ -63,10 +65,11 @@ impl Instance {
     }
 }
 
-/// What a strand is: an instance of a role, or a listener, which receives a message and sends it on.
+/// What a strand is: an instance of a role, with its events where they are held; or a listener, which receives a message and
+/// sends it on.
 #[derive(Drop)]
-enum Body {
-    Instance(Instance),
+pub(crate) enum Body {
+    Instance(Instance, Option<Vec<Event>>),
     Listener(Term),
 }
 
@@ -86,6 +89,10 @@ impl Model for Strand {
     ghost use Rattle.cp_strand.specs.Bodies.{strand_of_body};
 
     ghost view = { λ s. strand_of_body s.body.value };
+
+    ghost use Rattle.cp_strand.specs.Bodies.{HasItsEvents};
+
+    ghost invariant = { λ s. HasItsEvents s.body.value };
 }
 
 /// What a strand is made of: an instance of a role; or a listener, of whose message this is the term.
@@ -100,7 +107,18 @@ impl Strand {
     pub fn instance(alloc: Global, instance: Instance) -> Result<Strand, AllocError>
         ensures { IfOk result (λ s. s ≡ instance_as_data instance) }
     {
-        let body = Rc::new(alloc, Body::Instance(instance))?;
+        let body = Rc::new(alloc, Body::Instance(instance, None))?;
+        Ok(Strand { body })
+    }
+
+    /// The strand that is this instance, which holds its events from now on where the messages of its role are small, so that
+    /// they need not be made each time: for strands that a search adds, and what becomes of them. The error is that memory ran
+    /// out.
+    pub fn with_events(alloc: Global, instance: Instance) -> Result<Strand, AllocError>
+        ensures { IfOk result (λ s. s ≡ instance_as_data instance) }
+    {
+        let events = held_events(alloc, &instance)?;
+        let body = Rc::new(alloc, Body::Instance(instance, events))?;
         Ok(Strand { body })
     }
 
@@ -117,9 +135,17 @@ impl Strand {
         ensures { strand_of_shape result ≡ self.now }
     {
         match &*self.body {
-            Body::Instance(instance) => StrandShape::Instance(instance),
+            Body::Instance(instance, _) => StrandShape::Instance(instance),
             Body::Listener(message) => StrandShape::Listener(message),
         }
+    }
+
+    /// What the strand is, with the events that it holds.
+    pub(crate) fn body(&self) -> &Body
+        ensures view { strand_of_body result.now ≡ self.now }
+        ensures events { HasItsEvents result.now }
+    {
+        &self.body
     }
 
     /// Another handle to the same strand. The error is that memory ran out.

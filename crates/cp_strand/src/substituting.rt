@@ -1,5 +1,5 @@
 // The terms that the list of an instance, or any other, gives to variables.
-ghost use Rattle.std.specs.Prelude.{◌≡◌, MatchOption};
+ghost use Rattle.std.specs.Prelude.{◌≡◌, MatchOption, IfOk};
 ghost use Rattle.std.specs.Option.{option_map};
 ghost use Rattle.cp_lists.specs.Lists.{item_at};
 ghost use Rattle.cp_model.specs.Homomorphism.{substitution_by};
@@ -7,7 +7,8 @@ ghost use Rattle.cp_model.specs.Term.{apply_to};
 ghost use Rattle.cp_term.specs.Variables.{variable_term};
 ghost use Rattle.cp_strand.specs.Sorts.{is_of_sort};
 
-use cp_term::{Shape, Sort, Term, Valuation, VarId};
+use cp_term::{Shape, Sort, Term, Valuation, VarId, var};
+use std::alloc::{AllocError, Global};
 
 /// Whether a term is of this sort of atoms.
 fn is_of_sort(term: &Term, sort: Sort) -> bool
@@ -39,6 +40,22 @@ pub(crate) fn value_of<'a>(values: &'a [Term], sort: Sort, variable: VarId) -> O
         Some(term)
     } else {
         None
+    }
+}
+
+/// What a variable of a role becomes under the terms of an instance: the term with its number, where that is of its sort, and
+/// otherwise itself. The error is that memory ran out.
+pub fn value_of_variable(
+    alloc: Global,
+    values: &[Term],
+    id: VarId,
+    sort: Sort,
+) -> Result<Term, AllocError>
+    ensures { IfOk result (λ t. t ≡ apply_to (substitution_by values.now) (variable_term sort id)) }
+{
+    match value_of(values, sort, id) {
+        Some(value) => value.copy(),
+        None => var(alloc, id, sort),
     }
 }
 

@@ -45,7 +45,7 @@ fn terms_of(
 {
     let earlier = prefix_of(role, before);
     let prefix = prefix_of(role, height);
-    let mut terms = Vec::new(alloc);
+    let mut terms = Vec::with_capacity(alloc, role.variables().len())?;
     let mut next = 0;
     for (number, declaration) in role.variables().iter().enumerate() {
         let id = VarId::numbered(number);

@@ -6,20 +6,22 @@ ghost use Rattle.cp_term.specs.Leaves.{IsLeaf};
 use crate::term::{Node, Term};
 use cp_base::same_if_any;
 
-/// Whether a node without parts is the same as another node.
+/// Whether a node without parts is the same as another node. Variables are compared by their numbers.
 fn same_leaf(leaf: &Node, other: &Node) -> bool
     requires { IsLeaf leaf.now }
     ensures { IsTrue result ↔ (term_of_node leaf.now ≡ term_of_node other.now) }
 {
     match (leaf, other) {
         (Node::Tag(a), Node::Tag(b)) => a.same(b),
-        (Node::TextVariable(x), Node::TextVariable(y)) => x == y,
-        (Node::DatumVariable(x), Node::DatumVariable(y)) => x == y,
-        (Node::NameVariable(x), Node::NameVariable(y)) => x == y,
-        (Node::SkeyVariable(x), Node::SkeyVariable(y)) => x == y,
-        (Node::AkeyVariable(f, x), Node::AkeyVariable(g, y)) => f == g && x == y,
-        (Node::Ltk(a, b), Node::Ltk(c, d)) => a == c && b == d,
-        (Node::Pubk(f, p, x), Node::Pubk(g, q, y)) => f == g && x == y && same_if_any(p, q),
+        (Node::TextVariable(x), Node::TextVariable(y)) => x.number() == y.number(),
+        (Node::DatumVariable(x), Node::DatumVariable(y)) => x.number() == y.number(),
+        (Node::NameVariable(x), Node::NameVariable(y)) => x.number() == y.number(),
+        (Node::SkeyVariable(x), Node::SkeyVariable(y)) => x.number() == y.number(),
+        (Node::AkeyVariable(f, x), Node::AkeyVariable(g, y)) => f == g && x.number() == y.number(),
+        (Node::Ltk(a, b), Node::Ltk(c, d)) => a.number() == c.number() && b.number() == d.number(),
+        (Node::Pubk(f, p, x), Node::Pubk(g, q, y)) => f == g
+            && x.number() == y.number()
+            && same_if_any(p, q),
         _ => false,
     }
 }

@@ -44,8 +44,9 @@ const ROWS: &[((usize, usize), &[(usize, usize)], &[(usize, usize)])] = &[
 
 #[test]
 fn leading(rt: HostRuntime) -> Result<(), Fail> {
+    let pairs = pairs(rt.alloc())?;
     for &((strand, index), before, others) in ROWS {
-        let leading = Leading::new(rt.alloc(), &pairs(rt.alloc())?, node(strand, index))?;
+        let leading = Leading::new(rt.alloc(), &pairs, node(strand, index))?;
         for &(strand, index) in before {
             assert!(rt; leading.has(node(strand, index)));
         }

@@ -1,8 +1,6 @@
-use Rattle.std.proofs.Common.{◌≡◌, List, map, ap, ◌∙◌, subst}
-use Rattle.cp_lists.specs.Lists.{IsIn}
+use Rattle.std.proofs.Common.{◌≡◌, map, ap, ◌∙◌}
 use Rattle.cp_lists.proofs.Items.{item_of_read}
-use Rattle.cp_lists.proofs.Members.{item_is_in, into_map}
-use Rattle.cp_skel.specs.Events.{Occurrence, occurrence_view, events_of}
+use Rattle.cp_skel.specs.Events.{occurrence_view, events_of}
 use Rattle.cp_cohort.specs.Growing.{ContractsEvent}
 use Rattle.cp_cohort.specs.Views.{question_view}
 use Rattle.cp_cohort.proofs.Putting.{puts_other, puts_first, puts_next, puts_last}
@@ -13,13 +11,7 @@ pub loop-occurrence-init : goal.loop-occurrence-init
 loop-occurrence-init c = puts_first (λ o. ContractsEvent (question_view c.args.question.now) (occurrence_view o)) c.deref-occurrence-items.result.now c.args.children.now.items
 
 pub contract_event-requires : goal.contract_event-requires
-contract_event-requires c =
-    let all : map occurrence_view c.deref-occurrence-items.result.now ≡ events_of (question_view c.args.question.now).skeleton = ap (map occurrence_view) c.deref-occurrence-items.ensures.value ∙ c.in_ok-occurrences.ensures.listed in
-    record {
-      there = c.requires;
-      listed = subst (λ (os : List Occurrence). IsIn (occurrence_view c.occurrence-item.result) os) all
-          (into_map occurrence_view (item_is_in c.deref-occurrence-items.result.now c.loop-occurrence.occurrence-index c.occurrence-item.result c.loop-occurrence-test.true c.occurrence-item.is));
-    }
+contract_event-requires c = record { there = c.requires.there; gathered = c.requires.gathered }
 
 pub loop-occurrence-preserved : goal.loop-occurrence-preserved
 loop-occurrence-preserved c =

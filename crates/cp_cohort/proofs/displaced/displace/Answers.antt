@@ -14,7 +14,8 @@ loop-number-init c = puts_first (DisplacesStrand (question_view c.args.question.
 
 pub displace_strand-requires : goal.displace_strand-requires
 displace_strand-requires c = record {
-  test = c.requires;
+  test = c.requires.test;
+  gathered = c.requires.gathered;
   there = ap (λ (ss : List SkeletonStrand). item_at ss c.loop-number.number) (sym (ap (map strand_view) c.strands-strand-items.ensures))
       ∙ map_of_read strand_view c.strands-strand-items.result.now c.loop-number.number c.strand-item.result c.loop-number-test.true c.strand-item.is;
 }

@@ -21,11 +21,11 @@ returns-then-not-is_sent c =
     let heard = subst (λ (r : Role). (t : Term) × (item_at r.trace c.args.index ≡ Some (recv t))) c.role.ensures (c.is_sent.ensures.received c.if-not-is_sent.true) in
     puts_nothing c.args.children.now.items (is_reception heard.1)
 
-pub is_before-requires : goal.is_before-requires
-is_before-requires c = record { asked = (recv c.requires.test.message, c.requires.test.reception); there = c.requires.there }
+pub comes_before-requires : goal.comes_before-requires
+comes_before-requires c = record { there = (recv c.requires.test.message, c.requires.test.reception); gathered = c.requires.gathered }
 
-pub returns-then-is_before : goal.returns-then-is_before
-returns-then-is_before c = puts_nothing c.args.children.now.items (is_before (c.is_before.ensures.0 c.if-is_before.true))
+pub returns-then-comes_before : goal.returns-then-comes_before
+returns-then-comes_before c = puts_nothing c.args.children.now.items (is_before (c.comes_before.ensures.0 c.if-comes_before.true))
 
 pub with_events-requires : goal.with_events-requires
 with_events-requires c = record { there = c.requires.there; reached = omega (arith, c.requires.reached) }
@@ -42,5 +42,5 @@ returns c =
     on_ok_weaker c.release.result
     (λ p. puts_other c.args.children.now.items c.release.new.children.items
     (displaced_each (question_view c.args.question.now) c.args.strand c.args.instance.now.role c.args.instance.now.height c.args.index (substitution_by c.args.instance.now.values) sent.0 c.requires.there sent.1
-    (variables_view c.in_ok-grown.grown.variables) (skeleton_view c.in_ok-grown.grown) (c.in_ok-grown.ensures c.args.index (add-one c.args.index)).grows (λ b. not_both c.if-is_before.false (c.is_before.ensures.1 b))) p)
+    (variables_view c.in_ok-grown.grown.variables) (skeleton_view c.in_ok-grown.grown) (c.in_ok-grown.ensures c.args.index (add-one c.args.index)).grows (λ b. not_both c.if-comes_before.false (c.comes_before.ensures.1 b))) p)
     c.release.ensures

@@ -31,7 +31,7 @@ loop-index-init c = puts_first (DisplacesEvent (question_view c.args.question.no
 pub displace_event-requires : goal.displace_event-requires
 displace_event-requires c =
     let same = as_many (goal.at.displace_event-requires c).After-trace-events in
-    record { test = c.requires.test; there = c.requires.there ∙ ap (λ (d : StrandData). Some (strand_view d)) (sym c.in-Instance.ensures); other = c.if-number-question.false; reached = omega (arith, same, c.loop-index-test.true) }
+    record { test = c.requires.test; gathered = c.requires.gathered; there = c.requires.there ∙ ap (λ (d : StrandData). Some (strand_view d)) (sym c.in-Instance.ensures); other = c.if-number-question.false; reached = omega (arith, same, c.loop-index-test.true) }
 
 pub loop-index-preserved : goal.loop-index-preserved
 loop-index-preserved c =

@@ -1,11 +1,22 @@
-use Rattle.std.proofs.Common.{subst}
+use Rattle.std.proofs.Common.{◌≡◌, List, ◌∙◌, subst}
+use Rattle.cp_model.specs.Strand.{recv}
+use Rattle.cp_model.specs.declared.node.OrderPair.{OrderPair}
 use Rattle.cp_covering.specs.Cohort.{Question, IsCohort}
 use Rattle.cp_cohort.specs.Views.{question_of}
 use Rattle.cp_cohort.proofs.Joining.{all_put}
 use Rattle.cp_cohort.proofs.gathering.cohort.Goals as goal
 
+pub contract-requires : goal.contract-requires
+contract-requires c = record {
+  there = (recv c.requires.test.message, c.requires.test.reception);
+  gathered = subst (λ (ps : List OrderPair). c.in_ok-leading.leading ≡ record { pairs = ps; node = c.args.node }) (c.pairs.ensures ∙ c.order.ensures) c.in_ok-leading.ensures;
+}
+
 pub displace-requires : goal.displace-requires
-displace-requires c = c.requires.test
+displace-requires c = record {
+  test = c.requires.test;
+  gathered = subst (λ (ps : List OrderPair). c.in_ok-leading.leading ≡ record { pairs = ps; node = c.args.node }) (c.pairs.ensures ∙ c.order.ensures) c.in_ok-leading.ensures;
+}
 
 pub returns : goal.returns
 returns c =

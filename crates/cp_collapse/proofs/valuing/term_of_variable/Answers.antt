@@ -7,6 +7,6 @@ use Rattle.cp_collapse.proofs.valuing.term_of_variable.Goals as goal
 
 pub returns : goal.returns
 returns c =
-    IfOk-weaker c.applied.result _ _
-    (λ t h. h ∙ ap (apply_to (substitution_by c.args.terms.now)) (c.in_ok-variable.ensures.plain ∙ variable_is c.args.sort c.args.id))
-    c.applied.ensures
+    IfOk-weaker c.value_of_variable.result _ _
+    (λ t h. h ∙ ap (apply_to (substitution_by c.args.terms.now)) (variable_is c.args.sort c.args.id))
+    c.value_of_variable.ensures

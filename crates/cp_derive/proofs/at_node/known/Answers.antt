@@ -17,18 +17,18 @@ returns c =
     let lent : map transmission_view c.deref.result.now ≡ all = ap (map transmission_view) c.deref.ensures.value ∙ c.in_ok-transmissions.ensures in
     let lent_again : map transmission_view c.deref-3.result.now ≡ all = ap (map transmission_view) c.deref-3.ensures.value ∙ c.in_ok-transmissions.ensures in
     let before : ArePlacesBefore c.args.k.now.order c.args.node (map transmission_view c.deref.result.now) c.in_ok-places.places.items =
-    subst (λ ps. ArePlacesBefore ps c.args.node (map transmission_view c.deref.result.now) c.in_ok-places.places.items) (c.pairs.ensures ∙ c.order.ensures) c.in_ok-places.ensures in
+    subst (λ ps. ArePlacesBefore ps c.args.node (map transmission_view c.deref.result.now) c.in_ok-places.places.items) (c.in_ok-sorted.ensures ∙ c.pairs.ensures ∙ c.order.ensures) c.in_ok-places.ensures in
     let before_all : ArePlacesBefore c.args.k.now.order c.args.node all c.in_ok-places.places.items =
     subst (λ ts. ArePlacesBefore c.args.k.now.order c.args.node ts c.in_ok-places.places.items) lent before in
     record {
       given =
           ok_then (λ (g : Given). g ≡ record { sent = c.in_ok-sent.sent.items; secrets = c.in_ok-secrets.secrets.items })
-          (λ (g : Given). (t : Term) → IsDerivable g t ↔ DerivableAt (skeleton_view c.args.k.now) c.args.node t) c.new.result
+          (λ (g : Given). (t : Term) → IsDerivable g t ↔ DerivableAt (skeleton_view c.args.k.now) c.args.node t) c.new-2.result
           (λ g e t.
           let given : g ≡ given_by (skeleton_view c.args.k.now) c.in_ok-places.places.items =
           given_from (skeleton_view c.args.k.now) c.in_ok-places.places.items _ _ c.in_ok-sent.sent.items c.in_ok-secrets.secrets.items g c.deref-2.ensures.value lent_again c.in_ok-sent.ensures
           (c.in_ok-secrets.ensures ∙ ap assumed_values c.assumptions.ensures) e in
           let both = derivable_at_node (skeleton_view c.args.k.now) c.args.node c.in_ok-places.places.items (ordered_of (skeleton_view c.args.k.now) c.is_sound.ensures) c.requires.there before_all g given t in
           (both.1, both.0))
-          c.new.ensures;
+          c.new-2.ensures;
     }

@@ -17,20 +17,20 @@ loop-place-preserved c =
     map_of_read transmission_view c.args.transmissions.now c.loop-place.place c.index-transmissions-place.result c.loop-place-test.true c.index-transmissions-place.is in
     elim c.if-has.branch [
       | then-has+then-ne+in_ok-push w ↦
-          placed c.args.pairs.now c.args.node _ c.loop-place.place (transmission_view c.index-transmissions-place.result) c.loop-place.places.items _ at (
+          placed c.args.sorted.now c.args.node _ c.loop-place.place (transmission_view c.index-transmissions-place.result) c.loop-place.places.items _ at (
             subst (λ (x : Target). LeadsTo x.pairs c.index-transmissions-place.result.node x.node) c.in_ok-leading.ensures (c.has.ensures.0 w.if-has.true),
             tested_apart c.index-transmissions-place.result.node c.args.node w.if-ne.ensures,
           )
           (ap (λ v. v.items) w.places-is ∙ w.in_ok-push.ensures.items) c.loop-place.invariant
       | else-has w ↦
-          subst (λ ps. ArePlacesBelow c.args.pairs.now c.args.node (map transmission_view c.args.transmissions.now) (c.loop-place.place + 1) ps)
+          subst (λ ps. ArePlacesBelow c.args.sorted.now c.args.node (map transmission_view c.args.transmissions.now) (c.loop-place.place + 1) ps)
           (sym (ap (λ v. v.items) w.places-is))
           (elim w.else-has.branch [
             | else-has-via-then-has+else-ne w' ↦
-                not_placed c.args.pairs.now c.args.node _ c.loop-place.place (transmission_view c.index-transmissions-place.result) _ at
+                not_placed c.args.sorted.now c.args.node _ c.loop-place.place (transmission_view c.index-transmissions-place.result) _ at
                 (λ l. l.1 (tested_same c.index-transmissions-place.result.node c.args.node w'.if-ne.ensures)) c.loop-place.invariant
             | else-has-via-else-has w' ↦
-                not_placed c.args.pairs.now c.args.node _ c.loop-place.place (transmission_view c.index-transmissions-place.result) _ at
+                not_placed c.args.sorted.now c.args.node _ c.loop-place.place (transmission_view c.index-transmissions-place.result) _ at
                 (λ l.
                 not_both w'.if-has.false
                 (c.has.ensures.1 (subst (λ (x : Target). LeadsTo x.pairs c.index-transmissions-place.result.node x.node) (sym c.in_ok-leading.ensures) l.0)))

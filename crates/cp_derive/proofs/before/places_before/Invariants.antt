@@ -4,4 +4,4 @@ use Rattle.cp_derive.proofs.Placing.{ArePlacesBelow}
 use Rattle.cp_derive.proofs.before.places_before.Given as goal
 
 abbrev pub invariant-loop-place : goal.invariant-loop-place
-invariant-loop-place l = ArePlacesBelow l.pairs l.node (map transmission_view l.transmissions) l.place l.places.items
+invariant-loop-place l = ArePlacesBelow l.sorted l.node (map transmission_view l.transmissions) l.place l.places.items

@@ -1,16 +1,29 @@
-use Rattle.std.proofs.Common.{map, refl, ap, subst, ◌∙◌}
+use Rattle.std.proofs.Common.{◌≡◌, map, refl, ap, subst}
+use Rattle.std.specs.Prelude.{◌↔◌}
+use Rattle.cp_model.specs.Term.{Term as Plain}
+use Rattle.cp_model.specs.Derivable.{DerivableAt}
 use Rattle.cp_skel.specs.View.{skeleton_view}
-use Rattle.cp_derive.specs.Before.{ArePlacesBefore}
-use Rattle.cp_derive.specs.Given.{Given}
+use Rattle.cp_derive.specs.Before.{ArePlacesBefore, messages_at}
+use Rattle.cp_derive.specs.Given.{Given, IsDerivable}
+use Rattle.cp_derive.specs.Places.{AreSamePlaces}
 use Rattle.cp_derive.specs.Transmissions.{transmission_view}
+use Rattle.cp_derive.specs.declared.front.Front.{Front}
 use Rattle.cp_derive.proofs.GivenAtNode.{derivable_at_node, given_from}
+use Rattle.cp_derive.proofs.Growing.{same_before}
+use Rattle.cp_derive.proofs.Placing.{ok_both}
 use Rattle.cp_derive.proofs.front.front_at.Goals as goal
 
 pub returns-clause-at_node : goal.returns-clause-at_node
 returns-clause-at_node c =
     let before : ArePlacesBefore c.args.k.now.order c.args.node (map transmission_view c.args.transmissions.now) c.in_ok-places.places.items =
-    subst (λ ps. ArePlacesBefore ps c.args.node (map transmission_view c.args.transmissions.now) c.in_ok-places.places.items) (c.pairs.ensures ∙ c.order.ensures) c.in_ok-places.ensures in
-    derivable_at_node (skeleton_view c.args.k.now) c.args.node c.in_ok-places.places.items c.requires.ordered c.requires.there
-    (subst (λ ts. ArePlacesBefore c.args.k.now.order c.args.node ts c.in_ok-places.places.items) c.requires.all before) c.in_ok-known.known
-    (given_from (skeleton_view c.args.k.now) c.in_ok-places.places.items _ _ _ c.args.front.known.secrets c.in_ok-known.known c.deref-2.ensures.value c.requires.all refl (ap (λ (g : Given). g.secrets) c.requires.given)
-    c.in_ok-known.ensures)
+    subst (λ ps. ArePlacesBefore ps c.args.node (map transmission_view c.args.transmissions.now) c.in_ok-places.places.items) c.requires.pairs c.in_ok-places.ensures in
+    ok_both (λ (f : Front). f.known ≡ record { sent = messages_at f.places.items (map transmission_view c.args.transmissions.now); secrets = c.args.front.known.secrets })
+    (λ (f : Front). AreSamePlaces c.in_ok-places.places.items f.places.items)
+    (λ (f : Front). (t : Plain) → DerivableAt (skeleton_view c.args.k.now) c.args.node t ↔ IsDerivable f.known t) c.moved.result
+    (λ f known same.
+    derivable_at_node (skeleton_view c.args.k.now) c.args.node f.places.items c.requires.ordered c.requires.there
+    (subst (λ ts. ArePlacesBefore c.args.k.now.order c.args.node ts f.places.items) c.requires.all
+    (same_before c.args.k.now.order c.args.node (map transmission_view c.args.transmissions.now) c.in_ok-places.places.items f.places.items same before)) f.known
+    (given_from (skeleton_view c.args.k.now) f.places.items f.places.items (map transmission_view c.args.transmissions.now) _ c.args.front.known.secrets f.known refl c.requires.all refl
+    (ap (λ (g : Given). g.secrets) c.requires.given) known))
+    c.moved.ensures.known c.moved.ensures.places

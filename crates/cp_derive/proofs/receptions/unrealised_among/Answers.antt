@@ -12,7 +12,7 @@ loop-occurrence-preserved-in_default c = record {
       c.occurrence-item.is c.loop-occurrence.invariant.picks
       (other_realised (skeleton_view c.args.k.now) c.occurrence-item.result.node c.occurrence-item.result.event
       (event_at (skeleton_view c.args.k.now) c.args.occurrences.now c.loop-occurrence.occurrence-index c.occurrence-item.result c.loop-occurrence.nodes.items c.loop-occurrence-test.true
-      c.occurrence-item.is c.loop-occurrence.invariant.picks c.requires.listed)
+      c.occurrence-item.is c.loop-occurrence.invariant.picks c.requires.among)
       c.in_default.not-Receive);
 }
 
@@ -21,7 +21,7 @@ front_at-requires-clause-there c = (
   recv c.in-Receive.message,
   reception_at (skeleton_view c.args.k.now) c.occurrence-item.result.node c.occurrence-item.result.event c.in-Receive.message
       (event_at (skeleton_view c.args.k.now) c.args.occurrences.now c.loop-occurrence.occurrence-index c.occurrence-item.result c.loop-occurrence.nodes.items c.loop-occurrence-test.true
-      c.occurrence-item.is c.loop-occurrence.invariant.picks c.requires.listed)
+      c.occurrence-item.is c.loop-occurrence.invariant.picks c.requires.among)
       c.in-Receive.is,
 )
 
@@ -34,7 +34,7 @@ loop-occurrence-preserved-then-buildable c = record {
       (realised_at (skeleton_view c.args.k.now) c.occurrence-item.result.node c.in-Receive.message
       (reception_at (skeleton_view c.args.k.now) c.occurrence-item.result.node c.occurrence-item.result.event c.in-Receive.message
       (event_at (skeleton_view c.args.k.now) c.args.occurrences.now c.loop-occurrence.occurrence-index c.occurrence-item.result c.loop-occurrence.nodes.items c.loop-occurrence-test.true
-      c.occurrence-item.is c.loop-occurrence.invariant.picks c.requires.listed)
+      c.occurrence-item.is c.loop-occurrence.invariant.picks c.requires.among)
       c.in-Receive.is)
       ((c.in_ok-front.ensures.at_node c.in-Receive.message).1 (c.buildable.ensures.exact.0 c.if-buildable.true)));
 }
@@ -48,12 +48,14 @@ loop-occurrence-preserved c = record {
       (unrealised_at (skeleton_view c.args.k.now) c.occurrence-item.result.node c.in-Receive.message
       (reception_at (skeleton_view c.args.k.now) c.occurrence-item.result.node c.occurrence-item.result.event c.in-Receive.message
       (event_at (skeleton_view c.args.k.now) c.args.occurrences.now c.loop-occurrence.occurrence-index c.occurrence-item.result c.loop-occurrence.nodes.items c.loop-occurrence-test.true
-      c.occurrence-item.is c.loop-occurrence.invariant.picks c.requires.listed)
+      c.occurrence-item.is c.loop-occurrence.invariant.picks c.requires.among)
       c.in-Receive.is)
       (λ d. not_both c.if-buildable.false (c.buildable.ensures.exact.1 ((c.in_ok-front.ensures.at_node c.in-Receive.message).0 d))));
 }
 
 pub returns : goal.returns
-returns c =
-    all_passed (skeleton_view c.args.k.now) c.args.occurrences.now c.loop-occurrence.occurrence-index c.loop-occurrence.nodes.items c.loop-occurrence-test.false c.requires.listed
-    c.loop-occurrence.invariant.picks
+returns c = record {
+  picks = all_passed (skeleton_view c.args.k.now) c.args.occurrences.now c.loop-occurrence.occurrence-index c.loop-occurrence.nodes.items c.loop-occurrence-test.false
+      c.loop-occurrence.invariant.picks;
+  given = c.loop-occurrence.invariant.given;
+}

@@ -3,7 +3,7 @@ use Rattle.cp_model.specs.declared.node.Node.{Node}
 use Rattle.cp_skel.specs.View.{skeleton_view}
 use Rattle.cp_derive.specs.Before.{given_by}
 use Rattle.cp_skel.specs.Events.{occurrence_view}
-use Rattle.cp_derive.proofs.Picking.{Picks}
+use Rattle.cp_derive.specs.Picked.{Picks}
 use Rattle.cp_derive.proofs.receptions.unrealised_among.Given as goal
 
 -- what is picked of the events that are left is picked of all behind the nodes so far

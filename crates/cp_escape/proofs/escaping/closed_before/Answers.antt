@@ -1,7 +1,8 @@
-use Rattle.std.proofs.Common.{map, ap, sym, ◌∙◌, subst}
+use Rattle.std.proofs.Common.{◌≡◌, List, map, ap, sym, ◌∙◌, subst}
 use Rattle.cp_lists.specs.Lists.{IsIn}
 use Rattle.cp_model.proofs.CarriedParts.{not_both}
 use Rattle.cp_model.specs.Strand.{payload}
+use Rattle.cp_model.specs.declared.node.OrderPair.{OrderPair}
 use Rattle.cp_skel.specs.Events.{occurrence_view, events_of}
 use Rattle.cp_skel.specs.View.{skeleton_view}
 use Rattle.cp_derive.specs.Given.{IsDerivable}
@@ -10,10 +11,9 @@ use Rattle.cp_escape.proofs.Before.{GivesEvent, listed_among, event_given, sent_
 use Rattle.cp_escape.proofs.Gathering.{puts_next, puts_none, puts_last}
 use Rattle.cp_escape.proofs.escaping.closed_before.Goals as goal
 
-pub is_sent_before-requires-clause-listed : goal.is_sent_before-requires-clause-listed
-is_sent_before-requires-clause-listed c =
-    listed_among (skeleton_view c.args.k.now) c.deref-occurrence-items.result.now c.loop-occurrence.occurrence-index c.occurrence-item.result c.loop-occurrence-test.true c.occurrence-item.is
-    (ap (map occurrence_view) c.deref-occurrence-items.ensures.value ∙ c.in_ok-occurrences.ensures.listed)
+pub is_sent_before-requires-clause-gathered : goal.is_sent_before-requires-clause-gathered
+is_sent_before-requires-clause-gathered c =
+    subst (λ (ps : List OrderPair). c.in_ok-leading.leading ≡ record { pairs = ps; node = c.args.node }) (c.pairs.ensures ∙ c.order.ensures) c.in_ok-leading.ensures
 
 pub loop-occurrence-preserved-then-not-is_sent_before : goal.loop-occurrence-preserved-then-not-is_sent_before
 loop-occurrence-preserved-then-not-is_sent_before c =

@@ -7,11 +7,6 @@ use Rattle.cp_hom.specs.Counting.{HaveRoom}
 use Rattle.cp_hom.proofs.Crowded.{embedding_has_room}
 use Rattle.cp_hom.proofs.embedding.embed.Goals as goal
 
-pub search-requires-clause-started : goal.search-requires-clause-started
-search-requires-clause-started c =
-    let h = rw c.in-Some.is at c.in_ok-given.ensures in
-    record { consistent = h.consistent (tt, tt); problem = h.sound }
-
 pub returns-then-not-have_room-clause-none : goal.returns-then-not-have_room-clause-none
 returns-then-not-have_room-clause-none c = λ f h.
     not_both c.if-not-have_room.true

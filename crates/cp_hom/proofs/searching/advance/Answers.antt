@@ -1,12 +1,10 @@
-use Rattle.std.proofs.Common.{◌≤◌, ◌<◌, ℕ, Bool, Some, refl, sym, subst}
+use Rattle.std.proofs.Common.{◌≤◌, ◌<◌, ℕ, sym, subst}
 use Rattle.std.specs.Prelude.{IfNone}
 use Rattle.std.proofs.lemmas.Result.{IfOk-weaker}
 use Rattle.cp_skel.specs.View.{skeleton_view}
-use Rattle.cp_hom.specs.Following.{partial_view, IsKnown}
+use Rattle.cp_hom.specs.Following.{partial_view}
 use Rattle.cp_hom.specs.Opening.{branch_view, branches_view, NeverEmbeds, TakePlace}
-use Rattle.cp_hom.specs.Taking.{Takes}
-use Rattle.cp_hom.proofs.Stepping.{whole_at_end, nothing_found, no_choice, choice_placed, choice_sure, choice_never, choice_tried, none_weaker}
-use Rattle.cp_hom.proofs.searching.advance.Goals.{in-Some-true+in_ok-push_placed-in-Some-true, in-Some-false+in_ok-push_next-in-Some-false, in-None+in_ok-found-in-None+in_ok-push_next-in-None}
+use Rattle.cp_hom.proofs.Stepping.{whole_at_end, nothing_found, no_choice, choice_placed, none_left_to_try, next_sure, next_tried, none_weaker}
 use Rattle.cp_hom.proofs.searching.advance.Goals as goal
 
 pub finish-requires-clause-whole : goal.finish-requires-clause-whole
@@ -34,25 +32,20 @@ returns-then-is_listed-clause-none c =
     (subst (λ (n : ℕ). c.args.branch.choice < n) c.count.ensures c.if-branch-count.false) c.requires.branch c.requires.branches c.requires.items c.requires.ordered c.requires.other_ordered
     (c.requires.branch.placed c.in-Some.item (c.is_listed.ensures c.if-is_listed.true)))
 
+pub returns-in_default-next_choice-clause-none : goal.returns-in_default-next_choice-clause-none
+returns-in_default-next_choice-clause-none c =
+    nothing_found (skeleton_view c.args.a.now) (skeleton_view c.args.b.now) c.args.items.now (branch_view c.args.branch) (branches_view c.args.branches.now.items) c.requires.branches
+    (none_left_to_try (skeleton_view c.args.a.now) (skeleton_view c.args.b.now) c.args.items.now (branch_view c.args.branch) c.in-Some.item (sym c.in-Some.ensures)
+    c.in_default-next_choice.ensures)
+
+pub returns-then-next-clause-none : goal.returns-then-next-clause-none
+returns-then-next-clause-none c =
+    subst (TakePlace (skeleton_view c.args.a.now) (skeleton_view c.args.b.now) c.args.items.now (branch_view c.args.branch) (branches_view c.args.branches.now.items)) (sym c.in_ok-push_placed-2.ensures)
+    (next_sure (skeleton_view c.args.a.now) (skeleton_view c.args.b.now) c.args.items.now (branch_view c.args.branch) (branches_view c.args.branches.now.items) c.in-Some.item (sym c.in-Some.ensures)
+    c.requires.branch c.requires.branches c.requires.items c.requires.ordered c.requires.other_ordered c.in-Some-next_choice.next c.in-Some-next_choice.ensures c.if-next.true)
+
 pub returns-clause-none : goal.returns-clause-none
-returns-clause-none c = elim c.match-known_place.branch [
-  | in-Some-true+in_ok-push_placed-in-Some-true w ↦
-      rw w.branches-is
-      (subst (TakePlace (skeleton_view c.args.a.now) (skeleton_view c.args.b.now) c.args.items.now (branch_view c.args.branch) (branches_view c.args.branches.now.items)) (sym w.in_ok-push_placed-in-Some-true.ensures)
-      (choice_sure (skeleton_view c.args.a.now) (skeleton_view c.args.b.now) c.args.items.now (branch_view c.args.branch) (branches_view c.args.branches.now.items) c.in-Some.item (sym c.in-Some.ensures)
-      (subst (λ (n : ℕ). c.args.branch.choice < n) c.count.ensures c.if-branch-count.false) c.requires.branch c.requires.branches c.requires.items c.requires.ordered c.requires.other_ordered
-      c.args.branch.given refl
-      (subst (λ (b : Bool). IsKnown (Takes (skeleton_view c.args.a.now) (skeleton_view c.args.b.now) c.in-Some.item c.args.branch.choice) c.args.branch.given (Some b)) w.in-Some-true.field-0-test w.in-Some-true.ensures)))
-  | in-Some-false+in_ok-push_next-in-Some-false w ↦
-      rw w.branches-is
-      (subst (TakePlace (skeleton_view c.args.a.now) (skeleton_view c.args.b.now) c.args.items.now (branch_view c.args.branch) (branches_view c.args.branches.now.items)) (sym w.in_ok-push_next-in-Some-false.ensures)
-      (choice_never (skeleton_view c.args.a.now) (skeleton_view c.args.b.now) c.args.items.now (branch_view c.args.branch) (branches_view c.args.branches.now.items) c.in-Some.item (sym c.in-Some.ensures)
-      (subst (λ (n : ℕ). c.args.branch.choice < n) c.count.ensures c.if-branch-count.false) c.requires.branch c.requires.branches c.requires.items c.requires.ordered c.requires.other_ordered
-      c.args.branch.given refl
-      (subst (λ (b : Bool). IsKnown (Takes (skeleton_view c.args.a.now) (skeleton_view c.args.b.now) c.in-Some.item c.args.branch.choice) c.args.branch.given (Some b)) w.in-Some-false.field-0-test w.in-Some-false.ensures)))
-  | in-None+in_ok-found-in-None+in_ok-push_next-in-None w ↦
-      rw w.branches-is
-      (subst (TakePlace (skeleton_view c.args.a.now) (skeleton_view c.args.b.now) c.args.items.now (branch_view c.args.branch) (branches_view c.args.branches.now.items)) (sym w.in_ok-push_next-in-None.ensures)
-      (choice_tried (skeleton_view c.args.a.now) (skeleton_view c.args.b.now) c.args.items.now (branch_view c.args.branch) (branches_view c.args.branches.now.items) c.in-Some.item (sym c.in-Some.ensures)
-      (subst (λ (n : ℕ). c.args.branch.choice < n) c.count.ensures c.if-branch-count.false) c.requires.branch c.requires.branches c.requires.items c.requires.ordered c.requires.other_ordered w.in_ok-found-in-None.found w.in_ok-found-in-None.ensures))
-]
+returns-clause-none c =
+    subst (TakePlace (skeleton_view c.args.a.now) (skeleton_view c.args.b.now) c.args.items.now (branch_view c.args.branch) (branches_view c.args.branches.now.items)) (sym c.in_ok-push_next.ensures)
+    (next_tried (skeleton_view c.args.a.now) (skeleton_view c.args.b.now) c.args.items.now (branch_view c.args.branch) (branches_view c.args.branches.now.items) c.in-Some.item (sym c.in-Some.ensures)
+    c.requires.branch c.requires.branches c.requires.items c.requires.ordered c.requires.other_ordered c.in-Some-next_choice.next c.in-Some-next_choice.ensures c.in_ok-found.found c.in_ok-found.ensures)

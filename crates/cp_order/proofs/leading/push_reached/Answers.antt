@@ -2,7 +2,7 @@ use Rattle.std.proofs.Common.{rules, ◌≡◌, ◌++◌, List, OnOk, subst}
 use Rattle.std.proofs.lemmas.List.Sorted.{IsPartitionPoint-from_clause}
 use Rattle.cp_model.specs.declared.node.Node.{Node}
 use Rattle.cp_order.specs.Sorted.{is_passed}
-use Rattle.cp_order.proofs.SortedPairs.{partitioned, reached-together}
+use Rattle.cp_order.proofs.Sorting.{partitioned, reached-together}
 use Rattle.cp_order.proofs.leading.push_reached.Goals as goal
 
 pub returns : goal.returns

@@ -1,6 +1,6 @@
 use Rattle.std.proofs.Common.{rules}
 use Rattle.std.proofs.lemmas.List.Sorted.{answers_always}
-use Rattle.cp_order.proofs.SortedPairs.{key_of, sorted-by-key}
+use Rattle.cp_order.proofs.Sorting.{key_of, sorted-by-key}
 use Rattle.cp_order.proofs.leading.sorted.Goals as goal
 
 pub returns-clause-order : goal.returns-clause-order

@@ -1,14 +1,20 @@
 use Rattle.std.proofs.Common.{◌≡◌, ℕ, [], ◌∷◌, ◌++◌, subst}
+use Rattle.std.specs.Vec.Iter.{into_iter_items, into_iter_len}
 use Rattle.cp_search.proofs.MadeInTurn.{no_child_made, next_child, child_made}
+use Rattle.cp_search.proofs.StillToCome.{all_to_come, one_less}
 use Rattle.cp_search.proofs.children.make_children.Goals as goal
 
 pub loop-child-init : goal.loop-child-init
-loop-child-init c =
-    no_child_made c.args.parent c.args.children.items c.reverse.new.self.items c.args.made.now c.new-numbers.result.items c.reverse.ensures.items c.requires.found c.new-numbers.ensures.items
+loop-child-init c = (
+  no_child_made c.args.parent c.args.children.items (into_iter_items c.into_iter-child-iterator.result) c.args.made.now c.in_ok-numbers.numbers.items c.into_iter-child-iterator.ensures.into_iter_gives.0 c.requires.found c.in_ok-numbers.ensures.items,
+  all_to_come c.args.children.items (into_iter_items c.into_iter-child-iterator.result) c.args.children.len (into_iter_len c.into_iter-child-iterator.result) c.args.children.ok.0 c.into_iter-child-iterator.ensures.into_iter_gives.0 c.into_iter-child-iterator.ensures.into_iter_gives.1,
+)
 
 pub loop-child-preserved : goal.loop-child-preserved
-loop-child-preserved c =
-    next_child c.args.parent c.args.children.items c.loop-child.rest.items c.args.made.now c.loop-child.made c.loop-child.numbers.items c.loop-child.invariant
-    c.pop.new.self.items c.in-Some.child c.in-Some.ensures.items c.make.new.made
-    (child_made c.args.parent c.in-Some.child c.list_assumptions.new.self c.loop-child.made c.make.new.made c.in_ok-list_assumptions.ensures.listed c.in_ok-list_assumptions.ensures.variables c.in_ok-make.ensures.made)
-    c.push.new.self.items (subst (λ (n : ℕ). c.push.new.self.items ≡ c.loop-child.numbers.items ++ n ∷ []) c.len.ensures c.in_ok-push.ensures.items)
+loop-child-preserved c = (
+  next_child c.args.parent c.args.children.items (into_iter_items c.loop-child.child-iterator) c.args.made.now c.loop-child.made c.loop-child.numbers.items c.loop-child.invariant.0
+      (into_iter_items c.next.new.self) c.in-Some.child c.in-Some.ensures.steps.0 c.make.new.made
+      (child_made c.args.parent c.in-Some.child c.list_assumptions.new.self c.loop-child.made c.make.new.made c.in_ok-list_assumptions.ensures.listed c.in_ok-list_assumptions.ensures.variables c.in_ok-make.ensures.made)
+      c.push.new.self.items (subst (λ (n : ℕ). c.push.new.self.items ≡ c.loop-child.numbers.items ++ n ∷ []) c.len-in-loop-child.ensures c.in_ok-push.ensures.items),
+  one_less (into_iter_items c.loop-child.child-iterator) (into_iter_items c.next.new.self) c.in-Some.child (into_iter_len c.loop-child.child-iterator) (into_iter_len c.next.new.self) c.loop-child.invariant.1 c.in-Some.ensures.steps.0 c.in-Some.ensures.steps.1,
+)

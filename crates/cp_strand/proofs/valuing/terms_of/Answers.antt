@@ -1,4 +1,4 @@
-use Rattle.std.proofs.Common.{◌≡◌, ◌<◌, ◌≤◌, length, get_or, map, ap, ◌∙◌, subst, arith}
+use Rattle.std.proofs.Common.{map, ap, ◌∙◌, arith}
 use Rattle.cp_model.specs.Strand.{variables_of_trace, variables_of_prefix}
 use Rattle.cp_strand.specs.Occurring.{is_added}
 use Rattle.cp_strand.specs.Valued.{valued}

@@ -1,0 +1,10 @@
+use Rattle.std.proofs.Common.{[], ◌∙◌, ap, sym}
+use Rattle.cp_derive.specs.Places.{are_marked, unmarked_behind}
+use Rattle.cp_derive.proofs.Growing.{same_places}
+use Rattle.cp_derive.proofs.marks.places_behind.Goals as goal
+
+pub returns : goal.returns
+returns c =
+    same_places c.args.count c.args.last.now c.args.places.now c.in_ok-more.more.items c.in_ok-there.there.items c.in_ok-before.before.items c.in_ok-there.ensures
+    (ap (λ ms. are_marked ms c.args.last.now) (sym c.deref.ensures.value) ∙ sym c.are_marked.ensures ∙ c.if-not-are_marked.false) c.in_ok-before.ensures
+    (c.in_ok-more.ensures ∙ ap (λ ms. unmarked_behind [] ms c.args.places.now) c.deref-2.ensures.value)

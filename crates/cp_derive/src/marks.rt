@@ -1,0 +1,71 @@
+// Which of some places are among others.
+ghost use Rattle.std.specs.Prelude.{◌≡◌, ◌++◌, [], false, get_or, replicate, IfOk, IfSome};
+ghost use Rattle.cp_derive.specs.Places.{AreSamePlaces, marked, are_marked, unmarked_behind};
+
+use std::alloc::{AllocError, Global};
+
+/// For each place below the count whether it is among these.
+fn marks_at(alloc: Global, count: usize, places: &[usize]) -> Result<Vec<bool>, AllocError>
+    ensures { IfOk result (λ marks. marks.items ≡ marked places.now (replicate count false)) }
+{
+    let mut marks = vec![in alloc; false; count]?;
+    for place in places {
+        let place = *place;
+        if place < marks.len() {
+            marks[place] = true;
+        }
+    }
+    Ok(marks)
+}
+
+/// Whether there is a mark at this place.
+fn is_marked(marks: &[bool], place: usize) -> bool
+    ensures { result ≡ get_or marks.now place false }
+{
+    place < marks.len() && marks[place]
+}
+
+/// Whether there are marks at all these places.
+fn are_marked(marks: &[bool], places: &[usize]) -> bool
+    ensures { result ≡ are_marked marks.now places.now }
+{
+    for place in places {
+        if !is_marked(marks, *place) {
+            return false;
+        }
+    }
+    true
+}
+
+/// Those of these places where there is no mark.
+fn unmarked(alloc: Global, marks: &[bool], places: &[usize]) -> Result<Vec<usize>, AllocError>
+    ensures { IfOk result (λ more. more.items ≡ unmarked_behind [] marks.now places.now) }
+{
+    let mut more = Vec::new(alloc);
+    for place in places {
+        if is_marked(marks, *place) {
+            continue;
+        }
+        more.push(*place)?;
+    }
+    Ok(more)
+}
+
+/// Those of these places, all below the count, that are not among the last ones, where all the last ones are among
+/// these.
+pub(crate) fn places_behind(
+    alloc: Global,
+    count: usize,
+    last: &[usize],
+    places: &[usize],
+) -> Result<Option<Vec<usize>>, AllocError>
+    ensures { IfOk result (λ found. IfSome found (λ more. AreSamePlaces places.now (last.now ++ more.items))) }
+{
+    let there = marks_at(alloc, count, places)?;
+    if !are_marked(&there, last) {
+        return Ok(None);
+    }
+    let before = marks_at(alloc, count, last)?;
+    let more = unmarked(alloc, &before, places)?;
+    Ok(Some(more))
+}

@@ -1,0 +1,8 @@
+use Rattle.std.proofs.Common.{◌≤◌}
+use Rattle.cp_skel.specs.View.{skeleton_view}
+use Rattle.cp_hom.specs.Following.{partial_view}
+use Rattle.cp_hom.specs.Choices.{ArePassed}
+use Rattle.cp_hom.proofs.known.next_choice.Given as goal
+
+abbrev pub invariant-loop-number : goal.invariant-loop-number
+invariant-loop-number l = (l.from ≤ l.number) × ArePassed (skeleton_view l.a) (skeleton_view l.b) l.item (partial_view l.given) l.from l.number
