@@ -24,6 +24,7 @@ failed=0
 # Whether the last run ended with one of the statuses $2, wrote the file $3 on its output ('-': anything), and the line
 # $4 on the error stream (empty: nothing). $1 names the case.
 judge() {
+    printf '%s\n' "$1" >>"$dir/judged"
     why=
     case " $2 " in
         *" $status "*) ;;
@@ -164,7 +165,7 @@ while IFS="$tab" read -r limit bound words; do
     done
     if [ "$limit" = - ]; then
         run /dev/null "$@"
-        judge "no command: $words" 2 "$dir/nothing" 'usage: cpsa COMMAND [--limit N] [--bound N]'
+        judge "no command: ${words:-no words}" 2 "$dir/nothing" 'usage: cpsa COMMAND [--limit N] [--bound N]'
         continue
     fi
     for more in 0 1; do
@@ -228,6 +229,79 @@ judge 'a message of 300,000 items' 0 "$dir/status" ''
 run "$dir/input" analyse --limit 0
 tail -n 1 "$dir/output" >"$dir/last" && mv "$dir/last" "$dir/output"
 judge "a role's message of 300,000 items" 0 "$dir/status" ''
+
+# The last run wrote, behind the forms of its input, the lines of $dir/wanted. $1 names the case.
+labels() {
+    sed -n '/^(label 0$/,$p' "$dir/output" >"$dir/last" && mv "$dir/last" "$dir/output"
+    judge "$1" 0 "$dir/wanted" ''
+}
+
+# A role that sends such a message and then hears its last item, which no penetrator says: the message is taken apart to
+# its end.
+{
+    printf '(defprotocol p basic (defrole r (vars (n m text)) (trace (send (cat'
+    copies 300000 ' n'
+    echo ' m)) (recv m))))'
+    echo '(defskeleton p (vars (t text)) (defstrand r 2 (m t)) (pen-non-orig t))'
+} >"$dir/input"
+cat >"$dir/wanted" <<END
+(label 0
+  (by problem)
+  (vars (t text) (n text))
+  (defstrand r 2 (n n) (m t))
+  (pen-non-orig t)
+  (map (0) (t t) (n n))
+  (shape))
+(status complete labels 1 expanded 0 shapes 1)
+END
+run "$dir/input" analyse --limit 0
+labels 'a message of 300,000 items that is taken apart'
+
+# One whose last item originates there, and so is looked for to the end.
+{
+    printf '(defprotocol p basic (defrole r (vars (n m text)) (trace (send (cat'
+    copies 300000 ' n'
+    echo ' m)))))'
+    echo '(defskeleton p (vars (t text)) (defstrand r 1 (m t)) (uniq-orig t))'
+} >"$dir/input"
+cat >"$dir/wanted" <<END
+(label 0
+  (by problem)
+  (vars (t text) (n text))
+  (defstrand r 1 (n n) (m t))
+  (uniq-orig (t (0 0)))
+  (map (0) (t t) (n n))
+  (shape))
+(status complete labels 1 expanded 0 shapes 1)
+END
+run "$dir/input" analyse --limit 0
+labels 'a message of 300,000 items, whose last originates there'
+
+# One that is received, and shows in the test as what its items become.
+{
+    printf '(defprotocol p basic (defrole r (vars (n text) (k skey)) (trace (recv (enc'
+    copies 300000 ' n'
+    echo ' k)))))'
+    echo '(defskeleton p (vars (t text) (j skey)) (defstrand r 1 (n t) (k j)) (non-orig j))'
+} >"$dir/input"
+{
+    cat <<END
+(label 0
+  (by problem)
+  (vars (t text) (j skey))
+  (defstrand r 1 (n t) (k j))
+  (non-orig j)
+  (map (0) (t t) (j j))
+  (unrealised (0 0))
+END
+    printf '  (test (0 0) (enc'
+    copies 300000 ' t'
+    echo ' j))'
+    echo '  (dead))'
+    echo '(status complete labels 1 expanded 1 shapes 0)'
+} >"$dir/wanted"
+run "$dir/input" analyse
+labels 'a message of 300,000 items under values'
 
 # Streams that fail: a folder cannot be read, and a full device takes nothing.
 run / analyse --limit 0
@@ -315,6 +389,49 @@ if [ -n "$checker" ]; then
     run examples/challenge.scm shapes
     judge 'searched again: no command' 2 "$dir/nothing" 'usage: cpsa_check print, or cpsa_check analyse [--limit N] [--bound N]'
 fi
+
+# Whether a case with the name $1 has been judged above; of those that the checker answers this is not asked where there is
+# none.
+is_judged() {
+    case $1 in
+        'searched again: '* | 'printed again: '* | *', line '*) [ -n "$checker" ] || return 0 ;;
+    esac
+    grep -qxF -e "$1" "$dir/judged"
+}
+
+# Whether cp_tests::$1, which names a file and a test in it, is a test of that crate.
+is_test() {
+    source=../crates/cp_tests/src/${1%%::*}.rt
+    [ -f "$source" ] && grep -qx "mod ${1%%::*};" ../crates/cp_tests/src/lib.rt &&
+        awk -v text="fn ${1#*::}(" 'marked && index($0, text) == 1 { found = 1 } { marked = ($0 == "#[test]") } END { exit !found }' "$source"
+}
+
+# Whether $1 is the name of a case or of a test.
+stands() {
+    case $1 in
+        cp_tests::*) is_test "${1#cp_tests::}" ;;
+        *) is_judged "$1" ;;
+    esac
+}
+
+# Each row that was worked out stands where its line says: behind what is asked and what is wanted the names of cases, as
+# they are judged above, and of tests.
+while IFS="$tab" read -r asked wanted places; do
+    if [ -z "$wanted" ] || [ -z "$places" ]; then
+        failed=$((failed + 1))
+        echo "failed: rows.tsv: $asked: no place"
+        continue
+    fi
+    printf '%s\n' "$places" | tr '\t' '\n' >"$dir/places"
+    while IFS= read -r place; do
+        if stands "$place"; then
+            passed=$((passed + 1))
+        else
+            failed=$((failed + 1))
+            echo "failed: rows.tsv: $asked: no $place"
+        fi
+    done <"$dir/places"
+done <rows.tsv
 
 echo "$passed passed, $failed failed"
 [ "$failed" -eq 0 ]

@@ -3,7 +3,8 @@ use Rattle.std.proofs.Common.{◌≡◌, List, [], ◌∷◌, map, Bool, refl, s
 use Rattle.cp_lists.specs.Lists.{IsIn, here}
 use Rattle.cp_lists.proofs.Mapped.{map_same}
 use Rattle.cp_lists.proofs.Members.{only_item}
-use Rattle.cp_model.specs.Term.{SymmetricTerm, skey_variable, ltk_term, PairTerm, akey_variable, pubk_term, Substitution, apply_to, apply_to_symmetric, apply_to_half, composed, unchanged}
+use Rattle.cp_model.specs.Term.{SymmetricTerm, skey_variable, ltk_term, PairTerm, akey_variable, pubk_term, Substitution, apply_to, apply_to_symmetric, apply_to_half, composed}
+use Rattle.cp_model.specs.Identity.{unchanged}
 use Rattle.cp_model.specs.Strand.{Protocol}
 use Rattle.cp_model.specs.Skeleton.{Skeleton}
 use Rattle.cp_model.specs.Standing.{StandsIn, StandsApart}
@@ -11,7 +12,7 @@ use Rattle.cp_model.proofs.LawTerms.{flag_last, term_unchanged}
 use Rattle.cp_completeness.specs.Normal.{SaysNoMore}
 use Rattle.cp_completeness.proofs.Weaker.{weaker_loses_none}
 use Rattle.cp_answers.specs.Forms.{Form, KeepStandings, ComesDownTo}
-use Rattle.cp_answers.specs.Trying.{Trial, Tries, settled, never, branched, normalised}
+use Rattle.cp_answers.specs.Trials.{Trial, Tries, settled, never, branched, normalised}
 
 abbrev pub as_it_is : Skeleton → Form
 as_it_is k = record { substitution = unchanged; skeleton = k }

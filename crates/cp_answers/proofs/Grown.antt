@@ -8,13 +8,13 @@ use Rattle.cp_model.specs.Bundle.{node_at, event_at, KeepsUnique, Bundle, IsBund
 use Rattle.cp_model.specs.declared.node.Node.{Node}
 use Rattle.cp_model.specs.Skeleton.{SkeletonStrand, instance, listener, UniqueAt, Skeleton}
 use Rattle.cp_model.specs.Standing.{Standing, image_on, image_of, StandsOnRegular, StandsIn, StandsApart}
-use Rattle.cp_strand.specs.Occurring.{prefix_variables}
-use Rattle.cp_skel.specs.Changing.{AddsListener, IsClosedPrefix, AddsStrand}
+use Rattle.cp_strand.specs.PrefixVariables.{prefix_variables}
+use Rattle.cp_skel.specs.Extensions.{AddsListener, IsClosedPrefix, AddsStrand}
 use Rattle.cp_skel.proofs.PrefixVariables.{in-prefix}
 use Rattle.cp_guard.specs.Critical.{used_variables}
 use Rattle.cp_answers.specs.Fresh.{fresh_terms, AreBelow}
 use Rattle.cp_answers.proofs.NewValues.{beside, old_values, new_values}
-use Rattle.cp_answers.proofs.Growing.{HasGrown, HasGrownAt}
+use Rattle.cp_answers.proofs.GrownStandings.{HasGrown, HasGrownAt}
 use Rattle.cp_answers.proofs.Kept.{old_or_given, given_non_kept, given_penetrator_non_kept, given_unique_kept}
 use Rattle.cp_answers.proofs.Pushed.{standing, new_node, new_there, pushed}
 

@@ -9,8 +9,8 @@ use Rattle.cp_model.specs.Skeleton.{instance, term_event_at, OrderStep, along_st
 use Rattle.cp_model.specs.Derivable.{IsSecret, IsOnInstance, DerivableAt, a_tag, an_atom, paired, left_of, right_of, encrypted, decrypted}
 use Rattle.cp_model.specs.Derivable as derivable
 use Rattle.cp_guard.specs.Critical.{IsTest, whole_part, used_variables}
-use Rattle.cp_guard.specs.Guarding.{Guards}
-use Rattle.cp_answers.specs.LeavingOut.{IsMapInRange}
+use Rattle.cp_guard.specs.Guards.{Guards}
+use Rattle.cp_answers.specs.NoneLeftOut.{IsMapInRange}
 use Rattle.cp_answers.specs.Example.{shared, locked, protocol, heard, reception}
 
 -- There is no role strand.

@@ -6,7 +6,8 @@ use Rattle.std.proofs.lemmas.List.{append-nil}
 use Rattle.cp_lists.specs.Lists.{item_at, IsIn, here, there}
 use Rattle.cp_lists.proofs.Members.{not_in_none, only_item}
 use Rattle.cp_model.specs.Message.{SymmetricKey, symmetric, text, key}
-use Rattle.cp_model.specs.Term.{AtomTerm, KeyTerm, itself_term, Sort, text_sort, datum_sort, name_sort, skey_sort, akey_sort, Variable, skey_variable, SymmetricTerm, symmetric_term, text_variable, key_term, Term, atom_term, enc_term, atom_of_variable, Assignment, value_of, value_of_symmetric, value_of_atom, after, unchanged}
+use Rattle.cp_model.specs.Term.{AtomTerm, KeyTerm, itself_term, Sort, text_sort, datum_sort, name_sort, skey_sort, akey_sort, Variable, skey_variable, SymmetricTerm, symmetric_term, text_variable, key_term, Term, atom_term, enc_term, atom_of_variable, Assignment, value_of, value_of_symmetric, value_of_atom, after}
+use Rattle.cp_model.specs.Identity.{unchanged}
 use Rattle.cp_model.specs.Strand.{send, recv, Role, Protocol}
 use Rattle.cp_model.specs.Bundle.{node_at}
 use Rattle.cp_model.specs.declared.node.Node.{Node}
@@ -15,14 +16,14 @@ use Rattle.cp_model.proofs.LawAgreement.{agree_value}
 use Rattle.cp_term.specs.declared.path.Step.{Step}
 use Rattle.cp_term.specs.declared.path.Step.TheVariants.{Left, Right, Plaintext}
 use Rattle.cp_term.specs.Positions.{term_at}
-use Rattle.cp_completeness.proofs.Losing.{none_carried}
+use Rattle.cp_completeness.proofs.NoStandingLost.{none_carried}
 use Rattle.cp_skel.specs.Given.{AddsOnce}
-use Rattle.cp_skel.specs.Changing.{IsClosedPrefix, AddsStrand}
-use Rattle.cp_strand.specs.Occurring.{prefix_variables, terms_of}
+use Rattle.cp_skel.specs.Extensions.{IsClosedPrefix, AddsStrand}
+use Rattle.cp_strand.specs.PrefixVariables.{prefix_variables, terms_of}
 use Rattle.cp_guard.specs.Critical.{used_variables}
 use Rattle.cp_answers.specs.Fresh.{fresh_terms, AreBelow}
-use Rattle.cp_answers.specs.Fitting.{Fits}
-use Rattle.cp_answers.specs.Trying.{Trial, settled}
+use Rattle.cp_answers.specs.FittingAssignments.{Fits}
+use Rattle.cp_answers.specs.Trials.{Trial, settled}
 use Rattle.cp_answers.specs.Covering.{put_before, Releases, IsTried, IsAdded, IsListenedTo, trial_at, IsCovering}
 use Rattle.cp_answers.specs.Example.{shared, locked, locker, protocol, heard, reception, new_terms, with_locker, as_old, sent_before}
 use Rattle.cp_answers.proofs.Built.{listed_comes_down}

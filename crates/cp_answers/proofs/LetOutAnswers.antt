@@ -4,7 +4,8 @@ use Rattle.cp_lists.specs.Lists.{item_at, IsIn, here, there, one_step}
 use Rattle.cp_lists.proofs.Members.{not_in_none, only_item, head_or_behind}
 use Rattle.std.proofs.Common.{⊎_elim}
 use Rattle.cp_model.specs.Message.{symmetric, key, atom, itself, in_plaintext}
-use Rattle.cp_model.specs.Term.{KeyTerm, inverse_term, skey_sort, skey_variable, symmetric_term, text_variable, key_term, Term, atom_term, enc_term, Assignment, value_of, value_of_atom, Substitution, composed, unchanged}
+use Rattle.cp_model.specs.Term.{KeyTerm, inverse_term, skey_sort, skey_variable, symmetric_term, text_variable, key_term, Term, atom_term, enc_term, Assignment, value_of, value_of_atom, Substitution, composed}
+use Rattle.cp_model.specs.Identity.{unchanged}
 use Rattle.cp_model.specs.Strand.{send, recv, Role}
 use Rattle.cp_model.specs.Bundle.{node_at, OriginatesAt, Bundle}
 use Rattle.cp_model.specs.declared.node.Node.{Node}
@@ -16,12 +17,12 @@ use Rattle.cp_term.specs.declared.path.Step.TheVariants.{Left, Right, Plaintext}
 use Rattle.cp_term.specs.Positions.{term_at}
 use Rattle.cp_completeness.specs.Normal.{skeleton_under}
 use Rattle.cp_completeness.proofs.Images.{image_event}
-use Rattle.cp_guard.specs.Matching.{IsFreeIn}
+use Rattle.cp_guard.specs.Matches.{IsFreeIn}
 use Rattle.cp_guard.specs.Inside.{IsInside}
-use Rattle.cp_skel.specs.Changing.{IsClosedPrefix}
+use Rattle.cp_skel.specs.Extensions.{IsClosedPrefix}
 use Rattle.cp_answers.specs.Forms.{KeepStandings}
-use Rattle.cp_answers.specs.Fitting.{Fits}
-use Rattle.cp_answers.specs.Trying.{Trial, IsCarriedEarlier, AreValuesInside, Tries, settled, branched}
+use Rattle.cp_answers.specs.FittingAssignments.{Fits}
+use Rattle.cp_answers.specs.Trials.{Trial, IsCarriedEarlier, AreValuesInside, Tries, settled, branched}
 use Rattle.cp_answers.specs.Covering.{put_before, IsContracted, IsTried, IsAdded, IsListenedTo, trial_at, IsCovering}
 use Rattle.cp_answers.specs.Example.{shared, locked, locker, new_terms}
 use Rattle.cp_answers.specs.LetOut.{secret, opener, protocol, unique_text, let_out, reception, sent_encryption, with_opener, text_as_old, key_as_old, opened}

@@ -2,7 +2,8 @@
 use Rattle.std.proofs.Common.{◌≡◌, ◌≢◌, ℕ, zero, suc, ◌+◌, ◌<◌, List, [], ◌∷◌, Some, refl, sym, ap, subst, ◌⊎◌, inl, inr, ⊎_elim, arith}
 use Rattle.cp_lists.specs.Lists.{item_at, IsIn, here, there, one_step, more_steps}
 use Rattle.cp_lists.proofs.Members.{not_in_none, only_item}
-use Rattle.cp_model.specs.Term.{AtomTerm, text_variable, KeyTerm, key_term, inverse_term, Term, tag_term, atom_term, pair_term, enc_term, itself_term, in_plaintext_term, Substitution, unchanged, Variable, variables_of}
+use Rattle.cp_model.specs.Term.{AtomTerm, text_variable, KeyTerm, key_term, inverse_term, Term, tag_term, atom_term, pair_term, enc_term, itself_term, in_plaintext_term, Substitution, Variable, variables_of}
+use Rattle.cp_model.specs.Identity.{unchanged}
 use Rattle.cp_model.specs.Strand.{send, Role, IsHeight}
 use Rattle.cp_model.specs.Bundle.{node_at}
 use Rattle.cp_model.specs.declared.node.Node.{Node}
@@ -17,8 +18,8 @@ use Rattle.cp_term.specs.declared.path.Step.TheVariants.{Left, Right, Plaintext}
 use Rattle.cp_term.specs.Positions.{term_at}
 use Rattle.cp_guard.specs.Inside.{IsInside}
 use Rattle.cp_guard.specs.Critical.{IsTest, used_variables}
-use Rattle.cp_guard.specs.Guarding.{Guards}
-use Rattle.cp_answers.specs.LeavingOut.{IsMapInRange}
+use Rattle.cp_guard.specs.Guards.{Guards}
+use Rattle.cp_answers.specs.NoneLeftOut.{IsMapInRange}
 use Rattle.cp_answers.specs.Example.{shared, locked, locker}
 use Rattle.cp_answers.proofs.Heard.{whole_test}
 use Rattle.cp_answers.specs.LetOut.{secret, protocol, unique_text, first_sent, let_out, reception, sent_encryption}

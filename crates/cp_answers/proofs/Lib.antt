@@ -1,5 +1,5 @@
 pub mod NewValues
-pub mod Growing
+pub mod GrownStandings
 pub mod Reached
 pub mod Trials
 pub mod Kept
@@ -7,13 +7,13 @@ pub mod Pushed
 pub mod Raised
 pub mod Grown
 pub mod Places
-pub mod Releasing
-pub mod Listening
+pub mod StrandReleases
+pub mod KeyListeners
 pub mod Secret
 pub mod NoneLeftOut
-pub mod Factoring
+pub mod FactorsThroughMaps
 pub mod Left
-pub mod Descending
+pub mod LabelDescents
 pub mod Built
 pub mod Heard
 pub mod HeardCovered

@@ -6,7 +6,7 @@ use Rattle.cp_lists.specs.Lists.{item_at}
 use Rattle.cp_lists.proofs.Items.{place_of}
 use Rattle.cp_model.specs.Term.{Sort, text_sort, datum_sort, name_sort, skey_sort, akey_sort, Variable, atom_term, atom_of_variable, Assignment, value_of_atom, after, AgreeOn, Substitution, apply_to_atom}
 use Rattle.cp_model.proofs.LawTerms.{atom_after}
-use Rattle.cp_strand.specs.Occurring.{terms_of}
+use Rattle.cp_strand.specs.PrefixVariables.{terms_of}
 use Rattle.cp_answers.specs.Fresh.{fresh_terms, AreBelow}
 
 abbrev number_at : Option Variable → ℕ

@@ -11,13 +11,13 @@ use Rattle.cp_model.specs.Tree.{Pattern}
 use Rattle.cp_completeness.proofs.Images.{image_event_at}
 use Rattle.cp_completeness.proofs.Tested.{answered}
 use Rattle.cp_guard.specs.Critical.{IsTest}
-use Rattle.cp_guard.specs.Guarding.{Guards}
+use Rattle.cp_guard.specs.Guards.{Guards}
 use Rattle.cp_guard.proofs.Decided.{protection_test}
 use Rattle.cp_guard.proofs.Positions.{part_outside}
 use Rattle.cp_answers.specs.Covering.{IsCovering}
-use Rattle.cp_answers.specs.LeavingOut.{LeavesNoneOut}
-use Rattle.cp_answers.proofs.Releasing.{Situation, released_goes_on}
-use Rattle.cp_answers.proofs.Listening.{encrypted_goes_on, decrypted_goes_on}
+use Rattle.cp_answers.specs.NoneLeftOut.{LeavesNoneOut}
+use Rattle.cp_answers.proofs.StrandReleases.{Situation, released_goes_on}
+use Rattle.cp_answers.proofs.KeyListeners.{encrypted_goes_on, decrypted_goes_on}
 use Rattle.cp_answers.proofs.Secret.{no_pair_value, not_created}
 
 pub covering_leaves_none_out : (protocol : Protocol) (k : Skeleton) (n : Node) (c : Term) (ps : List Pattern) (ks : List Skeleton) → IsSkeleton protocol k → IsTest k n c → Guards ps k n c → IsCovering protocol k n c ps ks →

@@ -12,7 +12,7 @@ use Rattle.cp_model.specs.Skeleton.{SkeletonStrand, instance, IsNodeOf, UniqueAt
 use Rattle.cp_model.specs.Standing.{Standing, image_on, image_of, StandsIn, StandsApart}
 use Rattle.cp_model.proofs.LawStandings.{strand_of_event}
 use Rattle.cp_guard.specs.Critical.{used_variables}
-use Rattle.cp_answers.proofs.Growing.{StrandStands, strand_stands, strand_by, inside_strands, HasGrown}
+use Rattle.cp_answers.proofs.GrownStandings.{StrandStands, strand_stands, strand_by, inside_strands, HasGrown}
 
 abbrev pick : {A B : Type 0} → Dec A → B → B → B
 pick (yes a) x y = x

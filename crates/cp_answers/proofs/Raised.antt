@@ -13,14 +13,14 @@ use Rattle.cp_model.specs.Same.{has_variable}
 use Rattle.cp_model.proofs.LawTerms.{atom_after}
 use Rattle.cp_model.proofs.SameTests.{variable_in, in_has_variable}
 use Rattle.cp_model.proofs.CarriedParts.{not_both}
-use Rattle.cp_strand.specs.Occurring.{added_variables, terms_of}
+use Rattle.cp_strand.specs.PrefixVariables.{added_variables, terms_of}
 use Rattle.cp_skel.specs.Given.{AddsGiven}
-use Rattle.cp_skel.specs.Changing.{IsClosedPrefix}
+use Rattle.cp_skel.specs.Extensions.{IsClosedPrefix}
 use Rattle.cp_skel.proofs.PrefixVariables.{in-added}
 use Rattle.cp_guard.specs.Critical.{used_variables}
 use Rattle.cp_answers.specs.Fresh.{fresh_terms, AreBelow}
 use Rattle.cp_answers.proofs.NewValues.{beside, old_values, new_values}
-use Rattle.cp_answers.proofs.Growing.{StrandStands, strand_stands, equal_by, strand_by, inside_strands, HasGrown, HasGrownAt}
+use Rattle.cp_answers.proofs.GrownStandings.{StrandStands, strand_stands, equal_by, strand_by, inside_strands, HasGrown, HasGrownAt}
 use Rattle.cp_answers.proofs.Kept.{old_or_given, given_non_kept, given_penetrator_non_kept, given_unique_kept}
 
 module _ (protocol : Protocol) (k e : Skeleton) (b : Bundle) (h : Standing) (is : IsBundle protocol b) (stands : StandsIn k b h) (apart : StandsApart k h)

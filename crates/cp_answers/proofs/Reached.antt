@@ -13,9 +13,9 @@ use Rattle.cp_completeness.specs.Normal.{skeleton_under, IsSolution}
 use Rattle.cp_completeness.proofs.Under.{stands_under, apart_under}
 use Rattle.cp_guard.specs.Critical.{used_variables}
 use Rattle.cp_answers.specs.Forms.{Form, IsAmongForms, ComesDownTo}
-use Rattle.cp_answers.specs.Fitting.{Fits}
-use Rattle.cp_answers.specs.LeavingOut.{GoesOn}
-use Rattle.cp_answers.proofs.Growing.{stands_by_values}
+use Rattle.cp_answers.specs.FittingAssignments.{Fits}
+use Rattle.cp_answers.specs.NoneLeftOut.{GoesOn}
+use Rattle.cp_answers.proofs.GrownStandings.{stands_by_values}
 
 -- From k, which stands by h, the skeleton l is reached by the substitution s, and stands apart by g, so that the standing of k
 -- goes through it.

@@ -9,7 +9,7 @@ use Rattle.cp_model.specs.declared.node.Node.{Node}
 use Rattle.cp_model.specs.Skeleton.{Skeleton}
 use Rattle.cp_model.specs.Standing.{Standing, image_of, StandsIn}
 use Rattle.cp_model.specs.Derivable.{IsUniqueValue, IsSecret, DerivableAt, a_tag, an_atom}
-use Rattle.cp_completeness.specs.Testing.{IsNoPair, IsNotCreated}
+use Rattle.cp_completeness.specs.AuthenticationTest.{IsNoPair, IsNotCreated}
 
 -- A term that is no pair has a value that is none.
 pub no_pair_value : (g : Assignment) (c : Term) → ((a b : Term) → c ≢ pair_term a b) → IsNoPair (value_of g c)

@@ -12,14 +12,15 @@ use Rattle.cp_model.specs.Tree.{Pattern}
 use Rattle.cp_model.proofs.LawTerms.{value_after}
 use Rattle.cp_model.proofs.LawAgreement.{agree_value}
 use Rattle.cp_model.proofs.LawEvents.{payload_map}
-use Rattle.cp_completeness.specs.Testing.{IsOutside}
-use Rattle.cp_completeness.proofs.Images.{image_event, event_on}
-use Rattle.cp_guard.specs.Matching.{IsFreeIn}
+use Rattle.cp_model.proofs.LawStandings.{event_on}
+use Rattle.cp_completeness.specs.AuthenticationTest.{IsOutside}
+use Rattle.cp_completeness.proofs.Images.{image_event}
+use Rattle.cp_guard.specs.Matches.{IsFreeIn}
 use Rattle.cp_guard.specs.Inside.{IsBroughtInside, TellsProtected}
 use Rattle.cp_guard.specs.Critical.{used_variables}
 use Rattle.cp_guard.proofs.Positions.{IsOpenAt, AgreeOnFree, protected_alike, inside_by_values, brought_inside_not_open, brought_inside}
-use Rattle.cp_answers.specs.Trying.{Trial, IsReleasedInside, IsCarriedEarlier, AreValuesInside, Tries, settled, never, branched, normalised}
-use Rattle.cp_answers.specs.LeavingOut.{GoesOn}
+use Rattle.cp_answers.specs.Trials.{Trial, IsReleasedInside, IsCarriedEarlier, AreValuesInside, Tries, settled, never, branched, normalised}
+use Rattle.cp_answers.specs.NoneLeftOut.{GoesOn}
 use Rattle.cp_answers.proofs.Reached.{Reached, reached_under, reached_form, goes_down}
 
 -- The variables of the critical term, and the other variables of the patterns, are used in the first skeleton.

@@ -1,7 +1,8 @@
 -- Skeletons that cover a test: what makes sure that, wherever the skeleton stands, one of them does.
 use Rattle.std.specs.Prelude.{◌≡◌, ◌≢◌, ◌⊎◌, ℕ, suc, ◌<◌, ◌≤◌, List, [], ◌∷◌, ◌++◌, Some, length}
 use Rattle.cp_lists.specs.Lists.{item_at, IsIn}
-use Rattle.cp_model.specs.Term.{KeyTerm, key_term, inverse_term, Term, atom_term, enc_term, Assignment, value_of, Substitution, unchanged}
+use Rattle.cp_model.specs.Term.{KeyTerm, key_term, inverse_term, Term, atom_term, enc_term, Assignment, value_of, Substitution}
+use Rattle.cp_model.specs.Identity.{unchanged}
 use Rattle.cp_model.specs.Strand.{send, Role, Protocol}
 use Rattle.cp_model.specs.Bundle.{node_at}
 use Rattle.cp_model.specs.declared.node.Node.{Node}
@@ -10,15 +11,15 @@ use Rattle.cp_model.specs.Derivable.{IsOnInstance}
 use Rattle.cp_model.specs.Tree.{Pattern}
 use Rattle.cp_term.specs.declared.path.Step.{Step}
 use Rattle.cp_term.specs.Positions.{term_at}
-use Rattle.cp_strand.specs.Occurring.{prefix_variables, added_variables}
-use Rattle.cp_skel.specs.Changing.{AddsListener, IsClosedPrefix, AddsStrand, Extends}
+use Rattle.cp_strand.specs.PrefixVariables.{prefix_variables, added_variables}
+use Rattle.cp_skel.specs.Extensions.{AddsListener, IsClosedPrefix, AddsStrand, Extends}
 use Rattle.cp_completeness.specs.Normal.{with_pairs, skeleton_under}
 use Rattle.cp_guard.specs.Inside.{IsInside}
 use Rattle.cp_guard.specs.Critical.{used_variables}
 use Rattle.cp_answers.specs.Forms.{ComesDownTo}
 use Rattle.cp_answers.specs.Fresh.{fresh_terms, AreBelow}
-use Rattle.cp_answers.specs.Fitting.{Fits}
-use Rattle.cp_answers.specs.Trying.{Trial, Tries}
+use Rattle.cp_answers.specs.FittingAssignments.{Fits}
+use Rattle.cp_answers.specs.Trials.{Trial, Tries}
 
 -- The skeleton with m put before n.
 abbrev pub put_before : Node → Node → Skeleton → Skeleton

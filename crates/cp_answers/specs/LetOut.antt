@@ -1,7 +1,8 @@
 -- An example with a pattern: a text that originates uniquely is sent under a key, and heard with no key; one role opens such
 -- encryptions.
 use Rattle.std.specs.Prelude.{[], ◌∷◌, ◌==◌, if◌then◌else◌}
-use Rattle.cp_model.specs.Term.{skey_variable, text_variable, key_term, Term, atom_term, Substitution, unchanged}
+use Rattle.cp_model.specs.Term.{skey_variable, text_variable, key_term, Term, atom_term, Substitution}
+use Rattle.cp_model.specs.Identity.{unchanged}
 use Rattle.cp_model.specs.Strand.{send, recv, Role, Protocol}
 use Rattle.cp_model.specs.Bundle.{node_at}
 use Rattle.cp_model.specs.declared.node.Node.{Node}

@@ -1,9 +1,9 @@
 pub mod Forms
 pub mod Fresh
-pub mod Fitting
-pub mod Trying
+pub mod FittingAssignments
+pub mod Trials
 pub mod Covering
-pub mod LeavingOut
+pub mod NoneLeftOut
 pub mod Lawful
 pub mod Example
 pub mod LetOut

@@ -9,9 +9,9 @@ ghost use Rattle.cp_model.specs.Standing.{Standing, StandsIn, StandsApart};
 ghost use Rattle.cp_model.specs.Homomorphism.{FactorsThrough, Covers};
 ghost use Rattle.cp_model.specs.Tree.{Pattern};
 ghost use Rattle.cp_guard.specs.Critical.{IsTest};
-ghost use Rattle.cp_guard.specs.Guarding.{Guards};
+ghost use Rattle.cp_guard.specs.Guards.{Guards};
 ghost use Rattle.cp_answers.specs.Covering.{IsCovering};
-ghost use Rattle.cp_answers.specs.LeavingOut.{LeavesNoneOut, IsMapInRange};
+ghost use Rattle.cp_answers.specs.NoneLeftOut.{LeavesNoneOut, IsMapInRange};
 
 /// Skeletons that cover a test, under patterns that guard it, leave out no standing of the skeleton: whenever it stands apart
 /// in a bundle, one of them does, by a standing through which the skeleton's goes. So where there are none it stands apart

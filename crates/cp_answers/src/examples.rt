@@ -2,9 +2,9 @@
 ghost use Rattle.std.specs.Prelude.{[], ◌∷◌};
 ghost use Rattle.cp_model.specs.Skeleton.{IsSkeleton};
 ghost use Rattle.cp_guard.specs.Critical.{IsTest};
-ghost use Rattle.cp_guard.specs.Guarding.{Guards};
+ghost use Rattle.cp_guard.specs.Guards.{Guards};
 ghost use Rattle.cp_answers.specs.Covering.{IsCovering};
-ghost use Rattle.cp_answers.specs.LeavingOut.{LeavesNoneOut, IsMapInRange};
+ghost use Rattle.cp_answers.specs.NoneLeftOut.{LeavesNoneOut, IsMapInRange};
 ghost use Rattle.cp_answers.specs.Example.{protocol, locked, heard, reception, sent_before};
 ghost use Rattle.cp_answers.specs.LetOut as let_out;
 

@@ -8,7 +8,7 @@ ghost use Rattle.cp_model.specs.Standing.{Standing, StandsIn, StandsApart};
 ghost use Rattle.cp_completeness.specs.Normal.{LosesNoStanding};
 ghost use Rattle.cp_model.specs.Tree.{Label, shapes_of, skeletons_left};
 ghost use Rattle.cp_answers.specs.Lawful.{PassesOn, skeletons_at, IsLawful, IsWithinLimits};
-ghost use Rattle.cp_answers.specs.LeavingOut.{LeavesNoneOut, IsMapInRange};
+ghost use Rattle.cp_answers.specs.NoneLeftOut.{LeavesNoneOut, IsMapInRange};
 
 /// Where the roots of a lawful tree are a complete list for the problem, so are its shapes with its labels at a limit; and its
 /// shapes alone, where no label is at a limit.

@@ -1,12 +1,14 @@
 -- What the end of a command that reads says of its input and its output.
-use Rattle.std.proofs.Common.{◌≡◌, ℕ, ◌+◌, ◌<◌, ◌≤◌, List, [], ◌∷◌, length, drop, Bool, true, false, Option, Some, None, Result, Ok, Err, ◌⊎◌, inl, inr, refl, sym, ap, ◌∙◌, arith, subst}
+use Rattle.std.proofs.Common.{◌≡◌, ℕ, ◌+◌, ◌<◌, ◌≤◌, List, [], length, drop, Bool, true, false, Option, Some, None, Result, Ok, Err, ◌⊎◌, inl, inr, refl, sym, ap, ◌∙◌, arith, subst}
 use Rattle.std.proofs.Math.Seq.{drop-append_seam}
 use Rattle.std.specs.List.{filter_map}
 use Rattle.std.specs.Result.{IfErr, IsErrAnd}
+use Rattle.std.proofs.lemmas.List.{append-nil}
 use Rattle.cp_base.specs.declared.place.Refusal.{Refusal}
 use Rattle.cp_base.specs.declared.status.Status.{Status}
 use Rattle.cp_base.specs.declared.status.Status.TheVariants.{Done, Limit, Usage, Refused, ReadFault, WriteFault, Memory, TooLong}
 use Rattle.cp_lists.specs.Lists.{IsIn}
+use Rattle.cp_lists.proofs.Members.{none_in_empty}
 use Rattle.cp_model.specs.Tree.{Label, Tree, IsTrueOf}
 use Rattle.cp_sexpr.specs.Syntax.{Forms}
 use Rattle.cp_sexpr.specs.Reading.{IsReading}
@@ -16,28 +18,24 @@ use Rattle.cp_words.specs.Command.{Command}
 use Rattle.cp_app.specs.Headline.{text_by, most_bytes, IsAccepted, HaveTrees, SaysOutcomes, IsAnalysed, HasReported}
 use Rattle.cp_app.specs.Endings.{IsRefusedFor, HasRefused, WasTooLong, TookAtMost}
 use Rattle.cp_app.specs.Searched.{AreSearched, HasReportedSearch, HasBrokenOffSearch}
-use Rattle.cp_report.specs.Fitting.{TreeFits}
+use Rattle.cp_report.specs.FittingTrees.{TreeFits}
 use Rattle.cp_app.specs.ReadBack.{IsReadBackAs, HasReportedReadBack}
 use Rattle.cp_app.specs.Steps.{IsCauseFor, HasStopped, outcomes_status, cause_of_load, IsWholeReport, HasWritten, HasWrittenPart, HasEnded, HasExecuted}
 use Rattle.cp_app.specs.Analysis.{IsAnalysisOf}
 use Rattle.cp_app.proofs.Trees.{zip_onto}
-use Rattle.cp_language.specs.Input.{Entry, faults_of, input_of, IsInput}
+use Rattle.cp_language.specs.Input.{Entry, faults_of, input_of}
+use Rattle.cp_language.specs.StatedInput.{IsInput}
 use Rattle.cp_language.specs.Report.{HasItsVariables}
 use Rattle.cp_load.specs.declared.error.LoadError.{LoadError}
 use Rattle.cp_load.specs.declared.error.LoadError.TheVariants as loading
 use Rattle.cp_tree.specs.Searched.{IsTreeOf}
 use Rattle.cp_app.specs.declared.stopped.Stopped.{Stopped}
 use Rattle.cp_app.specs.declared.stopped.Stopped.TheVariants as stopped
-use Rattle.cp_app.proofs.Putting.{append-empty}
 use Rattle.cp_app.proofs.ReportsBack.{same_reading, read_back_as}
 use Rattle.cp_app.proofs.ProperAnalyses.{analyses_are_proper}
 use Rattle.cp_proper.proofs.ReadTexts.{read_is_proper}
 
 -- ---- an input is refused or accepted
-
-none_listed : (faults : List Refusal) (r : Refusal) → faults ≡ [] → IsIn r faults → ⊥
-none_listed [] r none listed = elim listed [ ]
-none_listed (s ∷ faults) r none listed = absurd (cc)
 
 same_error : (r s : Refusal) (a b : Result Forms Refusal) → a ≡ Err r → b ≡ Err s → a ≡ b → r ≡ s
 same_error r s a b is also e = cc
@@ -47,7 +45,7 @@ pub accepted_or_refused : (input : List ℕ) (fs : Forms) (r : Refusal) → IsAc
 accepted_or_refused input fs r accepted (inl reading) = let e = one_reading_of input (Ok fs) (Err r) accepted.read reading in cc
 accepted_or_refused input fs r accepted (inr (gs, reading, first)) =
     let e : fs ≡ gs = same_reading input fs gs accepted.read reading in
-    none_listed (faults_of gs) r (ap faults_of (sym e) ∙ accepted.well_formed) first.listed
+    none_in_empty (ap faults_of (sym e) ∙ accepted.well_formed) first.listed
 
 -- an input is refused for one fault
 pub one_refusal : (input : List ℕ) (r s : Refusal) → IsRefusedFor input r → IsRefusedFor input s → r ≡ s
@@ -61,7 +59,7 @@ one_refusal input r s (inr (fs, reading, first)) (inr (gs, again, other)) =
 -- ---- what was written
 
 took_all : (input : List ℕ) (left_new : Option (List ℕ)) → length input ≤ most_bytes → left_new ≡ Some [] → TookAtMost input left_new
-took_all input left_new short at_end = (length input, omega arith, at_end ∙ ap (λ xs. Some xs) (sym (ap (λ xs. drop (length input) xs) (sym (append-empty input)) ∙ drop-append_seam input [])))
+took_all input left_new short at_end = (length input, omega arith, at_end ∙ ap (λ xs. Some xs) (sym (ap (λ xs. drop (length input) xs) (sym (append-nil input)) ∙ drop-append_seam input [])))
 
 module _ (command : Command) (input : List ℕ) (left_new held_old held_new : Option (List ℕ)) where
   pub ended_took_at_most : (status : Status) → HasEnded command input left_new held_old held_new status → TookAtMost input left_new

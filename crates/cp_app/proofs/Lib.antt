@@ -1,6 +1,6 @@
 mod ReportsBack
 mod ProperAnalyses
-pub mod Putting
-pub mod Taking
+pub mod PutPieces
+pub mod TakenPieces
 pub mod Trees
 pub mod Endings

@@ -4,7 +4,7 @@ use Rattle.std.specs.List.{AllZip, filter_map}
 use Rattle.cp_lists.specs.Lists.{IsIn, here, there}
 use Rattle.cp_model.specs.Strand.{Role}
 use Rattle.cp_model.specs.Skeleton.{IsSkeleton}
-use Rattle.cp_model.specs.Problem.{IsPointOfView}
+use Rattle.cp_model.specs.PointOfView.{IsPointOfView}
 use Rattle.cp_model.specs.Tree.{Label, Tree, Limits}
 use Rattle.cp_sexpr.specs.Syntax.{Forms, forms_of}
 use Rattle.cp_language.specs.Problems.{Problem}
@@ -17,7 +17,7 @@ use Rattle.cp_proper.proofs.StringTexts.{string_text_or_not}
 use Rattle.cp_proper.proofs.SpelledInput.{form_is_proper, problem_is_spelled}
 use Rattle.cp_proper.proofs.ProperTrees.{tree_is_proper}
 use Rattle.cp_proper.proofs.ProperReports.{report_is_proper}
-use Rattle.cp_skel.specs.Sound.{DeclaresItsVariables}
+use Rattle.cp_strand.specs.Declares.{DeclaresItsVariables}
 use Rattle.cp_strings.proofs.Labels.{labels_spelled}
 use Rattle.cp_app.specs.Headline.{HaveTrees}
 use Rattle.cp_app.specs.Analysis.{IsAnalysisOf}

@@ -2,17 +2,17 @@
 use Rattle.std.proofs.Common.{◌≡◌, ℕ, List, [], ◌∷◌, ◌++◌, Option, Some, None, Result, Ok, refl, sym, ap, ◌∙◌, subst}
 use Rattle.std.specs.List.{AllZip, cons_option, filter_map}
 use Rattle.cp_base.specs.declared.place.Refusal.{Refusal}
-use Rattle.cp_model.specs.Linking.{ArePaired}
+use Rattle.cp_model.specs.Senders.{ArePaired}
 use Rattle.cp_model.specs.Tree.{Tree}
 use Rattle.cp_sexpr.specs.Syntax.{Form, Forms, forms_of}
 use Rattle.cp_sexpr.specs.Reading.{IsReading}
-use Rattle.cp_sexpr.specs.ReadingBack.{top_spellings}
+use Rattle.cp_sexpr.specs.ReadBack.{top_spellings}
 use Rattle.cp_sexpr.specs.Spelling.{top_spelling}
 use Rattle.cp_sexpr.proofs.Unique.{one_reading_of}
 use Rattle.cp_language.specs.Problems.{Problem}
 use Rattle.cp_language.specs.Input.{Entry, faults_of, input_of}
 use Rattle.cp_language.specs.Report.{report_forms, text_of_forms}
-use Rattle.cp_report.specs.Fitting.{TreeFits, problem_onto, problems_in}
+use Rattle.cp_report.specs.FittingTrees.{TreeFits, problem_onto, problems_in}
 use Rattle.cp_report.specs.Laws.{CanBeStated}
 use Rattle.cp_report.proofs.Premises.{reads_back}
 use Rattle.cp_proper.specs.Proper.{AreProper}

@@ -5,6 +5,7 @@ use Rattle.std.specs.List.{AllZip, cons_option, filter_map}
 use Rattle.std.proofs.lemmas.List.{append-nil, length-map, map-append, take_all}
 use Rattle.std.proofs.lemmas.List.Elements.{filter_map-append}
 use Rattle.std.proofs.Math.Seq.{take-suc}
+use Rattle.std.proofs.lemmas.Slice.Zip.{all_zipped_more}
 use Rattle.cp_skel.specs.Trees.{declared_view, variables_view, outcome_view, label_view, tree_view}
 use Rattle.cp_skel.specs.declared.tree.TreeNode.{TreeNode}
 use Rattle.cp_term.specs.Table.{Declared}
@@ -12,6 +13,7 @@ use Rattle.cp_skel.specs.declared.tree.Tree.{Tree as ProgramTree}
 use Rattle.cp_app.specs.Steps.{is_complete}
 use Rattle.cp_lists.specs.Lists.{item_at, IsIn, here, there}
 use Rattle.cp_lists.proofs.Members.{in_append}
+use Rattle.cp_lists.proofs.Items.{place_of}
 use Rattle.cp_model.specs.Term.{Variable, Term, variables_of}
 use Rattle.cp_model.specs.Strand.{Declaration}
 use Rattle.cp_model.specs.Problem.{IsDeclared, variables_of_skeleton}
@@ -21,17 +23,18 @@ use Rattle.cp_sexpr.specs.Syntax.{Forms}
 use Rattle.cp_sexpr.specs.View.{view, views}
 use Rattle.cp_language.specs.Problems.{Problem}
 use Rattle.cp_language.specs.Report.{variables_of_terms, variables_of_test, variables_but, variables_of_patterns, occurring, HasItsVariables}
-use Rattle.cp_language.specs.Input.{Entry, faults_of, input_of, IsInput}
+use Rattle.cp_language.specs.Input.{Entry, faults_of, input_of}
+use Rattle.cp_language.specs.StatedInput.{IsInput}
 use Rattle.cp_load.specs.Inputs.{problem_view, entries_view, entries_of}
 use Rattle.cp_load.specs.declared.input.Problem.{Problem as ProgramProblem}
 use Rattle.cp_load.specs.declared.input.Input.{Input}
 use Rattle.cp_sexpr.specs.declared.form.Form as form
 use Rattle.cp_model.specs.Same.{has_variable}
 use Rattle.cp_model.proofs.SameTests.{in_has_variable}
-use Rattle.cp_guard.specs.Matching.{IsFreeIn}
+use Rattle.cp_guard.specs.Matches.{IsFreeIn}
 use Rattle.cp_tree.specs.Searched.{IsTreeOf}
 use Rattle.cp_tree.specs.Declared.{DeclaresItsOwn}
-use Rattle.cp_report.specs.Fitting.{TreeFits}
+use Rattle.cp_report.specs.FittingTrees.{TreeFits}
 use Rattle.cp_wellformed.proofs.Problems as wellformed
 use Rattle.cp_app.specs.Headline.{HaveTrees}
 use Rattle.cp_app.specs.Analysis.{HaveFewVariables, IsAnalysable, IsAnalysisOf}
@@ -66,11 +69,6 @@ in_patterns (p ∷ ps) x m =
     ⊎_elim (λ q. let r = in_but p.locals (variables_of p.term) x q in (p, here, record { occurs = r.0; no_local = r.1 })) (λ q. let r = in_patterns ps x q in (r.0, there r.1, r.2))
     (in_append (variables_but p.locals (variables_of p.term)) (variables_of_patterns ps) m)
 
-place_of_listed : (ls : List Label) (l : Label) → IsIn l ls → (i : ℕ) × (item_at ls i ≡ Some l)
-place_of_listed [] l listed = elim listed [ ]
-place_of_listed (l ∷ ls) _ here = (0, refl)
-place_of_listed (l ∷ ls) m (there listed) = let r = place_of_listed ls m listed in (suc r.0, r.1)
-
 all_declared : (variables : List Declaration) (l : Label) → DeclaresItsOwn variables l → (x : Variable) → IsIn x (occurring l) → IsDeclared l.variables x
 all_declared variables l d x m =
     let own : List Variable = variables_of_skeleton l.skeleton in
@@ -90,7 +88,7 @@ AllDeclare p t = (i : ℕ) (l : Label) → item_at t.labels i ≡ Some l → Dec
 
 has_variables : (p : Problem) (t : Tree) → AllDeclare p t → (l : Label) → IsIn l t.labels → HasItsVariables p l
 has_variables p t all l listed =
-    let place = place_of_listed t.labels l listed in
+    let place = place_of listed in
     let d = all place.0 l place.1 in
     record { later = d.more.more; variables = d.more.behind; declared = all_declared p.variables l d }
 
@@ -128,12 +126,6 @@ few_in_all ls i h few = rw (take_all i ls h) at few
 
 -- ---- each problem with its tree
 
-zip_behind : {A B : Type 0} (P : A → B → Type 0) (xs : List A) (ys : List B) (x : A) (y : B) → AllZip P xs ys → P x y → AllZip P (xs ++ x ∷ []) (ys ++ y ∷ [])
-zip_behind P [] [] x y all one = (one, tt)
-zip_behind P [] (z ∷ ys) x y all one = absurd all
-zip_behind P (w ∷ xs) [] x y all one = absurd all
-zip_behind P (w ∷ xs) (z ∷ ys) x y all one = (all.0, zip_behind P xs ys x y all.1 one)
-
 pub zip_onto : {A B : Type 0} (P Q : A → B → Type 0) → ((x : A) (y : B) → P x y → Q x y) → (xs : List A) (ys : List B) → AllZip P xs ys → AllZip Q xs ys
 zip_onto P Q f [] [] all = tt
 zip_onto P Q f [] (y ∷ ys) all = absurd all
@@ -169,7 +161,7 @@ pub tree_next : (limits : Limits) (ps : List (Option ProgramProblem)) (i : ℕ) 
 tree_next limits ps i o p old new lt is some (t, one, grew) before =
     let problems : stated (take (i + 1) ps) ≡ stated (take i ps) ++ problem_view p ∷ [] = next_stated ps i o lt is ∙ ap (λ q. stated (take i ps) ++ stated (q ∷ [])) some in
     subst (λ qs. AllZip (IsAnalysisOf limits) qs (map tree_view new)) (sym problems)
-    (subst (λ us. AllZip (IsAnalysisOf limits) (stated (take i ps) ++ problem_view p ∷ []) us) (sym grew) (zip_behind (IsAnalysisOf limits) (stated (take i ps)) (map tree_view old) (problem_view p) t before one))
+    (subst (λ us. AllZip (IsAnalysisOf limits) (stated (take i ps) ++ problem_view p ∷ []) us) (sym grew) (all_zipped_more (IsAnalysisOf limits) (stated (take i ps)) (map tree_view old) (problem_view p) t before one))
 
 pub trees_done : (limits : Limits) (ps : List (Option ProgramProblem)) (i : ℕ) (ts : List ProgramTree) → length ps ≤ i → AreTreesUpTo limits ps i ts → AllZip (IsAnalysisOf limits) (stated ps) (map tree_view ts)
 trees_done limits ps i ts h all = rw (take_all i ps h) at all
@@ -189,12 +181,8 @@ stated_problems [] (p ∷ ps) same = absurd (omega (arith, same))
 stated_problems (f ∷ fs) [] same = absurd (omega (arith, same))
 stated_problems (f ∷ fs) (p ∷ ps) same = ap (λ qs. cons_option (option_map problem_view p) qs) (stated_problems fs ps (omega (arith, same)))
 
-mapped-length : (fs : List form.Form) → length (map view fs) ≡ length fs
-mapped-length [] = refl
-mapped-length (f ∷ fs) = ap suc (mapped-length fs)
-
 stated_in : (input : Input) (fs : List form.Form) → input.forms.now ≡ fs → length input.problems.items ≡ length fs → filter_map (λ e. e.problem) (entries_of input) ≡ stated input.problems.items
-stated_in input fs same counted = stated_problems (map view input.forms.now) input.problems.items (counted ∙ ap length (sym same) ∙ sym (mapped-length input.forms.now))
+stated_in input fs same counted = stated_problems (map view input.forms.now) input.problems.items (counted ∙ ap length (sym same) ∙ sym (length-map input.forms.now view))
 
 in_next : (o : Option Problem) (ps : List Problem) (p : Problem) → IsIn p (cons_option o ps) → (o ≡ Some p) ⊎ IsIn p ps
 in_next None ps p m = inr m
@@ -212,7 +200,6 @@ analysable_input fs es none same p listed =
     record {
       is_over = record { of_role = (wellformed.are_skeletons fs found.0 p none found.1 found.2).of_role };
       own = wellformed.map_to_themselves fs found.0 p none found.1 found.2;
-      roles = λ r i. (wellformed.roles_are_well_formed fs found.0 p r none found.1 found.2 i).trace;
     }
 
 pub analysable_problems : (input : Input) (fs : List form.Form) → IsInput (views fs) (Ok (entries_of input)) → input.forms.now ≡ fs → length input.problems.items ≡ length fs → (p : Problem) → IsIn p (stated input.problems.items) → IsAnalysable p

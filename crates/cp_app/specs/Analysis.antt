@@ -1,13 +1,11 @@
 -- How a problem is analysed.
 use Rattle.std.specs.Prelude.{◌<◌, ◌^◌, List, length}
 use Rattle.cp_lists.specs.Lists.{IsIn}
-use Rattle.cp_model.specs.Problem.{IsPointOfView}
-use Rattle.cp_model.specs.Strand.{Role}
+use Rattle.cp_model.specs.PointOfView.{IsPointOfView}
 use Rattle.cp_model.specs.Tree.{Limits, Label, Tree, IsTrueOf}
 use Rattle.cp_language.specs.Problems.{Problem}
 use Rattle.cp_language.specs.Report.{HasItsVariables}
-use Rattle.cp_report.specs.Fitting.{TreeFits}
-use Rattle.cp_skel.specs.Sound.{DeclaresItsVariables}
+use Rattle.cp_report.specs.FittingTrees.{TreeFits}
 use Rattle.cp_roots.specs.Over.{IsOver}
 use Rattle.cp_tree.specs.Searched.{IsTreeOf}
 
@@ -15,11 +13,10 @@ use Rattle.cp_tree.specs.Searched.{IsTreeOf}
 abbrev pub HaveFewVariables : List Label → Type 0
 HaveFewVariables labels = (l : Label) → IsIn l labels → length l.variables < 2 ^ 64
 
--- A problem is a point-of-view skeleton over its protocol, whose roles declare the variables of their events.
+-- A problem is a point-of-view skeleton over its protocol.
 pub record IsAnalysable (p : Problem) : Type 0 where
   pub is_over : IsOver p.protocol p.skeleton
   pub own : IsPointOfView p.variables p.skeleton
-  pub roles : (role : Role) → IsIn role p.protocol.roles → DeclaresItsVariables role
 
 -- The tree is true of the problem, its labels have their variables, it is that of the search, and it can be stated in a report.
 pub record IsAnalysisOf (limits : Limits) (p : Problem) (t : Tree) : Type 0 where

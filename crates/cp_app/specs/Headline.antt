@@ -1,13 +1,13 @@
 -- The headline of `run`, top to bottom. What it promises where it reports nothing stands in `Endings.antt`; that a report is read
 -- back as its trees in `ReadBack.antt`, `IsReadBackAs`.
-use Rattle.std.specs.Prelude.{◌≡◌, ◌≢◌, ℕ, ◌<◌, ◌≤◌, ◌⊎◌, List, [], ◌++◌, length, take, Option, Some, Ok}
+use Rattle.std.specs.Prelude.{◌≡◌, ◌≢◌, ℕ, ◌<◌, ◌≤◌, ◌⊎◌, List, [], ◌++◌, length, take, Option, Some}
 use Rattle.std.specs.List.{AllZip, filter_map}
 use Rattle.cp_base.specs.declared.status.Status.{Status}
 use Rattle.cp_base.specs.declared.status.Status.TheVariants.{Done, Limit}
 use Rattle.cp_model.specs.Tree.{complete, Label, Tree, IsTrueOf}
 use Rattle.cp_lists.specs.Lists.{IsIn}
 use Rattle.cp_sexpr.specs.Syntax.{Forms}
-use Rattle.cp_sexpr.specs.Reading.{IsReading}
+use Rattle.cp_sexpr.specs.Written.{IsWritten}
 use Rattle.cp_language.specs.Problems.{Problem}
 use Rattle.cp_language.specs.Input.{Entry, faults_of, input_of}
 use Rattle.cp_language.specs.Report.{HasItsVariables, report_text}
@@ -25,7 +25,7 @@ most_bytes = 1048576
 -- The whole input is these forms, which nothing is refused of.
 pub record IsAccepted (input : List ℕ) (fs : Forms) : Type 0 where
   pub short : length input ≤ most_bytes
-  pub read : IsReading input (Ok fs)
+  pub read : IsWritten input fs
   pub well_formed : faults_of fs ≡ []
 
 -- ---- the report

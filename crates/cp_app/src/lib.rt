@@ -1,10 +1,10 @@
 //! The top call: words, input, analysis and report.
 #![tactic(auto)]
 
-mod analysing;
-mod reading;
-mod running;
+mod analysis;
+mod input;
+mod output;
 mod stopped;
-mod writing;
+mod top_call;
 
-pub use running::run;
+pub use top_call::run;

@@ -1,9 +1,9 @@
-pub mod Putting
-pub mod Hearing
+pub mod ChildLists
+pub mod ListenerChildren
 pub mod Positions
-pub mod Contracting
-pub mod Raising
-pub mod Letting
-pub mod Listening
-pub mod Fitting
-pub mod Joining
+pub mod ContractedChildren
+pub mod HigherStrands
+pub mod GrownReleases
+pub mod AddedListener
+pub mod FitValues
+pub mod FourLists

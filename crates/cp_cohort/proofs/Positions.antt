@@ -6,10 +6,10 @@ use Rattle.cp_term.specs.declared.path.Step.{Step}
 use Rattle.cp_term.specs.declared.path.Step.TheVariants.{Left, Right, Plaintext}
 use Rattle.cp_term.specs.Positions.{term_at, here_if, below, positions_where}
 use Rattle.cp_term.proofs.PositionLaws.{positions_found}
-use Rattle.cp_covering.specs.Listing.{EachGives, nothing_given, then_given}
+use Rattle.cp_covering.specs.GatheredLists.{EachGives, nothing_given, then_given}
 use Rattle.cp_covering.specs.Cohort.{positions}
-use Rattle.cp_cohort.specs.Growing.{IsPosition}
-use Rattle.cp_cohort.proofs.Putting.{gives_all}
+use Rattle.cp_cohort.specs.Children.{IsPosition}
+use Rattle.cp_cohort.proofs.ChildLists.{gives_all}
 
 module _ {A B : Type 0} (gives : A → List B → Type 0) where
   record Split (xs ys : List A) (zs : List B) : Type 0 where

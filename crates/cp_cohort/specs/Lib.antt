@@ -1,4 +1,4 @@
 pub mod Asked
 pub mod Views
-pub mod Growing
-pub mod Hearing
+pub mod Children
+pub mod HeardTerms

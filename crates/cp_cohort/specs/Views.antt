@@ -23,8 +23,8 @@ abbrev pub question_view : questions.Question → Question
 question_view q = question_of q.skeleton.now q.node q.critical.now q.patterns.now
 
 -- The nodes that lead to the node along the skeleton's pairs were gathered.
-abbrev pub IsGathered : questions.Question → Type 0
-IsGathered q = q.leading.now ≡ record { pairs = q.skeleton.now.order; node = q.node }
+abbrev pub KnowsWhatLeads : questions.Question → Type 0
+KnowsWhatLeads q = q.leading.now ≡ record { pairs = q.skeleton.now.order; node = q.node }
 
 abbrev pub child_view : program.Child → Child
 child_view c = child (variables_view c.skeleton.variables) (operation_view c.operation) c.path (skeleton_view c.skeleton)

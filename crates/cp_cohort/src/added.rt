@@ -1,19 +1,16 @@
 // Children with a strand added, whose last event is put before the node, to release the critical term.
 ghost use Rattle.std.specs.Prelude.{◌<◌, length, OnOk};
 ghost use Rattle.cp_guard.specs.Critical.{IsTest};
-ghost use Rattle.cp_lists.specs.Lists.{IsIn};
 ghost use Rattle.cp_model.specs.Problem.{numbers_from};
-ghost use Rattle.cp_model.specs.Strand.{Role as PlainRole};
-ghost use Rattle.cp_skel.specs.Sound.{DeclaresItsVariables};
 ghost use Rattle.cp_covering.specs.Cohort.{AddsEvent};
-ghost use Rattle.cp_covering.specs.Listing.{EachGives};
+ghost use Rattle.cp_covering.specs.GatheredLists.{EachGives};
 ghost use Rattle.cp_cohort.specs.Views.{question_view, PutsChildren};
 
 use crate::child::{Child, Made};
-use crate::growing::with_strand;
+use crate::grown_skeletons::with_strand;
 use crate::question::Question;
-use crate::releasing::release;
-use crate::sending::is_sent;
+use crate::releases::release;
+use crate::transmissions::is_sent;
 use cp_skel::{Node, Protocol, Role};
 use std::alloc::{AllocError, Global};
 use std::rc::Rc;
@@ -27,7 +24,6 @@ fn add_event(
     children: &mut Vec<Child>,
 ) -> Result<(), AllocError>
     requires test { IsTest (question_view question.now).skeleton (question_view question.now).node (question_view question.now).critical }
-    requires declared { DeclaresItsVariables role.now.value }
     requires reached { index < length role.now.value.trace }
     ensures { OnOk result (PutsChildren (AddsEvent (question_view question.now) role.now.value index) children.old.items children.new.items) }
 {
@@ -56,7 +52,6 @@ fn add_role(
     children: &mut Vec<Child>,
 ) -> Result<(), AllocError>
     requires test { IsTest (question_view question.now).skeleton (question_view question.now).node (question_view question.now).critical }
-    requires declared { DeclaresItsVariables role.now.value }
     ensures { OnOk result (PutsChildren (EachGives (AddsEvent (question_view question.now) role.now.value) (numbers_from 0 role.now.value.trace)) children.old.items children.new.items) }
 {
     let events = role.trace();
@@ -74,7 +69,6 @@ pub(crate) fn add(
     children: &mut Vec<Child>,
 ) -> Result<(), AllocError>
     requires test { IsTest (question_view question.now).skeleton (question_view question.now).node (question_view question.now).critical }
-    requires roles { (role : PlainRole) → IsIn role protocol.now.roles → DeclaresItsVariables role }
     ensures { OnOk result (PutsChildren (EachGives (λ role. EachGives (AddsEvent (question_view question.now) role) (numbers_from 0 role.trace)) protocol.now.roles) children.old.items children.new.items) }
 {
     let all = protocol.roles();

@@ -6,8 +6,8 @@ ghost use Rattle.cp_skel.specs.Events.{occurrence_view};
 ghost use Rattle.cp_skel.specs.Trees.{variables_view};
 ghost use Rattle.cp_skel.specs.View.{skeleton_view};
 ghost use Rattle.cp_covering.specs.Cohort.{Contracts, AreContracted};
-ghost use Rattle.cp_cohort.specs.Growing.{AreForms, ContractsEvent, IsPosition};
-ghost use Rattle.cp_cohort.specs.Views.{question_view, made_view, IsGathered, PutsChildren};
+ghost use Rattle.cp_cohort.specs.Children.{AreForms, ContractsEvent, IsPosition};
+ghost use Rattle.cp_cohort.specs.Views.{question_view, made_view, KnowsWhatLeads, PutsChildren};
 
 use crate::child::{Child, Made, put_children};
 use crate::question::Question;
@@ -76,7 +76,7 @@ fn contract_event(
     children: &mut Vec<Child>,
 ) -> Result<(), AllocError>
     requires there { IsNodeOf (question_view question.now).skeleton.strands (question_view question.now).node }
-    requires gathered { IsGathered question.now }
+    requires gathered { KnowsWhatLeads question.now }
     ensures { OnOk result (PutsChildren (ContractsEvent (question_view question.now) (occurrence_view occurrence.now)) children.old.items children.new.items) }
 {
     if !is_sent_before(
@@ -101,7 +101,7 @@ pub(crate) fn contract(
     children: &mut Vec<Child>,
 ) -> Result<(), AllocError>
     requires there { IsNodeOf (question_view question.now).skeleton.strands (question_view question.now).node }
-    requires gathered { IsGathered question.now }
+    requires gathered { KnowsWhatLeads question.now }
     ensures { OnOk result (PutsChildren (AreContracted (question_view question.now)) children.old.items children.new.items) }
 {
     let occurrences = question.skeleton.events(alloc)?;

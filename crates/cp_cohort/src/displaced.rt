@@ -5,15 +5,15 @@ ghost use Rattle.cp_model.specs.Problem.{numbers_from};
 ghost use Rattle.cp_lists.specs.Lists.{item_at};
 ghost use Rattle.cp_strand.specs.View.{strand_view};
 ghost use Rattle.cp_covering.specs.Cohort.{DisplacesEvent, DisplacesStrand};
-ghost use Rattle.cp_cohort.specs.Growing.{IsThere};
-ghost use Rattle.cp_covering.specs.Listing.{EachGives};
-ghost use Rattle.cp_cohort.specs.Views.{question_view, IsGathered, PutsChildren};
+ghost use Rattle.cp_cohort.specs.Children.{IsThere};
+ghost use Rattle.cp_covering.specs.GatheredLists.{EachGives};
+ghost use Rattle.cp_cohort.specs.Views.{question_view, KnowsWhatLeads, PutsChildren};
 
 use crate::child::{Child, Made};
-use crate::growing::with_events;
+use crate::grown_skeletons::with_events;
 use crate::question::Question;
-use crate::releasing::release;
-use crate::sending::is_sent;
+use crate::releases::release;
+use crate::transmissions::is_sent;
 use cp_covering::comes_before;
 use cp_skel::{Instance, Node, Strand, StrandShape};
 use std::alloc::{AllocError, Global};
@@ -28,7 +28,7 @@ fn displace_event(
     children: &mut Vec<Child>,
 ) -> Result<(), AllocError>
     requires test { IsTest (question_view question.now).skeleton (question_view question.now).node (question_view question.now).critical }
-    requires gathered { IsGathered question.now }
+    requires gathered { KnowsWhatLeads question.now }
     requires there { IsThere (question_view question.now).skeleton strand instance.now }
     requires other { strand ≢ (question_view question.now).node.strand }
     requires reached { index < length instance.now.role.trace }
@@ -62,7 +62,7 @@ fn displace_strand(
     children: &mut Vec<Child>,
 ) -> Result<(), AllocError>
     requires test { IsTest (question_view question.now).skeleton (question_view question.now).node (question_view question.now).critical }
-    requires gathered { IsGathered question.now }
+    requires gathered { KnowsWhatLeads question.now }
     requires there { item_at (question_view question.now).skeleton.strands number ≡ Some (strand_view strand.now) }
     ensures { OnOk result (PutsChildren (DisplacesStrand (question_view question.now) number) children.old.items children.new.items) }
 {
@@ -86,7 +86,7 @@ pub(crate) fn displace(
     children: &mut Vec<Child>,
 ) -> Result<(), AllocError>
     requires test { IsTest (question_view question.now).skeleton (question_view question.now).node (question_view question.now).critical }
-    requires gathered { IsGathered question.now }
+    requires gathered { KnowsWhatLeads question.now }
     ensures { OnOk result (PutsChildren (EachGives (DisplacesStrand (question_view question.now)) (numbers_from 0 (question_view question.now).skeleton.strands)) children.old.items children.new.items) }
 {
     for (number, strand) in question.skeleton.strands().iter().enumerate() {

@@ -5,12 +5,12 @@ mod added;
 mod child;
 mod contracted;
 mod displaced;
-mod gathering;
-mod growing;
+mod grown_skeletons;
 mod listeners;
 mod question;
-mod releasing;
-mod sending;
+mod releases;
+mod transmissions;
+mod whole_cohort;
 
 pub use child::Child;
-pub use gathering::cohort;
+pub use whole_cohort::cohort;

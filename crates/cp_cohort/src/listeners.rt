@@ -2,7 +2,7 @@
 ghost use Rattle.std.specs.Prelude.{◌∷◌, [], IfOk, OnOk};
 ghost use Rattle.cp_guard.specs.Critical.{IsTest};
 ghost use Rattle.cp_covering.specs.Cohort.{Listens, OpensPattern, AreListeners};
-ghost use Rattle.cp_cohort.specs.Hearing.{FreesOnto, AreHeard};
+ghost use Rattle.cp_cohort.specs.HeardTerms.{FreesOnto, AreHeard};
 ghost use Rattle.cp_cohort.specs.Views.{question_view, PutsChildren};
 ghost use Rattle.cp_model.specs.Skeleton.{IsNodeOf};
 

@@ -8,8 +8,8 @@ use Rattle.cp_model.specs.Skeleton.{Assumptions, Skeleton}
 use Rattle.cp_skel.specs.Given.{HasEachOnce}
 use Rattle.cp_skel.proofs.EachOnce.{listed-non, listed-penetrator-non, listed-unique, stays-listed}
 use Rattle.cp_model.proofs.Gathered.{IsGathering, onto-takes, onto-only, atoms, uniques}
-use Rattle.cp_collapse.specs.Collapsing.{unique_in, assumptions_in, IsCollapsed}
-use Rattle.cp_collapse.specs.Having.{Has}
+use Rattle.cp_collapse.specs.Collapses.{unique_in, assumptions_in, IsCollapsed}
+use Rattle.cp_collapse.specs.Property.{Has}
 
 -- The items of one list are exactly the images of those of the other.
 abbrev pub AreImages : {A B : Type 0} → (A → B) → List A → List B → Type 0

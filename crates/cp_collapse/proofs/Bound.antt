@@ -3,8 +3,8 @@ use Rattle.std.proofs.Common.{◌≡◌, ◌⊎◌, inl, inr, ℕ, List, [], ◌
 use Rattle.cp_lists.specs.Lists.{IsIn, here, there}
 use Rattle.cp_model.specs.Term.{Sort, text_sort, datum_sort, name_sort, skey_sort, akey_sort, Variable, AtomTerm, atom_of_variable, Term, atom_term, variables_of_atom, variables_of, Substitution, apply_to_atom, apply_to}
 use Rattle.cp_lists.proofs.Members.{in_append_left, in_append_right, in_cases}
-use Rattle.cp_unify.proofs.Deciding.{occurs_tells}
-use Rattle.cp_unify.proofs.Occurring.{Leaves, leaves_variables_of, leaves_atom}
+use Rattle.cp_unify.proofs.VariableTests.{occurs_tells}
+use Rattle.cp_unify.proofs.VariablesUnder.{Leaves, leaves_variables_of, leaves_atom}
 
 pub own_variable : (s : Sort) (n : ℕ) → (let x : Variable = record { sort = s; number = n } in IsIn x (variables_of_atom (atom_of_variable x)))
 own_variable text_sort n = here

@@ -4,16 +4,17 @@ use Rattle.cp_lists.specs.Lists.{item_at, IsIn, here}
 use Rattle.cp_model.specs.Term.{Assignment}
 use Rattle.cp_model.specs.Skeleton.{Skeleton}
 use Rattle.cp_model.specs.Problem.{numbers_from}
+use Rattle.cp_model.proofs.Numbers.{numbers_length}
 use Rattle.cp_lists.proofs.Members.{in_append_left, in_append_right, in_append, only_item}
 use Rattle.cp_lists.proofs.Items.{item_below, item_before, place_of, at_place}
 use Rattle.cp_unify.proofs.Free.{free}
 use Rattle.cp_collapse.specs.Partitions.{IsPartition, finest, IdentifiesValues, IsLower, AreDescending}
-use Rattle.cp_collapse.specs.Collapsing.{IsNeverIdentified, IsImpossible, IsCollapse, AreCollapsesBy, no_collapses, collapse_by, AreCollapses}
-use Rattle.cp_collapse.specs.Extending.{ArePartitionsOfFirst, AreCollapsedTo, EqualAt}
-use Rattle.cp_collapse.proofs.Lowest.{at_numbers, numbers_length}
-use Rattle.cp_collapse.proofs.Descending.{never_lower, descending_at, descending_with}
+use Rattle.cp_collapse.specs.Collapses.{IsNeverIdentified, IsImpossible, IsCollapse, AreCollapsesBy, no_collapses, collapse_by, AreCollapses}
+use Rattle.cp_collapse.specs.FirstPartitions.{ArePartitionsOfFirst, AreCollapsedTo, EqualAt}
+use Rattle.cp_collapse.proofs.Lowest.{at_numbers}
+use Rattle.cp_collapse.proofs.DescendingLists.{never_lower, descending_at, descending_with}
 use Rattle.cp_collapse.proofs.Extended.{of_first_all}
-use Rattle.cp_collapse.proofs.Joining.{equal_itself}
+use Rattle.cp_collapse.proofs.OneStrandMore.{equal_itself}
 
 -- ---- the finest partition
 

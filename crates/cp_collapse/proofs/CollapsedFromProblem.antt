@@ -10,7 +10,7 @@ use Rattle.cp_lists.proofs.Items.{item_below, item_there}
 use Rattle.cp_model.proofs.Images.{mapped_images, images_within}
 use Rattle.cp_model.proofs.Gathered.{atoms, uniques}
 use Rattle.cp_collapse.specs.Partitions.{place_in}
-use Rattle.cp_collapse.specs.Collapsing.{unique_in, IsCollapsed}
+use Rattle.cp_collapse.specs.Collapses.{unique_in, IsCollapsed}
 use Rattle.cp_collapse.proofs.AssumptionImages.{assumptions_are, gathered_images}
 use Rattle.cp_collapse.proofs.AssumptionImages as collapsing
 use Rattle.cp_collapse.proofs.Merged.{before_in}

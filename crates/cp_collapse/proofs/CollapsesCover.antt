@@ -17,7 +17,7 @@ use Rattle.cp_model.proofs.LawOrigins.{never_before_itself}
 use Rattle.cp_model.proofs.LawStandings.{strand_of_event, bundle_climb}
 use Rattle.cp_completeness.proofs.Images.{image_event_at}
 use Rattle.cp_collapse.specs.Partitions.{finest, place_in}
-use Rattle.cp_collapse.specs.Collapsing.{LiesOnOne, IsImpossible, IsCollapse, AreCollapsesBy, no_collapses, collapse_by, AreCollapses, StandsThroughCollapse}
+use Rattle.cp_collapse.specs.Collapses.{LiesOnOne, IsImpossible, IsCollapse, AreCollapsesBy, no_collapses, collapse_by, AreCollapses, StandsThroughCollapse}
 use Rattle.cp_collapse.proofs.Lowest.{low}
 use Rattle.cp_collapse.proofs.Places.{own_entry, one_at_place, place_of_entry}
 use Rattle.cp_collapse.proofs.StandingPartition.{together, partition, is_partition, partition_at, alike_or_same, goes_where_low_goes, values_identified, apart_if_finest}

@@ -10,12 +10,12 @@ use Rattle.cp_model.proofs.LawPrefixes.{variables_of_higher}
 use Rattle.cp_unify.specs.Bindings.{Binding, as_substitution}
 use Rattle.cp_strand.specs.View.{strand_view}
 use Rattle.cp_strand.specs.Data.{StrandData as Strand}
-use Rattle.cp_collapse.specs.Agreeing.{AreSameStrands, no_strands, same_strands}
-use Rattle.cp_collapse.specs.Collapsing.{ArePairsIn, LiesOnOne, assumptions_in, IsFromProblemIn, IsCollapsed, HasNoCycle, HasPairBackward, IsImpossible}
+use Rattle.cp_collapse.specs.SameSkeletons.{AreSameStrands, no_strands, same_strands}
+use Rattle.cp_collapse.specs.Collapses.{ArePairsIn, LiesOnOne, assumptions_in, IsFromProblemIn, IsCollapsed, HasNoCycle, HasPairBackward, IsImpossible}
 use Rattle.cp_collapse.specs.Cycles.{IsClosedAt}
-use Rattle.cp_collapse.specs.Having.{Has}
-use Rattle.cp_collapse.specs.Extending.{IsExactFor}
-use Rattle.cp_collapse.specs.Merging.{AreMergedAlike}
+use Rattle.cp_collapse.specs.Property.{Has}
+use Rattle.cp_collapse.specs.FirstPartitions.{IsExactFor}
+use Rattle.cp_collapse.specs.MergedStrands.{AreMergedAlike}
 use Rattle.cp_collapse.specs.Partitions.{IsPartition, IdentifiesValues}
 use Rattle.cp_collapse.proofs.CyclesByPairs.{closed_of_cycle, cycle_of_closed}
 use Rattle.cp_collapse.proofs.Exact.{exact_is_most_general}

@@ -8,7 +8,7 @@ use Rattle.cp_model.specs.declared.node.OrderPair.{OrderPair}
 use Rattle.cp_model.specs.Order.{LeadsTo, on_strand}
 use Rattle.cp_lists.proofs.Reached.{steps_append}
 use Rattle.cp_model.proofs.LawOrder.{before_leads, leads_before}
-use Rattle.cp_collapse.specs.Having.{Has}
+use Rattle.cp_collapse.specs.Property.{Has}
 use Rattle.cp_collapse.specs.Cycles.{IsClosedAt}
 
 module _ (l : Skeleton) where

@@ -1,15 +1,15 @@
 -- The terms of the declared variables, declaration by declaration.
 use Rattle.std.proofs.Common.{◌≡◌, ◌+◌, ◌<◌, ◌≤◌, ℕ, List, [], ◌∷◌, ◌++◌, length, get_or, map, drop, refl, sym, ap, ◌∙◌, add-one, append_assoc}
 use Rattle.std.proofs.lemmas.List.{append-nil, drop_all}
+use Rattle.cp_lists.proofs.Members.{drop_read}
 use Rattle.cp_model.specs.Term.{Variable, Term, atom_term, atom_of_variable, Substitution, apply_to, composed}
 use Rattle.cp_model.proofs.LawTerms.{atom_composed}
 use Rattle.cp_term.specs.Variables.{variable_term}
 use Rattle.cp_term.specs.declared.variable.Sort.{Sort}
 use Rattle.cp_term.specs.declared.variable.Sort.TheVariants.{Text, Datum, Name, Skey, Akey}
-use Rattle.cp_strand.specs.Occurring.{declared_variables, terms_of}
+use Rattle.cp_strand.specs.PrefixVariables.{declared_variables, terms_of}
 use Rattle.cp_strand.specs.View.{sort_view, declaration_view}
 use Rattle.cp_strand.specs.declared.protocol.Declaration.{Declaration}
-use Rattle.cp_strand.proofs.Items.{item-drop}
 use Rattle.cp_collapse.specs.Values.{term_of_variable}
 
 -- A variable as a term.
@@ -27,7 +27,7 @@ module _ (f : Substitution) (ds : List Declaration) (n : ℕ) (d : Declaration) 
 
   opened : terms_of f (declared_variables n (map declaration_view (drop n ds))) ≡ term_of_variable f x ∷ terms_of f (declared_variables (n + 1) (map declaration_view (drop (n + 1) ds)))
   opened =
-      ap (λ es. terms_of f (declared_variables n (map declaration_view es))) (item-drop ds n d lt is)
+      ap (λ es. terms_of f (declared_variables n (map declaration_view es))) (drop_read ds n d lt is)
       ∙ ap (λ m. term_of_variable f x ∷ terms_of f (declared_variables m (map declaration_view (drop (n + 1) ds)))) (sym (add-one n))
 
   pub declaration_next : (old new whole : List Term) (t : Term) → old ++ terms_of f (declared_variables n (map declaration_view (drop n ds))) ≡ whole → t ≡ term_of_variable f x → new ≡ old ++ (t ∷ []) →

@@ -11,8 +11,8 @@ use Rattle.cp_model.proofs.LawTerms.{atom_after, atom_composed}
 use Rattle.cp_model.proofs.LawStandings.{strand_of_event, event_of_instance, event_of_higher}
 use Rattle.cp_unify.proofs.Free.{free}
 use Rattle.cp_collapse.specs.Partitions.{IsPartition, place_in, IdentifiesValues, IsLower, AreDescending}
-use Rattle.cp_collapse.specs.Collapsing.{IsCollapsed, IsImpossible, IsCollapse, AreCollapsesBy, no_collapses, collapse_by, AreCollapses}
-use Rattle.cp_collapse.proofs.Descending.{never_lower}
+use Rattle.cp_collapse.specs.Collapses.{IsCollapsed, IsImpossible, IsCollapse, AreCollapsesBy, no_collapses, collapse_by, AreCollapses}
+use Rattle.cp_collapse.proofs.DescendingLists.{never_lower}
 use Rattle.cp_collapse.proofs.OneUnifier.{one_unifier}
 use Rattle.cp_collapse.proofs.Places.{strand_at_place}
 

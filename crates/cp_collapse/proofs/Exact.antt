@@ -14,9 +14,9 @@ use Rattle.cp_unify.proofs.Free.{free}
 use Rattle.cp_unify.proofs.SolvedBindings.{unified}
 use Rattle.cp_unify.proofs.Substituted.{after_met}
 use Rattle.cp_collapse.specs.Partitions.{Identifies, HaveEqualValues, IdentifiesValues}
-use Rattle.cp_collapse.specs.Collapsing.{IsMostGeneralOn}
-use Rattle.cp_collapse.specs.Extending.{IsExactFor}
-use Rattle.cp_collapse.proofs.Unifying.{directed}
+use Rattle.cp_collapse.specs.Collapses.{IsMostGeneralOn}
+use Rattle.cp_collapse.specs.FirstPartitions.{IsExactFor}
+use Rattle.cp_collapse.proofs.AtomUnifiers.{directed}
 
 -- No binding says nothing.
 pub exact_none : IsExactFor (λ g. Unit {0}) []

@@ -6,10 +6,10 @@ use Rattle.cp_model.specs.Strand.{Role, variables_of_prefix}
 use Rattle.cp_model.specs.Skeleton.{instance, Skeleton}
 use Rattle.cp_unify.specs.Bindings.{Binding}
 use Rattle.cp_collapse.specs.Partitions.{HaveEqualValues, IdentifiesValues}
-use Rattle.cp_collapse.specs.Collapsing.{IsNeverIdentified}
-use Rattle.cp_collapse.specs.Extending.{IsPartitionOfFirst, IsExactFor, EqualsBlock}
+use Rattle.cp_collapse.specs.Collapses.{IsNeverIdentified}
+use Rattle.cp_collapse.specs.FirstPartitions.{IsPartitionOfFirst, IsExactFor, EqualsBlock}
 use Rattle.cp_collapse.proofs.Exact.{exact_none, exact_same, AlsoAgree, equal_on_shorter, shorter_on_equal, equal_back}
-use Rattle.cp_collapse.proofs.Joining.{equal_at_instances, identifies_alone, alone_identifies, block_identifies, identifies_block, block_at_first, block_passes, block_takes, block_before, block_has, never_joined}
+use Rattle.cp_collapse.proofs.OneStrandMore.{equal_at_instances, identifies_alone, alone_identifies, block_identifies, identifies_block, block_at_first, block_passes, block_takes, block_before, block_has, never_joined}
 
 -- Two instances, of which the first is no taller, have equal values where they agree on the variables of its prefix.
 pub exact_values : (e : Assignment → Type 0) (role : Role) (height : ℕ) (terms : Substitution) (height' : ℕ) (terms' : Substitution) (r : List Binding) → height ≤ height' →

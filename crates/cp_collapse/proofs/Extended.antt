@@ -6,10 +6,11 @@ use Rattle.cp_model.specs.Term.{Assignment}
 use Rattle.cp_model.specs.Skeleton.{Skeleton}
 use Rattle.cp_lists.proofs.Members.{in_append_left, in_append_right, in_append, only_item}
 use Rattle.cp_lists.proofs.Items.{item_below, place_of, at_place, item_in_front, item_last}
+use Rattle.cp_lists.proofs.Appended.{length_pushed}
 use Rattle.cp_collapse.specs.Partitions.{AreOfOneRole, IsPartition, AreTogether, IdentifiesValues, IsLower, AreDescending}
-use Rattle.cp_collapse.specs.Collapsing.{IsNeverIdentified}
-use Rattle.cp_collapse.specs.Extending.{IsPartitionOfFirst, ArePartitionsOfFirst, MayHave, IsBehind, IsOneBehind, AreExtendedTo}
-use Rattle.cp_collapse.proofs.Descending.{end_cases, length_with, split_end, lower_with, lower_last, descending_at, descending_with}
+use Rattle.cp_collapse.specs.Collapses.{IsNeverIdentified}
+use Rattle.cp_collapse.specs.FirstPartitions.{IsPartitionOfFirst, ArePartitionsOfFirst, MayHave, IsBehind, IsOneBehind, AreExtendedTo}
+use Rattle.cp_collapse.proofs.DescendingLists.{end_cases, split_end, lower_with, lower_last, descending_at, descending_with}
 
 -- ---- blocks that never have equal values
 
@@ -60,7 +61,7 @@ module _ (k : Skeleton) (n : ℕ) where
 
     pub extended_is_partition : IsPartitionOfFirst k (suc n) (p ++ (l ∷ []))
     extended_is_partition = record {
-      each = length_with p l ∙ ap suc part.each;
+      each = length_pushed p l ∙ ap suc part.each;
       lowest = λ s m e. lowest_more s m (end_cases p l s m e);
       alike = λ s m e ne. alike_more s m (end_cases p l s m e) ne;
     }

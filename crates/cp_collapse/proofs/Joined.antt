@@ -8,19 +8,19 @@ use Rattle.cp_model.specs.Homomorphism.{substitution_by}
 use Rattle.cp_model.specs.Skeleton.{SkeletonStrand, instance, Skeleton}
 use Rattle.cp_lists.proofs.Items.{item_below, map_of_item}
 use Rattle.cp_unify.specs.Bindings.{Binding, Meets}
-use Rattle.cp_skel.specs.Changing.{IsClosedPrefix}
+use Rattle.cp_skel.specs.Extensions.{IsClosedPrefix}
 use Rattle.cp_skel.specs.DeclaredPrefixes.{HasDeclaredPrefixes}
 use Rattle.cp_strand.specs.View.{instance_view, instance_as_data, strand_view}
 use Rattle.cp_skel.specs.View.{skeleton_view}
 use Rattle.cp_strand.specs.Data.{InstanceData, StrandData as Strand}
 use Rattle.cp_skel.specs.Data.{SkeletonData as Program}
-use Rattle.cp_collapse.specs.Extending.{IsPartitionOfFirst, IsExactFor, EqualAt, EqualsBlock}
+use Rattle.cp_collapse.specs.FirstPartitions.{IsPartitionOfFirst, IsExactFor, EqualAt, EqualsBlock}
 use Rattle.cp_collapse.specs.Partials.{AlsoEqual, IsNever, MayNotJoin}
 use Rattle.cp_collapse.specs.Partitions.{AreOfOneRole, IdentifiesValues}
-use Rattle.cp_collapse.specs.Collapsing.{IsNeverIdentified}
+use Rattle.cp_collapse.specs.Collapses.{IsNeverIdentified}
 use Rattle.cp_collapse.proofs.Exact.{exact_same}
 use Rattle.cp_collapse.proofs.ExactBlocks.{exact_block_passes, exact_block_last}
-use Rattle.cp_collapse.proofs.Joining.{equal_at_instances, block_takes, block_before, block_has, never_joined}
+use Rattle.cp_collapse.proofs.OneStrandMore.{equal_at_instances, block_takes, block_before, block_has, never_joined}
 
 -- ---- instances of one role
 

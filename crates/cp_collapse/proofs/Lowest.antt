@@ -79,7 +79,3 @@ pub at_numbers : {A : Type 0} (n : ℕ) (xs : List A) (i j : ℕ) → item_at (n
 at_numbers n [] i j e = absurd (cc)
 at_numbers n (x ∷ xs) zero j e = let f : n ≡ j = cc in (omega arith, omega (arith, f))
 at_numbers n (x ∷ xs) (suc i) j e = let r = at_numbers (suc n) xs i j e in let l = r.0 in let f = r.1 in (omega (arith, l), omega (arith, f))
-
-pub numbers_length : {A : Type 0} (n : ℕ) (xs : List A) → length (numbers_from n xs) ≡ length xs
-numbers_length n [] = refl
-numbers_length n (x ∷ xs) = ap suc (numbers_length (suc n) xs)

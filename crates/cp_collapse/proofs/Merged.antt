@@ -16,7 +16,7 @@ use Rattle.cp_model.proofs.LawStandings.{strand_of_event, event_of_higher, skele
 use Rattle.cp_model.proofs.LawPrefixes.{in_trace}
 use Rattle.cp_model.proofs.LawAgreement.{agree_term}
 use Rattle.cp_collapse.specs.Partitions.{place_in, node_in}
-use Rattle.cp_collapse.specs.Collapsing.{onto_blocks, unique_in, pair_in, IsCollapsed}
+use Rattle.cp_collapse.specs.Collapses.{onto_blocks, unique_in, pair_in, IsCollapsed}
 use Rattle.cp_collapse.proofs.AssumptionImages.{assumptions_are}
 
 -- An event under two substitutions one after the other, and under one that agrees.

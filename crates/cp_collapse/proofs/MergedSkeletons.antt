@@ -9,7 +9,7 @@ use Rattle.cp_model.specs.declared.node.OrderPair.{OrderPair}
 use Rattle.cp_model.proofs.LawTerms.{atom_composed, carried_under}
 use Rattle.cp_model.proofs.LawAgreement.{agree_atom}
 use Rattle.cp_collapse.specs.Partitions.{place_in}
-use Rattle.cp_collapse.specs.Collapsing.{unique_in, pair_in, HasInstance, IsCollapsed, HasNoCycle}
+use Rattle.cp_collapse.specs.Collapses.{unique_in, pair_in, HasInstance, IsCollapsed, HasNoCycle}
 use Rattle.cp_collapse.proofs.AssumptionImages.{assumptions_are}
 use Rattle.cp_skel.proofs.UnderVariables.{applies_at}
 use Rattle.cp_collapse.proofs.Merged.{event_in}

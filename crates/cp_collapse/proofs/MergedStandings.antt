@@ -16,7 +16,7 @@ use Rattle.cp_model.proofs.LawTerms.{atom_after, value_after, atom_composed}
 use Rattle.cp_model.proofs.LawStandings.{strand_of_event}
 use Rattle.cp_completeness.proofs.Pairs.{ordered, no_cycle}
 use Rattle.cp_collapse.specs.Partitions.{lowest_before, place_in, node_in}
-use Rattle.cp_collapse.specs.Collapsing.{IsCollapsed}
+use Rattle.cp_collapse.specs.Collapses.{IsCollapsed}
 use Rattle.cp_collapse.proofs.AssumptionImages.{assumptions_are}
 use Rattle.cp_collapse.proofs.Lowest.{low}
 use Rattle.cp_collapse.proofs.Places.{own_entry, own_beyond, lowest_of, lowest_of_place, place_of_entry, place_beyond, strand_at_place}

@@ -10,9 +10,9 @@ use Rattle.cp_lists.proofs.Items.{item_below, item_there}
 use Rattle.cp_model.proofs.LawPrefixes.{variables_of_higher}
 use Rattle.cp_completeness.specs.Normal.{strand_under}
 use Rattle.cp_collapse.specs.Partitions.{IsPartition, blocks, place_in, Identifies, IdentifiesValues}
-use Rattle.cp_collapse.specs.Collapsing.{onto_blocks, HasInstance}
-use Rattle.cp_collapse.specs.Extending.{IsExactFor}
-use Rattle.cp_collapse.specs.Merging.{IsMergedAt, AreMergedTo}
+use Rattle.cp_collapse.specs.Collapses.{onto_blocks, HasInstance}
+use Rattle.cp_collapse.specs.FirstPartitions.{IsExactFor}
+use Rattle.cp_collapse.specs.MergedStrands.{IsMergedAt, AreMergedTo}
 use Rattle.cp_unify.specs.Bindings.{Binding, as_substitution}
 use Rattle.cp_collapse.proofs.Exact.{exact_identifies}
 use Rattle.cp_collapse.proofs.Places.{entry_of_own, taken, place_of_entry}

@@ -8,9 +8,9 @@ use Rattle.cp_model.specs.Problem.{declared_sort, IsDeclared}
 use Rattle.cp_model.proofs.LawTerms.{value_after}
 use Rattle.cp_model.proofs.LawAgreement.{agree_atom, agree_term}
 use Rattle.cp_unify.specs.Bindings.{Binding, variable_of, put_term}
-use Rattle.cp_unify.proofs.Deciding.{is_variable_tells}
+use Rattle.cp_unify.proofs.VariableTests.{is_variable_tells}
 use Rattle.cp_unify.proofs.Free.{free, same_terms}
-use Rattle.cp_unify.proofs.Occurring.{Leaves, leaves_variables_of, bound, other, given_atom, given_term}
+use Rattle.cp_unify.proofs.VariablesUnder.{Leaves, leaves_variables_of, bound, other, given_atom, given_term}
 use Rattle.cp_collapse.specs.Directed.{IsMostGeneralFor}
 use Rattle.cp_collapse.proofs.Values.{sort_of_variable}
 use Rattle.cp_collapse.proofs.Bound.{gone, left_or_taken}

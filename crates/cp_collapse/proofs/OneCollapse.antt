@@ -2,7 +2,8 @@
 use Rattle.std.proofs.Common.{◌≡◌, ◌≢◌, ◌⊎◌, inl, inr, ℕ, zero, suc, ◌<◌, ◌≤◌, List, [], ◌∷◌, Some, refl, sym, ap₂, ◌∙◌, subst, arith, eq-or-lt_of_le}
 use Rattle.cp_lists.specs.Lists.{item_at, IsIn, here, one_step, more_steps}
 use Rattle.cp_lists.proofs.Members.{only_item}
-use Rattle.cp_model.specs.Term.{text_sort, Variable, text_variable, atom_of_variable, Term, Assignment, value_of_atom, after, Substitution, apply_to_atom, unchanged, composed}
+use Rattle.cp_model.specs.Term.{text_sort, Variable, text_variable, atom_of_variable, Term, Assignment, value_of_atom, after, Substitution, apply_to_atom, composed}
+use Rattle.cp_model.specs.Identity.{unchanged}
 use Rattle.cp_model.specs.Strand.{Role}
 use Rattle.cp_model.specs.declared.node.Node.{Node}
 use Rattle.cp_model.specs.Skeleton.{SkeletonStrand, instance, listener, OrderStep, along_strand_of, along_pair, Before}
@@ -10,12 +11,12 @@ use Rattle.cp_model.specs.Homomorphism.{GoesToInstance}
 use Rattle.cp_completeness.specs.Example.{repeater}
 use Rattle.cp_unify.specs.Bindings.{Binding, Meets}
 use Rattle.cp_collapse.specs.Partitions.{AreOfOneRole, IsPartition, finest, HaveEqualValues, IdentifiesValues}
-use Rattle.cp_collapse.specs.Collapsing.{IsMostGeneralOn, onto_blocks, ArePairsIn, HasInstance, IsCollapsed, no_collapses, collapse_by, AreCollapses}
-use Rattle.cp_collapse.specs.Extending.{IsPartitionOfFirst, IsExactFor}
-use Rattle.cp_collapse.specs.CollapsingExample.{other_texts, two_repeaters, same_heard, one_repeater}
+use Rattle.cp_collapse.specs.Collapses.{IsMostGeneralOn, onto_blocks, ArePairsIn, HasInstance, IsCollapsed, no_collapses, collapse_by, AreCollapses}
+use Rattle.cp_collapse.specs.FirstPartitions.{IsPartitionOfFirst, IsExactFor}
+use Rattle.cp_collapse.specs.CollapseExample.{other_texts, two_repeaters, same_heard, one_repeater}
 use Rattle.cp_collapse.proofs.Extended.{extended_is_partition}
 use Rattle.cp_collapse.proofs.Exact.{exact_is_most_general}
-use Rattle.cp_collapse.proofs.Joining.{equal_at_instances, identifies_alone, block_identifies, block_at_first, block_takes}
+use Rattle.cp_collapse.proofs.OneStrandMore.{equal_at_instances, identifies_alone, block_identifies, block_at_first, block_takes}
 
 abbrev pub together : List ℕ
 together = 0 ∷ 0 ∷ []

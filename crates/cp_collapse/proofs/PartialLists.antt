@@ -5,10 +5,10 @@ use Rattle.cp_lists.specs.Lists.{item_at, IsIn}
 use Rattle.cp_model.specs.Skeleton.{Skeleton}
 use Rattle.cp_lists.proofs.Members.{in_append, only_item}
 use Rattle.cp_lists.proofs.Items.{item_below, map_of_item, at_place}
-use Rattle.cp_collapse.specs.Extending.{IsPartitionOfFirst, ArePartitionsOfFirst, AreExtendedTo, IsExactFor}
+use Rattle.cp_collapse.specs.FirstPartitions.{IsPartitionOfFirst, ArePartitionsOfFirst, AreExtendedTo, IsExactFor}
 use Rattle.cp_collapse.specs.Partials.{lists, IsExact, ArePartials, ArePartlyExtended, Joins, MayNotJoin}
 use Rattle.cp_collapse.specs.Partitions.{AreDescending, IdentifiesValues}
-use Rattle.cp_collapse.specs.declared.extending.Partial.{Partial}
+use Rattle.cp_collapse.specs.declared.partitions.Partial.{Partial}
 use Rattle.cp_collapse.proofs.Extended.{none_extended, not_extended, one_extended, next_extended, all_extended, first_partition}
 use Rattle.cp_collapse.proofs.ExactBlocks.{exact_alone, exact_no_strand}
 

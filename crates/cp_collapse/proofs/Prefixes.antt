@@ -1,5 +1,5 @@
 -- Unifying the terms of two instances for each variable of a prefix, in the order of their declarations.
-use Rattle.std.proofs.Common.{◌≡◌, ◌⊎◌, inl, inr, ℕ, zero, suc, ◌<◌, ◌≤◌, ◌+◌, Bool, true, false, List, [], ◌∷◌, Some, map, min, length, get_or, refl, sym, ap, ◌∙◌, subst, arith, eq-or-lt_of_le}
+use Rattle.std.proofs.Common.{◌≡◌, ◌⊎◌, inl, inr, ℕ, ◌<◌, ◌≤◌, ◌+◌, Bool, true, false, List, Some, map, min, length, get_or, refl, sym, ap, ◌∙◌, subst, arith, eq-or-lt_of_le}
 use Rattle.cp_lists.specs.Lists.{item_at, IsIn}
 use Rattle.cp_model.specs.Term.{Sort, Variable, atom_of_variable, Term, Assignment, value_of_atom, value_of, after, Substitution}
 use Rattle.cp_model.specs.Strand.{Declaration, Role, Event, prefix_of, variables_of_trace, variables_of_prefix}
@@ -9,12 +9,13 @@ use Rattle.cp_model.proofs.LawPrefixes.{variables_of_higher}
 use Rattle.cp_lists.proofs.Items.{map_of_item, item_of_read}
 use Rattle.cp_unify.specs.Bindings.{Binding, Meets}
 use Rattle.cp_unify.specs.Unifiers.{IsMostGeneral, HasNoUnifier}
-use Rattle.cp_skel.specs.Changing.{IsClosedPrefix}
+use Rattle.cp_skel.specs.Extensions.{IsClosedPrefix}
 use Rattle.cp_model.specs.Same.{has_variable}
+use Rattle.cp_model.proofs.SameTests.{variable_in, in_has_variable}
+use Rattle.cp_model.proofs.DeclaredVariables.{declared_below}
 use Rattle.cp_strand.specs.View.{declaration_view}
 use Rattle.cp_strand.specs.declared.protocol.Declaration.{Declaration as Declared}
-use Rattle.cp_skel.proofs.GivenParts.{has-in, in-has}
-use Rattle.cp_collapse.specs.Extending.{IsExactFor}
+use Rattle.cp_collapse.specs.FirstPartitions.{IsExactFor}
 use Rattle.cp_collapse.specs.Partials.{AreSolved}
 use Rattle.cp_collapse.specs.Partitions.{HaveEqualValues}
 use Rattle.cp_collapse.specs.Values.{term_of_variable}
@@ -33,11 +34,6 @@ one_at_number ds x y dx dy same =
     let e : Some x.sort ≡ Some y.sort = sym dx ∙ ap (λ n. declared_sort (item_at ds n)) same ∙ dy in
     let sort : x.sort ≡ y.sort = cc in
     ap (λ (s : Sort). record { sort = s; number = x.number }) sort ∙ ap (λ (n : ℕ). record { sort = y.sort; number = n }) same
-
-declared_below : (ds : List Declaration) (n : ℕ) (s : Sort) → declared_sort (item_at ds n) ≡ Some s → n < length ds
-declared_below [] n s e = absurd (cc)
-declared_below (d ∷ ds) zero s e = omega arith
-declared_below (d ∷ ds) (suc n) s e = let r = declared_below ds n s e in omega (arith, r)
 
 -- What is in two prefixes is in the shorter.
 in_lower : (role : Role) (height first second : ℕ) → height ≡ min first second → (x : Variable) → IsIn x (variables_of_prefix role first) → IsIn x (variables_of_prefix role second) → IsIn x (variables_of_prefix role height)
@@ -92,12 +88,12 @@ module _ (e : Assignment → Type 0) (role : Role) (height : ℕ) (s t : Substit
       below_passes none = exact_same (AgreeBelow n) (AgreeBelow (n + 1)) r (λ g f. one_more g f (λ x i e. absurd (missing x i e))) one_less so_far
         where
           missing : (x : Variable) → IsIn x (variables_of_prefix role height) → x.number ≡ n → ⊥
-          missing x i e = let q : true ≡ false = sym (in-has (variables_of_prefix role height) y (subst (λ (z : Variable). IsIn z (variables_of_prefix role height)) (sym (only x i e)) i)) ∙ none in cc
+          missing x i e = let q : true ≡ false = sym (in_has_variable (variables_of_prefix role height) y (subst (λ (z : Variable). IsIn z (variables_of_prefix role height)) (sym (only x i e)) i)) ∙ none in cc
 
       -- It does, and its terms are unified, or have no unifier.
       module _ (there : has_variable (variables_of_prefix role height) y ≡ true) (a b : Term) (first : a ≡ term_of_variable s y) (second : b ≡ term_of_variable t y) where
         equal : (g : Assignment) → AgreeBelow (n + 1) g → value_of g a ≡ value_of g b
-        equal g f = ap (value_of g) first ∙ terms_equal g s t y (f.1 y (has-in (variables_of_prefix role height) y there) (omega (arith, number))) ∙ ap (value_of g) (sym second)
+        equal g f = ap (value_of g) first ∙ terms_equal g s t y (f.1 y (variable_in (variables_of_prefix role height) y there) (omega (arith, number))) ∙ ap (value_of g) (sym second)
 
         agrees : (g : Assignment) → value_of g a ≡ value_of g b → (x : Variable) → IsIn x (variables_of_prefix role height) → x.number ≡ n → Agree g x
         agrees g same x i e = subst (Agree g) (only x i e) (equal_terms g s t y (ap (value_of g) (sym first) ∙ same ∙ ap (value_of g) second))

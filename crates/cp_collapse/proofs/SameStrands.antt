@@ -2,15 +2,15 @@
 use Rattle.std.proofs.Common.{◌≡◌, ℕ, zero, suc, List, [], ◌∷◌, Some, map, refl, sym, ap, ap₂, ◌∙◌, subst, subst₂, ◌≤◌, length, le_refl, arith}
 use Rattle.cp_lists.specs.Lists.{item_at, IsIn}
 use Rattle.cp_model.specs.Term.{Term, variables_of, atom_of_variable, Substitution, apply_to, apply_to_atom, AgreeOnTerms}
-use Rattle.cp_model.specs.Strand.{Event, send, recv, payload, event_map, Role, prefix_of, variables_of_trace, variables_of_prefix}
+use Rattle.cp_model.specs.Strand.{Event, payload, event_map, Role, prefix_of, variables_of_trace, variables_of_prefix}
 use Rattle.cp_model.specs.declared.node.Node.{Node}
 use Rattle.cp_model.specs.Skeleton.{SkeletonStrand, instance, listener, skeleton_trace, skeleton_trace_or_none, term_event_at}
 use Rattle.cp_model.specs.Standing.{image_on}
 use Rattle.cp_lists.proofs.Members.{in_append_left, in_append_right}
 use Rattle.cp_model.proofs.LawTerms.{atom_composed}
 use Rattle.cp_completeness.specs.Normal.{strand_under}
-use Rattle.cp_model.proofs.LawAgreement.{agree_term}
-use Rattle.cp_collapse.specs.Agreeing.{IsSameStrand, same_instance, same_listener, AreSameStrands, no_strands, same_strands}
+use Rattle.cp_model.proofs.LawAgreement.{agree_event}
+use Rattle.cp_collapse.specs.SameSkeletons.{IsSameStrand, same_instance, same_listener, AreSameStrands, no_strands, same_strands}
 
 pub same_itself : (s : SkeletonStrand) → IsSameStrand s s
 same_itself (instance role height terms) = same_instance (λ x i. refl)
@@ -44,14 +44,11 @@ same_then {s} p (same_instance {role = role} {height = height} {terms = terms} {
 same_then p (same_listener {t = t}) = p
 
 -- Terms that agree on the variables of a trace give it one trace.
-same_event : (s t : Substitution) (e : Event Term) → AgreeOnTerms (variables_of (payload e)) s t → event_map (apply_to s) e ≡ event_map (apply_to t) e
-same_event s t (send u) a = ap send (agree_term s t u a)
-same_event s t (recv u) a = ap recv (agree_term s t u a)
 
 same_events : (s t : Substitution) (es : List (Event Term)) → AgreeOnTerms (variables_of_trace es) s t → map (event_map (apply_to s)) es ≡ map (event_map (apply_to t)) es
 same_events s t [] a = refl
 same_events s t (e ∷ es) a =
-    ap₂ ◌∷◌ (same_event s t e (λ x p. a x (in_append_left (variables_of_trace es) p))) (same_events s t es (λ x p. a x (in_append_right (variables_of (payload e)) p)))
+    ap₂ ◌∷◌ (agree_event s t e (λ x p. a x (in_append_left (variables_of_trace es) p))) (same_events s t es (λ x p. a x (in_append_right (variables_of (payload e)) p)))
 
 pub same_trace : {s t : SkeletonStrand} → IsSameStrand s t → skeleton_trace s ≡ skeleton_trace t
 same_trace (same_instance {role = role} {height = height} {terms = s} {terms' = t} a) = same_events s t (prefix_of role height) a

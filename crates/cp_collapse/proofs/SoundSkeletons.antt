@@ -14,10 +14,10 @@ use Rattle.cp_completeness.proofs.Mapped.{before_under}
 use Rattle.cp_completeness.proofs.Skeletons.{skeleton_under_is_skeleton}
 use Rattle.cp_completeness.proofs.StatedSteps.{assumed_under}
 use Rattle.cp_skel.specs.Sound.{IsSound}
-use Rattle.cp_skel.proofs.Carrying.{before_too}
+use Rattle.cp_skel.proofs.CarriedHomomorphisms.{before_too}
 use Rattle.cp_skel.proofs.EachOnce.{listed-non, listed-penetrator-non, listed-unique}
-use Rattle.cp_collapse.specs.Agreeing.{SaysTheSame}
-use Rattle.cp_collapse.specs.Collapsing.{IsCollapsed, HasNoCycle}
+use Rattle.cp_collapse.specs.SameSkeletons.{SaysTheSame}
+use Rattle.cp_collapse.specs.Collapses.{IsCollapsed, HasNoCycle}
 use Rattle.cp_collapse.specs.MergedParts.{with_listed}
 use Rattle.cp_collapse.proofs.CollapsedFromProblem.{in_range_in, assumed_in, ordered_in}
 use Rattle.cp_collapse.proofs.MergedSkeletons.{merged_is_skeleton}

@@ -7,9 +7,10 @@ use Rattle.cp_model.specs.Strand.{Role, Strand, regular}
 use Rattle.cp_model.specs.Bundle.{Bundle}
 use Rattle.cp_model.specs.Skeleton.{SkeletonStrand, instance, listener, Skeleton}
 use Rattle.cp_model.specs.Standing.{Standing, StandsIn, StandsApart}
+use Rattle.cp_model.proofs.Numbers.{numbers_length}
 use Rattle.cp_lists.proofs.Items.{item_of_map, map_of_item, item_below}
 use Rattle.cp_collapse.specs.Partitions.{is_instance, AreOfOneRole, IsPartition, finest, AreTogether, IdentifiesValues}
-use Rattle.cp_collapse.proofs.Lowest.{both, low, low_below, low_with, low_same, low_of_low, numbers_at, at_numbers, numbers_length}
+use Rattle.cp_collapse.proofs.Lowest.{both, low, low_below, low_with, low_same, low_of_low, numbers_at, at_numbers}
 
 pub instance_of : (o : Option SkeletonStrand) → is_instance o ≡ true → (role : Role) × (height : ℕ) × (terms : Substitution) × (o ≡ Some (instance role height terms))
 instance_of None e = absurd (cc)

@@ -7,7 +7,8 @@ use Rattle.cp_model.specs.Bundle.{node_at}
 use Rattle.cp_model.specs.declared.node.Node.{Node}
 use Rattle.cp_model.specs.Skeleton.{instance, term_event_at, UniqueAt, Skeleton, IsSkeleton}
 use Rattle.cp_model.specs.declared.node.OrderPair.{OrderPair}
-use Rattle.cp_model.specs.Problem.{IsDeclared, IsPointOfView}
+use Rattle.cp_model.specs.Problem.{IsDeclared}
+use Rattle.cp_model.specs.PointOfView.{IsPointOfView}
 use Rattle.cp_model.specs.Homomorphism.{SkeletonMap, substitution_by, number_or, strand_in, map_from_problem, CarriesHomomorphism}
 use Rattle.cp_model.specs.Stated.{unique_image, pair_image, IsImageOfOne, KeepsStated}
 use Rattle.cp_lists.proofs.Items.{item_below, map_of_item}
@@ -15,7 +16,7 @@ use Rattle.cp_model.proofs.LawStandings.{strand_of_event}
 use Rattle.cp_model.proofs.Images.{images_then}
 use Rattle.cp_completeness.proofs.StatedSteps.{non_declared, penetrator_non_declared, unique_declared, value_under}
 use Rattle.cp_collapse.specs.Partitions.{place_in}
-use Rattle.cp_collapse.specs.Collapsing.{unique_in, pair_in, IsCollapsed}
+use Rattle.cp_collapse.specs.Collapses.{unique_in, pair_in, IsCollapsed}
 use Rattle.cp_collapse.proofs.CollapsedFromProblem.{own_of, in_range_in, own_non, own_penetrator_non, own_unique, assumed_in, ordered_in}
 use Rattle.cp_collapse.proofs.Lowest.{numbers_at}
 

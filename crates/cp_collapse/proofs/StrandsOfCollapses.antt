@@ -5,7 +5,7 @@ use Rattle.cp_model.specs.Term.{Term, AgreeOnTerms, Substitution, apply_to, comp
 use Rattle.cp_model.specs.Strand.{Role, variables_of_prefix}
 use Rattle.cp_model.specs.Skeleton.{SkeletonStrand, instance, listener, Skeleton}
 use Rattle.cp_collapse.specs.Partitions.{IsPartition, place_in}
-use Rattle.cp_collapse.specs.Collapsing.{IsCollapsed}
+use Rattle.cp_collapse.specs.Collapses.{IsCollapsed}
 use Rattle.cp_collapse.proofs.Places.{strand_at_place}
 
 -- A property of strands holds of what each instance and each listener of the skeleton is under the unifier.

@@ -11,11 +11,11 @@ use Rattle.cp_completeness.specs.Normal.{strand_under}
 use Rattle.cp_skel.specs.DeclaredPrefixes.{HasDeclaredPrefixes}
 use Rattle.cp_strand.specs.View.{strand_view}
 use Rattle.cp_strand.specs.Data.{StrandData as Strand}
-use Rattle.cp_collapse.specs.Agreeing.{IsSameStrand, AreSameStrands, no_strands, same_strands}
-use Rattle.cp_collapse.specs.Merging.{height_of, IsAsTall, IsTallestTo, AreMergedTo, AreMergedAlike, IsUnder}
+use Rattle.cp_collapse.specs.SameSkeletons.{IsSameStrand, AreSameStrands, no_strands, same_strands}
+use Rattle.cp_collapse.specs.MergedStrands.{height_of, IsAsTall, IsTallestTo, AreMergedTo, AreMergedAlike, IsUnder}
 use Rattle.cp_collapse.specs.Partitions.{AreOfOneRole, IsPartition}
 use Rattle.cp_collapse.proofs.Joined.{alike_back, alike_then}
-use Rattle.cp_collapse.proofs.MergingStrands.{tallest_keeps, tallest_changes, none_merged, passes_on, puts_next}
+use Rattle.cp_collapse.proofs.MergeLoops.{tallest_keeps, tallest_changes, none_merged, passes_on, puts_next}
 use Rattle.cp_collapse.proofs.Values.{same_under}
 
 module _ (k : Skeleton) (p : List ℕ) (part : IsPartition k p) (l : ℕ) where

@@ -10,15 +10,15 @@ use Rattle.cp_model.specs.Problem.{declared_sort, IsDeclared}
 use Rattle.cp_lists.proofs.Items.{map_of_item}
 use Rattle.cp_completeness.specs.Normal.{strand_under, assumptions_under, from_problem_under, skeleton_under}
 use Rattle.cp_unify.specs.Bindings.{sort_of}
-use Rattle.cp_skel.specs.Changing.{IsClosedPrefix}
+use Rattle.cp_skel.specs.Extensions.{IsClosedPrefix}
 use Rattle.cp_term.specs.Table.{Declared}
 use Rattle.cp_strand.specs.Data.{InstanceData, StrandData}
 use Rattle.cp_skel.specs.Data.{SkeletonData, skeleton_of}
 use Rattle.cp_strand.specs.View.{instance_as_data, strand_view}
 use Rattle.cp_skel.specs.View.{skeleton_view}
 use Rattle.cp_skel.specs.DeclaredPrefixes.{HasDeclaredPrefixes}
-use Rattle.cp_strand.specs.Occurring.{declared_variables, terms_of}
-use Rattle.cp_collapse.specs.Agreeing.{IsSameStrand, same_instance, same_listener, AreSameStrands, no_strands, same_strands, SaysTheSame}
+use Rattle.cp_strand.specs.PrefixVariables.{declared_variables, terms_of}
+use Rattle.cp_collapse.specs.SameSkeletons.{IsSameStrand, same_instance, same_listener, AreSameStrands, no_strands, same_strands, SaysTheSame}
 use Rattle.cp_collapse.specs.Values.{term_of_variable, on_declared, declared_under}
 
 -- ---- sorts

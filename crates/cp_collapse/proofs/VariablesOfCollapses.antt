@@ -4,16 +4,17 @@ use Rattle.cp_lists.specs.Lists.{item_at, IsIn, here, there}
 use Rattle.cp_model.specs.Term.{Variable, atom_of_variable, AtomTerm, Term, variables_of_atom, variables_of, value_of_atom, after, Substitution, apply_to_atom, apply_to, composed}
 use Rattle.cp_model.specs.Strand.{Declaration, Event, send, recv, payload, event_map, Role, prefix_of, variables_of_trace, variables_of_prefix}
 use Rattle.cp_model.specs.Skeleton.{SkeletonStrand, instance, listener, skeleton_trace, UniqueAt, Skeleton}
-use Rattle.cp_model.specs.Problem.{IsDeclared, variables_of_strands, variables_of_atoms, variables_of_uniques, variables_of_assumptions, variables_of_skeleton, HasDeclaredVariables}
+use Rattle.cp_model.specs.Problem.{IsDeclared, variables_of_strands, variables_of_atoms, variables_of_uniques, variables_of_assumptions, variables_of_skeleton}
+use Rattle.cp_model.specs.PointOfView.{HasDeclaredVariables}
 use Rattle.cp_lists.proofs.Members.{in_append, in_append_left, in_append_right, from_map}
 use Rattle.cp_model.proofs.LawTerms.{atom_after, atom_composed}
 use Rattle.cp_model.proofs.LawAgreement.{agree_atom}
 use Rattle.cp_completeness.proofs.Under.{in_trace_under, in_strands, in_atoms, in_uniques, trace_under}
 use Rattle.cp_unify.proofs.Free.{free}
 use Rattle.cp_skel.proofs.UnderVariables.{strand_with, atom_with, unique_with}
-use Rattle.cp_collapse.specs.Agreeing.{same_instance}
+use Rattle.cp_collapse.specs.SameSkeletons.{same_instance}
 use Rattle.cp_collapse.specs.Partitions.{IsPartition, IdentifiesValues}
-use Rattle.cp_collapse.specs.Collapsing.{IsCollapsed, AreCollapsesBy, no_collapses, collapse_by}
+use Rattle.cp_collapse.specs.Collapses.{IsCollapsed, AreCollapsesBy, no_collapses, collapse_by}
 use Rattle.cp_collapse.proofs.AssumptionImages.{assumptions_are}
 use Rattle.cp_collapse.proofs.SameStrands.{same_trace}
 use Rattle.cp_collapse.proofs.StrandsOfCollapses.{strand_comes}

@@ -3,7 +3,7 @@ use Rattle.std.specs.Prelude.{◌≡◌, List}
 use Rattle.cp_model.specs.declared.node.Node.{Node}
 use Rattle.cp_model.specs.declared.node.OrderPair.{OrderPair}
 use Rattle.cp_model.specs.Order.{LeadsTo}
-use Rattle.cp_collapse.specs.Having.{Has}
+use Rattle.cp_collapse.specs.Property.{Has}
 
 -- The pair goes from node n to one that leads to node m along strands and pairs.
 abbrev pub LeadsOn : List OrderPair → Node → Node → OrderPair → Type 0

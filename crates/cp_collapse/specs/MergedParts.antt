@@ -3,7 +3,7 @@ use Rattle.std.specs.Prelude.{map}
 use Rattle.cp_model.specs.Skeleton.{Skeleton}
 use Rattle.cp_model.specs.Given.{listed}
 use Rattle.cp_strand.specs.View.{strand_view}
-use Rattle.cp_collapse.specs.declared.identifying.Parts.{Parts}
+use Rattle.cp_collapse.specs.declared.merged_skeletons.Parts.{Parts}
 
 -- The skeleton of these parts.
 abbrev pub parts_view : Parts → Skeleton

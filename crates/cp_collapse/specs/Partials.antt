@@ -9,9 +9,9 @@ use Rattle.cp_unify.specs.Bindings.{Binding, Meets, as_substitution}
 use Rattle.cp_unify.specs.Unifiers.{AreLaterToEarlier}
 use Rattle.cp_strand.specs.Data.{InstanceData}
 use Rattle.cp_collapse.specs.Partitions.{HaveEqualValues, IdentifiesValues}
-use Rattle.cp_collapse.specs.Collapsing.{IsNeverIdentified}
-use Rattle.cp_collapse.specs.Extending.{ArePartitionsOfFirst, MayHave, AreExtendedTo, IsExactFor}
-use Rattle.cp_collapse.specs.declared.extending.Partial.{Partial}
+use Rattle.cp_collapse.specs.Collapses.{IsNeverIdentified}
+use Rattle.cp_collapse.specs.FirstPartitions.{ArePartitionsOfFirst, MayHave, AreExtendedTo, IsExactFor}
+use Rattle.cp_collapse.specs.declared.partitions.Partial.{Partial}
 
 -- The bindings are solved: each is of a later variable to an earlier one; and whatever an assignment gives to the variables
 -- that are not bound, they give one that meets them.

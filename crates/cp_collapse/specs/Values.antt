@@ -3,7 +3,7 @@ use Rattle.cp_model.specs.Term.{Variable, Term, atom_term, atom_of_variable, Sub
 use Rattle.cp_model.specs.Strand.{Role}
 use Rattle.cp_model.specs.Skeleton.{SkeletonStrand, instance, listener}
 use Rattle.cp_model.specs.Homomorphism.{substitution_by}
-use Rattle.cp_strand.specs.Occurring.{declared_variables, terms_of}
+use Rattle.cp_strand.specs.PrefixVariables.{declared_variables, terms_of}
 
 -- What a substitution gives a variable, as a term.
 abbrev pub term_of_variable : Substitution → Variable → Term

@@ -1,6 +1,6 @@
 // Whether the pairs that unique values add close a cycle.
 ghost use Rattle.std.specs.Prelude.{◌↔◌, map, IsTrue, IfOk};
-ghost use Rattle.cp_collapse.specs.Having.{Has};
+ghost use Rattle.cp_collapse.specs.Property.{Has};
 ghost use Rattle.cp_collapse.specs.Cycles.{LeadsOn, IsClosedAt};
 
 use cp_skel::{Leading, Node, OrderPair, UniqueAt};

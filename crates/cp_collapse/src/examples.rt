@@ -1,7 +1,7 @@
 // An example of collapses.
 ghost use Rattle.std.specs.Prelude.{[], ◌∷◌};
-ghost use Rattle.cp_collapse.specs.Collapsing.{AreCollapses};
-ghost use Rattle.cp_collapse.specs.CollapsingExample.{two_repeaters, one_repeater};
+ghost use Rattle.cp_collapse.specs.Collapses.{AreCollapses};
+ghost use Rattle.cp_collapse.specs.CollapseExample.{two_repeaters, one_repeater};
 
 /// Of two repeaters one has heard a text, and the other has heard one and said one: identifying them is their one
 /// collapse, a repeater at the first's place, who has heard one text and said one.

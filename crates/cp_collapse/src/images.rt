@@ -3,13 +3,13 @@ ghost use Rattle.std.specs.Prelude.{◌≡◌, ◌↔◌, ◌≤◌, [], map, Is
 ghost use Rattle.cp_model.specs.Given.{atoms_onto, uniques_onto};
 ghost use Rattle.cp_model.specs.Term.{apply_to_atom};
 ghost use Rattle.cp_unify.specs.Bindings.{as_substitution};
-ghost use Rattle.cp_collapse.specs.Collapsing.{unique_in, ArePairsIn, assumptions_in, IsFromProblemIn, LiesOnOne};
-ghost use Rattle.cp_collapse.specs.Having.{Has};
-ghost use Rattle.cp_collapse.specs.Merging.{IsPutOnce};
+ghost use Rattle.cp_collapse.specs.Collapses.{unique_in, ArePairsIn, assumptions_in, IsFromProblemIn, LiesOnOne};
+ghost use Rattle.cp_collapse.specs.Property.{Has};
+ghost use Rattle.cp_collapse.specs.MergedStrands.{IsPutOnce};
 ghost use Rattle.cp_collapse.specs.Partitions.{place_in};
 
-use crate::placing::{node_in, pair_in, place_in};
-use crate::substituting::{Substituted, each_under};
+use crate::block_places::{node_in, pair_in, place_in};
+use crate::substituted::{Substituted, each_under};
 use cp_skel::{Assumptions, Atom, FromProblem, OrderPair, UniqueAt, add_atom, add_unique};
 use cp_unify::Subst;
 use std::alloc::{AllocError, Global};

@@ -6,7 +6,7 @@ ghost use Rattle.cp_model.specs.Bundle.{Bundle};
 ghost use Rattle.cp_model.specs.Skeleton.{Skeleton, IsSkeleton};
 ghost use Rattle.cp_model.specs.Standing.{Standing, StandsIn};
 ghost use Rattle.cp_completeness.specs.Normal.{LosesNoStanding};
-ghost use Rattle.cp_collapse.specs.Agreeing.{SaysTheSame};
+ghost use Rattle.cp_collapse.specs.SameSkeletons.{SaysTheSame};
 ghost use Rattle.cp_collapse.specs.Directed.{IsMostGeneralFor};
 
 /// Skeletons that say the same stand in the same bundles, and none loses a standing of the other; and one that says the

@@ -9,13 +9,14 @@ use Rattle.cp_model.specs.declared.node.Node.{Node}
 use Rattle.cp_model.specs.Skeleton.{instance, skeleton_trace_or_none, term_event_at, UniqueAt, Skeleton, IsSkeleton}
 use Rattle.cp_model.specs.Standing.{Standing, StandsIn, StandsApart}
 use Rattle.cp_model.specs.Derivable.{IsOnInstance}
-use Rattle.cp_model.specs.Realising.{OriginatesAtTerm}
+use Rattle.cp_model.specs.Realisation.{OriginatesAtTerm}
 use Rattle.cp_model.proofs.LawMessages.{dec_carried}
 use Rattle.cp_lists.proofs.Items.{item_before}
 use Rattle.cp_completeness.specs.Normal.{IsHeardBefore}
 use Rattle.cp_completeness.proofs.Values.{CarriesValue, carried_atom}
 use Rattle.cp_model.proofs.CarriedValues.{carried_value}
-use Rattle.cp_completeness.proofs.Images.{image_event, event_on}
+use Rattle.cp_model.proofs.LawStandings.{event_on}
+use Rattle.cp_completeness.proofs.Images.{image_event}
 use Rattle.cp_completeness.proofs.Origins.{same_origin}
 
 -- The first event of a trace, before place n, that carries the message.

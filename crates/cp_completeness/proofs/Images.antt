@@ -6,11 +6,11 @@ use Rattle.cp_model.specs.Term.{Term, Assignment, value_of, Substitution, apply_
 use Rattle.cp_model.specs.Strand.{Event, send, recv, payload, event_map, Role, prefix_of}
 use Rattle.cp_model.specs.Bundle.{node_at, event_at, Bundle}
 use Rattle.cp_model.specs.declared.node.Node.{Node}
-use Rattle.cp_model.specs.Skeleton.{SkeletonStrand, instance, listener, skeleton_trace, skeleton_trace_or_none, term_event_at, Skeleton}
+use Rattle.cp_model.specs.Skeleton.{SkeletonStrand, instance, listener, skeleton_trace, term_event_at, Skeleton}
 use Rattle.cp_model.specs.Standing.{Standing, image_on, image_of, StandsOnRegular, StandsIn}
 use Rattle.cp_lists.proofs.Items.{item_of_map, item_of_take}
 use Rattle.cp_model.proofs.LawEvents.{event_after, payload_map}
-use Rattle.cp_model.proofs.LawStandings.{strand_of_event, event_of_regular}
+use Rattle.cp_model.proofs.LawStandings.{strand_of_event, event_of_regular, event_on}
 use Rattle.cp_model.proofs.LawPrefixes.{in_trace}
 use Rattle.cp_model.proofs.LawAgreement.{agree_event_values}
 
@@ -30,9 +30,6 @@ image_event b h s role height terms i e st at =
 
 pub image_at : (k : Skeleton) (h : Standing) (n : Node) (st : SkeletonStrand) → item_at k.strands n.strand ≡ Some st → image_of k h n ≡ image_on (Some st) (h.nodes n.strand) n.index
 image_at k h n st at = ap (λ (o : Option SkeletonStrand). image_on o (h.nodes n.strand) n.index) at
-
-pub event_on : (k : Skeleton) (n : Node) (st : SkeletonStrand) (e : Event Term) → item_at k.strands n.strand ≡ Some st → term_event_at k.strands n ≡ Some e → item_at (skeleton_trace st) n.index ≡ Some e
-event_on k n st e at ev = subst (λ (o : Option SkeletonStrand). item_at (skeleton_trace_or_none o) n.index ≡ Some e) at ev
 
 pub event_there : (b : Bundle) (x y : Node) (e : Event Message) → y ≡ x → event_at b.strands x ≡ Some e → event_at b.strands y ≡ Some e
 event_there b x y e same at = subst (λ (n : Node). event_at b.strands n ≡ Some e) (sym same) at

@@ -5,7 +5,7 @@ pub mod Origins
 pub mod Pairs
 pub mod Heard
 pub mod Under
-pub mod Losing
+pub mod NoStandingLost
 pub mod Weaker
 pub mod Skeletons
 pub mod Mapped

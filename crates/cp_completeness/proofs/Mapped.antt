@@ -8,7 +8,8 @@ use Rattle.cp_model.specs.declared.node.Node.{Node}
 use Rattle.cp_model.specs.Skeleton.{instance, listener, Skeleton, OrderStep, along_strand_of, along_pair, Before}
 use Rattle.cp_model.specs.declared.node.OrderPair.{OrderPair}
 use Rattle.cp_model.specs.Homomorphism.{SkeletonMap, GoesToInstance, IsHomomorphism, substitution_by, text_in, datum_in, name_in, skey_in, akey_in, map_from_problem, CarriesHomomorphism}
-use Rattle.cp_model.specs.Problem.{variables_of_strands, variables_of_atoms, variables_of_uniques, variables_of_assumptions, variables_of_skeleton, variable_terms, declared_sort, IsDeclared, MapsToItself}
+use Rattle.cp_model.specs.Problem.{variables_of_strands, variables_of_atoms, variables_of_uniques, variables_of_assumptions, variables_of_skeleton, variable_terms, declared_sort, IsDeclared}
+use Rattle.cp_model.specs.PointOfView.{MapsToItself}
 use Rattle.cp_lists.proofs.Members.{in_append_left, in_append_right, into_map}
 use Rattle.cp_lists.proofs.Items.{map_of_item}
 use Rattle.cp_model.proofs.LawTerms.{atom_composed}

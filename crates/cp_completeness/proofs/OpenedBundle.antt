@@ -3,11 +3,12 @@ use Rattle.std.proofs.Common.{◌≡◌, ◌≢◌, ℕ, zero, suc, ◌+◌, ◌
 use Rattle.cp_lists.specs.Lists.{item_at, IsIn, here, there, one_step}
 use Rattle.cp_model.specs.Message.{Atom, key, Message, atom}
 use Rattle.cp_model.specs.Term.{Assignment}
-use Rattle.cp_model.specs.Strand.{Event, send, recv, payload, Role, create_tag, create_atom, key_message, regular, penetrator}
+use Rattle.cp_model.specs.Strand.{Event, send, recv, payload, Role, create_tag, create_atom, regular, penetrator}
+use Rattle.cp_model.specs.KeyMessage.{key_message}
 use Rattle.cp_model.specs.Bundle.{node_at, event_at, KeepsRole, AreOfProtocol, along_link, IsBundle}
 use Rattle.cp_model.specs.declared.node.Node.{Node}
 use Rattle.cp_completeness.specs.Example.{zeros}
-use Rattle.cp_completeness.specs.Testing.{IsOutside, is_whole, outside_plaintext, IsNoPair, IsNotCreated, IsReleased, IsEncrypted, IsDecrypted}
+use Rattle.cp_completeness.specs.AuthenticationTest.{IsOutside, is_whole, outside_plaintext, IsNoPair, IsNotCreated, IsReleased, IsEncrypted, IsDecrypted}
 use Rattle.cp_completeness.specs.Opened.{locker, opener, protocol, shared, secret, locked, opened, every, heard_from_opener, heard_from_decryption, heard_from_encryption}
 use Rattle.cp_lists.proofs.Members.{not_in_none}
 use Rattle.cp_model.proofs.StrandParts.{same_regular}

@@ -11,12 +11,13 @@ use Rattle.cp_model.specs.Skeleton.{instance, UniqueAt, Skeleton, IsOrigin, IsSk
 use Rattle.cp_model.specs.declared.node.OrderPair.{OrderPair}
 use Rattle.cp_model.specs.Standing.{Standing, image_of, StandsIn, StandsApart}
 use Rattle.cp_model.specs.Derivable.{IsOnInstance}
-use Rattle.cp_model.specs.Realising.{OriginatesAtTerm}
+use Rattle.cp_model.specs.Realisation.{OriginatesAtTerm}
 use Rattle.cp_model.proofs.LawOrigins.{origin_of, AtOrBefore, HasOrigin}
 use Rattle.cp_completeness.specs.Normal.{IsCarriedAt, IsOriginPair}
 use Rattle.cp_model.proofs.LawEvents.{payload_map}
 use Rattle.cp_model.proofs.CarriedValues.{carried_value}
-use Rattle.cp_completeness.proofs.Images.{image_event, image_at, event_on, IsImageOf, image_event_at}
+use Rattle.cp_model.proofs.LawStandings.{event_on}
+use Rattle.cp_completeness.proofs.Images.{image_event, image_at, IsImageOf, image_event_at}
 
 -- What a node carries, its image carries.
 pub image_carries : (k : Skeleton) (b : Bundle) (h : Standing) (n : Node) (e : Event Term) (v : AtomTerm) (m : IsImageOf b h.values e (image_of k h n)) → IsCarriedByTerm (atom_term v) (payload e) →

@@ -1,7 +1,7 @@
 -- Standing outside the protecting encryptions, and being carried.
 use Rattle.std.proofs.Common.{◌≡◌, Bool, true, false, refl, sym, ◌∙◌}
 use Rattle.cp_model.specs.Message.{Key, Message, IsCarriedBy, itself, in_left, in_right, in_plaintext}
-use Rattle.cp_completeness.specs.Testing.{IsOutside, is_whole, outside_left, outside_right, outside_plaintext}
+use Rattle.cp_completeness.specs.AuthenticationTest.{IsOutside, is_whole, outside_left, outside_right, outside_plaintext}
 
 carried_if : {protects : Message → Key → Bool} {c m : Message} → IsOutside protects c m → IsCarriedBy c m
 carried_if is_whole = itself

@@ -2,13 +2,14 @@
 use Rattle.std.proofs.Common.{◌≡◌, ◌≢◌, ℕ, zero, suc, ◌+◌, ◌<◌, List, [], ◌∷◌, Some, refl, sym, ap, ◌∙◌, subst, le_refl, lt_trans, lt_irrefl, arith}
 use Rattle.cp_lists.specs.Lists.{item_at, IsIn, here, there, one_step, more_steps}
 use Rattle.cp_model.specs.Message.{text, Message, atom, itself}
-use Rattle.cp_model.specs.Term.{Variable, AtomTerm, text_variable, atom_of_variable, Term, atom_term, IsCarriedByTerm, itself_term, Assignment, value_of_atom, Substitution, apply_to_atom, unchanged, after, AgreeOn}
+use Rattle.cp_model.specs.Term.{Variable, AtomTerm, text_variable, atom_of_variable, Term, atom_term, IsCarriedByTerm, itself_term, Assignment, value_of_atom, Substitution, apply_to_atom, after, AgreeOn}
+use Rattle.cp_model.specs.Identity.{unchanged}
 use Rattle.cp_model.specs.Strand.{Event, send, recv, payload, Role, IsHeight, regular}
 use Rattle.cp_model.specs.Bundle.{node_at, event_at, OriginatesAt, KeepsUnique, KeepsRole, AreOfProtocol, IsBundle}
 use Rattle.cp_model.specs.declared.node.Node.{Node}
 use Rattle.cp_model.specs.Skeleton.{instance, term_event_at, UniqueAt, OrderStep, along_strand_of, along_pair, Before, IsOrigin, GivesAssumptions, IsSkeleton}
 use Rattle.cp_model.specs.Standing.{image_of, StandsOnRegular, StandsIn, StandsApart}
-use Rattle.cp_model.specs.Realising.{OriginatesAtTerm}
+use Rattle.cp_model.specs.Realisation.{OriginatesAtTerm}
 use Rattle.cp_model.specs.Problem.{variables_of_skeleton}
 use Rattle.cp_model.proofs.LawTerms.{atom_after, atom_unchanged}
 use Rattle.cp_lists.proofs.Members.{only_item, not_in_none}

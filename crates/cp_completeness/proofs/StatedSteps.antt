@@ -6,7 +6,8 @@ use Rattle.cp_model.specs.Term.{Variable, AtomTerm, variables_of_atom, Substitut
 use Rattle.cp_model.specs.Strand.{Declaration}
 use Rattle.cp_model.specs.Skeleton.{UniqueAt, Skeleton}
 use Rattle.cp_model.specs.declared.node.OrderPair.{OrderPair}
-use Rattle.cp_model.specs.Problem.{variables_of_strands, variables_of_atoms, variables_of_uniques, IsDeclared, IsPointOfView}
+use Rattle.cp_model.specs.Problem.{variables_of_strands, variables_of_atoms, variables_of_uniques, IsDeclared}
+use Rattle.cp_model.specs.PointOfView.{IsPointOfView}
 use Rattle.cp_model.specs.Homomorphism.{mapped, substitution_by, map_from_problem, CarriesHomomorphism}
 use Rattle.cp_model.specs.Stated.{unique_image, HasOwnAssumptions, KeepsStated}
 use Rattle.cp_lists.proofs.Members.{in_append_left, in_append_right}

@@ -2,13 +2,14 @@
 use Rattle.std.proofs.Common.{◌≡◌, ℕ, zero, suc, ◌<◌, List, [], ◌∷◌, Option, Some, None, Bool, true, false, refl, sym, ap, ◌∙◌, subst, ◌⊎◌, inl, inr, ⊎_elim, arith}
 use Rattle.cp_lists.specs.Lists.{item_at}
 use Rattle.cp_model.specs.Message.{Key, inverse, Atom, Message, tag, atom, pair, enc}
-use Rattle.cp_model.specs.Strand.{Event, send, recv, payload, Protocol, Penetrator, create_tag, create_atom, pairing, splitting, encryption, decryption, hearing, key_message, penetrator_trace, Strand, regular, penetrator}
+use Rattle.cp_model.specs.Strand.{Event, send, recv, payload, Protocol, Penetrator, create_tag, create_atom, pairing, splitting, encryption, decryption, hearing, penetrator_trace, Strand, regular, penetrator}
+use Rattle.cp_model.specs.KeyMessage.{key_message}
 use Rattle.cp_model.specs.Bundle.{node_at, trace_or_none, event_at, Bundle, Precedes, IsBundle}
 use Rattle.cp_model.specs.declared.node.Node.{Node}
 use Rattle.cp_model.proofs.LawMessages.{dec_message, dec_or}
 use Rattle.cp_model.proofs.LawStandings.{bundle_climb}
 use Rattle.cp_lists.proofs.Reached.{steps_append}
-use Rattle.cp_completeness.specs.Testing.{IsOutside, is_whole, outside_left, outside_right, outside_plaintext, IsNoPair, IsNotCreated, IsEncrypted, IsDecrypted, IsAnswered}
+use Rattle.cp_completeness.specs.AuthenticationTest.{IsOutside, is_whole, outside_left, outside_right, outside_plaintext, IsNoPair, IsNotCreated, IsEncrypted, IsDecrypted, IsAnswered}
 use Rattle.cp_completeness.proofs.Sources.{IsSource, source_before_reception}
 
 -- Outside in a message: the message itself, or outside in its parts.

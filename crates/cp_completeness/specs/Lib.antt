@@ -1,4 +1,4 @@
 pub mod Normal
 pub mod Example
-pub mod Testing
+pub mod AuthenticationTest
 pub mod Opened

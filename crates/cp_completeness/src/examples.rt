@@ -4,7 +4,7 @@ ghost use Rattle.cp_lists.specs.Lists.{IsIn};
 ghost use Rattle.cp_model.specs.Bundle.{IsBundle};
 ghost use Rattle.cp_model.specs.Skeleton.{IsSkeleton};
 ghost use Rattle.cp_model.specs.Standing.{StandsIn, StandsApart};
-ghost use Rattle.cp_model.specs.Realising.{OriginatesAtTerm};
+ghost use Rattle.cp_model.specs.Realisation.{OriginatesAtTerm};
 ghost use Rattle.cp_completeness.specs.Normal.{AreBranches, IsOriginPair, skeleton_under};
 ghost use Rattle.cp_completeness.specs.Example.{protocol, unique_text, two_say_it, repeated, heard_and_said, standing, merging, from_speaker};
 

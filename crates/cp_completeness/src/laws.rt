@@ -9,7 +9,7 @@ ghost use Rattle.cp_model.specs.Skeleton.{UniqueAt, Skeleton, Before, IsSkeleton
 ghost use Rattle.cp_model.specs.declared.node.OrderPair.{OrderPair};
 ghost use Rattle.cp_model.specs.Standing.{Standing, image_of, StandsIn, StandsApart};
 ghost use Rattle.cp_model.specs.Homomorphism.{FactorsThrough};
-ghost use Rattle.cp_model.specs.Realising.{OriginatesAtTerm};
+ghost use Rattle.cp_model.specs.Realisation.{OriginatesAtTerm};
 ghost use Rattle.cp_completeness.specs.Normal.{IsCarriedAt, IsOriginPair, with_pairs, AddOnlyOriginPairs, IsHeardBefore, skeleton_under, IsSolution};
 
 /// A skeleton of which some node, of a role strand or a listener, carries a non-originating value stands in no bundle.

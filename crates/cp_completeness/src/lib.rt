@@ -1,13 +1,14 @@
 //! Laws by which no execution is missed: normalising a skeleton loses none of the bundles in which it stands apart.
 #![tactic(auto)]
 
-mod covering;
+mod authentication;
+mod embeddings;
 mod examples;
 mod laws;
 mod steps;
-mod testing;
 
-pub use covering::embedding_then_standing;
+pub use authentication::{authentication_test, opened_text_example};
+pub use embeddings::embedding_then_standing;
 pub use examples::repeated_text_example;
 pub use laws::{
     carried_non_originating_stands_nowhere, heard_where_it_does_not_originate,
@@ -19,4 +20,3 @@ pub use steps::{
     origin_pairs_lose_no_standing, skeletons_stay_skeletons, steps_compose,
     weaker_loses_no_standing, what_is_stated_stays,
 };
-pub use testing::{authentication_test, opened_text_example};

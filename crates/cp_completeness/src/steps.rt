@@ -9,8 +9,8 @@ ghost use Rattle.cp_model.specs.Skeleton.{UniqueAt, Skeleton, Before, IsSkeleton
 ghost use Rattle.cp_model.specs.declared.node.OrderPair.{OrderPair};
 ghost use Rattle.cp_model.specs.Standing.{Standing, StandsIn, StandsApart};
 ghost use Rattle.cp_model.specs.Homomorphism.{CarriesHomomorphism, FactorsThrough, Covers};
-ghost use Rattle.cp_model.specs.Problem.{IsPointOfView, MapsToItself};
-ghost use Rattle.cp_model.specs.Realising.{OriginatesAtTerm};
+ghost use Rattle.cp_model.specs.PointOfView.{IsPointOfView, MapsToItself};
+ghost use Rattle.cp_model.specs.Realisation.{OriginatesAtTerm};
 ghost use Rattle.cp_model.specs.Stated.{KeepsStated};
 ghost use Rattle.cp_completeness.specs.Normal.{IsCarriedAt, with_pairs, AddOnlyOriginPairs, skeleton_under, LosesNoStanding, AreBranches, SaysNoMore};
 

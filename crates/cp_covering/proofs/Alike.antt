@@ -3,19 +3,20 @@ use Rattle.std.proofs.Common.{◌≡◌, List, [], ◌∷◌, map, refl, sym, ap
 use Rattle.cp_lists.specs.Lists.{IsIn, here, there}
 use Rattle.cp_lists.proofs.Mapped.{map_same}
 use Rattle.cp_lists.proofs.Members.{not_in_none, only_item, into_map}
-use Rattle.cp_model.specs.Term.{Substitution, apply_to, composed, unchanged}
+use Rattle.cp_model.specs.Term.{Substitution, apply_to, composed}
+use Rattle.cp_model.specs.Identity.{unchanged}
 use Rattle.cp_model.specs.Strand.{Protocol}
 use Rattle.cp_model.specs.Skeleton.{FromProblem, Skeleton, IsSkeleton}
 use Rattle.cp_model.proofs.LawTerms.{term_unchanged}
-use Rattle.cp_collapse.specs.Agreeing.{SaysTheSame}
+use Rattle.cp_collapse.specs.SameSkeletons.{SaysTheSame}
 use Rattle.cp_collapse.proofs.SameStandings.{same_stands, same_apart}
 use Rattle.cp_normal.specs.BySubstitution.{ComesBySubstitution}
 use Rattle.cp_normal.specs.Exact.{HasForms}
 use Rattle.cp_normal.specs.Formed.{Formed, AreNormalForms}
 use Rattle.cp_normal.proofs.BySubstitution.{come_by_substitutions}
 use Rattle.cp_answers.specs.Forms.{Form, KeepStandings, ComesDownTo}
-use Rattle.cp_answers.specs.Trying.{Trial, Tries}
-use Rattle.cp_answers.specs.Trying as trying
+use Rattle.cp_answers.specs.Trials.{Trial, Tries}
+use Rattle.cp_answers.specs.Trials as trying
 use Rattle.cp_answers.proofs.Built.{as_it_is, composed_stays, comes_down_by}
 
 -- ---- skeletons that say the same

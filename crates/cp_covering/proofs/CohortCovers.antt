@@ -4,28 +4,31 @@ use Rattle.std.specs.Prelude.{◌≢◌}
 use Rattle.cp_lists.specs.Lists.{item_at, IsIn, here}
 use Rattle.cp_lists.proofs.Items.{item_below}
 use Rattle.cp_lists.proofs.Members.{in_append_left, in_append_right, into_map}
-use Rattle.cp_model.specs.Term.{Variable, KeyTerm, key_term, inverse_term, Term, atom_term, enc_term, variables_of, Assignment, value_of, Substitution, unchanged}
+use Rattle.cp_model.specs.Term.{Variable, KeyTerm, key_term, inverse_term, Term, atom_term, enc_term, variables_of, Assignment, value_of, Substitution}
+use Rattle.cp_model.specs.Identity.{unchanged}
 use Rattle.cp_model.specs.Strand.{send, recv, Declaration, Role, Protocol, IsHeight}
 use Rattle.cp_model.specs.Bundle.{node_at}
 use Rattle.cp_model.specs.declared.node.Node.{Node}
 use Rattle.cp_model.specs.Skeleton.{SkeletonStrand, instance, listener, skeleton_trace_or_none, term_event_at, Skeleton, Before, IsSkeleton}
 use Rattle.cp_model.specs.Derivable.{IsOnInstance}
-use Rattle.cp_model.specs.Problem.{numbers_from, IsDeclared, HasDeclaredVariables}
+use Rattle.cp_model.specs.Problem.{numbers_from, IsDeclared}
+use Rattle.cp_model.specs.PointOfView.{HasDeclaredVariables}
 use Rattle.cp_model.specs.Tree.{Operation, Pattern}
 use Rattle.cp_model.proofs.StrandParts.{same_instance}
+use Rattle.cp_model.proofs.LawPrefixes.{in_front_of_trace}
+use Rattle.cp_model.proofs.DeclaredVariables.{still_declared}
 use Rattle.cp_term.specs.declared.path.Step.{Step}
 use Rattle.cp_term.specs.Positions.{term_at}
 use Rattle.cp_term.proofs.PositionLaws.{positions_found}
 use Rattle.cp_completeness.specs.Normal.{skeleton_under}
 use Rattle.cp_completeness.proofs.Skeletons.{skeleton_under_is_skeleton}
-use Rattle.cp_collapse.specs.Agreeing.{SaysTheSame}
+use Rattle.cp_collapse.specs.SameSkeletons.{SaysTheSame}
 use Rattle.cp_collapse.proofs.SameSkeletons.{same_is_skeleton}
 use Rattle.cp_collapse.proofs.NoNewVariables.{KeepsDeclared}
-use Rattle.cp_strand.specs.Occurring.{prefix_variables, added_variables}
-use Rattle.cp_skel.specs.Sound.{DeclaresItsVariables}
-use Rattle.cp_skel.specs.Changing.{IsClosedPrefix, AddsStrand, CanExtend, Extends}
+use Rattle.cp_strand.specs.PrefixVariables.{prefix_variables, added_variables}
+use Rattle.cp_strand.specs.Declares.{DeclaresItsVariables}
+use Rattle.cp_skel.specs.Extensions.{IsClosedPrefix, AddsStrand, CanExtend, Extends}
 use Rattle.cp_skel.specs.Events.{Occurrence, is_role_strand, events_of}
-use Rattle.cp_skel.proofs.DeclaredRoles.{in-trace}
 use Rattle.cp_skel.proofs.DeclaredChanges.{more_declared, strand_declared, extended_declared, ordered_declared}
 use Rattle.cp_skel.proofs.PrefixVariables.{in-prefix, in-added}
 use Rattle.cp_skel.proofs.StaySkeletons.{strand-stays-skeleton, appended-grows, appended-last, extended-grows, extended-stays-skeleton}
@@ -33,23 +36,22 @@ use Rattle.cp_skel.proofs.EventLists.{IsListedAs, event_listed}
 use Rattle.cp_normal.proofs.VariablesUnder.{all_declared, under_declared, agreeing_declared}
 use Rattle.cp_guard.specs.Inside.{IsInside}
 use Rattle.cp_guard.specs.Critical.{IsTest}
-use Rattle.cp_guard.specs.Guarding.{Guards}
+use Rattle.cp_guard.specs.Guards.{Guards}
 use Rattle.cp_answers.specs.Fresh.{fresh_terms}
 use Rattle.cp_answers.specs.Covering.{put_before, IsContracted, IsTried, IsDisplaced, IsAdded, IsListenedTo, IsHighEnough, trial_at, IsCovering}
 use Rattle.cp_answers.specs.Covering as covering
 use Rattle.cp_answers.proofs.Places.{position_variables}
-use Rattle.cp_match.specs.Unifying.{UnifiesMostGenerally}
-use Rattle.cp_covering.specs.Listing.{EachGives}
+use Rattle.cp_match.specs.Unifiers.{UnifiesMostGenerally}
+use Rattle.cp_covering.specs.GatheredLists.{EachGives}
 use Rattle.cp_covering.specs.Children.{Child, declarations_of}
 use Rattle.cp_covering.specs.Cohort.{Question, positions, Contracts, AreContracted, release_at, DisplacesAt, DisplacesEvent, DisplacesStrand, AddsAt, AddsEvent, FreesCritical, by_key, by_body, by_nothing, OpensPattern, Listens, AreListeners, IsCohort, is_before, is_displaced, is_added, of_listener, of_node, of_role, is_inside, is_critical, cyclic}
 use Rattle.cp_covering.specs.Cohort as cohort
 use Rattle.cp_covering.specs.Way.{IsOnTheWay}
-use Rattle.cp_covering.proofs.Opening.{still_declared}
 use Rattle.cp_covering.proofs.Alike.{alike_tried, alike_comes_down, forms_come_down}
 use Rattle.cp_covering.proofs.OnTheWay.{unifier_keeps, instance_under, at_index}
 use Rattle.cp_covering.proofs.Settled.{event_declared, used_below, settles_tried}
 use Rattle.cp_covering.proofs.Listed.{giver, with_it, number_listed, terms_listed}
-use Rattle.cp_covering.proofs.Putting.{put_is_skeleton, listening_is_skeleton, fresh_fit, fresh_declared}
+use Rattle.cp_covering.proofs.EventsBefore.{put_is_skeleton, listening_is_skeleton, fresh_fit, fresh_declared}
 
 abbrev AreListed : List Skeleton → List Child → Type 0
 AreListed ks children = (d : Child) → IsIn d children → IsIn d.skeleton ks
@@ -63,7 +65,7 @@ module _ (protocol : Protocol) (q : Question) (sk : IsSkeleton protocol q.skelet
   k = q.skeleton
 
   closed_prefix : (role : Role) (height : ℕ) → IsIn role protocol.roles → IsClosedPrefix role height
-  closed_prefix role height i x j = declares role i x (in-trace height role.trace x j)
+  closed_prefix role height i x j = declares role i x (in_front_of_trace height role.trace x j)
 
   critical_declared : (x : Variable) → IsIn x (variables_of q.critical) → IsDeclared q.variables x
   critical_declared x i = all_declared q.variables k declared x (guards.used_by_critical x i)

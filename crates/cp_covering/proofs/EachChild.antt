@@ -11,15 +11,15 @@ use Rattle.cp_model.specs.Tree.{Operation, by_contraction, by_added_listener, Pa
 use Rattle.cp_term.specs.declared.path.Step.{Step}
 use Rattle.cp_term.specs.Positions.{term_at}
 use Rattle.cp_completeness.specs.Normal.{skeleton_under}
-use Rattle.cp_collapse.specs.Agreeing.{SaysTheSame}
+use Rattle.cp_collapse.specs.SameSkeletons.{SaysTheSame}
 use Rattle.cp_normal.specs.Exact.{HasForms}
-use Rattle.cp_skel.specs.Changing.{AddsListener}
+use Rattle.cp_skel.specs.Extensions.{AddsListener}
 use Rattle.cp_skel.specs.Events.{Occurrence, events_of}
 use Rattle.cp_answers.specs.Covering.{put_before}
-use Rattle.cp_match.specs.Unifying.{UnifiesMostGenerally}
-use Rattle.cp_settle.specs.Releasing.{Release, Tried}
-use Rattle.cp_settle.specs.Settling.{Settles, on_the_way}
-use Rattle.cp_covering.specs.Listing.{terms_onto}
+use Rattle.cp_match.specs.Unifiers.{UnifiesMostGenerally}
+use Rattle.cp_settle.specs.Releases.{Release, Tried}
+use Rattle.cp_settle.specs.Stages.{Settles, on_the_way}
+use Rattle.cp_covering.specs.GatheredLists.{terms_onto}
 use Rattle.cp_covering.specs.Children.{Child, child, IsSentBefore}
 use Rattle.cp_covering.specs.Cohort.{Question, Contracts, AreContracted, DisplacesAt, DisplacesEvent, DisplacesStrand, AddsAt, AddsEvent, FreesCritical, by_key, by_body, by_nothing, OpensPattern, Listens, AreListeners, IsCohort, is_before, is_displaced, is_added, of_listener, of_node, of_role, is_inside, is_critical, cyclic}
 use Rattle.cp_covering.specs.Cohort as cohort

@@ -6,12 +6,12 @@ use Rattle.cp_model.specs.Term.{Term, Substitution}
 use Rattle.cp_model.specs.Skeleton.{Skeleton}
 use Rattle.cp_term.specs.declared.path.Step.{Step}
 use Rattle.cp_completeness.specs.Normal.{skeleton_under}
-use Rattle.cp_collapse.specs.Agreeing.{SaysTheSame}
+use Rattle.cp_collapse.specs.SameSkeletons.{SaysTheSame}
 use Rattle.cp_guard.specs.Above.{encryptions_above}
 use Rattle.cp_normal.specs.Formed.{Formed, AreNormalForms}
-use Rattle.cp_match.specs.Unifying.{UnifiesMostGenerally}
-use Rattle.cp_settle.specs.Releasing.{Release, Tried, IsFirstOutside, MeetsBoth}
-use Rattle.cp_settle.specs.Settling.{Choice, choices, pattern_in, branch_of, form_of, Stage, Settles, released_inside, branching, normalising, settled, Branches, no_choices, never_matches, matches_by, EachSettles, no_forms, next_form}
+use Rattle.cp_match.specs.Unifiers.{UnifiesMostGenerally}
+use Rattle.cp_settle.specs.Releases.{Release, Tried, IsFirstOutside, MeetsBoth}
+use Rattle.cp_settle.specs.Stages.{Choice, choices, pattern_in, branch_of, form_of, Stage, Settles, released_inside, branching, normalising, settled, Branches, no_choices, never_matches, matches_by, EachSettles, no_forms, next_form}
 
 module _ (r : Release) (P : Tried → Type 0) where
   -- A choice of the first occurrence outside the patterns.

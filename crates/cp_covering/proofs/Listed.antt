@@ -1,5 +1,5 @@
 -- What lists that are made item by item have.
-use Rattle.std.proofs.Common.{◌≡◌, ℕ, zero, suc, ◌+◌, ◌<◌, List, [], ◌∷◌, ◌++◌, length, Bool, true, false, refl, sym, subst, ◌⊎◌, inl, inr, ⊎_elim, arith}
+use Rattle.std.proofs.Common.{◌≡◌, ℕ, ◌+◌, ◌<◌, List, [], ◌∷◌, ◌++◌, length, Bool, true, false, refl, sym, subst, ◌⊎◌, inl, inr, ⊎_elim, arith}
 use Rattle.std.specs.Prelude.{if◌then◌else◌, ◌||◌}
 use Rattle.cp_lists.specs.Lists.{IsIn, here, there}
 use Rattle.cp_lists.proofs.Members.{not_in_none, in_append_left, in_append_right, in_append, in_last, in_pushed, at_head}
@@ -7,7 +7,8 @@ use Rattle.cp_model.specs.Term.{Term}
 use Rattle.cp_model.specs.Problem.{numbers_from}
 use Rattle.cp_model.specs.Same.{same_term}
 use Rattle.cp_model.proofs.SameTests.{term_is}
-use Rattle.cp_covering.specs.Listing.{EachGives, nothing_given, then_given, AreThoseWith, none_left, taken, left_out, has_term, terms_onto}
+use Rattle.cp_model.proofs.Numbers.{number_from}
+use Rattle.cp_covering.specs.GatheredLists.{EachGives, nothing_given, then_given, AreThoseWith, none_left, taken, left_out, has_term, terms_onto}
 
 -- ---- what items give
 
@@ -54,11 +55,6 @@ those_have (taken p rest) x (there i) = let r = those_have rest x i in (there r.
 those_have (left_out n rest) x i = let r = those_have rest x i in (there r.0, r.1)
 
 -- ---- numbers
-
-number_from : {A : Type 0} (n i : ℕ) (xs : List A) → i < length xs → IsIn (n + i) (numbers_from n xs)
-number_from n i [] l = absurd (omega (arith, l))
-number_from n zero (x ∷ xs) l = let e : n + 0 ≡ n = omega arith in subst (λ (m : ℕ). IsIn m (numbers_from n (x ∷ xs))) (sym e) here
-number_from n (suc i) (x ∷ xs) l = let e : n + suc i ≡ suc n + i = omega arith in there (subst (λ (m : ℕ). IsIn m (numbers_from (suc n) xs)) (sym e) (number_from (suc n) i xs (omega (arith, l))))
 
 pub number_listed : {A : Type 0} (i : ℕ) (xs : List A) → i < length xs → IsIn i (numbers_from 0 xs)
 number_listed i xs l = let e : 0 + i ≡ i = omega arith in subst (λ (m : ℕ). IsIn m (numbers_from 0 xs)) e (number_from 0 i xs l)

@@ -5,7 +5,7 @@ use Rattle.cp_lists.proofs.Members.{drop_read}
 use Rattle.cp_model.specs.Term.{Term}
 use Rattle.cp_model.specs.Same.{same_term}
 use Rattle.cp_term.proofs.SameTerms.{test_is}
-use Rattle.cp_covering.specs.Listing.{has_term}
+use Rattle.cp_covering.specs.GatheredLists.{has_term}
 
 module _ (us : List Term) (i : ℕ) (u t : Term) (lt : i < length us) (is : u ≡ get_or us i u) where
   opened : has_term (drop i us) t ≡ (same_term u t || has_term (drop (i + 1) us) t)

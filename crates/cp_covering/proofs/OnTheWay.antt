@@ -12,27 +12,28 @@ use Rattle.cp_model.specs.Problem.{IsDeclared}
 use Rattle.cp_model.specs.Same.{has_variable}
 use Rattle.cp_model.specs.Tree.{Pattern}
 use Rattle.cp_model.proofs.LawTerms.{atom_composed}
+use Rattle.cp_model.proofs.SameTests.{variable_in, in_has_variable}
+use Rattle.cp_model.proofs.DeclaredVariables.{still_declared}
 use Rattle.cp_completeness.specs.Normal.{strand_under, skeleton_under}
 use Rattle.cp_completeness.proofs.Skeletons.{skeleton_under_is_skeleton}
-use Rattle.cp_collapse.specs.Agreeing.{AreSameStrands, SaysTheSame}
+use Rattle.cp_collapse.specs.SameSkeletons.{AreSameStrands, SaysTheSame}
 use Rattle.cp_collapse.proofs.SameStrands.{all_same_back, instance_at}
 use Rattle.cp_collapse.proofs.SameSkeletons.{same_is_skeleton}
 use Rattle.cp_collapse.proofs.NoNewVariables.{KeepsDeclared, made_equal, no_new, of_atom}
 use Rattle.cp_skel.proofs.DeclaredChanges.{more_declared}
-use Rattle.cp_skel.proofs.GivenParts.{has-in, in-has}
 use Rattle.cp_normal.specs.BySubstitution.{all_variables, StaysWithin}
 use Rattle.cp_normal.specs.Formed.{Formed, AreNormalForms}
 use Rattle.cp_normal.proofs.FormsOf.{are_normal_forms}
-use Rattle.cp_normal.proofs.Keeping.{form_is_skeleton}
+use Rattle.cp_normal.proofs.FormSkeletons.{form_is_skeleton}
 use Rattle.cp_normal.proofs.VariablesUnder.{all_declared, under_declared, agreeing_declared}
 use Rattle.cp_normal.proofs.VariablesOfForms.{comes_declared}
-use Rattle.cp_guard.specs.Matching.{IsFreeIn}
-use Rattle.cp_match.specs.Unifying.{UnifiesMostGenerally}
+use Rattle.cp_guard.specs.Matches.{IsFreeIn}
+use Rattle.cp_match.specs.Unifiers.{UnifiesMostGenerally}
 use Rattle.cp_match.specs.Opened.{declared_as}
-use Rattle.cp_settle.specs.Releasing.{Release, Tried}
-use Rattle.cp_settle.specs.Settling.{pattern_in, branch_of, form_of}
+use Rattle.cp_settle.specs.Releases.{Release, Tried}
+use Rattle.cp_settle.specs.Stages.{pattern_in, branch_of, form_of}
 use Rattle.cp_covering.specs.Way.{AreUsedVariables, GivesDeclared, IsOnTheWay}
-use Rattle.cp_covering.proofs.Opening.{opened_declared, still_declared, only_itself}
+use Rattle.cp_covering.proofs.OpenedPatterns.{opened_declared, only_itself}
 
 -- A most general unifier of terms of declared variables gives declared variables such terms.
 pub unifier_keeps : (ds : List Declaration) (a b : Term) (s : Substitution) → ((x : Variable) → IsIn x (variables_of a) → IsDeclared ds x) → ((x : Variable) → IsIn x (variables_of b) → IsDeclared ds x) → UnifiesMostGenerally a b s → KeepsDeclared ds s
@@ -83,9 +84,9 @@ module _ (protocol : Protocol) (first : Skeleton) (r : Release) (used : AreUsedV
   stays_keeps s stays y z is i = by_test (has_variable (all_variables x.skeleton) y) refl
     where
       by_test : (b : Bool) → has_variable (all_variables x.skeleton) y ≡ b → IsDeclared x.variables z
-      by_test true e = all_declared x.variables x.skeleton w.declared z (stays.within y z (has-in (all_variables x.skeleton) y e) i)
+      by_test true e = all_declared x.variables x.skeleton w.declared z (stays.within y z (variable_in (all_variables x.skeleton) y e) i)
       by_test false e =
-          let left = stays.leaves y (λ j. let has : has_variable (all_variables x.skeleton) y ≡ true = in-has (all_variables x.skeleton) y j in absurd (cc)) in
+          let left = stays.leaves y (λ j. let has : has_variable (all_variables x.skeleton) y ≡ true = in_has_variable (all_variables x.skeleton) y j in absurd (cc)) in
           subst (IsDeclared x.variables) (sym (only_itself y z (subst (λ v. IsIn z (variables_of_atom v)) left i))) is
 
   pub form_on_the_way : (forms : List Formed) → AreNormalForms x.skeleton forms → (f : Formed) → IsIn f forms → IsOnTheWay protocol first r (form_of x f)

@@ -3,13 +3,15 @@ use Rattle.std.proofs.Common.{◌≡◌, ℕ, zero, suc, ◌+◌, ◌-◌, ◌<�
 use Rattle.cp_lists.specs.Lists.{IsIn, here, there, one_step, more_steps}
 use Rattle.cp_lists.proofs.Members.{not_in_none, only_item}
 use Rattle.cp_model.specs.Message.{symmetric, text, key}
-use Rattle.cp_model.specs.Term.{text_sort, skey_sort, Variable, skey_variable, symmetric_term, text_variable, AtomTerm, key_term, Term, atom_term, IsCarriedByTerm, itself_term, atom_of_variable, variables_of_atom, variables_of, Assignment, value_of, Substitution, apply_to, apply_to_atom, composed, unchanged}
+use Rattle.cp_model.specs.Term.{text_sort, skey_sort, Variable, skey_variable, symmetric_term, text_variable, AtomTerm, key_term, Term, atom_term, IsCarriedByTerm, itself_term, atom_of_variable, variables_of_atom, variables_of, Assignment, value_of, Substitution, apply_to, apply_to_atom, composed}
+use Rattle.cp_model.specs.Identity.{unchanged}
 use Rattle.cp_model.specs.Strand.{Event, send, recv, payload, Role}
 use Rattle.cp_model.specs.Bundle.{node_at}
 use Rattle.cp_model.specs.declared.node.Node.{Node}
 use Rattle.cp_model.specs.declared.node.OrderPair.{OrderPair}
 use Rattle.cp_model.specs.Skeleton.{term_event_at, OrderStep, along_strand_of, along_pair, Skeleton, Before}
-use Rattle.cp_model.specs.Problem.{IsDeclared, HasDeclaredVariables}
+use Rattle.cp_model.specs.Problem.{IsDeclared}
+use Rattle.cp_model.specs.PointOfView.{HasDeclaredVariables}
 use Rattle.cp_model.proofs.LawTerms.{term_unchanged, atom_unchanged}
 use Rattle.cp_term.specs.declared.path.Step.{Step}
 use Rattle.cp_term.specs.declared.path.Step.TheVariants.{Left, Right, Plaintext}
@@ -18,11 +20,11 @@ use Rattle.cp_term.proofs.PositionLaws.{carried_position}
 use Rattle.cp_completeness.specs.Normal.{skeleton_under, with_pairs}
 use Rattle.cp_unify.specs.Bindings.{Binding, Meets}
 use Rattle.cp_unify.proofs.Substituted.{after_met}
-use Rattle.cp_collapse.specs.Agreeing.{same_instance, same_listener, no_strands, same_strands}
+use Rattle.cp_collapse.specs.SameSkeletons.{same_instance, same_listener, no_strands, same_strands}
 use Rattle.cp_collapse.proofs.SameFacts.{says_itself}
-use Rattle.cp_collapse.proofs.Unifying.{directed}
-use Rattle.cp_skel.specs.Sound.{DeclaresItsVariables}
-use Rattle.cp_normal.specs.Normalising.{CarriesNonOriginating, IsAddedPair, ClosesCycle, AreNormalPairs, IsContradictory}
+use Rattle.cp_collapse.proofs.AtomUnifiers.{directed}
+use Rattle.cp_strand.specs.Declares.{DeclaresItsVariables}
+use Rattle.cp_normal.specs.Findings.{CarriesNonOriginating, IsAddedPair, ClosesCycle, AreNormalPairs, IsContradictory}
 use Rattle.cp_normal.specs.Exact.{HasForms, refuted, normal}
 use Rattle.cp_normal.specs.BySubstitution.{all_variables, ComesBySubstitution}
 use Rattle.cp_normal.specs.Formed.{Formed, IsFormedFrom, AreNormalForms}
@@ -31,14 +33,14 @@ use Rattle.cp_answers.specs.Example.{shared, locked, locker, protocol, heard, re
 use Rattle.cp_answers.proofs.Built.{composed_stays}
 use Rattle.cp_answers.proofs.Heard.{unlocked}
 use Rattle.cp_answers.proofs.HeardCovered.{new_locked, adds, with_listener}
-use Rattle.cp_match.specs.Unifying.{UnifiesMostGenerally, NeverEqual}
-use Rattle.cp_settle.specs.Releasing.{Release, Tried, MeetsBoth}
-use Rattle.cp_settle.specs.Settling.{form_of, Settles, on_the_way, normalising, settled, next_form, no_forms}
-use Rattle.cp_covering.specs.Listing.{nothing_given, then_given, none_left, left_out}
+use Rattle.cp_match.specs.Unifiers.{UnifiesMostGenerally, NeverEqual}
+use Rattle.cp_settle.specs.Releases.{Release, Tried, MeetsBoth}
+use Rattle.cp_settle.specs.Stages.{form_of, Settles, on_the_way, normalising, settled, next_form, no_forms}
+use Rattle.cp_covering.specs.GatheredLists.{nothing_given, then_given, none_left, left_out}
 use Rattle.cp_covering.specs.Cohort.{AreContracted, of_listener, AddsAt, is_added, release_at, by_key, Listens, AreListeners, IsCohort}
 use Rattle.cp_covering.specs.Cohort as cohort
 use Rattle.cp_covering.specs.Example.{asked, one_child}
-use Rattle.cp_covering.proofs.Opening.{only_itself}
+use Rattle.cp_covering.proofs.OpenedPatterns.{only_itself}
 
 -- ---- declarations
 

@@ -14,11 +14,11 @@ use Rattle.cp_model.proofs.LawTerms.{term_composed}
 use Rattle.cp_term.specs.declared.path.Step.{Step}
 use Rattle.cp_term.specs.Positions.{term_at}
 use Rattle.cp_completeness.specs.Normal.{skeleton_under}
-use Rattle.cp_collapse.specs.Agreeing.{SaysTheSame}
-use Rattle.cp_strand.specs.Occurring.{prefix_variables, added_variables}
-use Rattle.cp_skel.specs.Changing.{AddsListener}
+use Rattle.cp_collapse.specs.SameSkeletons.{SaysTheSame}
+use Rattle.cp_strand.specs.PrefixVariables.{prefix_variables, added_variables}
+use Rattle.cp_skel.specs.Extensions.{AddsListener}
 use Rattle.cp_skel.specs.Events.{Occurrence, events_of}
-use Rattle.cp_skel.proofs.Carrying.{SaysMore, listener_says_more, strand_says_more, extended_says_more, reordered_says_more, before_wider}
+use Rattle.cp_skel.proofs.CarriedHomomorphisms.{SaysMore, listener_says_more, strand_says_more, extended_says_more, reordered_says_more, before_wider}
 use Rattle.cp_skel.proofs.EventLists.{listed_event, listed_role}
 use Rattle.cp_skel.proofs.StaySkeletons.{appended-last}
 use Rattle.cp_normal.specs.BySubstitution.{ComesBySubstitution}
@@ -27,15 +27,15 @@ use Rattle.cp_normal.proofs.FormsOf.{are_normal_forms}
 use Rattle.cp_answers.specs.Covering.{put_before}
 use Rattle.cp_answers.specs.Fresh.{fresh_terms}
 use Rattle.cp_answers.proofs.Places.{term_at_under}
-use Rattle.cp_match.specs.Unifying.{UnifiesMostGenerally}
-use Rattle.cp_settle.specs.Releasing.{Tried, MeetsBoth}
+use Rattle.cp_match.specs.Unifiers.{UnifiesMostGenerally}
+use Rattle.cp_settle.specs.Releases.{Tried, MeetsBoth}
 use Rattle.cp_covering.specs.Children.{Child, child, IsSentBefore, HasGrown}
 use Rattle.cp_covering.specs.Cohort.{Question, release_at, DisplacesAt, AddsAt, IsCohort}
 use Rattle.cp_covering.specs.Cohort as cohort
 use Rattle.cp_covering.specs.Released.{ComesFrom, ReleasesCritical, ReleasesFromElsewhere, EndsByReleasing, SetsFree, Says, IsAsSaid}
 use Rattle.cp_covering.proofs.EachChild.{of_contracted, of_released, of_listened, each_child}
-use Rattle.cp_covering.proofs.Leading.{Leads, IsStep, step_alike, step_form, step_event, step_instance, step_listener, step_before, step_leads, more_leads, first_then, more_then}
-use Rattle.cp_covering.proofs.Sending.{IsSending, settles_sending}
+use Rattle.cp_covering.proofs.SkeletonSteps.{Leads, IsStep, step_alike, step_form, step_event, step_instance, step_listener, step_before, step_leads, more_leads, first_then, more_then}
+use Rattle.cp_covering.proofs.SentOnTheWay.{IsSending, settles_sending}
 
 -- With an event put before a node a skeleton says more.
 put_says_more : (k e : Skeleton) (m n : Node) → SaysMore k e → SaysMore k (put_before m n e)

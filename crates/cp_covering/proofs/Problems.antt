@@ -11,19 +11,19 @@ use Rattle.cp_completeness.specs.Normal.{skeleton_under}
 use Rattle.cp_model.proofs.SingleMaps.{itself}
 use Rattle.cp_completeness.proofs.Mapped.{carried_under, carried_with_pairs}
 use Rattle.cp_completeness.proofs.StatedSteps.{stated_under, stated_with_pairs}
-use Rattle.cp_collapse.specs.Agreeing.{SaysTheSame}
+use Rattle.cp_collapse.specs.SameSkeletons.{SaysTheSame}
 use Rattle.cp_collapse.proofs.SameStrands.{as_many}
 use Rattle.cp_collapse.proofs.SameFacts.{same_assumptions, same_before}
-use Rattle.cp_skel.proofs.Carrying.{SaysMore, carries_on, keeps_stated}
-use Rattle.cp_normal.specs.Narrowing.{IsNormalFormOf}
+use Rattle.cp_skel.proofs.CarriedHomomorphisms.{SaysMore, carries_on, keeps_stated}
+use Rattle.cp_normal.specs.NormalForms.{IsNormalFormOf}
 use Rattle.cp_normal.specs.Exact.{HasForms}
 use Rattle.cp_normal.specs.Formed.{Formed}
 use Rattle.cp_normal.proofs.FormsOf.{are_normal_forms}
 use Rattle.cp_normal.proofs.Homomorphic.{same_carries, form_carries}
 use Rattle.cp_normal.proofs.StatedForms.{form_keeps}
 use Rattle.cp_answers.specs.Covering.{put_before}
-use Rattle.cp_settle.specs.Releasing.{Release, Tried}
-use Rattle.cp_settle.specs.Settling.{Stage, Settles}
+use Rattle.cp_settle.specs.Releases.{Release, Tried}
+use Rattle.cp_settle.specs.Stages.{Stage, Settles}
 use Rattle.cp_covering.specs.Sound.{KeepsProblems}
 use Rattle.cp_covering.proofs.EachSettled.{settles_each}
 

@@ -1,18 +1,22 @@
 -- What is tried until both conditions hold is tried with what it leads to.
-use Rattle.std.proofs.Common.{◌≡◌, ℕ, List, [], ◌∷◌, ◌++◌, length, map, Option, Some, None, refl, sym, ap, ◌∙◌, subst, ◌⊎◌, inl, inr, ⊎_elim, append_assoc}
+use Rattle.std.proofs.Common.{◌≡◌, List, [], ◌∷◌, ◌++◌, length, map, Some, refl, sym, ap, ◌∙◌, subst, ◌⊎◌, inl, inr, ⊎_elim, append_assoc}
+use Rattle.std.proofs.lemmas.List.{append-nil}
 use Rattle.cp_lists.specs.Lists.{item_at, IsIn, here, there}
 use Rattle.cp_lists.proofs.Members.{not_in_none, in_append_left, in_append_right, in_append, into_map, from_map}
 use Rattle.cp_model.specs.Term.{Variable, KeyTerm, Term, pair_term, enc_term, tag_term, atom_term, atom_of_variable, variables_of, variables_of_atom, variables_of_key, Assignment, value_of, after, Substitution, apply_to, apply_to_atom, composed}
 use Rattle.cp_model.specs.Strand.{Declaration, Event, payload, Protocol}
 use Rattle.cp_model.specs.Bundle.{node_at}
 use Rattle.cp_model.specs.declared.node.Node.{Node}
-use Rattle.cp_model.specs.Skeleton.{SkeletonStrand, skeleton_trace, skeleton_trace_or_none, term_event_at, Skeleton}
-use Rattle.cp_model.specs.Problem.{IsDeclared, HasDeclaredVariables}
+use Rattle.cp_model.specs.Skeleton.{skeleton_trace, term_event_at, Skeleton}
+use Rattle.cp_model.specs.Problem.{IsDeclared}
+use Rattle.cp_model.specs.PointOfView.{HasDeclaredVariables}
 use Rattle.cp_model.specs.Same.{same_term}
 use Rattle.cp_model.specs.Tree.{Pattern}
 use Rattle.cp_model.proofs.LawTerms.{atom_after}
 use Rattle.cp_model.proofs.LawAgreement.{agree_value, agree_atom_value}
 use Rattle.cp_model.proofs.LawPrefixes.{in_trace}
+use Rattle.cp_model.proofs.LawStandings.{strand_with_event}
+use Rattle.cp_model.proofs.DeclaredVariables.{declared_below}
 use Rattle.cp_term.specs.declared.path.Step.{Step}
 use Rattle.cp_term.specs.declared.path.Step.TheVariants.{Left, Right, Plaintext}
 use Rattle.cp_term.specs.Positions.{term_at, positions_where}
@@ -26,24 +30,20 @@ use Rattle.cp_normal.specs.Formed.{Formed, AreNormalForms}
 use Rattle.cp_normal.proofs.VariablesUnder.{all_declared}
 use Rattle.cp_answers.specs.Forms.{Form}
 use Rattle.cp_answers.specs.Fresh.{AreBelow}
-use Rattle.cp_answers.specs.Fitting.{Fits}
-use Rattle.cp_answers.specs.Trying.{Trial, IsCarriedEarlier, Tries}
-use Rattle.cp_answers.specs.Trying as trying
+use Rattle.cp_answers.specs.FittingAssignments.{Fits}
+use Rattle.cp_answers.specs.Trials.{Trial, IsCarriedEarlier, Tries}
+use Rattle.cp_answers.specs.Trials as trying
 use Rattle.cp_answers.proofs.Built.{listed_comes_down}
 use Rattle.cp_answers.proofs.NewValues.{beside, old_values}
-use Rattle.cp_match.specs.Unifying.{UnifiesMostGenerally, NeverEqual}
+use Rattle.cp_match.specs.Unifiers.{UnifiesMostGenerally, NeverEqual}
 use Rattle.cp_match.specs.Opened.{declared_as}
-use Rattle.cp_settle.specs.Releasing.{Release, Tried, IsFirstOutside}
-use Rattle.cp_settle.specs.Settling.{Choice, choices, pattern_in, form_of, Stage, Settles, released_inside, branching, normalising, settled, Branches, no_choices, never_matches, matches_by, EachSettles, no_forms, next_form}
+use Rattle.cp_settle.specs.Releases.{Release, Tried, IsFirstOutside}
+use Rattle.cp_settle.specs.Stages.{Choice, choices, pattern_in, form_of, Stage, Settles, released_inside, branching, normalising, settled, Branches, no_choices, never_matches, matches_by, EachSettles, no_forms, next_form}
 use Rattle.cp_covering.specs.Way.{trial_of, AreUsedVariables, IsOnTheWay, DeclaresMore}
 use Rattle.cp_covering.proofs.EachSettled.{settles_each}
-use Rattle.cp_covering.proofs.Opening.{opened_value, declared_below}
+use Rattle.cp_covering.proofs.OpenedPatterns.{opened_value}
 use Rattle.cp_covering.proofs.Alike.{alike_tried, as_form, formed_keep}
 use Rattle.cp_covering.proofs.OnTheWay.{branch_on_the_way, form_on_the_way, at_index}
-
-pub append_none : {A : Type 0} (xs : List A) → xs ++ [] ≡ xs
-append_none [] = refl
-append_none (x ∷ xs) = ap (λ ys. x ∷ ys) (append_none xs)
 
 -- ---- enclosing encryptions, and choices
 
@@ -82,13 +82,9 @@ of_choices (e ∷ es) ps c i =
 
 -- ---- the variables of an event
 
-strand_of_event : (o : Option SkeletonStrand) (i : ℕ) (e : Event Term) → item_at (skeleton_trace_or_none o) i ≡ Some e → (st : SkeletonStrand) × (o ≡ Some st) × (item_at (skeleton_trace st) i ≡ Some e)
-strand_of_event None i e at = absurd (cc)
-strand_of_event (Some st) i e at = (st, refl, at)
-
 pub event_declared : (ds : List Declaration) (k : Skeleton) → HasDeclaredVariables ds k → (n : Node) (e : Event Term) → term_event_at k.strands n ≡ Some e → (x : Variable) → IsIn x (variables_of (payload e)) → IsDeclared ds x
 event_declared ds k h n e at x i =
-    let s = strand_of_event (item_at k.strands n.strand) n.index e at in
+    let s = strand_with_event (item_at k.strands n.strand) n.index e at in
     h.occurring x (in_append_left _ (in_strands k.strands n.strand s.0 x s.1 (in_trace (skeleton_trace s.0) n.index e x s.2 i)))
 
 pub used_below : (ds : List Declaration) (k : Skeleton) → HasDeclaredVariables ds k → AreBelow (length ds) (used_variables k)
@@ -242,4 +238,4 @@ module _ (protocol : Protocol) (first : Skeleton) (r : Release) (used : AreUsedV
               record { more = later.1.more ++ new; behind = ap (λ (ds : List Declaration). ds ++ new) later.1.behind ∙ append_assoc x.variables later.1.more new },
             );
         form = λ z later forms are f listed. (form_on_the_way protocol first r used z later.0 forms are f listed, later.1);
-      }) settles (w, record { more = []; behind = sym (append_none x.variables) }) y i).0
+      }) settles (w, record { more = []; behind = sym (append-nil x.variables) }) y i).0

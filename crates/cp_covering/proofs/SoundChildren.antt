@@ -1,37 +1,39 @@
 -- The children of a test are sound.
 use Rattle.std.proofs.Common.{◌≡◌, ℕ, suc, ◌<◌, ◌≤◌, List, [], ◌++◌, length, Some, refl, sym, ap, ◌∙◌, subst, ◌⊎◌, inl, inr, append_assoc, arith}
 use Rattle.std.specs.Prelude.{◌≢◌}
+use Rattle.std.proofs.lemmas.List.{append-nil}
 use Rattle.cp_lists.specs.Lists.{item_at, IsIn}
 use Rattle.cp_lists.proofs.Members.{in_append_left, in_append_right}
 use Rattle.cp_model.specs.Term.{Variable, KeyTerm, symmetric_term, asymmetric_term, inverse_term, Term, variables_of, variables_of_key, Substitution}
 use Rattle.cp_model.specs.Strand.{send, payload, Declaration, Role, Protocol}
 use Rattle.cp_model.specs.Bundle.{node_at}
 use Rattle.cp_model.specs.Skeleton.{instance, Skeleton, IsSkeleton}
-use Rattle.cp_model.specs.Problem.{IsDeclared, HasDeclaredVariables}
+use Rattle.cp_model.specs.Problem.{IsDeclared}
+use Rattle.cp_model.specs.PointOfView.{HasDeclaredVariables}
 use Rattle.cp_model.specs.Tree.{Operation, by_contraction, by_added_listener}
 use Rattle.cp_term.specs.declared.path.Step.{Step}
 use Rattle.cp_completeness.specs.Normal.{skeleton_under}
 use Rattle.cp_completeness.proofs.Skeletons.{skeleton_under_is_skeleton}
 use Rattle.cp_collapse.proofs.SameSkeletons.{same_is_skeleton}
 use Rattle.cp_collapse.proofs.NoNewVariables.{KeepsDeclared}
-use Rattle.cp_strand.specs.Occurring.{prefix_variables, added_variables}
-use Rattle.cp_skel.specs.Sound.{DeclaresItsVariables}
-use Rattle.cp_skel.specs.Changing.{Extends}
+use Rattle.cp_strand.specs.PrefixVariables.{prefix_variables, added_variables}
+use Rattle.cp_strand.specs.Declares.{DeclaresItsVariables}
+use Rattle.cp_skel.specs.Extensions.{Extends}
 use Rattle.cp_skel.specs.Events.{Occurrence, events_of}
-use Rattle.cp_skel.proofs.Carrying.{listener_says_more, strand_says_more, extended_says_more}
+use Rattle.cp_skel.proofs.CarriedHomomorphisms.{listener_says_more, strand_says_more, extended_says_more}
 use Rattle.cp_skel.proofs.DeclaredChanges.{listener_declared, ordered_declared}
 use Rattle.cp_skel.proofs.EventLists.{listed_event}
 use Rattle.cp_normal.specs.Exact.{HasForms}
 use Rattle.cp_normal.proofs.FormsOf.{are_normal_forms}
-use Rattle.cp_normal.proofs.Keeping.{form_is_skeleton}
+use Rattle.cp_normal.proofs.FormSkeletons.{form_is_skeleton}
 use Rattle.cp_normal.proofs.VariablesUnder.{all_declared, under_declared, agreeing_declared}
 use Rattle.cp_normal.proofs.VariablesOfForms.{forms_declared}
 use Rattle.cp_guard.specs.Critical.{IsTest}
-use Rattle.cp_guard.specs.Guarding.{Guards}
+use Rattle.cp_guard.specs.Guards.{Guards}
 use Rattle.cp_answers.specs.Covering.{put_before}
 use Rattle.cp_answers.specs.Fresh.{fresh_terms}
 use Rattle.cp_answers.proofs.Places.{position_variables}
-use Rattle.cp_settle.specs.Releasing.{Tried}
+use Rattle.cp_settle.specs.Releases.{Tried}
 use Rattle.cp_covering.specs.Children.{Child, child, declarations_of}
 use Rattle.cp_covering.specs.Cohort.{Question, release_at, DisplacesAt, AddsAt, IsCohort}
 use Rattle.cp_covering.specs.Cohort as cohort
@@ -39,14 +41,14 @@ use Rattle.cp_covering.specs.Released.{SetsFree, critical_key, critical_body, pa
 use Rattle.cp_covering.specs.Way.{DeclaresMore}
 use Rattle.cp_covering.specs.Sound.{KeepsProblems, IsSoundChild}
 use Rattle.cp_covering.proofs.OnTheWay.{unifier_keeps}
-use Rattle.cp_covering.proofs.Settled.{append_none, event_declared, settles_later}
+use Rattle.cp_covering.proofs.Settled.{event_declared, settles_later}
 use Rattle.cp_covering.proofs.EachChild.{ComesOfContracting, ComesOfReleasing, ComesOfListening, of_contracted, of_released, of_listened, each_child}
-use Rattle.cp_covering.proofs.Putting.{listening_is_skeleton}
+use Rattle.cp_covering.proofs.EventsBefore.{listening_is_skeleton}
 use Rattle.cp_covering.proofs.CohortCovers.{IsGrown, put_on_the_way, displaced_grown, added_grown}
 use Rattle.cp_covering.proofs.Problems.{keeps_itself, keeps_then, keeps_under, keeps_alike, keeps_forms, keeps_more, keeps_put, settles_keeps}
 
 pub more_itself : (ds : List Declaration) → DeclaresMore ds ds
-more_itself ds = record { more = []; behind = sym (append_none ds) }
+more_itself ds = record { more = []; behind = sym (append-nil ds) }
 
 pub more_then : (ds es fs : List Declaration) → DeclaresMore ds es → DeclaresMore es fs → DeclaresMore ds fs
 more_then ds es fs a b = record { more = a.more ++ b.more; behind = b.behind ∙ ap (λ (xs : List Declaration). xs ++ b.more) a.behind ∙ append_assoc ds a.more b.more }
@@ -122,7 +124,7 @@ module _ (protocol : Protocol) (q : Question) (sk : IsSkeleton protocol q.skelet
           ⊎ ((height ≤ j) × (variables ≡ q.variables ++ declarations_of role (added_variables role height (suc j))) × Extends s (suc j) (fresh_terms (length q.variables) (added_variables role height (suc j))) k grown)
 
       has_more : (variables : List Declaration) (grown : Skeleton) → HowGrown variables grown → DeclaresMore q.variables variables
-      has_more variables grown (inl r) = record { more = []; behind = r.1 ∙ sym (append_none q.variables) }
+      has_more variables grown (inl r) = record { more = []; behind = r.1 ∙ sym (append-nil q.variables) }
       has_more variables grown (inr r) = record { more = declarations_of role (added_variables role height (suc j)); behind = r.1 }
 
       grown_keeps : (variables : List Declaration) (grown : Skeleton) → HowGrown variables grown → KeepsProblems k grown

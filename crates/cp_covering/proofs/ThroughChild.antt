@@ -13,7 +13,7 @@ use Rattle.cp_model.proofs.LawTerms.{value_after, after_further}
 use Rattle.cp_model.proofs.LawPrefixes.{variables_of_higher}
 use Rattle.cp_model.specs.Problem.{variables_of_skeleton, variables_of_strands}
 use Rattle.cp_completeness.specs.Normal.{variables_of_terms}
-use Rattle.cp_answers.specs.LeavingOut.{GoesOn}
+use Rattle.cp_answers.specs.NoneLeftOut.{GoesOn}
 use Rattle.cp_covering.specs.Children.{Child}
 use Rattle.cp_covering.specs.Cohort.{Question, IsCohort}
 use Rattle.cp_covering.specs.Released.{ComesFrom}

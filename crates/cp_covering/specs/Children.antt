@@ -7,8 +7,8 @@ use Rattle.cp_model.specs.declared.node.Node.{Node}
 use Rattle.cp_model.specs.Skeleton.{Skeleton, Before}
 use Rattle.cp_model.specs.Tree.{Operation}
 use Rattle.cp_term.specs.declared.path.Step.{Step}
-use Rattle.cp_strand.specs.Occurring.{added_variables}
-use Rattle.cp_skel.specs.Changing.{Extends}
+use Rattle.cp_strand.specs.PrefixVariables.{added_variables}
+use Rattle.cp_skel.specs.Extensions.{Extends}
 use Rattle.cp_skel.specs.Events.{Occurrence}
 use Rattle.cp_answers.specs.Fresh.{fresh_terms}
 

@@ -1,7 +1,8 @@
 -- The cohort of a test: its children, all of them, in their order.
 use Rattle.std.specs.Prelude.{◌≡◌, ◌≢◌, ℕ, suc, List, [], ◌∷◌, ◌++◌, length, map, Some, true}
 use Rattle.cp_lists.specs.Lists.{item_at}
-use Rattle.cp_model.specs.Term.{KeyTerm, key_term, inverse_term, Term, atom_term, enc_term, Substitution, unchanged}
+use Rattle.cp_model.specs.Term.{KeyTerm, key_term, inverse_term, Term, atom_term, enc_term, Substitution}
+use Rattle.cp_model.specs.Identity.{unchanged}
 use Rattle.cp_model.specs.Strand.{send, recv, payload, Declaration, Role, Protocol}
 use Rattle.cp_model.specs.Bundle.{node_at}
 use Rattle.cp_model.specs.declared.node.Node.{Node}
@@ -12,18 +13,18 @@ use Rattle.cp_model.specs.Tree.{Operation, by_contraction, by_displacement, by_a
 use Rattle.cp_term.specs.declared.path.Step.{Step}
 use Rattle.cp_term.specs.Positions.{term_at, positions_where}
 use Rattle.cp_completeness.specs.Normal.{skeleton_under}
-use Rattle.cp_collapse.specs.Agreeing.{SaysTheSame}
+use Rattle.cp_collapse.specs.SameSkeletons.{SaysTheSame}
 use Rattle.cp_normal.specs.Exact.{HasForms}
-use Rattle.cp_strand.specs.Occurring.{prefix_variables}
-use Rattle.cp_skel.specs.Changing.{AddsListener, AddsStrand}
+use Rattle.cp_strand.specs.PrefixVariables.{prefix_variables}
+use Rattle.cp_skel.specs.Extensions.{AddsListener, AddsStrand}
 use Rattle.cp_skel.specs.Events.{Occurrence, events_of}
 use Rattle.cp_guard.specs.Inside.{IsInside}
 use Rattle.cp_answers.specs.Fresh.{fresh_terms}
 use Rattle.cp_answers.specs.Covering.{put_before}
-use Rattle.cp_match.specs.Unifying.{UnifiesMostGenerally, NeverEqual}
-use Rattle.cp_settle.specs.Releasing.{Release, Tried}
-use Rattle.cp_settle.specs.Settling.{Settles, on_the_way}
-use Rattle.cp_covering.specs.Listing.{EachGives, AreThoseWith, terms_onto}
+use Rattle.cp_match.specs.Unifiers.{UnifiesMostGenerally, NeverEqual}
+use Rattle.cp_settle.specs.Releases.{Release, Tried}
+use Rattle.cp_settle.specs.Stages.{Settles, on_the_way}
+use Rattle.cp_covering.specs.GatheredLists.{EachGives, AreThoseWith, terms_onto}
 use Rattle.cp_covering.specs.Children.{Child, child, declarations_of, IsSentBefore, HasGrown}
 
 -- What is asked: under which patterns the component c of the message received at node n of k is to be released, where k has

@@ -1,7 +1,7 @@
 -- An example: the children of a test of an encryption that is heard, under a key that does not originate.
 use Rattle.std.specs.Prelude.{[], ◌++◌}
 use Rattle.cp_model.specs.Tree.{by_added_strand}
-use Rattle.cp_strand.specs.Occurring.{prefix_variables}
+use Rattle.cp_strand.specs.PrefixVariables.{prefix_variables}
 use Rattle.cp_covering.specs.Children.{Child, child, declarations_of}
 use Rattle.cp_covering.specs.Cohort.{Question}
 use Rattle.cp_answers.specs.Example.{locked, locker, heard, reception, sent_before}

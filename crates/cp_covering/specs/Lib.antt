@@ -1,4 +1,4 @@
-pub mod Listing
+pub mod GatheredLists
 pub mod Children
 pub mod Cohort
 pub mod Way

@@ -3,7 +3,7 @@ use Rattle.std.specs.Prelude.{List}
 use Rattle.cp_model.specs.Strand.{Declaration, Protocol}
 use Rattle.cp_model.specs.Skeleton.{Skeleton, IsSkeleton}
 use Rattle.cp_model.specs.Homomorphism.{CarriesHomomorphism}
-use Rattle.cp_model.specs.Problem.{IsPointOfView, HasDeclaredVariables}
+use Rattle.cp_model.specs.PointOfView.{IsPointOfView, HasDeclaredVariables}
 use Rattle.cp_model.specs.Stated.{KeepsStated}
 use Rattle.cp_covering.specs.Children.{Child}
 use Rattle.cp_covering.specs.Cohort.{Question}

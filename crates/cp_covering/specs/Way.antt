@@ -6,12 +6,13 @@ use Rattle.cp_model.specs.Strand.{Declaration, Protocol}
 use Rattle.cp_model.specs.Bundle.{node_at}
 use Rattle.cp_model.specs.Skeleton.{Skeleton, IsSkeleton}
 use Rattle.cp_model.specs.Derivable.{IsOnInstance}
-use Rattle.cp_model.specs.Problem.{IsDeclared, HasDeclaredVariables}
+use Rattle.cp_model.specs.Problem.{IsDeclared}
+use Rattle.cp_model.specs.PointOfView.{HasDeclaredVariables}
 use Rattle.cp_model.specs.Tree.{Pattern}
-use Rattle.cp_guard.specs.Matching.{IsFreeIn}
+use Rattle.cp_guard.specs.Matches.{IsFreeIn}
 use Rattle.cp_guard.specs.Critical.{used_variables}
-use Rattle.cp_answers.specs.Trying.{Trial}
-use Rattle.cp_settle.specs.Releasing.{Release, Tried}
+use Rattle.cp_answers.specs.Trials.{Trial}
+use Rattle.cp_settle.specs.Releases.{Release, Tried}
 
 -- The trial of a release from the first skeleton.
 abbrev pub trial_of : Protocol → Skeleton → Release → Trial

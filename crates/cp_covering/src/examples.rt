@@ -2,10 +2,10 @@
 ghost use Rattle.std.specs.Prelude.{[], ◌∷◌};
 ghost use Rattle.cp_lists.specs.Lists.{IsIn};
 ghost use Rattle.cp_model.specs.Strand.{Role};
-ghost use Rattle.cp_model.specs.Problem.{HasDeclaredVariables};
-ghost use Rattle.cp_skel.specs.Sound.{DeclaresItsVariables};
+ghost use Rattle.cp_model.specs.PointOfView.{HasDeclaredVariables};
+ghost use Rattle.cp_strand.specs.Declares.{DeclaresItsVariables};
 ghost use Rattle.cp_answers.specs.Example.{protocol, heard};
-ghost use Rattle.cp_answers.specs.LeavingOut.{LeavesNoneOut};
+ghost use Rattle.cp_answers.specs.NoneLeftOut.{LeavesNoneOut};
 ghost use Rattle.cp_covering.specs.Cohort.{IsCohort};
 ghost use Rattle.cp_covering.specs.Example.{asked, one_child};
 

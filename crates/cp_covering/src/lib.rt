@@ -6,10 +6,10 @@ mod cohorts;
 mod examples;
 mod once;
 mod sent;
-mod settling;
+mod trials;
 
 pub use cohorts::{children_are_sound, cohorts_cover, operations_are_true};
 pub use examples::heard_encryption_has_one_child;
 pub use once::add_term;
 pub use sent::{comes_before, is_sent_before};
-pub use settling::settling_is_trying;
+pub use trials::settling_is_trying;

@@ -1,6 +1,6 @@
 // Lists of terms that stand in them once.
 ghost use Rattle.std.specs.Prelude.{◌≡◌, ◌∷◌, [], OnOk};
-ghost use Rattle.cp_covering.specs.Listing.{has_term, terms_onto};
+ghost use Rattle.cp_covering.specs.GatheredLists.{has_term, terms_onto};
 
 use cp_term::Term;
 use std::alloc::AllocError;

@@ -4,7 +4,7 @@ use Rattle.cp_lists.specs.Lists.{IsIn}
 use Rattle.cp_model.specs.Term.{AtomTerm, key_term, KeyTerm, inverse_term, Term, tag_term, atom_term, pair_term, enc_term}
 use Rattle.cp_derive.specs.From.{a_tag, an_atom, was_sent, paired, left_of, right_of, encrypted, decrypted}
 use Rattle.cp_derive.specs.Given.{Given, IsDerivable}
-use Rattle.cp_derive.specs.Building.{BuildsAtom, Builds, IsClosed}
+use Rattle.cp_derive.specs.Buildable.{BuildsAtom, Builds, IsClosed}
 
 -- Each term held is derivable.
 abbrev pub AreDerivable : Given → List Term → Type 0

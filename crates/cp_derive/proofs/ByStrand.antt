@@ -10,7 +10,7 @@ use Rattle.cp_skel.specs.Events.{Occurrence, occurrence_view, events_of}
 use Rattle.cp_skel.specs.declared.events.Occurrence as program
 use Rattle.cp_derive.specs.Picked.{AreAmong, Picks, no_more}
 use Rattle.cp_derive.specs.Unrealised.{ListsUnrealised}
-use Rattle.cp_derive.proofs.Picking.{lists_unrealised, picked_both}
+use Rattle.cp_derive.proofs.PickedReceptions.{lists_unrealised, picked_both}
 
 -- The events that are left end with those of a strand.
 module _ (k : Skeleton) (all left before on : List program.Occurrence) (split : left ≡ before ++ on) where

@@ -26,8 +26,8 @@ use Rattle.cp_derive.specs.Before.{LeadsToOther, ArePlacesBefore, messages_at, t
 use Rattle.cp_derive.specs.Unrealised.{IsUnrealisedAt, IsRealisedAt}
 use Rattle.cp_derive.proofs.FromLaw.{given_at}
 use Rattle.cp_skel.proofs.EventLists.{listed_event}
-use Rattle.cp_derive.proofs.Sending.{transmission_listed, listed_on_role, listed_transmission}
-use Rattle.cp_derive.proofs.Placing.{IsMessageAt, message_at, at_message}
+use Rattle.cp_derive.proofs.ListedTransmissions.{transmission_listed, listed_on_role, listed_transmission}
+use Rattle.cp_derive.proofs.TransmissionPlaces.{IsMessageAt, message_at, at_message}
 use Rattle.cp_derive.specs.Picked.{AreAmong, Picks, no_more, picks, passes}
 use Rattle.cp_derive.proofs.Secrets.{secret_values}
 

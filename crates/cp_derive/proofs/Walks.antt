@@ -10,7 +10,7 @@ use Rattle.cp_term.specs.declared.path.Step.TheVariants.{Left, Right}
 use Rattle.cp_derive.specs.From.{paired, left_of, right_of}
 use Rattle.cp_derive.specs.Given.{Given, IsDerivable}
 use Rattle.cp_derive.specs.Components.{Component, below, components_of, IsFirstUnderivable}
-use Rattle.cp_derive.specs.Walking.{IsNoPair, LeadsToFirst, at_itself, to_left, to_right, LeadsOn, Finds}
+use Rattle.cp_derive.specs.Walk.{IsNoPair, LeadsToFirst, at_itself, to_left, to_right, LeadsOn, Finds}
 use Rattle.std.specs.Borrow.{Bor}
 use Rattle.cp_derive.specs.Forms.{IsFormOf}
 use Rattle.cp_derive.specs.declared.form.Form.{Form}

@@ -1,10 +1,10 @@
 pub mod From
 pub mod Given
 pub mod Components
-pub mod Building
+pub mod Buildable
 pub mod Forms
-pub mod Opening
-pub mod Walking
+pub mod OpenedTerms
+pub mod Walk
 pub mod Unrealised
 pub mod Transmissions
 pub mod Assumed

@@ -2,8 +2,8 @@
 ghost use Rattle.std.specs.Prelude.{◌≡◌, ◌↔◌, ◌++◌, IsTrue, IfOk, OnOk};
 ghost use Rattle.cp_derive.specs.Given.{IsDerivable};
 
-use crate::building::builds;
-use crate::opening::{Opening, open_more};
+use crate::built_terms::builds;
+use crate::opened_terms::{Opening, open_more};
 use cp_term::Term;
 use std::alloc::{AllocError, Global};
 use std::marker::Model;
@@ -20,7 +20,7 @@ pub struct Known {
 
 impl Model for Known {
     ghost use Rattle.cp_derive.specs.Given.{Given, coded_given};
-    ghost use Rattle.cp_derive.specs.Opening.{IsOpened};
+    ghost use Rattle.cp_derive.specs.OpenedTerms.{IsOpened};
 
     ghost Value = { Given };
 

@@ -4,14 +4,14 @@
 mod assumed;
 mod at_node;
 mod before;
-mod building;
+mod built_terms;
 mod component;
 mod form;
 mod front;
 mod knowledge;
 mod laws;
 mod marks;
-mod opening;
+mod opened_terms;
 mod receptions;
 mod transmission;
 mod walk;

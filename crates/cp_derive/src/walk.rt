@@ -3,7 +3,7 @@ ghost use Rattle.std.specs.Prelude.{◌≡◌, ◌↔◌, Some, IsNone, IfSome, 
 ghost use Rattle.cp_term.specs.Positions.{term_at};
 ghost use Rattle.cp_derive.specs.Given.{IsDerivable};
 ghost use Rattle.cp_derive.specs.Components.{IsFirstUnderivable};
-ghost use Rattle.cp_derive.specs.Walking.{Finds};
+ghost use Rattle.cp_derive.specs.Walk.{Finds};
 
 use crate::component::Critical;
 use crate::form::{Form, form_of};

@@ -13,10 +13,10 @@ use Rattle.cp_skel.specs.declared.events.Occurrence as program
 use Rattle.cp_skel.proofs.EventLists.{listed_event, listed_role}
 use Rattle.cp_derive.specs.Given.{Given, IsDerivable}
 use Rattle.cp_covering.specs.Children.{IsSentBefore}
-use Rattle.cp_covering.specs.Listing.{EachGives}
+use Rattle.cp_covering.specs.GatheredLists.{EachGives}
 use Rattle.cp_escape.specs.Escape.{IsFirstWith, in_front, further, IsClosedAt, GivesClosed, positions_of}
-use Rattle.cp_escape.specs.Closing.{IsClosedTo, GivesClosedTo, PutsTerms, GivesIf, with_it, AreClosedBefore}
-use Rattle.cp_escape.proofs.Gathering.{given_by_those, gives_all, gives_other}
+use Rattle.cp_escape.specs.ClosedEncryptions.{IsClosedTo, GivesClosedTo, PutsTerms, GivesIf, with_it, AreClosedBefore}
+use Rattle.cp_escape.proofs.TermsOnce.{given_by_those, gives_all, gives_other}
 
 -- What was sent is derivable.
 pub sent_is_derivable : (k : Skeleton) (n : Node) (o : Occurrence) → IsIn o (events_of k) → IsSentBefore k n o → DerivableAt k n (payload o.event)

@@ -2,13 +2,15 @@
 use Rattle.std.proofs.Common.{◌≡◌, ℕ, List, [], ◌∷◌, map, Some, true, refl, sym, ap, ◌∙◌, subst, ⊎_elim, ◌↔◌}
 use Rattle.cp_lists.specs.Lists.{IsIn, here, there}
 use Rattle.cp_lists.proofs.Members.{in_append_left, not_in_none, only_item, from_map, into_map}
-use Rattle.cp_model.specs.Term.{Variable, Term, IsCarriedByTerm, itself_term, in_left_term, in_right_term, variables_of, unchanged}
+use Rattle.cp_model.specs.Term.{Variable, Term, IsCarriedByTerm, itself_term, in_left_term, in_right_term, variables_of}
+use Rattle.cp_model.specs.Identity.{unchanged}
 use Rattle.cp_model.specs.Strand.{send, recv, payload, Declaration}
 use Rattle.cp_model.specs.declared.node.Node.{Node}
 use Rattle.cp_model.specs.Skeleton.{Skeleton, term_event_at, Before}
 use Rattle.cp_model.specs.Derivable.{IsOnInstance}
 use Rattle.cp_model.specs.Pattern.{IsPattern}
-use Rattle.cp_model.specs.Problem.{variables_of_skeleton, HasDeclaredVariables}
+use Rattle.cp_model.specs.Problem.{variables_of_skeleton}
+use Rattle.cp_model.specs.PointOfView.{HasDeclaredVariables}
 use Rattle.cp_model.specs.Same.{same_term}
 use Rattle.cp_model.specs.Tree.{Pattern}
 use Rattle.cp_model.proofs.LawTerms.{term_unchanged}
@@ -23,14 +25,14 @@ use Rattle.cp_skel.proofs.EventLists.{listed_event, listed_role, is_role_at, occ
 use Rattle.cp_skel.proofs.UnderVariables.{carried_variables}
 use Rattle.cp_guard.specs.Above.{encryptions_above}
 use Rattle.cp_guard.specs.Critical.{IsPartOfPairs, whole_part, part_of_left, part_of_right, IsTest, used_variables}
-use Rattle.cp_guard.specs.Guarding.{Guards}
+use Rattle.cp_guard.specs.Guards.{Guards}
 use Rattle.cp_guard.specs.Inside.{IsInside}
 use Rattle.cp_covering.specs.Children.{IsSentBefore}
 use Rattle.cp_covering.proofs.Listed.{giver, given, those_have, with_it, terms_listed, of_terms_onto}
-use Rattle.cp_escape.specs.Closing.{AreClosedBefore}
+use Rattle.cp_escape.specs.ClosedEncryptions.{AreClosedBefore}
 use Rattle.cp_escape.specs.Escape.{IsFirstWith, in_front, further, positions_of, whole_pattern, IsEscape}
 use Rattle.cp_escape.specs.Sent.{CarriesBefore}
-use Rattle.cp_escape.proofs.Enclosing.{part_above, event_variables, sort_of_number}
+use Rattle.cp_escape.proofs.PartsAbove.{part_above, event_variables, sort_of_number}
 
 pub first_is_in : {has : Term → Type 0} {ts : List Term} {t : Term} → IsFirstWith has ts t → IsIn t ts
 first_is_in (in_front h) = here

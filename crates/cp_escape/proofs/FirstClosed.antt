@@ -7,9 +7,9 @@ use Rattle.cp_model.specs.Term.{Term}
 use Rattle.cp_term.specs.declared.path.Step.{Step}
 use Rattle.cp_derive.specs.Given.{Given}
 use Rattle.cp_guard.specs.Above.{encryptions_above}
-use Rattle.cp_escape.specs.Closing.{IsClosedTo, IsOpenTo, IsHidden}
+use Rattle.cp_escape.specs.ClosedEncryptions.{IsClosedTo, IsOpenTo, IsHidden}
 use Rattle.cp_escape.specs.Escape.{IsFirstWith, in_front, further}
-use Rattle.cp_escape.proofs.Deriving.{one_closed}
+use Rattle.cp_escape.proofs.DerivableParts.{one_closed}
 
 -- Of encryptions some are left; those before them are open.
 pub record NoneClosed (g : Given) (whole left : List Term) : Type 0 where

@@ -1,13 +1,13 @@
-mod Deriving
-mod Enclosing
+mod DerivableParts
+mod PartsAbove
 mod FirstClosed
-mod Gathering
+mod TermsOnce
 mod Before
 pub mod EscapeGuards
 mod SameValues
 mod SameStrandLists
 mod Uses
-mod Staying
-mod EndingBySending
+mod StillClosed
+mod LastSent
 mod NewVariables
 pub mod Widened

@@ -2,7 +2,7 @@
 use Rattle.std.proofs.Common.{◌≡◌, ℕ, zero, suc, ◌+◌, ◌<◌, ◌≤◌, ◌==◌, Bool, true, false, not, if◌then◌else◌, List, [], ◌∷◌, map, Some, refl, sym, ap, ap₂, ◌∙◌, subst, ⊎_elim, arith, eqb-true, eq-eqb}
 use Rattle.std.proofs.lemmas.Bool.{and_parts, and_from}
 use Rattle.cp_lists.specs.Lists.{item_at, IsIn, here, there}
-use Rattle.cp_lists.proofs.Members.{head_or_behind, not_in_none}
+use Rattle.cp_lists.proofs.Members.{head_or_behind, not_in_none, in_if_behind}
 use Rattle.cp_model.proofs.CarriedParts.{not_both}
 use Rattle.cp_model.specs.Term.{Variable, Term, variables_of}
 use Rattle.cp_model.specs.Strand.{Declaration}
@@ -12,8 +12,8 @@ use Rattle.cp_model.specs.Skeleton.{Skeleton}
 use Rattle.cp_model.proofs.SameTests.{variable_in, in_has_variable}
 use Rattle.cp_term.specs.Patterns.{variable_with, locals_of}
 use Rattle.cp_guard.specs.Critical.{used_variables}
-use Rattle.cp_escape.specs.Using.{is_new_in, variables_where, numbers}
-use Rattle.cp_escape.specs.Widening.{AreRisingVariables, AreNewVariables}
+use Rattle.cp_escape.specs.UsedVariables.{is_new_in, variables_where, numbers}
+use Rattle.cp_escape.specs.WidenedPattern.{AreRisingVariables, AreNewVariables}
 
 -- ---- variables that pass a test
 
@@ -42,10 +42,6 @@ listed_one : (test : Variable → Bool) (n : ℕ) (d : Declaration) (rest : List
 listed_one test n d rest true e h = here
 listed_one test n d rest false e h = absurd (not_both refl h)
 
-listed_later : (y : Variable) (rest : List Variable) (x : Variable) (b : Bool) → IsIn x rest → IsIn x (if b then y ∷ rest else rest)
-listed_later y rest x true i = there i
-listed_later y rest x false i = i
-
 all_listed : (test : Variable → Bool) (n : ℕ) (ds : List Declaration) (x : Variable) (m : ℕ) → test x ≡ true → x.number ≡ n + m → declared_sort (item_at ds m) ≡ Some x.sort → IsIn x (variables_where test n ds)
 all_listed test n [] x m passes number declared = absurd (cc)
 all_listed test n (d ∷ ds) x zero passes number declared =
@@ -55,7 +51,7 @@ all_listed test n (d ∷ ds) x zero passes number declared =
     subst (λ (z : Variable). IsIn z (variables_where test n (d ∷ ds))) same
     (listed_one test n d (variables_where test (suc n) ds) (test (declared_as d n)) refl (ap test same ∙ passes))
 all_listed test n (d ∷ ds) x (suc m) passes number declared =
-    listed_later (declared_as d n) (variables_where test (suc n) ds) x (test (declared_as d n)) (all_listed test (suc n) ds x m passes (omega (arith, number)) declared)
+    in_if_behind (test (declared_as d n)) (declared_as d n) x (variables_where test (suc n) ds) (all_listed test (suc n) ds x m passes (omega (arith, number)) declared)
 
 rising_one : (x : Variable) (rest : List Variable) (b : Bool) → ((y : Variable) → IsIn y rest → x.number < y.number) → AreRisingVariables rest → AreRisingVariables (if b then x ∷ rest else rest)
 rising_one x rest true above rising = (above, rising)

@@ -6,7 +6,7 @@ use Rattle.cp_model.specs.Term.{Term, Substitution, AgreeOnTerms, atom_of_variab
 use Rattle.cp_model.specs.Homomorphism.{substitution_by}
 use Rattle.cp_model.specs.Strand.{Event, Role, prefix_of, variables_of_trace, variables_of_prefix}
 use Rattle.cp_model.specs.Skeleton.{SkeletonStrand, instance, listener}
-use Rattle.cp_collapse.specs.Agreeing.{IsSameStrand, same_instance, same_listener, AreSameStrands, no_strands, same_strands}
+use Rattle.cp_collapse.specs.SameSkeletons.{IsSameStrand, same_instance, same_listener, AreSameStrands, no_strands, same_strands}
 use Rattle.cp_collapse.proofs.SameStrands.{instance_like, listener_like}
 use Rattle.cp_strand.specs.Data.{InstanceData, StrandData, listener_data}
 use Rattle.cp_strand.specs.View.{instance_view, strand_view}

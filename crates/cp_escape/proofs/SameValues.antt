@@ -2,11 +2,12 @@
 use Rattle.std.proofs.Common.{◌≡◌, ℕ, zero, suc, ◌+◌, ◌<◌, ◌≤◌, List, [], ◌∷◌, length, get_or, drop, map, sym, ◌∙◌, subst, ⊎_elim}
 use Rattle.std.proofs.lemmas.List.{drop_all}
 use Rattle.cp_lists.proofs.Members.{in_append, in_append_left, in_append_right, drop_read, not_in_none}
-use Rattle.cp_model.specs.Term.{Variable, Term, atom_of_variable, variables_of, Substitution, unchanged, apply_to, apply_to_atom, composed, AgreeOnTerms}
+use Rattle.cp_model.specs.Term.{Variable, Term, atom_of_variable, variables_of, Substitution, apply_to, apply_to_atom, composed, AgreeOnTerms}
+use Rattle.cp_model.specs.Identity.{unchanged}
 use Rattle.cp_model.specs.Strand.{Event, payload, variables_of_trace}
 use Rattle.cp_model.proofs.LawTerms.{atom_composed, atom_unchanged, term_unchanged}
 use Rattle.cp_model.proofs.LawAgreement.{agree_term}
-use Rattle.cp_hom.specs.Taking.{MakesEvents}
+use Rattle.cp_hom.specs.Counterparts.{MakesEvents}
 use Rattle.cp_hom.proofs.Agreed.{events_agreed}
 use Rattle.cp_strand.specs.View.{event_view}
 use Rattle.cp_strand.specs.declared.protocol.Event as program

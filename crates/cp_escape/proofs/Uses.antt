@@ -15,7 +15,7 @@ use Rattle.cp_strand.specs.declared.protocol.Event as events
 use Rattle.cp_strand.specs.declared.protocol.Event.TheVariants as sent
 use Rattle.cp_term.specs.Table.{Declared, sorts}
 use Rattle.cp_term.specs.declared.variable.Sort as program_sort
-use Rattle.cp_escape.specs.Using.{is_new_in, variables_where, numbers}
+use Rattle.cp_escape.specs.UsedVariables.{is_new_in, variables_where, numbers}
 
 -- The variables of what is listed.
 abbrev pub variables_listed : {A : Type 0} → (A → List Variable) → List A → List Variable

@@ -3,12 +3,14 @@ use Rattle.std.proofs.Common.{◌≡◌, ℕ, Bool, true, false, List, [], ◌�
 use Rattle.cp_lists.specs.Lists.{IsIn}
 use Rattle.cp_lists.proofs.Members.{in_append_left, in_pushed}
 use Rattle.cp_model.proofs.CarriedParts.{not_both}
-use Rattle.cp_model.specs.Term.{Variable, KeyTerm, Term, enc_term, variables_of, variables_of_key, unchanged}
+use Rattle.cp_model.specs.Term.{Variable, KeyTerm, Term, enc_term, variables_of, variables_of_key}
+use Rattle.cp_model.specs.Identity.{unchanged}
 use Rattle.cp_model.specs.Strand.{Declaration, send}
 use Rattle.cp_model.specs.Bundle.{node_at}
 use Rattle.cp_model.specs.declared.node.Node.{Node}
 use Rattle.cp_model.specs.Pattern.{IsPattern}
-use Rattle.cp_model.specs.Problem.{IsDeclared, HasDeclaredVariables}
+use Rattle.cp_model.specs.Problem.{IsDeclared}
+use Rattle.cp_model.specs.PointOfView.{HasDeclaredVariables}
 use Rattle.cp_model.specs.Same.{has_variable}
 use Rattle.cp_model.specs.Skeleton.{Skeleton}
 use Rattle.cp_model.specs.Tree.{Pattern}
@@ -17,13 +19,13 @@ use Rattle.cp_term.specs.declared.path.Step.{Step}
 use Rattle.cp_term.specs.Patterns.{pattern_by, locals_of}
 use Rattle.cp_guard.specs.Above.{encryptions_above}
 use Rattle.cp_guard.specs.Critical.{used_variables}
-use Rattle.cp_guard.specs.Guarding.{HoldsNoLocalInItsKey, Guards}
+use Rattle.cp_guard.specs.Guards.{HoldsNoLocalInItsKey, Guards}
 use Rattle.cp_guard.specs.Inside.{IsInside}
-use Rattle.cp_guard.specs.Matching.{IsFreeIn}
+use Rattle.cp_guard.specs.Matches.{IsFreeIn}
 use Rattle.cp_escape.specs.Escape.{IsFirstWith}
-use Rattle.cp_escape.specs.Using.{is_new_in, variables_where, numbers}
-use Rattle.cp_escape.specs.Widening.{BindsNothing, EndsBySending, StaysClosed, AreNewVariables, WidensBy}
-use Rattle.cp_escape.proofs.Enclosing.{part_above, event_variables, sort_of_number}
+use Rattle.cp_escape.specs.UsedVariables.{is_new_in, variables_where, numbers}
+use Rattle.cp_escape.specs.WidenedPattern.{BindsNothing, EndsBySending, StaysClosed, AreNewVariables, WidensBy}
+use Rattle.cp_escape.proofs.PartsAbove.{part_above, event_variables, sort_of_number}
 use Rattle.cp_escape.proofs.EscapeGuards.{first_is_in, first_has}
 use Rattle.cp_escape.proofs.NewVariables.{are_new, locals_are_new}
 

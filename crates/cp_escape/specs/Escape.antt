@@ -12,7 +12,7 @@ use Rattle.cp_term.specs.Positions.{positions_where}
 use Rattle.cp_skel.specs.Events.{Occurrence, events_of}
 use Rattle.cp_guard.specs.Above.{encryptions_above}
 use Rattle.cp_covering.specs.Children.{IsSentBefore}
-use Rattle.cp_covering.specs.Listing.{EachGives, AreThoseWith, terms_onto}
+use Rattle.cp_covering.specs.GatheredLists.{EachGives, AreThoseWith, terms_onto}
 
 -- The first item of a list that has the property.
 pub data IsFirstWith {A : Type 0} (has : A → Type 0) : List A → A → Type 0 where

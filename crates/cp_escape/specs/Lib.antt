@@ -1,5 +1,5 @@
 pub mod Sent
 pub mod Escape
-pub mod Closing
-pub mod Widening
-pub mod Using
+pub mod ClosedEncryptions
+pub mod WidenedPattern
+pub mod UsedVariables

@@ -4,11 +4,11 @@ ghost use Rattle.cp_model.specs.Strand.{Declaration};
 ghost use Rattle.cp_model.specs.Term.{Term};
 ghost use Rattle.cp_model.specs.Tree.{Pattern};
 ghost use Rattle.cp_model.specs.declared.node.Node.{Node};
-ghost use Rattle.cp_model.specs.Problem.{HasDeclaredVariables};
+ghost use Rattle.cp_model.specs.PointOfView.{HasDeclaredVariables};
 ghost use Rattle.cp_model.specs.Skeleton.{Skeleton};
 ghost use Rattle.cp_term.specs.declared.path.Step.{Step};
-ghost use Rattle.cp_guard.specs.Guarding.{Guards};
-ghost use Rattle.cp_escape.specs.Widening.{WidensBy};
+ghost use Rattle.cp_guard.specs.Guards.{Guards};
+ghost use Rattle.cp_escape.specs.WidenedPattern.{WidensBy};
 
 /// The law that patterns that guard a test guard it still with the pattern that a child, whose variables are declared, gives.
 pub fn widening_keeps_guards()

@@ -2,13 +2,13 @@
 #![tactic(auto)]
 
 mod above;
-mod agreeing;
-mod closing;
-mod escaping;
+mod closed_encryptions;
+mod escape_set;
 mod laws;
+mod same_strands;
 mod used;
-mod widening;
+mod widened_pattern;
 
-pub use escaping::escape;
+pub use escape_set::escape;
 pub use laws::widening_keeps_guards;
-pub use widening::widen;
+pub use widened_pattern::widen;

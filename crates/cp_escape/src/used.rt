@@ -9,7 +9,7 @@ ghost use Rattle.cp_model.specs.Term.{variables_of};
 ghost use Rattle.cp_skel.specs.Trees.{variables_view};
 ghost use Rattle.cp_skel.specs.View.{skeleton_view};
 ghost use Rattle.cp_strand.specs.View.{sort_view, event_view};
-ghost use Rattle.cp_escape.specs.Using.{is_new_in, variables_where, numbers};
+ghost use Rattle.cp_escape.specs.UsedVariables.{is_new_in, variables_where, numbers};
 
 use cp_skel::{Atom, Event, Skeleton, UniqueAt, occurs};
 use cp_term::{Locals, Sort, Term, VarId, VarTable};

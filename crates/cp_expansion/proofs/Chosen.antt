@@ -7,8 +7,8 @@ use Rattle.cp_model.specs.Skeleton.{SkeletonStrand, instance, listener, term_eve
 use Rattle.cp_model.specs.Strand.{recv}
 use Rattle.cp_model.specs.Derivable.{DerivableAt}
 use Rattle.cp_derive.specs.Unrealised.{IsUnrealisedAt, IsListedBefore, AreRising, ListsUnrealised}
-use Rattle.cp_expansion.specs.Choosing.{is_listening, listens_at, last_listening, first_node, chosen}
-use Rattle.cp_expansion.specs.Testing.{IsOnListener, IsTestedAt, last_listener, first_reception}
+use Rattle.cp_expansion.specs.ChosenNode.{is_listening, listens_at, last_listening, first_node, chosen}
+use Rattle.cp_expansion.specs.ChosenTest.{IsOnListener, IsTestedAt, last_listener, first_reception}
 
 -- ---- listeners
 

@@ -10,7 +10,7 @@ use Rattle.cp_skel.specs.declared.tree.Test.{Test}
 use Rattle.cp_cohort.specs.Views.{question_of, child_view}
 use Rattle.cp_escape.specs.Escape.{IsEscape}
 use Rattle.cp_expansion.specs.Expansion.{question_about, AreWidened, IsExpansionOf}
-use Rattle.cp_expansion.specs.Testing.{IsTestOf}
+use Rattle.cp_expansion.specs.ChosenTest.{IsTestOf}
 use Rattle.cp_expansion.specs.Views.{last_question, expansion_view}
 use Rattle.cp_expansion.specs.declared.expansion.Expansion as program
 

@@ -1,7 +1,7 @@
 pub mod Chosen
 pub mod GrownTables
 pub mod WidenedOnce
-pub mod Giving
+pub mod ChildPatterns
 pub mod OnceMore
 pub mod TestsAreTests
 pub mod Expansions

@@ -7,7 +7,8 @@ use Rattle.cp_model.specs.Term.{Variable, Term}
 use Rattle.cp_model.specs.Strand.{Declaration, Protocol}
 use Rattle.cp_model.specs.declared.node.Node.{Node}
 use Rattle.cp_model.specs.Skeleton.{Skeleton}
-use Rattle.cp_model.specs.Problem.{declared_sort, IsDeclared, HasDeclaredVariables}
+use Rattle.cp_model.specs.Problem.{declared_sort, IsDeclared}
+use Rattle.cp_model.specs.PointOfView.{HasDeclaredVariables}
 use Rattle.cp_model.specs.Tree.{Pattern}
 use Rattle.cp_term.specs.Table.{Declared}
 use Rattle.cp_strand.proofs.SameParts.{same_sort}

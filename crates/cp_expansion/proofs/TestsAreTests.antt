@@ -8,7 +8,7 @@ use Rattle.cp_model.specs.Skeleton.{Skeleton}
 use Rattle.cp_term.specs.declared.path.Step.TheVariants.{Left, Right}
 use Rattle.cp_derive.specs.Components.{Component, below, components_of}
 use Rattle.cp_guard.specs.Critical.{whole_part, part_of_left, part_of_right, IsComponent, IsTest}
-use Rattle.cp_expansion.specs.Testing.{IsTestOf}
+use Rattle.cp_expansion.specs.ChosenTest.{IsTestOf}
 
 -- The one component of what is no pair is the whole.
 alone : (d : Component) (t : Term) → ((a b : Term) → t ≡ pair_term a b → ⊥) → IsIn d (record { path = []; term = t } ∷ []) → IsComponent d.term t

@@ -7,8 +7,8 @@ use Rattle.cp_model.specs.Tree.{by_added_strand, Pattern, Test}
 use Rattle.cp_covering.specs.Children.{Child}
 use Rattle.cp_covering.specs.Cohort.{Question, IsCohort}
 use Rattle.cp_escape.specs.Escape.{IsFirstWith, IsEscape}
-use Rattle.cp_escape.specs.Widening.{WidensBy}
-use Rattle.cp_expansion.specs.Testing.{IsTestOf}
+use Rattle.cp_escape.specs.WidenedPattern.{WidensBy}
+use Rattle.cp_expansion.specs.ChosenTest.{IsTestOf}
 
 -- The child, with which a strand was added, gives a pattern that widens the set.
 pub record IsWidening (q : Question) (c : Child) : Type 0 where

@@ -1,5 +1,5 @@
-pub mod Testing
+pub mod ChosenTest
 pub mod Expansion
-pub mod Choosing
+pub mod ChosenNode
 pub mod Widened
 pub mod Views

@@ -4,10 +4,10 @@ use Rattle.cp_lists.specs.Lists.{item_at, IsIn}
 use Rattle.cp_model.specs.Skeleton.{Skeleton}
 use Rattle.cp_model.specs.Tree.{by_added_strand, Pattern}
 use Rattle.cp_covering.specs.Children.{Child}
-use Rattle.cp_escape.specs.Widening.{WidensBy}
+use Rattle.cp_escape.specs.WidenedPattern.{WidensBy}
 use Rattle.cp_cohort.specs.Views.{child_view}
 use Rattle.cp_cohort.specs.declared.child.Child as children
-use Rattle.cp_expansion.specs.declared.widening.Widening.{Widening}
+use Rattle.cp_expansion.specs.declared.widening_child.Widening.{Widening}
 
 -- The child, with which a strand was added, gives this pattern.
 pub record GivesPattern (k : Skeleton) (c : Child) (p : Pattern) : Type 0 where

@@ -2,21 +2,19 @@
 ghost use Rattle.std.specs.Prelude.{◌≡◌, List, map, IfOk};
 ghost use Rattle.cp_lists.specs.Lists.{IsIn};
 ghost use Rattle.cp_guard.specs.Critical.{IsTest};
-ghost use Rattle.cp_guard.specs.Guarding.{Guards};
-ghost use Rattle.cp_model.specs.Strand.{Role as PlainRole};
+ghost use Rattle.cp_guard.specs.Guards.{Guards};
 ghost use Rattle.cp_model.specs.Skeleton.{IsSkeleton};
-ghost use Rattle.cp_model.specs.Problem.{HasDeclaredVariables};
-ghost use Rattle.cp_skel.specs.Sound.{DeclaresItsVariables};
+ghost use Rattle.cp_model.specs.PointOfView.{HasDeclaredVariables};
 ghost use Rattle.cp_skel.specs.View.{skeleton_view};
 ghost use Rattle.cp_skel.specs.Trees.{variables_view};
 ghost use Rattle.cp_covering.specs.Children.{Child as PlainChild};
 ghost use Rattle.cp_cohort.specs.Views.{child_view, question_of};
 ghost use Rattle.cp_expansion.specs.Expansion.{AreWidened, IsExpansionOf};
-ghost use Rattle.cp_expansion.specs.Testing.{IsTestOf};
+ghost use Rattle.cp_expansion.specs.ChosenTest.{IsTestOf};
 ghost use Rattle.cp_expansion.specs.Views.{last_question, expansion_view};
 
-use crate::declaring::with_variables;
-use crate::widening::first_widening;
+use crate::variable_tables::with_variables;
+use crate::widening_child::first_widening;
 use cp_cohort::{Child, cohort};
 use cp_escape::{escape, widening_keeps_guards};
 use cp_skel::{Protocol, Skeleton, Test};
@@ -44,7 +42,6 @@ fn widened(
     test: &Test,
     mut patterns: Vec<Pattern>,
 ) -> Result<Expansion, AllocError>
-    requires roles { (role : PlainRole) → IsIn role protocol.now.roles → DeclaresItsVariables role }
     requires skeleton { IsSkeleton protocol.now (skeleton_view k.now) }
     requires declared { HasDeclaredVariables (variables_view k.now.variables) (skeleton_view k.now) }
     requires test { IsTest (skeleton_view k.now) test.now.node test.now.term }
@@ -79,15 +76,14 @@ fn widened(
 /// The expansion of a skeleton by its test. The patterns are those of the escape set; and while they are fewer than 32 the first
 /// of the children with an added strand that gives a pattern adds it, and the children are made anew.
 ///
-/// The skeleton has to be one over the protocol, with declared variables, each role of the protocol has to declare the variables of
-/// its events, and the test has to be the skeleton's. The error is that memory ran out.
+/// The skeleton has to be one over the protocol, with declared variables, and the test has to be the skeleton's. The error is that
+/// memory ran out.
 pub fn expand(
     alloc: Global,
     protocol: &Protocol,
     k: &Skeleton,
     test: &Test,
 ) -> Result<Expansion, AllocError>
-    requires roles { (role : PlainRole) → IsIn role protocol.now.roles → DeclaresItsVariables role }
     requires skeleton { IsSkeleton protocol.now (skeleton_view k.now) }
     requires declared { HasDeclaredVariables (variables_view k.now.variables) (skeleton_view k.now) }
     requires test { IsTestOf (skeleton_view k.now) test.now.node test.now.term }

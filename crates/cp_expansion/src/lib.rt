@@ -1,10 +1,10 @@
 //! The expansion of an unrealised skeleton: its test, the patterns that guard it, and the children of the test.
 #![tactic(auto)]
 
-mod declaring;
+mod chosen_test;
 mod expansion;
-mod testing;
-mod widening;
+mod variable_tables;
+mod widening_child;
 
+pub use chosen_test::test_of;
 pub use expansion::{Expansion, expand};
-pub use testing::test_of;

@@ -1,9 +1,9 @@
 -- The first of what was met so far, in any order in which of two that are not the same one comes first.
 use Rattle.std.proofs.Common.{◌≡◌, inl, inr, List, [], ◌∷◌, ◌++◌, Bool, true, false, refl, sym, ap, ◌∙◌, subst}
-use Rattle.std.specs.Prelude.{Option, Some, None, is_none, if◌then◌else◌}
+use Rattle.std.specs.Prelude.{Option, Some, None, is_none, not, if◌then◌else◌}
 use Rattle.cp_lists.specs.Lists.{IsIn, here, there}
-use Rattle.cp_lists.proofs.Members.{in_append, in_append_left, in_append_right}
-use Rattle.cp_forms.specs.FirstOf.{earlier_of, first_onto, merged, onto_none}
+use Rattle.cp_lists.proofs.Members.{in_append, in_append_left, in_append_right, none_in_empty}
+use Rattle.cp_forms.specs.FirstOf.{earlier_of, first_onto, merged, onto_none, stands_before}
 
 -- None comes before itself, no two before each other, what does not come before the second does not before the first if the
 -- second does not, and of two of which none comes first each is the other.
@@ -44,6 +44,16 @@ module _ {A : Type 0} (comes_before : A → A → Bool) where
 
   pub none_found : (rs : List A) → first_onto comes_before None rs ≡ None → rs ≡ []
   none_found rs e = none_before None rs e
+
+  -- ---- behind one that does not come after them
+
+  pub none_changed : (o : Option A) (r : A) → stands_before comes_before o r ≡ true → o ≡ first_onto comes_before o (r ∷ [])
+  none_changed None r h = absurd (cc)
+  none_changed (Some s) r h = by_test (comes_before r s) h
+    where
+      by_test : (b : Bool) → not b ≡ true → Some s ≡ Some (if b then r else s)
+      by_test true h = absurd (cc)
+      by_test false h = refl
 
   -- ---- one after another
 
@@ -124,17 +134,13 @@ module _ {A : Type 0} (comes_before : A → A → Bool) where
 
     -- ---- their order does not matter
 
-    none_in : (r : A) (rs : List A) → rs ≡ [] → IsIn r rs → ⊥
-    none_in r [] e m = elim m [ ]
-    none_in r (q ∷ qs) e m = cc
-
     pub same_members : (xs ys : List A) → ((t : A) → IsIn t xs → IsIn t ys) → ((t : A) → IsIn t ys → IsIn t xs) → first_onto comes_before None xs ≡ first_onto comes_before None ys
     same_members xs ys f g = by_found (first_onto comes_before None xs) (first_onto comes_before None ys) refl refl
       where
         by_found : (o p : Option A) → first_onto comes_before None xs ≡ o → first_onto comes_before None ys ≡ p → o ≡ p
         by_found None None e h = refl
-        by_found None (Some r) e h = absurd (none_in r xs (none_found xs e) (g r (first_found ys r h).listed))
-        by_found (Some r) None e h = absurd (none_in r ys (none_found ys h) (f r (first_found xs r e).listed))
+        by_found None (Some r) e h = absurd (none_in_empty (none_found xs e) (g r (first_found ys r h).listed))
+        by_found (Some r) None e h = absurd (none_in_empty (none_found ys h) (f r (first_found xs r e).listed))
         by_found (Some r) (Some s) e h =
             ap Some (one_first xs r s (first_found xs r e) (record { listed = g s (first_found ys s h).listed; first = λ t m. (first_found ys s h).first t (f t m) }))
 

@@ -3,7 +3,7 @@ use Rattle.std.proofs.Common.{◌≡◌, List, [], ◌∷◌, ◌++◌, true, fa
 use Rattle.std.specs.Prelude.{Option, Some, None}
 use Rattle.cp_lists.specs.Lists.{here, there}
 use Rattle.cp_base.specs.declared.place.Refusal.{Refusal}
-use Rattle.cp_language.specs.Faults.{rank_of, comes_before, IsFirstFault}
+use Rattle.cp_language.specs.FirstFault.{rank_of, comes_before, IsFirstFault}
 use Rattle.cp_language.specs.Roles.{unless_faulty}
 use Rattle.cp_language.proofs.OneAnswer.{not_before, not_before_self, not_both, one_first}
 use Rattle.cp_forms.specs.FirstFault.{first_onto, merged, onto_none}

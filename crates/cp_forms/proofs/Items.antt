@@ -10,7 +10,8 @@ use Rattle.cp_model.specs.Strand.{Declaration}
 use Rattle.cp_sexpr.specs.Syntax.{Form}
 use Rattle.cp_sexpr.specs.View.{view}
 use Rattle.cp_sexpr.specs.declared.form.Form as program
-use Rattle.cp_language.specs.Faults.{comes_before, fault, place_of}
+use Rattle.cp_language.specs.Faults.{fault, place_of}
+use Rattle.cp_language.specs.FirstFault.{comes_before}
 use Rattle.cp_language.specs.Terms.{exceeds, key_faults, last_key_faults}
 use Rattle.cp_language.specs.Roles.{last_form, front_of, each_faults}
 use Rattle.cp_forms.specs.FirstFault.{first_onto}

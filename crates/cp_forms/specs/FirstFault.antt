@@ -1,7 +1,7 @@
 -- The first of the faults met so far.
-use Rattle.std.specs.Prelude.{List, Option}
+use Rattle.std.specs.Prelude.{List, Bool, Option}
 use Rattle.cp_base.specs.declared.place.Refusal.{Refusal}
-use Rattle.cp_language.specs.Faults.{comes_before}
+use Rattle.cp_language.specs.FirstFault.{comes_before}
 use Rattle.cp_forms.specs.FirstOf as first
 
 -- The first of a fault and those before it; of two that are equal the one before.
@@ -19,3 +19,7 @@ merged before found = first.merged comes_before before found
 -- The first of these faults, or the one before them if there is one.
 abbrev pub onto_none : Option Refusal → List Refusal → Option Refusal
 onto_none before rs = first.onto_none comes_before before rs
+
+-- Whether there was a fault before, and this one does not come before it.
+abbrev pub stands_before : Option Refusal → Refusal → Bool
+stands_before before r = first.stands_before comes_before before r

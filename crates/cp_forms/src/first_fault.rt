@@ -1,7 +1,8 @@
 // The first of the faults met so far.
 ghost use Rattle.std.specs.Prelude.{◌≡◌, None, is_none};
-ghost use Rattle.cp_language.specs.Faults.{fault, fault_unless, comes_before, rank_of};
-ghost use Rattle.cp_forms.specs.FirstFault.{earlier_of, first_onto, merged, onto_none};
+ghost use Rattle.cp_language.specs.Faults.{fault, fault_unless};
+ghost use Rattle.cp_language.specs.FirstFault.{comes_before, rank_of};
+ghost use Rattle.cp_forms.specs.FirstFault.{earlier_of, first_onto, merged, onto_none, stands_before};
 
 use cp_base::{Code, Place, Refusal};
 use std::marker::Model;
@@ -109,6 +110,17 @@ impl FirstFault {
         ensures { result ≡ is_none self.now }
     {
         self.found.is_none()
+    }
+
+    /// Whether there was a fault already, before which such a one at this place does not come, so that it would change
+    /// nothing.
+    pub fn stands_before(&self, place: Place, code: Code) -> bool
+        ensures { result ≡ stands_before self.now (record { place = place; code = code }) }
+    {
+        match self.found {
+            Some(first) => !comes_before(Refusal { place, code }, first),
+            None => false,
+        }
     }
 
     /// Takes notice of a fault where the test fails, if there was no fault yet.

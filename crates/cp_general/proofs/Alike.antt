@@ -12,8 +12,8 @@ use Rattle.cp_model.specs.Derivable.{IsSecret, IsOnInstance, DerivableAt, a_tag,
 use Rattle.cp_model.specs.Given.{listed}
 use Rattle.cp_completeness.specs.Normal.{with_pairs}
 use Rattle.cp_skel.proofs.EachOnce.{listed-non, listed-penetrator-non, listed-unique}
-use Rattle.cp_normal.specs.Normalising.{CarriesNonOriginating, HasTwoOrigins, LosesOrigin, IsAddedPair, AreNormalPairs, ClosesCycle, IsContradictory}
-use Rattle.cp_normal.specs.Narrowing.{IsStray, IsNormal}
+use Rattle.cp_normal.specs.Findings.{CarriesNonOriginating, HasTwoOrigins, LosesOrigin, IsAddedPair, AreNormalPairs, ClosesCycle, IsContradictory}
+use Rattle.cp_normal.specs.NormalForms.{IsStray, IsNormal}
 use Rattle.cp_roots.specs.Roots.{in_report_order}
 use Rattle.cp_general.specs.Fit.{IsFit}
 

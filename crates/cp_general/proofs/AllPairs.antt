@@ -9,7 +9,7 @@ use Rattle.cp_skel.specs.View.{skeleton_view}
 use Rattle.cp_skel.specs.Ordered.{IsOrdered, ordered_by, ChangesOrderOnly}
 use Rattle.cp_skel.specs.Sound.{IsSound}
 use Rattle.cp_skel.proofs.SoundSkeletons.{sound_ordered, reordered_sound}
-use Rattle.cp_general.specs.Listing.{ListsOrder}
+use Rattle.cp_general.specs.ListedPairs.{ListsOrder}
 use Rattle.cp_general.proofs.Dropped.{way_back}
 
 module _ (k : Skeleton) (sound : IsSound k) (ps : List OrderPair) (lists : ListsOrder k ps) where

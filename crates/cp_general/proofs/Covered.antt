@@ -17,7 +17,7 @@ use Rattle.cp_model.specs.Order.{IsAtOrAfter}
 use Rattle.cp_model.proofs.SameTests.{node_is, is_node}
 use Rattle.cp_skel.specs.Ordered.{IsOrdered}
 use Rattle.cp_general.specs.Steps.{IsPairOfOrder}
-use Rattle.cp_general.specs.Covering.{led_to, leading_to, is_below, is_below_one, some_is_below, is_covered}
+use Rattle.cp_general.specs.CoveringPairs.{led_to, leading_to, is_below, is_below_one, some_is_below, is_covered}
 use Rattle.cp_general.proofs.Ways.{same_or_not, less_or_not, along, rises, arrives, departs}
 
 -- ---- nodes that are gathered

@@ -5,8 +5,8 @@ use Rattle.cp_model.specs.declared.node.Node.{Node}
 use Rattle.cp_model.specs.declared.node.OrderPair.{OrderPair}
 use Rattle.cp_model.specs.Skeleton.{Skeleton, along_strand_of, along_pair, Before}
 use Rattle.cp_general.specs.Steps.{IsCoveringPair}
-use Rattle.cp_general.specs.Generalising.{DropsNone}
-use Rattle.cp_general.specs.Stepping.{HasFreePair}
+use Rattle.cp_general.specs.Generalisation.{DropsNone}
+use Rattle.cp_general.specs.ProgramSteps.{HasFreePair}
 
 module _ (k : Skeleton) (p : OrderPair) (covering : IsCoveringPair k p) where
   -- no node is between the two, so that the way is one step, and that leads to another strand

@@ -5,13 +5,13 @@ use Rattle.cp_model.specs.declared.node.Node.{Node}
 use Rattle.cp_model.specs.declared.node.OrderPair.{OrderPair}
 use Rattle.cp_model.specs.Skeleton.{Assumptions, Skeleton, Before}
 use Rattle.cp_skel.specs.Ordered.{IsOrdered, ordered_by}
-use Rattle.cp_skel.specs.Bridging.{bridges, IsWithoutStrand}
-use Rattle.cp_skel.specs.Deleting.{node_renumbered, pair_renumbered, IsPairOn, LeavesOut, all_left, is_gone, is_left, ForgetsAssumptions, KeepsOrderOfOthers}
-use Rattle.cp_skel.proofs.Numbering.{node_restored, renumbered_restored, restored_other}
+use Rattle.cp_skel.specs.Bridges.{bridges, IsWithoutStrand}
+use Rattle.cp_skel.specs.Deletion.{node_renumbered, pair_renumbered, IsPairOn, LeavesOut, all_left, is_gone, is_left, ForgetsAssumptions, KeepsOrderOfOthers}
+use Rattle.cp_skel.proofs.NumbersWithout.{node_restored, renumbered_restored, restored_other}
 use Rattle.cp_skel.proofs.OrderWithout.{is_ordered, keeps_order}
 use Rattle.cp_general.specs.Fit.{IsFit}
 use Rattle.cp_general.specs.Steps.{Deletes}
-use Rattle.cp_general.specs.Generalising.{DeletesNone}
+use Rattle.cp_general.specs.Generalisation.{DeletesNone}
 use Rattle.cp_general.proofs.Alike.{fit_alike}
 use Rattle.cp_general.proofs.Ways.{same_or_not}
 

@@ -3,17 +3,19 @@ use Rattle.std.proofs.Common.{◌≡◌, ◌≢◌, ℕ, List, Some, map, refl, 
 use Rattle.cp_lists.specs.Lists.{item_at, IsIn}
 use Rattle.cp_lists.proofs.Members.{in_append_left}
 use Rattle.cp_lists.proofs.Mapped.{map_same, map_then, map_alike}
-use Rattle.cp_model.specs.Term.{Variable, AtomTerm, atom_of_variable, Term, unchanged, apply_to, apply_to_atom}
+use Rattle.cp_model.specs.Term.{Variable, AtomTerm, atom_of_variable, Term, apply_to, apply_to_atom}
+use Rattle.cp_model.specs.Identity.{unchanged}
 use Rattle.cp_model.specs.Strand.{Declaration, Protocol}
 use Rattle.cp_model.specs.Bundle.{node_at}
 use Rattle.cp_model.specs.declared.node.Node.{Node}
 use Rattle.cp_model.specs.Skeleton.{SkeletonStrand, instance, listener, UniqueAt, Skeleton, Before, IsSkeleton}
 use Rattle.cp_model.specs.Homomorphism.{SkeletonMap, IsHomomorphism, Embeds}
-use Rattle.cp_model.specs.Problem.{variables_of_strands, variables_of_atoms, variables_of_uniques, variables_of_assumptions, IsDeclared, HasDeclaredVariables}
+use Rattle.cp_model.specs.Problem.{variables_of_strands, variables_of_atoms, variables_of_uniques, variables_of_assumptions, IsDeclared}
+use Rattle.cp_model.specs.PointOfView.{HasDeclaredVariables}
 use Rattle.cp_model.proofs.LawTerms.{atom_composed, atom_unchanged, term_unchanged}
 use Rattle.cp_skel.specs.Ordered.{IsOrdered}
-use Rattle.cp_skel.specs.Deleting.{renumbered, node_renumbered, unique_renumbered, as_it_is, IsOriginOn, IsForgottenNon, IsForgottenPenetratorNon}
-use Rattle.cp_skel.proofs.Numbering.{restored, restored_renumbered, renumbered_restored, restored_other, item_without, node_restored, node_again}
+use Rattle.cp_skel.specs.Deletion.{renumbered, node_renumbered, unique_renumbered, as_it_is, IsOriginOn, IsForgottenNon, IsForgottenPenetratorNon}
+use Rattle.cp_skel.proofs.NumbersWithout.{restored, restored_renumbered, renumbered_restored, restored_other, item_without, node_restored, node_again}
 use Rattle.cp_skel.proofs.PairsWithout.{was_left}
 use Rattle.cp_skel.proofs.SkeletonWithout.{skeleton_kept}
 use Rattle.cp_skel.proofs.UnderVariables.{strand_with, in_strands, atom_with, unique_with}

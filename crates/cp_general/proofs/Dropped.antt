@@ -11,24 +11,25 @@ use Rattle.cp_model.specs.Strand.{send, recv}
 use Rattle.cp_model.specs.Same.{same_node}
 use Rattle.cp_model.specs.declared.node.Node.{Node}
 use Rattle.cp_model.specs.declared.node.OrderPair.{OrderPair}
-use Rattle.cp_model.specs.Order.{LeadsTo, any_pair}
+use Rattle.cp_model.specs.Order.{LeadsTo}
+use Rattle.cp_model.specs.OrderTests.{any_pair}
 use Rattle.cp_model.specs.Skeleton.{term_event_at, Skeleton, OrderStep, along_strand_of, along_pair, Before, IsOrderPair}
 use Rattle.cp_model.specs.Derivable.{DerivableAt}
 use Rattle.cp_model.proofs.SameTests.{node_is, is_node}
 use Rattle.cp_model.proofs.LawOrder.{before_leads, leads_before, before_wider}
-use Rattle.cp_model.proofs.Reaching.{some_in, in_some}
+use Rattle.cp_model.proofs.BoundedSearch.{some_in, in_some}
 use Rattle.cp_skel.specs.Ordered.{IsOrdered, ordered_by}
 use Rattle.cp_skel.specs.Sound.{IsSound}
-use Rattle.cp_skel.proofs.Carrying.{reordered_stays_skeleton}
+use Rattle.cp_skel.proofs.CarriedHomomorphisms.{reordered_stays_skeleton}
 use Rattle.cp_skel.proofs.SoundSkeletons.{sound_ordered}
-use Rattle.cp_normal.specs.Normalising.{IsAddedPair}
+use Rattle.cp_normal.specs.Findings.{IsAddedPair}
 use Rattle.cp_general.specs.Fit.{IsFit}
 use Rattle.cp_general.specs.Steps.{IsPairOfOrder, IsCoveringPair, IsLowerPair, Drops}
-use Rattle.cp_general.specs.Listing.{AreRisingPairs, ListsOrder, AllLead, is_same_pair, is_other_pair}
-use Rattle.cp_general.specs.Stepping.{NeverDrops, MayDrop, LeavesFitOrder}
+use Rattle.cp_general.specs.ListedPairs.{AreRisingPairs, ListsOrder, AllLead, is_same_pair, is_other_pair}
+use Rattle.cp_general.specs.ProgramSteps.{NeverDrops, MayDrop, LeavesFitOrder}
 use Rattle.cp_general.proofs.Alike.{assume_the_same, derivable, normal, was_added, closes_none, fit_alike}
 use Rattle.cp_general.proofs.Deleted.{deletes_none_still}
-use Rattle.cp_general.specs.Covering.{is_covered}
+use Rattle.cp_general.specs.CoveringPairs.{is_covered}
 use Rattle.cp_general.proofs.Covered.{covered_between, between_covered}
 use Rattle.cp_general.proofs.Ways.{same_or_not, along, rises, ends}
 

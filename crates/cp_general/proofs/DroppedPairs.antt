@@ -3,17 +3,18 @@ use Rattle.std.proofs.Common.{◌≡◌, List, Some, refl, sym, ap, subst}
 use Rattle.cp_lists.specs.Lists.{IsIn, one_step, more_steps}
 use Rattle.cp_lists.proofs.Mapped.{map_same}
 use Rattle.cp_lists.proofs.Reached.{steps_append}
-use Rattle.cp_model.specs.Term.{apply_to, unchanged}
+use Rattle.cp_model.specs.Term.{apply_to}
+use Rattle.cp_model.specs.Identity.{unchanged}
 use Rattle.cp_model.specs.Strand.{send, recv, Declaration, Protocol}
 use Rattle.cp_model.specs.declared.node.Node.{Node}
 use Rattle.cp_model.specs.declared.node.OrderPair.{OrderPair}
 use Rattle.cp_model.specs.Skeleton.{SkeletonStrand, term_event_at, Skeleton, OrderStep, along_strand_of, along_pair, Before, IsOrderPair, IsSkeleton}
 use Rattle.cp_model.specs.Homomorphism.{Embeds}
-use Rattle.cp_model.specs.Problem.{HasDeclaredVariables}
+use Rattle.cp_model.specs.PointOfView.{HasDeclaredVariables}
 use Rattle.cp_model.proofs.LawTerms.{term_unchanged}
 use Rattle.cp_model.proofs.LawEmbeddings.{same_map, same_homomorphism}
 use Rattle.cp_skel.specs.Ordered.{IsOrdered, ordered_by, DiffersInOrder}
-use Rattle.cp_skel.proofs.Carrying.{reordered_stays_skeleton}
+use Rattle.cp_skel.proofs.CarriedHomomorphisms.{reordered_stays_skeleton}
 use Rattle.cp_general.specs.Steps.{Drops}
 
 -- Other pairs, each of which is in the order.

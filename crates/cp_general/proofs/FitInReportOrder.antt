@@ -2,21 +2,22 @@
 use Rattle.std.proofs.Common.{◌⊎◌, inl, inr, List, refl}
 use Rattle.cp_lists.specs.Lists.{IsIn}
 use Rattle.cp_lists.proofs.Mapped.{map_same}
-use Rattle.cp_model.specs.Term.{AtomTerm, Term, unchanged, apply_to}
+use Rattle.cp_model.specs.Term.{AtomTerm, Term, apply_to}
+use Rattle.cp_model.specs.Identity.{unchanged}
 use Rattle.cp_model.specs.declared.node.Node.{Node}
 use Rattle.cp_model.specs.declared.node.OrderPair.{OrderPair}
 use Rattle.cp_model.specs.Skeleton.{UniqueAt, Skeleton, Before}
 use Rattle.cp_model.specs.Given.{listed}
 use Rattle.cp_model.specs.Homomorphism.{Embeds}
 use Rattle.cp_model.specs.Derivable.{IsSecret, IsOnInstance, DerivableAt, a_tag, an_atom, sent_before, paired, left_of, right_of, encrypted, decrypted}
-use Rattle.cp_model.specs.Realising.{OriginatesAtTerm, AllDerivable}
+use Rattle.cp_model.specs.Realisation.{OriginatesAtTerm, AllDerivable}
 use Rattle.cp_model.proofs.LawOrder.{before_wider}
 use Rattle.cp_model.proofs.LawTerms.{term_unchanged}
 use Rattle.cp_model.proofs.LawEmbeddings.{same_map, same_homomorphism}
 use Rattle.cp_completeness.specs.Normal.{IsOriginPair, with_pairs}
 use Rattle.cp_skel.proofs.EachOnce.{listed-non, listed-penetrator-non, listed-unique}
-use Rattle.cp_normal.specs.Normalising.{IsAddedPair, AreNormalPairs, ClosesCycle, IsContradictory}
-use Rattle.cp_normal.specs.Narrowing.{IsStray, IsNormal}
+use Rattle.cp_normal.specs.Findings.{IsAddedPair, AreNormalPairs, ClosesCycle, IsContradictory}
+use Rattle.cp_normal.specs.NormalForms.{IsStray, IsNormal}
 use Rattle.cp_roots.specs.Roots.{in_report_order}
 use Rattle.cp_general.specs.Fit.{IsFit}
 

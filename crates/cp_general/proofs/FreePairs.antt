@@ -5,15 +5,15 @@ use Rattle.cp_lists.specs.Lists.{IsIn}
 use Rattle.cp_lists.proofs.Members.{item_in, next_or_rest}
 use Rattle.cp_model.specs.declared.node.OrderPair.{OrderPair}
 use Rattle.cp_model.specs.Skeleton.{Skeleton}
-use Rattle.cp_collapse.specs.Having.{Has}
-use Rattle.cp_collapse.proofs.Having.{found, next}
-use Rattle.cp_normal.specs.Normalising.{IsAddedPair}
-use Rattle.cp_general.specs.Generalising.{DropsNone}
-use Rattle.cp_general.specs.Listing.{IsInNeither, is_same_pair}
-use Rattle.cp_general.specs.Stepping.{HasFreePair}
+use Rattle.cp_collapse.specs.Property.{Has}
+use Rattle.cp_collapse.proofs.ItemsWithProperty.{found, next}
+use Rattle.cp_normal.specs.Findings.{IsAddedPair}
+use Rattle.cp_general.specs.Generalisation.{DropsNone}
+use Rattle.cp_general.specs.ListedPairs.{IsInNeither, is_same_pair}
+use Rattle.cp_general.specs.ProgramSteps.{HasFreePair}
 use Rattle.cp_general.proofs.CoveringPairs.{no_free_pair}
 use Rattle.cp_general.proofs.Dropped.{same_pair_is, same_pair_itself}
-use Rattle.cp_general.proofs.Fitting.{not_both, no_pair}
+use Rattle.cp_general.proofs.FitTests.{not_both, no_pair}
 
 -- ---- the place of a pair
 

@@ -16,6 +16,6 @@ pub mod Listed
 pub mod Dropped
 pub mod FreePairs
 pub mod Stepped
-pub mod Fitting
+pub mod FitTests
 pub mod AllPairs
 mod SentTwice

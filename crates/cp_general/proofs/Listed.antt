@@ -4,34 +4,27 @@ use Rattle.std.specs.Prelude.{◌==◌, not, Some, length}
 use Rattle.std.proofs.lemmas.Bool.{and_from, and_parts}
 use Rattle.std.proofs.lemmas.Bool.Decides.{nat_tests}
 use Rattle.cp_lists.specs.Lists.{IsIn, here, there}
-use Rattle.cp_lists.proofs.Members.{in_append, in_append_left, in_append_right, into_map, from_map}
+use Rattle.cp_lists.proofs.Members.{in_append, in_append_left, in_append_right, into_map, from_map, in_if_here, in_if_behind}
 use Rattle.cp_model.specs.Term.{Term}
 use Rattle.cp_model.specs.Strand.{Event, send, recv}
 use Rattle.cp_model.specs.declared.node.Node.{Node}
 use Rattle.cp_model.specs.declared.node.OrderPair.{OrderPair}
-use Rattle.cp_model.specs.Order.{reaches, LeadsTo}
+use Rattle.cp_model.specs.Order.{LeadsTo}
+use Rattle.cp_model.specs.OrderTests.{reaches}
 use Rattle.cp_model.specs.Skeleton.{term_event_at, Skeleton, Before}
 use Rattle.cp_model.proofs.LawOrder.{before_leads, leads_before}
-use Rattle.cp_model.proofs.Reaching.{bounded_search}
+use Rattle.cp_model.proofs.BoundedSearch.{bounded_search}
 use Rattle.cp_strand.specs.View.{event_view}
 use Rattle.cp_skel.specs.Events.{occurrence_view, events_of}
 use Rattle.cp_skel.specs.declared.events.Occurrence.{Occurrence}
 use Rattle.cp_skel.specs.Ordered.{IsOrdered}
 use Rattle.cp_skel.proofs.EventLists.{listed_event, occurrence_at, listed_at}
 use Rattle.cp_derive.specs.Unrealised.{IsListedBefore, AreRising}
-use Rattle.cp_derive.proofs.Picking.{node_of, all_rise}
+use Rattle.cp_derive.proofs.PickedReceptions.{node_of, all_rise}
 use Rattle.cp_general.specs.Steps.{IsPairOfOrder, IsLowerPair}
-use Rattle.cp_general.specs.Listing.{AreRisingPairs, ListsOrder, is_transmission, is_reception, nodes_where, leads_across, pairs_from, pairs_between}
+use Rattle.cp_general.specs.ListedPairs.{AreRisingPairs, ListsOrder, is_transmission, is_reception, nodes_where, leads_across, pairs_from, pairs_between}
 
 -- ---- nodes of events
-
-if_here : {A : Type 0} (b : Bool) (y : A) (ys : List A) → b ≡ true → IsIn y (if b then y ∷ ys else ys)
-if_here true y ys e = here
-if_here false y ys e = absurd (cc)
-
-if_rest : {A : Type 0} (b : Bool) (z y : A) (ys : List A) → IsIn y ys → IsIn y (if b then z ∷ ys else ys)
-if_rest true z y ys m = there m
-if_rest false z y ys m = m
 
 of_if : {A : Type 0} (b : Bool) (z y : A) (ys : List A) → IsIn y (if b then z ∷ ys else ys) → ((b ≡ true) × (z ≡ y)) ⊎ IsIn y ys
 of_if true z y ys here = inl (refl, refl)
@@ -41,8 +34,8 @@ of_if false z y ys m = inr m
 module _ (test : Event Term → Bool) where
   in_nodes : (os : List Occurrence) (o : Occurrence) → IsIn o os → test (event_view o.event) ≡ true → IsIn o.node (nodes_where test os)
   in_nodes [] o m e = elim m [ ]
-  in_nodes (x ∷ os) o here e = if_here (test (event_view o.event)) o.node (nodes_where test os) e
-  in_nodes (x ∷ os) o (there m) e = if_rest (test (event_view x.event)) x.node o.node (nodes_where test os) (in_nodes os o m e)
+  in_nodes (x ∷ os) o here e = in_if_here (test (event_view o.event)) o.node (nodes_where test os) e
+  in_nodes (x ∷ os) o (there m) e = in_if_behind (test (event_view x.event)) x.node o.node (nodes_where test os) (in_nodes os o m e)
 
   record IsNodeWhere (os : List Occurrence) (n : Node) : Type 0 where
     occurrence : Occurrence
@@ -84,8 +77,8 @@ rise_both (p ∷ ps) qs r s apart = (
 module _ (order : List OrderPair) where
   in_from : (x y : Node) (ys : List Node) → IsIn y ys → leads_across order x y ≡ true → IsIn (record { earlier = x; later = y }) (pairs_from order x ys)
   in_from x y [] m e = elim m [ ]
-  in_from x y (z ∷ ys) here e = if_here (leads_across order x y) (record { earlier = x; later = y }) (pairs_from order x ys) e
-  in_from x y (z ∷ ys) (there m) e = if_rest (leads_across order x z) (record { earlier = x; later = z }) (record { earlier = x; later = y }) (pairs_from order x ys) (in_from x y ys m e)
+  in_from x y (z ∷ ys) here e = in_if_here (leads_across order x y) (record { earlier = x; later = y }) (pairs_from order x ys) e
+  in_from x y (z ∷ ys) (there m) e = in_if_behind (leads_across order x z) (record { earlier = x; later = z }) (record { earlier = x; later = y }) (pairs_from order x ys) (in_from x y ys m e)
 
   record IsFrom (x : Node) (ys : List Node) (q : OrderPair) : Type 0 where
     first : x ≡ q.earlier

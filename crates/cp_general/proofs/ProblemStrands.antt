@@ -7,7 +7,7 @@ use Rattle.cp_model.specs.Bundle.{node_at}
 use Rattle.cp_model.specs.declared.node.Node.{Node}
 use Rattle.cp_model.specs.Skeleton.{Skeleton, OrderStep, along_strand_of, along_pair, Before, IsSkeleton}
 use Rattle.cp_model.specs.Homomorphism.{map_from_problem, CarriesHomomorphism}
-use Rattle.cp_model.specs.Problem.{IsPointOfView}
+use Rattle.cp_model.specs.PointOfView.{IsPointOfView}
 use Rattle.cp_model.proofs.StatedItself.{numbers_below}
 use Rattle.cp_collapse.proofs.Lowest.{numbers_at}
 use Rattle.cp_collapse.proofs.StatedCollapse.{node_below, pair_below}

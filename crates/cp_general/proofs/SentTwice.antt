@@ -2,23 +2,24 @@
 use Rattle.std.proofs.Common.{◌≡◌, ◌≢◌, ◌<◌, ◌+◌, ℕ, zero, suc, List, [], ◌∷◌, Some, refl, sym, ap, ◌∙◌, subst, ⊎_elim, le_refl, arith}
 use Rattle.cp_lists.specs.Lists.{item_at, IsIn, here, there, one_step, more_steps}
 use Rattle.cp_lists.proofs.Members.{not_in_none, of_each}
-use Rattle.cp_model.specs.Term.{Term, Substitution, unchanged}
+use Rattle.cp_model.specs.Term.{Term, Substitution}
+use Rattle.cp_model.specs.Identity.{unchanged}
 use Rattle.cp_model.specs.Strand.{send, recv, Role, IsHeight}
 use Rattle.cp_model.specs.Bundle.{node_at}
 use Rattle.cp_model.specs.declared.node.Node.{Node}
 use Rattle.cp_model.specs.declared.node.OrderPair.{OrderPair}
 use Rattle.cp_model.specs.Skeleton.{SkeletonStrand, instance, term_event_at, OrderStep, along_strand_of, along_pair, Before, IsOrderPair, GivesAssumptions, IsSkeleton, Skeleton}
 use Rattle.cp_model.specs.Derivable.{DerivableAt, an_atom}
-use Rattle.cp_model.specs.Realising.{AllDerivable}
+use Rattle.cp_model.specs.Realisation.{AllDerivable}
 use Rattle.cp_model.proofs.StrandParts.{same_instance}
 use Rattle.cp_completeness.specs.Normal.{with_pairs}
-use Rattle.cp_skel.specs.Deleting.{renumbered, node_renumbered, all_left}
+use Rattle.cp_skel.specs.Deletion.{renumbered, node_renumbered, all_left}
 use Rattle.cp_derive.specs.Unrealised.{IsListedBefore}
-use Rattle.cp_normal.specs.Normalising.{ClosesCycle}
-use Rattle.cp_normal.specs.Narrowing.{IsNormal}
+use Rattle.cp_normal.specs.Findings.{ClosesCycle}
+use Rattle.cp_normal.specs.NormalForms.{IsNormal}
 use Rattle.cp_general.specs.Fit.{IsFit}
 use Rattle.cp_general.specs.Steps.{Deletes, IsPairOfOrder, IsCoveringPair, Drops, IsLowerPair}
-use Rattle.cp_general.specs.Generalising.{DeletesNone, IsMostGeneral, StepsTo, deletes, drops, GeneralisesTo, last_step, next_step}
+use Rattle.cp_general.specs.Generalisation.{DeletesNone, IsMostGeneral, StepsTo, deletes, drops, GeneralisesTo, last_step, next_step}
 use Rattle.cp_general.specs.Example.{text, sender, protocol, sending, sent_by, heard_with, sent_twice, sent_once, heard_and_sent}
 
 -- ---- orders that fall

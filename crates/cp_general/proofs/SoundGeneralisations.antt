@@ -4,18 +4,18 @@ use Rattle.cp_model.specs.Strand.{Declaration, Protocol}
 use Rattle.cp_model.specs.declared.node.OrderPair.{OrderPair}
 use Rattle.cp_model.specs.Skeleton.{Skeleton, IsSkeleton}
 use Rattle.cp_model.specs.Homomorphism.{Embeds, CarriesHomomorphism}
-use Rattle.cp_model.specs.Problem.{HasDeclaredVariables, IsPointOfView}
+use Rattle.cp_model.specs.PointOfView.{HasDeclaredVariables, IsPointOfView}
 use Rattle.cp_model.specs.Stated.{KeepsStated}
-use Rattle.cp_model.specs.Realising.{KeepsAssumptions}
+use Rattle.cp_model.specs.Realisation.{KeepsAssumptions}
 use Rattle.cp_model.specs.Standing.{IsRealised}
 use Rattle.cp_model.proofs.LawEmbeddings.{embeds_then}
 use Rattle.cp_soundness.proofs.Realised.{realised}
-use Rattle.cp_normal.proofs.Keeping.{normal_keeps_assumptions}
+use Rattle.cp_normal.proofs.FormSkeletons.{normal_keeps_assumptions}
 use Rattle.cp_roots.specs.Roots.{in_report_order}
 use Rattle.cp_roots.proofs.InReportOrder.{skeleton_listed, carries_listed, stated_listed, declared_listed}
 use Rattle.cp_general.specs.Fit.{IsFit}
 use Rattle.cp_general.specs.Steps.{Deletes, Drops}
-use Rattle.cp_general.specs.Generalising.{IsMostGeneral, StepsTo, deletes, drops, GeneralisesTo, last_step, next_step}
+use Rattle.cp_general.specs.Generalisation.{IsMostGeneral, StepsTo, deletes, drops, GeneralisesTo, last_step, next_step}
 use Rattle.cp_general.proofs.DeletedStrands.{deleted_is_skeleton, deleted_embeds, deleted_declared}
 use Rattle.cp_general.proofs.DroppedPairs.{dropped_is_skeleton, dropped_embeds, dropped_declared}
 use Rattle.cp_general.proofs.FitInReportOrder.{fit_listed, listed_embeds}

@@ -11,10 +11,10 @@ use Rattle.cp_model.specs.declared.node.Node.{Node}
 use Rattle.cp_model.specs.declared.node.OrderPair.{OrderPair}
 use Rattle.cp_model.specs.Skeleton.{instance, listener, UniqueAt, Skeleton, Before, IsSkeleton}
 use Rattle.cp_model.specs.Homomorphism.{SkeletonMap, mapped, GoesToInstance, substitution_by, number_or, strand_in, map_from_problem, CarriesHomomorphism}
-use Rattle.cp_model.specs.Problem.{IsPointOfView}
+use Rattle.cp_model.specs.PointOfView.{IsPointOfView}
 use Rattle.cp_model.specs.Stated.{unique_image, pair_image, IsImageOfOne, AreImages, KeepsStated}
-use Rattle.cp_skel.specs.Deleting.{renumbered, node_renumbered, unique_renumbered, pair_renumbered, IsOriginOn, IsPairOn}
-use Rattle.cp_skel.proofs.Numbering.{renumbered_apart}
+use Rattle.cp_skel.specs.Deletion.{renumbered, node_renumbered, unique_renumbered, pair_renumbered, IsOriginOn, IsPairOn}
+use Rattle.cp_skel.proofs.NumbersWithout.{renumbered_apart}
 use Rattle.cp_skel.proofs.PairsWithout.{in_left, was_left}
 use Rattle.cp_skel.proofs.FromProblemWithout.{in_range_without, assumed_without, ordered_without}
 use Rattle.cp_collapse.proofs.StatedCollapse.{origin_below, pair_below}

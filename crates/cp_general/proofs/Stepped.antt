@@ -11,9 +11,9 @@ use Rattle.cp_skel.specs.Ordered.{IsOrdered, ordered_by}
 use Rattle.cp_derive.specs.Unrealised.{IsListedBefore}
 use Rattle.cp_general.specs.Fit.{IsFit}
 use Rattle.cp_general.specs.Steps.{IsPairOfOrder, Drops, IsLowerPair}
-use Rattle.cp_general.specs.Generalising.{DeletesNone, DropsNone, StepsTo, deletes, drops, GeneralisesTo, last_step, next_step}
-use Rattle.cp_general.specs.Listing.{AreRisingPairs, ListsOrder}
-use Rattle.cp_general.specs.Stepping.{NeverDeletes, NeverDrops, LeavesFit, DropsFirst, ComesBySteps, IsOnTheWay}
+use Rattle.cp_general.specs.Generalisation.{DeletesNone, DropsNone, StepsTo, deletes, drops, GeneralisesTo, last_step, next_step}
+use Rattle.cp_general.specs.ListedPairs.{AreRisingPairs, ListsOrder}
+use Rattle.cp_general.specs.ProgramSteps.{NeverDeletes, NeverDrops, LeavesFit, DropsFirst, ComesBySteps, IsOnTheWay}
 use Rattle.cp_general.proofs.Alike.{fit_alike}
 use Rattle.cp_general.proofs.Deleted.{deletes_none_still}
 use Rattle.cp_general.proofs.Dropped.{fit_before}

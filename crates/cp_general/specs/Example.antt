@@ -1,6 +1,7 @@
 -- An example: a text is heard that two strands have sent before.
 use Rattle.std.specs.Prelude.{ℕ, List, [], ◌∷◌}
-use Rattle.cp_model.specs.Term.{text_sort, text_variable, Term, atom_term, unchanged}
+use Rattle.cp_model.specs.Term.{text_sort, text_variable, Term, atom_term}
+use Rattle.cp_model.specs.Identity.{unchanged}
 use Rattle.cp_model.specs.Strand.{send, Role, Protocol}
 use Rattle.cp_model.specs.Bundle.{node_at}
 use Rattle.cp_model.specs.declared.node.OrderPair.{OrderPair}

@@ -1,7 +1,7 @@
 -- The skeletons that generalising leaves.
 use Rattle.cp_model.specs.Skeleton.{Skeleton}
-use Rattle.cp_model.specs.Realising.{AllDerivable}
-use Rattle.cp_normal.specs.Narrowing.{IsNormal}
+use Rattle.cp_model.specs.Realisation.{AllDerivable}
+use Rattle.cp_normal.specs.NormalForms.{IsNormal}
 
 -- The skeleton is normal, and all its receptions, listeners' included, are derivable.
 pub record IsFit (k : Skeleton) : Type 0 where

@@ -1,7 +1,7 @@
 pub mod Fit
 pub mod Steps
-pub mod Generalising
-pub mod Listing
-pub mod Covering
-pub mod Stepping
+pub mod Generalisation
+pub mod ListedPairs
+pub mod CoveringPairs
+pub mod ProgramSteps
 pub mod Example

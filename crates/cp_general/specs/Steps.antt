@@ -5,9 +5,9 @@ use Rattle.cp_lists.specs.Lists.{IsIn}
 use Rattle.cp_model.specs.declared.node.Node.{Node}
 use Rattle.cp_model.specs.declared.node.OrderPair.{OrderPair}
 use Rattle.cp_model.specs.Skeleton.{Skeleton, Before, IsOrderPair}
-use Rattle.cp_skel.specs.Deleting.{KeepsOrderOfOthers, ForgetsAssumptions, KeepsFromProblem}
+use Rattle.cp_skel.specs.Deletion.{KeepsOrderOfOthers, ForgetsAssumptions, KeepsFromProblem}
 use Rattle.cp_derive.specs.Unrealised.{IsListedBefore}
-use Rattle.cp_normal.specs.Normalising.{IsAddedPair}
+use Rattle.cp_normal.specs.Findings.{IsAddedPair}
 
 -- h is k without strand number d, which is the image of no strand of the problem. The other strands keep their order, and their
 -- nodes the order among them; the assumptions that strand d alone gave are forgotten.

@@ -1,6 +1,6 @@
 // An example of generalising.
 ghost use Rattle.cp_model.specs.Skeleton.{IsSkeleton};
-ghost use Rattle.cp_general.specs.Generalising.{GeneralisesTo};
+ghost use Rattle.cp_general.specs.Generalisation.{GeneralisesTo};
 ghost use Rattle.cp_general.specs.Example.{protocol, sent_twice, heard_and_sent};
 
 /// A text is heard and sent, and any text can be derived. Where two strands have sent it before, one of them of the problem,

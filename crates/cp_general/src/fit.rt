@@ -1,16 +1,16 @@
 // Whether a skeleton is normal and realised.
 ghost use Rattle.std.specs.Prelude.{◌≡◌, ◌↔◌, map, IsTrue, IfOk};
 ghost use Rattle.cp_lists.specs.Lists.{IsIn};
-ghost use Rattle.cp_model.specs.Realising.{AllDerivable};
+ghost use Rattle.cp_model.specs.Realisation.{AllDerivable};
 ghost use Rattle.cp_skel.specs.View.{skeleton_view};
 ghost use Rattle.cp_skel.specs.Events.{occurrence_view, events_of};
-ghost use Rattle.cp_collapse.specs.Having.{Has};
-ghost use Rattle.cp_normal.specs.Narrowing.{IsNormal};
-ghost use Rattle.cp_normal.specs.Straying.{Strays};
+ghost use Rattle.cp_collapse.specs.Property.{Has};
+ghost use Rattle.cp_normal.specs.NormalForms.{IsNormal};
+ghost use Rattle.cp_normal.specs.StrayValues.{Strays};
 ghost use Rattle.cp_general.specs.Fit.{IsFit};
-ghost use Rattle.cp_general.specs.Listing.{AllLead};
+ghost use Rattle.cp_general.specs.ListedPairs.{AllLead};
 
-use crate::covering::is_same_node;
+use crate::covering_pairs::is_same_node;
 use cp_derive::unrealised;
 use cp_normal::{added_pairs, normal_pairs};
 use cp_skel::{Occurrence, Order, OrderPair, Skeleton, UniqueAt};

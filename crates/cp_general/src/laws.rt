@@ -2,13 +2,13 @@
 ghost use Rattle.std.specs.Prelude.{List};
 ghost use Rattle.cp_model.specs.Strand.{Declaration, Protocol};
 ghost use Rattle.cp_model.specs.Skeleton.{Skeleton, IsSkeleton};
-ghost use Rattle.cp_model.specs.Realising.{KeepsAssumptions};
+ghost use Rattle.cp_model.specs.Realisation.{KeepsAssumptions};
 ghost use Rattle.cp_model.specs.Standing.{IsRealised};
 ghost use Rattle.cp_model.specs.Homomorphism.{Embeds, CarriesHomomorphism};
-ghost use Rattle.cp_model.specs.Problem.{HasDeclaredVariables, IsPointOfView};
+ghost use Rattle.cp_model.specs.PointOfView.{HasDeclaredVariables, IsPointOfView};
 ghost use Rattle.cp_model.specs.Stated.{KeepsStated};
 ghost use Rattle.cp_general.specs.Fit.{IsFit};
-ghost use Rattle.cp_general.specs.Generalising.{IsMostGeneral, GeneralisesTo};
+ghost use Rattle.cp_general.specs.Generalisation.{IsMostGeneral, GeneralisesTo};
 
 /// What a skeleton over a protocol generalises to is one too. Where the skeleton keeps what its problem states and carries a
 /// homomorphism from it, so does what it generalises to; the problem is a point-of-view skeleton over the protocol. What it

@@ -1,15 +1,15 @@
 //! Generalising skeletons.
 #![tactic(auto)]
 
-mod covering;
-mod deleting;
-mod dropping;
+mod covering_pairs;
+mod deletion;
+mod dropped_pair;
 mod examples;
 mod fit;
-mod generalising;
+mod generalisation;
 mod laws;
 mod pairs;
 
 pub use examples::second_sender_is_deleted;
-pub use generalising::{generalise, generalised};
+pub use generalisation::{generalise, generalised};
 pub use laws::generalisations_are_sound;

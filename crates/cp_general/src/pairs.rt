@@ -6,7 +6,7 @@ ghost use Rattle.cp_strand.specs.View.{event_view};
 ghost use Rattle.cp_skel.specs.Ordered.{ordered_by};
 ghost use Rattle.cp_skel.specs.Sound.{IsSound};
 ghost use Rattle.cp_skel.specs.View.{skeleton_view};
-ghost use Rattle.cp_general.specs.Listing.{ListsOrder, is_transmission, is_reception, nodes_where, leads_across, pairs_from, pairs_between};
+ghost use Rattle.cp_general.specs.ListedPairs.{ListsOrder, is_transmission, is_reception, nodes_where, leads_across, pairs_from, pairs_between};
 
 use cp_skel::{Event, Node, Occurrence, Order, OrderPair, Skeleton};
 use std::alloc::{AllocError, Global};

@@ -12,7 +12,7 @@ use Rattle.cp_model.specs.Tree.{Pattern}
 use Rattle.cp_model.proofs.SameTests.{variable_is, variable_in, in_has_variable, same_sort_itself}
 use Rattle.cp_model.proofs.LawMessages.{dec_message}
 use Rattle.cp_model.proofs.LawAgreement.{agree_value}
-use Rattle.cp_guard.specs.Matching.{IsFreeIn, MatchesMessage}
+use Rattle.cp_guard.specs.Matches.{IsFreeIn, MatchesMessage}
 use Rattle.cp_guard.specs.Inside.{IsProtected, TellsProtected}
 use Rattle.cp_guard.proofs.Read.{Reading, readings, valued, readings_of_value, atom_for}
 

@@ -10,10 +10,10 @@ use Rattle.cp_model.proofs.CarriedParts.{not_both}
 use Rattle.cp_term.specs.declared.path.Step.{Step}
 use Rattle.cp_term.specs.declared.path.Step.TheVariants.{Left, Right, Plaintext}
 use Rattle.cp_term.specs.Positions.{term_at}
-use Rattle.cp_completeness.specs.Testing.{IsOutside, is_whole, outside_left, outside_right, outside_plaintext}
+use Rattle.cp_completeness.specs.AuthenticationTest.{IsOutside, is_whole, outside_left, outside_right, outside_plaintext}
 use Rattle.cp_completeness.proofs.Tested.{outside_cases}
 use Rattle.cp_guard.specs.Above.{encryptions_above}
-use Rattle.cp_guard.specs.Matching.{IsFreeIn, Matches, MatchesMessage}
+use Rattle.cp_guard.specs.Matches.{IsFreeIn, Matches, MatchesMessage}
 use Rattle.cp_guard.specs.Inside.{IsInside, IsProtected, IsBroughtInside, TellsProtected}
 use Rattle.cp_guard.specs.Critical.{IsPartOfPairs, whole_part, part_of_left, part_of_right}
 

@@ -7,7 +7,7 @@ use Rattle.cp_model.specs.Tree.{Pattern}
 use Rattle.cp_term.specs.declared.path.Step.{Step}
 use Rattle.cp_term.specs.Positions.{term_at}
 use Rattle.cp_guard.specs.Above.{encryptions_above}
-use Rattle.cp_guard.specs.Matching.{Matches, MatchesMessage}
+use Rattle.cp_guard.specs.Matches.{Matches, MatchesMessage}
 
 -- A carried position of a term is inside the patterns, under a substitution of their other variables: some proper enclosing
 -- encryption matches one.

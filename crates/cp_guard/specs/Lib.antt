@@ -1,5 +1,5 @@
 pub mod Above
-pub mod Matching
+pub mod Matches
 pub mod Inside
 pub mod Critical
-pub mod Guarding
+pub mod Guards

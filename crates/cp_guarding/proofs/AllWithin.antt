@@ -7,7 +7,7 @@ use Rattle.cp_model.specs.Term.{Variable, KeyTerm, Term, pair_term, enc_term, va
 use Rattle.cp_model.specs.Same.{has_variable}
 use Rattle.cp_model.proofs.SameTests.{variable_in, in_has_variable}
 use Rattle.cp_term.specs.Keys.{key_as_term}
-use Rattle.cp_unify.specs.Matching.{is_number_of}
+use Rattle.cp_unify.specs.Matches.{is_number_of}
 use Rattle.cp_guarding.specs.Within.{has_all_but}
 
 and_assoc : (a b c : Bool) → (a && (b && c)) ≡ ((a && b) && c)

@@ -6,7 +6,7 @@ use Rattle.cp_model.specs.Tree.{Pattern}
 use Rattle.cp_model.specs.declared.node.Node.{Node}
 use Rattle.cp_model.specs.Skeleton.{Skeleton}
 use Rattle.cp_guard.specs.Critical.{used_variables}
-use Rattle.cp_guard.specs.Guarding.{Guards}
+use Rattle.cp_guard.specs.Guards.{Guards}
 use Rattle.cp_guarding.specs.Sent.{SendInsideAlone}
 use Rattle.cp_guarding.specs.Within.{MayGuard}
 

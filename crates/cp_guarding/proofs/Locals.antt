@@ -4,8 +4,8 @@ use Rattle.cp_lists.specs.Lists.{IsIn}
 use Rattle.cp_model.specs.Term.{Sort, Variable, variables_of}
 use Rattle.cp_model.specs.Tree.{Pattern}
 use Rattle.cp_model.specs.Pattern.{IsPattern}
-use Rattle.cp_unify.specs.Matching.{is_number_of}
-use Rattle.cp_match.proofs.Agreeing.{numbers, numbered}
+use Rattle.cp_unify.specs.Matches.{is_number_of}
+use Rattle.cp_match.proofs.AgreedBindings.{numbers, numbered}
 
 -- A variable of the pattern with the number of a local is that local.
 pub local_by_number : (p : Pattern) → IsPattern p → (x : Variable) → IsIn x (variables_of p.term) → is_number_of (numbers p.locals) x.number ≡ true → IsIn x p.locals

@@ -7,9 +7,9 @@ use Rattle.cp_model.proofs.CarriedParts.{not_both}
 use Rattle.cp_model.specs.Term.{Variable, KeyTerm, Term, enc_term, variables_of, variables_of_key}
 use Rattle.cp_model.specs.Tree.{Pattern}
 use Rattle.cp_model.specs.Pattern.{IsPattern}
-use Rattle.cp_unify.specs.Matching.{is_number_of}
+use Rattle.cp_unify.specs.Matches.{is_number_of}
 use Rattle.cp_guarding.specs.Within.{has_all_but, has_numbered, MayGuard}
-use Rattle.cp_match.proofs.Agreeing.{numbers, has_number}
+use Rattle.cp_match.proofs.AgreedBindings.{numbers, has_number}
 use Rattle.cp_guarding.proofs.Locals.{local_by_number}
 use Rattle.cp_guarding.proofs.AllWithin.{are_within, within_all}
 

@@ -1,3 +1,3 @@
-pub mod Testing
+pub mod HeardTerms
 pub mod Within
 pub mod Sent

@@ -1,6 +1,7 @@
 -- What role strands send before a node, and patterns.
 use Rattle.std.specs.Prelude.{◌≡◌, List, Some, true}
-use Rattle.cp_model.specs.Term.{Term, unchanged}
+use Rattle.cp_model.specs.Term.{Term}
+use Rattle.cp_model.specs.Identity.{unchanged}
 use Rattle.cp_model.specs.Strand.{send}
 use Rattle.cp_model.specs.declared.node.Node.{Node}
 use Rattle.cp_model.specs.Skeleton.{term_event_at, Skeleton, Before}

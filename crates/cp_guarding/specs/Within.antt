@@ -7,9 +7,9 @@ use Rattle.cp_model.specs.Same.{has_variable}
 use Rattle.cp_model.specs.Tree.{Pattern}
 use Rattle.cp_model.specs.Pattern.{IsPattern}
 use Rattle.cp_skel.specs.Events.{Occurrence}
-use Rattle.cp_unify.specs.Matching.{is_number_of}
-use Rattle.cp_guard.specs.Matching.{IsFreeIn}
-use Rattle.cp_guard.specs.Guarding.{HoldsNoLocalInItsKey}
+use Rattle.cp_unify.specs.Matches.{is_number_of}
+use Rattle.cp_guard.specs.Matches.{IsFreeIn}
+use Rattle.cp_guard.specs.Guards.{HoldsNoLocalInItsKey}
 
 -- Each of the variables on the right has one of these numbers, or is among those on the left.
 abbrev pub has_all_but : List ℕ → List Variable → List Variable → Bool

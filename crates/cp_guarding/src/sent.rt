@@ -6,7 +6,7 @@ ghost use Rattle.cp_skel.specs.Events.{occurrence_view, events_of};
 ghost use Rattle.cp_skel.specs.View.{skeleton_view};
 ghost use Rattle.cp_guarding.specs.Sent.{IsGuardedAt, SendInsideAlone};
 
-use crate::testing::event_at;
+use crate::test_terms::event_at;
 use cp_match::first_outside;
 use cp_skel::{Event, Node, Occurrence, Skeleton};
 use cp_term::{Pattern, Term};

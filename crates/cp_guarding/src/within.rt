@@ -4,7 +4,7 @@ ghost use Rattle.cp_model.specs.Same.{has_variable};
 ghost use Rattle.cp_model.specs.Strand.{variables_of_trace};
 ghost use Rattle.cp_model.specs.Term.{variables_of};
 ghost use Rattle.cp_strand.specs.View.{sort_view, event_view};
-ghost use Rattle.cp_unify.specs.Matching.{is_number_of};
+ghost use Rattle.cp_unify.specs.Matches.{is_number_of};
 ghost use Rattle.cp_guarding.specs.Within.{has_all_but};
 
 use cp_skel::{Event, occurs};

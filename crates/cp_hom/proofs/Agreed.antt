@@ -7,7 +7,7 @@ use Rattle.cp_lists.proofs.Members.{in_append, in_append_left, in_append_right}
 use Rattle.cp_model.proofs.LawTerms.{term_composed}
 use Rattle.cp_model.proofs.LawAgreement.{agree_term}
 use Rattle.cp_unify.proofs.Found.{swap}
-use Rattle.cp_hom.specs.Taking.{MakesEvents}
+use Rattle.cp_hom.specs.Counterparts.{MakesEvents}
 
 flag_same : (f a b : Bool) → flag_of f a ≡ flag_of f b → a ≡ b
 flag_same true a b e = swap true true a b e

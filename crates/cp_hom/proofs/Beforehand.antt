@@ -4,10 +4,10 @@ use Rattle.std.proofs.lemmas.Bool.Decides.{nat_tests}
 use Rattle.cp_lists.specs.Lists.{item_at}
 use Rattle.cp_model.specs.Term.{AtomTerm, Term, atom_term, apply_to}
 use Rattle.cp_model.specs.Skeleton.{UniqueAt}
-use Rattle.cp_hom.specs.Following.{partial_view, image_in, Finds, IsKnown}
-use Rattle.cp_hom.specs.Taking.{BecomesAtom, BecomesUnique}
+use Rattle.cp_hom.specs.PartialMaps.{partial_view, image_in, Finds, IsKnown}
+use Rattle.cp_hom.specs.Counterparts.{BecomesAtom, BecomesUnique}
 use Rattle.cp_hom.specs.declared.partials.Partial.{Partial}
-use Rattle.cp_hom.proofs.Becoming.{atom_placed, unique_placed}
+use Rattle.cp_hom.proofs.Counterparts.{atom_placed, unique_placed}
 use Rattle.cp_hom.proofs.Images.{number_there, number_elsewhere}
 
 pub number_known : (given : Partial) (s t other : ℕ) → image_in given.placements.items s ≡ Some other →

@@ -5,8 +5,8 @@ use Rattle.std.proofs.lemmas.List.{drop_all}
 use Rattle.cp_lists.proofs.Members.{drop_read}
 use Rattle.cp_model.specs.Skeleton.{SkeletonStrand, Skeleton}
 use Rattle.cp_model.specs.Homomorphism.{SkeletonMap}
-use Rattle.cp_hom.specs.Following.{PartialMap, partial_view, Places, IsExtended, IsNever, Finds}
-use Rattle.cp_hom.specs.Taking.{TakesAs, Takes, IsRoleStrand, KeepsApart, HoldsImage, IsTaken, IsBlocked, IsElsewhere, KeepsPairs, KeepsOrderApart}
+use Rattle.cp_hom.specs.PartialMaps.{PartialMap, partial_view, Places, IsExtended, IsNever, Finds}
+use Rattle.cp_hom.specs.Counterparts.{TakesAs, Takes, IsRoleStrand, KeepsApart, HoldsImage, IsTaken, IsBlocked, IsElsewhere, KeepsPairs, KeepsOrderApart}
 use Rattle.cp_hom.proofs.Images.{goes_there}
 use Rattle.cp_hom.specs.declared.items.Kind.{Kind}
 use Rattle.cp_hom.specs.declared.items.Kind.TheVariants.{Strands}

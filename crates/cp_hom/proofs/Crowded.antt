@@ -8,7 +8,7 @@ use Rattle.cp_model.specs.Term.{Substitution}
 use Rattle.cp_model.specs.Strand.{Role}
 use Rattle.cp_model.specs.Skeleton.{SkeletonStrand, instance, listener, Skeleton}
 use Rattle.cp_model.specs.Homomorphism.{SkeletonMap, IsEmbedding}
-use Rattle.cp_hom.specs.Counting.{IsCount, IsOfRole, HasRoom, HaveRoom}
+use Rattle.cp_hom.specs.RoleCounts.{IsCount, IsOfRole, HasRoom, HaveRoom}
 
 -- ---- counts
 

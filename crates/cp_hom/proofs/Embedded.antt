@@ -11,11 +11,11 @@ use Rattle.cp_model.specs.Homomorphism.{SkeletonMap, mapped, GoesToInstance, IsH
 use Rattle.cp_lists.proofs.Items.{item_below, item_there, at_place, place_of}
 use Rattle.cp_model.proofs.LawStandings.{strand_of_event}
 use Rattle.cp_skel.specs.Ordered.{IsOrdered}
-use Rattle.cp_hom.specs.Following.{PartialMap, Follows, map_of}
-use Rattle.cp_hom.specs.Taking.{MakesPart, GoesToStrand, BecomesAtom, BecomesUnique, TakesAs, Takes, count_of, IsItemOf, KeepsProblem, KeepsApart, IsKeptBy, KeepsPairs}
-use Rattle.cp_hom.specs.Opening.{IsWhole, NeverEmbeds}
+use Rattle.cp_hom.specs.PartialMaps.{PartialMap, Follows, map_of}
+use Rattle.cp_hom.specs.Counterparts.{MakesPart, GoesToStrand, BecomesAtom, BecomesUnique, TakesAs, Takes, count_of, IsItemOf, KeepsProblem, KeepsApart, IsKeptBy, KeepsPairs}
+use Rattle.cp_hom.specs.OpenMaps.{IsWhole, NeverEmbeds}
 use Rattle.cp_hom.proofs.Agreed.{events_agreed, events_made}
-use Rattle.cp_hom.proofs.Ordering.{both_nodes, StrandsGo, order_kept, pairs_kept}
+use Rattle.cp_hom.proofs.KeptOrder.{both_nodes, StrandsGo, order_kept, pairs_kept}
 use Rattle.cp_hom.specs.declared.items.Kind.{Kind}
 use Rattle.cp_hom.specs.declared.items.Kind.TheVariants.{Strands, NonOriginating, PenetratorNonOriginating, Uniques}
 use Rattle.cp_hom.specs.declared.items.Item.{Item}

@@ -1,7 +1,7 @@
 -- Partial maps that are found one after the other.
 use Rattle.std.specs.Prelude.{Option, Some, None}
 use Rattle.cp_model.specs.Homomorphism.{SkeletonMap}
-use Rattle.cp_hom.specs.Following.{PartialMap, Follows, IsConsistent, IsExtended, IsNever, Finds}
+use Rattle.cp_hom.specs.PartialMaps.{PartialMap, Follows, IsConsistent, IsExtended, IsNever, Finds}
 use Rattle.cp_hom.specs.declared.partials.Partial.{Partial}
 
 pub finds_like : (e f : SkeletonMap → Type 0) (given : PartialMap) (answer : Option Partial) →

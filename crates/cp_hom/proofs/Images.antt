@@ -10,7 +10,7 @@ use Rattle.cp_model.specs.Homomorphism.{SkeletonMap, mapped, number_or, strand_i
 use Rattle.cp_model.specs.Term.{Term, apply_to}
 use Rattle.cp_unify.specs.Bindings.{Binding}
 use Rattle.cp_unify.specs.Beside.{MatchesBeside, NeverMatchesBeside}
-use Rattle.cp_hom.specs.Following.{PartialMap, image_in, Places, IsExtended, IsNever}
+use Rattle.cp_hom.specs.PartialMaps.{PartialMap, image_in, Places, IsExtended, IsNever}
 use Rattle.cp_hom.specs.declared.partials.Placement.{Placement}
 
 -- ---- placements

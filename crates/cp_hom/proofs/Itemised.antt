@@ -3,7 +3,7 @@ use Rattle.std.proofs.Common.{◌≡◌, ℕ, ◌+◌, ◌<◌, List, [], ◌∷
 use Rattle.cp_lists.specs.Lists.{IsIn, here, there}
 use Rattle.cp_model.specs.Skeleton.{Skeleton}
 use Rattle.cp_lists.proofs.Members.{in_append, in_append_left, in_append_right}
-use Rattle.cp_hom.specs.Taking.{count_of, IsItemOf, AreItemsOf, AddsItems, AddsFirst, AddsAll}
+use Rattle.cp_hom.specs.Counterparts.{count_of, IsItemOf, AreItemsOf, AddsItems, AddsFirst, AddsAll}
 use Rattle.cp_hom.specs.declared.items.Kind.{Kind}
 use Rattle.cp_hom.specs.declared.items.Kind.TheVariants.{Strands, NonOriginating, PenetratorNonOriginating, Uniques}
 use Rattle.cp_hom.specs.declared.items.Item.{Item}

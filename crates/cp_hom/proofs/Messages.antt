@@ -9,8 +9,8 @@ use Rattle.cp_model.specs.Skeleton.{skeleton_trace}
 use Rattle.cp_model.specs.Homomorphism.{SkeletonMap, substitution_by}
 use Rattle.cp_strand.specs.Data.{InstanceData, StrandData}
 use Rattle.cp_strand.specs.View.{instance_as_data, instance_view, strand_view}
-use Rattle.cp_hom.specs.Following.{PartialMap, IsExtended, IsNever, Finds}
-use Rattle.cp_hom.specs.Taking.{MakesEvents, MakesMessages, MakesPart}
+use Rattle.cp_hom.specs.PartialMaps.{PartialMap, IsExtended, IsNever, Finds}
+use Rattle.cp_hom.specs.Counterparts.{MakesEvents, MakesMessages, MakesPart}
 use Rattle.cp_hom.proofs.Extended.{IsSoFar, finds_like, so_far_next, so_far_never, so_far_all}
 use Rattle.cp_hom.specs.declared.partials.Partial.{Partial}
 

@@ -2,8 +2,8 @@
 use Rattle.std.specs.Prelude.{◌<◌, ◌≤◌, ℕ, IsTrue}
 use Rattle.cp_model.specs.Skeleton.{Skeleton}
 use Rattle.cp_model.specs.Homomorphism.{SkeletonMap}
-use Rattle.cp_hom.specs.Following.{PartialMap, Follows, IsNever}
-use Rattle.cp_hom.specs.Taking.{Takes, count_of}
+use Rattle.cp_hom.specs.PartialMaps.{PartialMap, Follows, IsNever}
+use Rattle.cp_hom.specs.Counterparts.{Takes, count_of}
 use Rattle.cp_hom.specs.declared.items.Item.{Item}
 use Rattle.cp_hom.specs.declared.known.Choice.{Choice}
 

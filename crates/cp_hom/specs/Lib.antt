@@ -1,13 +1,6 @@
 pub mod Choices
-pub mod Counting
-pub mod Fingerprints
-pub mod FirstPlaces
-pub mod Following
-pub mod Heights
+pub mod RoleCounts
+pub mod PartialMaps
 pub mod Maps
-pub mod Mixing
-pub mod Opening
-pub mod Partition
-pub mod Sharing
-pub mod Slots
-pub mod Taking
+pub mod OpenMaps
+pub mod Counterparts

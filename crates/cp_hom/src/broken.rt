@@ -2,11 +2,11 @@
 ghost use Rattle.std.specs.Prelude.{◌≡◌, IsTrue, IfOk, IfSome};
 ghost use Rattle.cp_model.specs.Homomorphism.{SkeletonMap, mapped};
 ghost use Rattle.cp_skel.specs.View.{skeleton_view};
-ghost use Rattle.cp_hom.specs.Following.{Places};
-ghost use Rattle.cp_hom.specs.Taking.{IsKeptBy, KeepsPairs};
+ghost use Rattle.cp_hom.specs.PartialMaps.{Places};
+ghost use Rattle.cp_hom.specs.Counterparts.{IsKeptBy, KeepsPairs};
 
-use crate::checking::leads_to_another;
 use crate::items::{Item, Kind};
+use crate::kept_order::leads_to_another;
 use crate::partials::{Placement, image_of};
 use cp_skel::{Node, OrderPair, Skeleton};
 use std::alloc::{AllocError, Global};

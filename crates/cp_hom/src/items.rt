@@ -1,10 +1,10 @@
 // The parts of a skeleton that an embedding places among those of another.
 ghost use Rattle.std.specs.Prelude.{◌≡◌, IfOk, OnOk};
 ghost use Rattle.cp_skel.specs.View.{skeleton_view};
-ghost use Rattle.cp_hom.specs.Taking.{count_of, AreItemsOf, AddsItems, AddsAll};
+ghost use Rattle.cp_hom.specs.Counterparts.{count_of, AreItemsOf, AddsItems, AddsAll};
 
 use crate::sharing_strands::shares_all;
-use crate::slots::places_of;
+use cp_fingerprint::places_of;
 use cp_skel::Skeleton;
 use std::alloc::{AllocError, Global};
 

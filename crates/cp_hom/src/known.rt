@@ -3,12 +3,12 @@ ghost use Rattle.std.specs.Prelude.{◌≡◌, map, IsTrue, MatchOption};
 ghost use Rattle.cp_model.specs.Term.{Substitution, apply_to};
 ghost use Rattle.cp_strand.specs.View.{strand_view};
 ghost use Rattle.cp_skel.specs.View.{skeleton_view};
-ghost use Rattle.cp_hom.specs.Following.{partial_view, IsKnown};
-ghost use Rattle.cp_hom.specs.Taking.{MakesPart, GoesToStrand, BecomesAtom, BecomesUnique, count_of, Takes};
+ghost use Rattle.cp_hom.specs.PartialMaps.{partial_view, IsKnown};
+ghost use Rattle.cp_hom.specs.Counterparts.{MakesPart, GoesToStrand, BecomesAtom, BecomesUnique, count_of, Takes};
 ghost use Rattle.cp_hom.specs.Choices.{ArePassed, IsNextChoice};
 
 use crate::items::{Item, Kind, count};
-use crate::looking::{atom_at, strand_at, unique_at};
+use crate::numbered_items::{atom_at, strand_at, unique_at};
 use crate::partials::{Partial, image_of};
 use cp_skel::{Atom, Skeleton, Strand, StrandShape, UniqueAt};
 use cp_term::Term;

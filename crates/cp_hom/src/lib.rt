@@ -2,27 +2,19 @@
 #![tactic(auto)]
 
 mod broken;
-mod checking;
-mod counting;
-mod embedding;
-mod fingerprint;
-mod first_places;
-mod heights;
+mod embeddings;
+mod from_problem;
 mod items;
+mod kept_order;
 mod known;
-mod looking;
-mod mapping;
-mod matching;
+mod numbered_items;
 mod partials;
-mod partition;
-mod placing;
-mod searching;
-mod sharing;
+mod placed_items;
+mod role_counts;
+mod search;
 mod sharing_strands;
-mod slots;
-mod starting;
+mod strand_map;
+mod strand_matches;
 
-pub use embedding::{embed, isomorphic};
-pub use fingerprint::Fingerprint;
-pub use first_places::first_of;
-pub use mapping::Map;
+pub use embeddings::{embed, isomorphic};
+pub use strand_map::Map;

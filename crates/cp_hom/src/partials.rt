@@ -3,9 +3,9 @@ ghost use Rattle.std.specs.Prelude.{◌≡◌, ◌==◌, ℕ, if◌then◌else�
 ghost use Rattle.cp_model.specs.Homomorphism.{strand_in, number_or};
 ghost use Rattle.cp_model.specs.Term.{apply_to};
 ghost use Rattle.cp_hom.specs.Maps.{map_view};
-ghost use Rattle.cp_hom.specs.Following.{partial_view, nothing, image_in, map_of, Finds};
+ghost use Rattle.cp_hom.specs.PartialMaps.{partial_view, nothing, image_in, map_of, Finds};
 
-use crate::mapping::Map;
+use crate::strand_map::Map;
 use cp_term::Term;
 use cp_unify::{Subst, matching_beside};
 use std::alloc::{AllocError, Global};

@@ -1,7 +1,7 @@
 // Strands whose values stand elsewhere too. Which these are decides only in which order an embedding places strands, so that no clause
 // speaks of it.
 
-use crate::slots::{Places, Slot, key_of};
+use cp_fingerprint::{Places, Slot, key_of};
 use cp_term::Term;
 
 /// Whether the value stands at one of these places.

@@ -1,14 +1,15 @@
 -- The variables of a role, one after another.
-use Rattle.std.proofs.Common.{◌≡◌, ℕ, suc, ◌+◌, ◌<◌, ◌≤◌, List, [], ◌∷◌, ◌++◌, length, get_or, map, drop, Bool, true, false, if◌then◌else◌, refl, sym, ap, ◌∙◌, add-one}
+use Rattle.std.proofs.Common.{◌≡◌, ℕ, suc, ◌+◌, ◌<◌, ◌≤◌, List, [], ◌∷◌, ◌++◌, length, get_or, map, drop, Bool, true, false, if◌then◌else◌, sym, ap, ◌∙◌, add-one}
 use Rattle.std.proofs.lemmas.List.{drop_all, append_assoc, append-nil, length-map}
 use Rattle.cp_lists.proofs.Members.{drop_read}
+use Rattle.cp_lists.proofs.Appended.{length_pushed}
 use Rattle.cp_model.specs.Term.{Variable, Term}
 use Rattle.cp_model.specs.Strand.{Declaration}
 use Rattle.cp_sexpr.specs.Syntax.{Form}
 use Rattle.cp_language.specs.Problems.{Instantiated, instantiated, with_term, term_or_fresh, term_mapped, is_fresh}
 use Rattle.cp_strand.specs.View.{declaration_view}
 use Rattle.cp_strand.specs.declared.protocol.Declaration as program
-use Rattle.cp_instances.specs.Instantiating.{IsInstantiated}
+use Rattle.cp_instances.specs.InstanceTerms.{IsInstantiated}
 
 -- Of an instance these terms and variables are made, and the others are left.
 pub record IsLeft (all left : Instantiated) (terms : List Term) (before now : List Declaration) : Type 0 where
@@ -18,12 +19,8 @@ pub record IsLeft (all left : Instantiated) (terms : List Term) (before now : Li
 length-more : (b : Bool) (xs ys : List program.Declaration) (d : Declaration) → map declaration_view ys ≡ map declaration_view xs ++ (if b then d ∷ [] else []) → length ys ≡ (if b then suc (length xs) else length xs)
 length-more b xs ys d e = by_test b e
   where
-    append-length : (zs : List Declaration) (x : Declaration) → length (zs ++ x ∷ []) ≡ suc (length zs)
-    append-length [] x = refl
-    append-length (z ∷ zs) x = ap suc (append-length zs x)
-
     by_test : (c : Bool) → map declaration_view ys ≡ map declaration_view xs ++ (if c then d ∷ [] else []) → length ys ≡ (if c then suc (length xs) else length xs)
-    by_test true h = sym (length-map ys declaration_view) ∙ ap length h ∙ append-length (map declaration_view xs) d ∙ ap suc (length-map xs declaration_view)
+    by_test true h = sym (length-map ys declaration_view) ∙ ap length h ∙ length_pushed (map declaration_view xs) d ∙ ap suc (length-map xs declaration_view)
     by_test false h = sym (length-map ys declaration_view) ∙ ap length h ∙ ap length (append-nil (map declaration_view xs)) ∙ length-map xs declaration_view
 
 module _ (prefix : List Variable) (ds : List Declaration) (maplets : List Form) (vars : List program.Declaration) (k : ℕ) (all : Instantiated) (before : List Declaration) where

@@ -1,4 +1,4 @@
 pub mod Maplets
-pub mod Mapping
+pub mod MapletTerms
 pub mod Instantiation
 pub mod Strandwise

@@ -18,7 +18,7 @@ use Rattle.cp_language.specs.Problems.{role_named, role_name_faults, height_faul
 use Rattle.cp_forms.specs.FirstFault.{first_onto}
 use Rattle.cp_instances.specs.Mapped.{mapped_names}
 use Rattle.cp_forms.proofs.Firsts.{first_onto-append, first_then, first_then_three, first_then_four}
-use Rattle.cp_scope.proofs.Naming.{AreSameNames, names-swap}
+use Rattle.cp_scope.proofs.DeclaredIdentifiers.{AreSameNames, names-swap}
 
 first-item : (fs : List Form) → item_at fs 0 ≡ first_form fs
 first-item [] = refl

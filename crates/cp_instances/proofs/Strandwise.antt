@@ -13,7 +13,7 @@ use Rattle.cp_language.specs.Roles.{headed, item_or_none, items_behind}
 use Rattle.cp_language.specs.Problems.{Strands, strand_by, strands_from, with_strand, fresh_of}
 use Rattle.cp_strand.specs.View.{declaration_view}
 use Rattle.cp_strand.specs.declared.protocol.Declaration as declared
-use Rattle.cp_instances.specs.Making.{IsMadeIf, AreMade}
+use Rattle.cp_instances.specs.MadeStrands.{IsMadeIf, AreMade}
 
 -- Of the strands of a problem these are made, and the others are left.
 pub record AreLeft (all left : Strands) (strands : List SkeletonStrand) (before now : List Declaration) : Type 0 where

@@ -1,3 +1,3 @@
 pub mod Mapped
-pub mod Instantiating
-pub mod Making
+pub mod InstanceTerms
+pub mod MadeStrands

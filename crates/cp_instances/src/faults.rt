@@ -9,7 +9,7 @@ ghost use Rattle.cp_roles.specs.Named.{shared_roles_view};
 ghost use Rattle.cp_scope.specs.Terms.{variable_view};
 ghost use Rattle.cp_instances.specs.Mapped.{mapped_names};
 
-use crate::occurring::occurs;
+use crate::event_variables::occurs;
 use cp_base::{Code, Place};
 use cp_forms::{FirstFault, first_items, is_word, item_at, list_items, place_of, symbol_or_empty};
 use cp_roles::role_named;

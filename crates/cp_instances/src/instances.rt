@@ -7,9 +7,9 @@ ghost use Rattle.cp_language.specs.Problems.{mapped_identifier, second_form, ter
 ghost use Rattle.cp_language.specs.Roles.{list_items};
 ghost use Rattle.cp_strand.specs.View.{sort_view, declaration_view, event_view};
 ghost use Rattle.cp_scope.specs.Terms.{variable_view};
-ghost use Rattle.cp_instances.specs.Instantiating.{maplet_named, term_if_there, wants_fresh, IsInstantiated};
+ghost use Rattle.cp_instances.specs.InstanceTerms.{maplet_named, term_if_there, wants_fresh, IsInstantiated};
 
-use crate::occurring::occurs;
+use crate::event_variables::occurs;
 use cp_forms::{is_word, item_at, list_items, symbol_or_empty};
 use cp_scope::{Variable, no_term, term_of, variable_term};
 use cp_sexpr::Form;

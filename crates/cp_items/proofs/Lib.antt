@@ -1,3 +1,3 @@
 pub mod InBlocks
-pub mod Fitting
+pub mod FitItems
 pub mod EachAsked

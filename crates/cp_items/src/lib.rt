@@ -3,19 +3,19 @@
 #![tactic(auto)]
 
 mod heads;
+mod label_tests;
 mod numbers;
 mod operations;
 mod places;
-mod testing;
 
 pub use heads::{
     MARK_HEADS, has_one_of, is_of_tree, items_of_label, mark_item, name_in_front, up_to_strands,
+};
+pub use label_tests::{
+    escape_misfits, nodes_of, patterns_of, test_misfits, test_of, unrealised_misfits,
 };
 pub use numbers::{number_in_front, number_stated, numbers_of, stated_number};
 pub use operations::{
     OperationWord, is_operation, makes_root, operation_by, operation_misfits, word_in_front,
 };
 pub use places::operation_place_misfits;
-pub use testing::{
-    escape_misfits, nodes_of, patterns_of, test_misfits, test_of, unrealised_misfits,
-};

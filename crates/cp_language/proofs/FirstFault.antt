@@ -2,7 +2,7 @@
 use Rattle.std.specs.Prelude.{ℕ, List, [], ◌∷◌, Bool, Option, Some, None, if◌then◌else◌}
 use Rattle.cp_base.specs.declared.place.Place.{Place}
 use Rattle.cp_base.specs.declared.place.Refusal.{Refusal}
-use Rattle.cp_language.specs.Faults.{comes_before}
+use Rattle.cp_language.specs.FirstFault.{comes_before}
 
 -- A place, by its line and its column.
 abbrev pub p : ℕ → ℕ → Place

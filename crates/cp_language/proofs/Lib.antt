@@ -2,7 +2,7 @@ pub mod FirstFault
 mod RefusalExamplesOne
 mod RefusalExamplesTwo
 pub mod OneAnswer
-pub mod Reaching
+pub mod BoundedSearch
 mod ReportExamples
 pub mod ChosenLabels
 pub mod ValidTests

@@ -6,9 +6,11 @@ use Rattle.cp_base.specs.declared.place.Code.{Code}
 use Rattle.cp_base.specs.declared.place.Code.TheVariants.{BadByte, OpenString, Unbalanced, TooDeep, BadNumber, Unclosed, UnknownForm, OutOfProfile, BadShape, DuplicateProtocol, DuplicateRole, UnknownProtocol, UnknownRole, UnknownSort, MesgVar, DuplicateVar, BadHeight, UnknownVar, NotInPrefix, IllSorted, KeySort, NotAtom, RoleUniqNoOrigin, UniqNowhere, BadNode, CyclicOrder}
 use Rattle.cp_base.specs.declared.place.Refusal.{Refusal}
 use Rattle.cp_lists.specs.Lists.{item_at, IsIn, here, there}
+use Rattle.cp_lists.proofs.Members.{none_in_empty}
 use Rattle.cp_sexpr.specs.Syntax.{Forms}
-use Rattle.cp_language.specs.Faults.{rank_of, comes_before, IsFirstFault}
-use Rattle.cp_language.specs.Input.{Entry, faults_of, input_of, IsInput}
+use Rattle.cp_language.specs.FirstFault.{rank_of, comes_before, IsFirstFault}
+use Rattle.cp_language.specs.Input.{Entry, faults_of, input_of}
+use Rattle.cp_language.specs.StatedInput.{IsInput}
 
 -- ---- the kinds of faults by their rank
 
@@ -121,16 +123,10 @@ first_fault r (q ∷ qs) = with_first (first_fault q qs)
 
 -- ---- answers
 
-no_fault : (faults : List Refusal) (r : Refusal) → faults ≡ [] → IsIn r faults → ⊥
-no_fault faults r e m = none_in (subst (λ l. IsIn r l) e m)
-  where
-    none_in : IsIn r [] → ⊥
-    none_in h = elim h [ ]
-
 pub one_answer : (fs : Forms) (a b : Result (List Entry) Refusal) → IsInput fs a → IsInput fs b → a ≡ b
 one_answer fs (Ok es) (Ok es') g h = ap Ok (g.1 ∙ sym h.1)
-one_answer fs (Ok es) (Err r) g h = absurd (no_fault (faults_of fs) r g.0 h.listed)
-one_answer fs (Err r) (Ok es) g h = absurd (no_fault (faults_of fs) r h.0 g.listed)
+one_answer fs (Ok es) (Err r) g h = absurd (none_in_empty g.0 h.listed)
+one_answer fs (Err r) (Ok es) g h = absurd (none_in_empty h.0 g.listed)
 one_answer fs (Err r) (Err s) g h = ap Err (one_first (faults_of fs) r s g h)
 
 some_by : (fs : Forms) (faults : List Refusal) → faults_of fs ≡ faults → (a : Result (List Entry) Refusal) × IsInput fs a

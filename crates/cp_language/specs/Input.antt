@@ -1,12 +1,12 @@
--- Well-formed input: what a list of forms states, and the first fault of one that is not well formed.
-use Rattle.std.specs.Prelude.{◌≡◌, ℕ, List, [], ◌∷◌, ◌++◌, Option, Some, None, Result, Ok, Err}
+-- Input: the faults of a list of forms, and what one that has none states.
+use Rattle.std.specs.Prelude.{ℕ, List, [], ◌∷◌, ◌++◌, Option, Some, None}
 use Rattle.cp_base.specs.declared.place.Place.{Place}
 use Rattle.cp_base.specs.declared.place.Code.TheVariants.{UnknownForm, OutOfProfile, BadShape}
 use Rattle.cp_base.specs.declared.place.Refusal.{Refusal}
 use Rattle.cp_model.specs.Strand.{Protocol}
 use Rattle.cp_sexpr.specs.Syntax.{Form, Forms}
 use Rattle.cp_language.specs.Words.{TopHead, protocol_form, problem_form, free_form, top_out_of_profile, no_top, top_head}
-use Rattle.cp_language.specs.Faults.{fault, place_of, items_of, IsFirstFault}
+use Rattle.cp_language.specs.Faults.{fault, place_of, items_of}
 use Rattle.cp_language.specs.Roles.{Headed, headed, protocol_faults, protocol_of}
 use Rattle.cp_language.specs.Problems.{Problem, problem_faults, problem_of}
 
@@ -66,16 +66,3 @@ entries_from above (f ∷ fs) = record { form = f; problem = stated_problem abov
 -- The forms of the input in order, each with its problem.
 abbrev pub input_of : Forms → List Entry
 input_of fs = entries_from [] (items_of fs)
-
--- The protocols that the forms state, in order.
-abbrev pub protocols_in : List Form → List Protocol
-protocols_in [] = []
-protocols_in (f ∷ fs) = protocols_behind (headed f) [] ++ protocols_in fs
-
-abbrev pub protocols_of : Forms → List Protocol
-protocols_of fs = protocols_in (items_of fs)
-
--- Forms are well formed when they have no fault; otherwise the first of their faults is answered.
-abbrev pub IsInput : Forms → Result (List Entry) Refusal → Type 0
-IsInput fs (Ok entries) = (faults_of fs ≡ []) × (entries ≡ input_of fs)
-IsInput fs (Err r) = IsFirstFault (faults_of fs) r

@@ -1,9 +1,11 @@
 pub mod Words
 pub mod Faults
+pub mod FirstFault
 pub mod Terms
 pub mod Roles
 pub mod Problems
 pub mod Input
+pub mod StatedInput
 pub mod Names
 pub mod Printed
 pub mod Report

@@ -149,9 +149,14 @@ events_faults ds (f ∷ fs) = event_faults ds f ++ events_faults ds fs
 abbrev pub trace_faults : List Declaration → Form → List Refusal
 trace_faults ds f = fixed_faults (codes "trace") (λ at es. lacks 1 at es ++ events_faults ds es) f
 
+-- A term that has these faults; with any it is none, so that the events of a role have no other variables than the role.
+abbrev pub where_faultless : List Refusal → Term → Term
+where_faultless [] t = t
+where_faultless (r ∷ rs) t = tag_term []
+
 abbrev pub message_of : List Declaration → List Form → Term
 message_of ds [] = tag_term []
-message_of ds (f ∷ fs) = term_of ds f
+message_of ds (f ∷ fs) = where_faultless (term_faults ds f) (term_of ds f)
 
 abbrev pub is_sending : EventHead → Bool
 is_sending sending = true

@@ -4,7 +4,8 @@
 
 ghost use Rattle.std.specs.Prelude.{◌≡◌, ◌↔◌, List, length, Result, true};
 ghost use Rattle.cp_base.specs.declared.place.Refusal.{Refusal};
-ghost use Rattle.cp_language.specs.Input.{Entry, IsInput};
+ghost use Rattle.cp_language.specs.Input.{Entry};
+ghost use Rattle.cp_language.specs.StatedInput.{IsInput};
 ghost use Rattle.cp_language.specs.Problems.{reaches};
 ghost use Rattle.cp_language.specs.Report.{report_text};
 ghost use Rattle.cp_language.specs.ShapesText.{chosen_text};
@@ -23,7 +24,7 @@ pub fn forms_have_one_answer()
 
 /// Searching along as many pairs as there are finds all that leads from one node to another: no pair needs to be taken
 /// twice.
-#[tactic(auto, using(crate::proofs::Reaching::reaches_all))]
+#[tactic(auto, using(crate::proofs::BoundedSearch::reaches_all))]
 pub fn search_is_complete()
     ensures { (pairs : List OrderPair) (x y : Node) → (reaches (length pairs) pairs x y ≡ true) ↔ LeadsTo pairs x y }
 {}

@@ -9,9 +9,9 @@ use Rattle.cp_model.specs.declared.node.Node.{Node}
 use Rattle.cp_model.specs.declared.node.OrderPair.{OrderPair}
 use Rattle.cp_model.specs.Skeleton.{term_event_at, OrderStep, along_strand_of, along_pair, Before}
 use Rattle.cp_completeness.specs.Normal.{with_pairs}
-use Rattle.cp_collapse.specs.Collapsing.{no_collapses, AreCollapses}
+use Rattle.cp_collapse.specs.Collapses.{no_collapses, AreCollapses}
 use Rattle.cp_collapse.specs.Partitions.{IsPartition, finest}
-use Rattle.cp_normal.specs.Normalising.{IsAddedPair, ClosesCycle, AreNormalPairs, IsContradictory}
+use Rattle.cp_normal.specs.Findings.{IsAddedPair, ClosesCycle, AreNormalPairs, IsContradictory}
 use Rattle.cp_normal.specs.Exact.{HasForms, normal}
 use Rattle.cp_answers.specs.Example.{locked, heard}
 use Rattle.cp_covering.proofs.OneChild.{key_is_not_carried}

@@ -7,7 +7,7 @@ use Rattle.cp_model.specs.Term.{Variable}
 use Rattle.cp_model.specs.Strand.{Declaration}
 use Rattle.cp_model.specs.Problem.{IsDeclared}
 use Rattle.cp_model.specs.Tree.{Label}
-use Rattle.cp_strand.specs.Occurring.{prefix_variables}
+use Rattle.cp_strand.specs.PrefixVariables.{prefix_variables}
 use Rattle.cp_answers.specs.Example.{locker}
 use Rattle.cp_covering.specs.Children.{declarations_of}
 use Rattle.cp_tree.specs.Example.{heard_label, sent_label, heard_tree}

@@ -15,7 +15,7 @@ use Rattle.cp_tree.specs.Searched.{mark_by, Becomes, is_dead, is_seen, is_realis
 use Rattle.cp_tree.proofs.Picked.{item_of}
 use Rattle.cp_tree.proofs.Settled.{IsUnexpanded, IsExpanded, IsOfMade, unexpanded}
 use Rattle.cp_tree.proofs.SoundLabels.{settled_here, becomes_here, of_made_here}
-use Rattle.cp_report.specs.Fitting.{IsTestOn, HasMarkOrChildren}
+use Rattle.cp_report.specs.FittingTrees.{IsTestOn, HasMarkOrChildren}
 
 -- ---- in a label that became so
 

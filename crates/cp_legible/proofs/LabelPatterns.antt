@@ -5,16 +5,16 @@ use Rattle.cp_lists.proofs.Items.{item_of_map}
 use Rattle.cp_lists.proofs.Members.{not_in_none}
 use Rattle.cp_model.specs.Strand.{Declaration, Role, Protocol}
 use Rattle.cp_model.specs.Skeleton.{Skeleton, IsSkeleton}
-use Rattle.cp_model.specs.Problem.{HasDeclaredVariables, IsPointOfView}
+use Rattle.cp_model.specs.PointOfView.{HasDeclaredVariables, IsPointOfView}
 use Rattle.cp_model.specs.Pattern.{IsPattern}
 use Rattle.cp_model.specs.Tree.{Pattern, Label, Tree, Limits}
-use Rattle.cp_skel.specs.Sound.{DeclaresItsVariables}
+use Rattle.cp_strand.specs.Declares.{DeclaresItsVariables}
 use Rattle.cp_roots.specs.Roots.{Root, AreRoots}
 use Rattle.cp_roots.proofs.InReportOrder.{declared_listed}
 use Rattle.cp_roots.proofs.VariablesOfRoots.{roots_declared}
 use Rattle.cp_covering.specs.Children.{Child}
 use Rattle.cp_covering.specs.Cohort.{IsCohort}
-use Rattle.cp_covering.specs.Listing.{terms_onto}
+use Rattle.cp_covering.specs.GatheredLists.{terms_onto}
 use Rattle.cp_covering.proofs.SoundChildren.{sound_child}
 use Rattle.cp_escape.proofs.EscapeGuards.{escape_guards}
 use Rattle.cp_expansion.specs.Expansion.{question_about, Expansion, IsExpansionOf}

@@ -7,7 +7,7 @@ use Rattle.cp_model.specs.Strand.{Declaration}
 use Rattle.cp_model.specs.Skeleton.{Skeleton}
 use Rattle.cp_model.specs.Problem.{numbers_from}
 use Rattle.cp_model.specs.Tree.{Operation, by_problem, by_collapse, by_contraction, by_displacement, by_added_strand, by_added_listener, by_generalising, Label, Tree, Limits}
-use Rattle.cp_collapse.specs.Collapsing.{AreCollapsesBy, no_collapses, collapse_by}
+use Rattle.cp_collapse.specs.Collapses.{AreCollapsesBy, no_collapses, collapse_by}
 use Rattle.cp_roots.specs.Roots.{Root, living, in_report_order, first_roots, AreFormsOfCollapses, forms_of_one, AreRoots}
 use Rattle.cp_roots.specs.Roots as rooting
 use Rattle.cp_covering.specs.Children.{Child}
@@ -21,7 +21,7 @@ use Rattle.cp_tree.proofs.Placed.{children_are}
 use Rattle.cp_tree.proofs.Settled.{IsOfMade, IsMadeOfChild, IsMadeOfGeneralisation, made_from}
 use Rattle.cp_tree.proofs.SoundLabels.{made, settled_here, of_made_here, label_here}
 use Rattle.cp_language.specs.Problems.{Problem}
-use Rattle.cp_report.specs.Fitting.{IsPartition, IsOperationOn, HasParent, IsParentOf, AreChildrenOf}
+use Rattle.cp_report.specs.FittingTrees.{IsPartition, IsOperationOn, HasParent, IsParentOf, AreChildrenOf}
 use Rattle.cp_legible.proofs.NamedChildren.{NamesIn, named_child}
 
 -- ---- roots

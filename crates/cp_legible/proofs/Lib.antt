@@ -1,4 +1,4 @@
-mod KeepingNodes
+mod KeptNodes
 mod NamedChildren
 mod ProblemMaps
 mod LabelPatterns

@@ -9,16 +9,16 @@ use Rattle.cp_model.specs.declared.node.Node.{Node}
 use Rattle.cp_model.specs.Skeleton.{SkeletonStrand, listener, skeleton_trace_or_none, IsNodeOf, Skeleton}
 use Rattle.cp_model.specs.Tree.{Operation, by_problem, by_collapse, by_contraction, by_displacement, by_added_strand, by_added_listener, by_generalising}
 use Rattle.cp_term.specs.declared.path.Step.{Step}
-use Rattle.cp_skel.specs.Changing.{AddsListener}
+use Rattle.cp_skel.specs.Extensions.{AddsListener}
 use Rattle.cp_skel.specs.Events.{Occurrence, events_of}
 use Rattle.cp_skel.proofs.EventLists.{listed_event}
 use Rattle.cp_answers.specs.Covering.{put_before}
-use Rattle.cp_settle.specs.Releasing.{Release}
+use Rattle.cp_settle.specs.Releases.{Release}
 use Rattle.cp_covering.specs.Children.{Child, child}
 use Rattle.cp_covering.specs.Cohort.{Question, release_at, DisplacesAt, AddsAt, IsCohort}
 use Rattle.cp_covering.specs.Cohort as cohort
 use Rattle.cp_covering.proofs.EachChild.{ComesOfContracting, ComesOfListening, of_contracted, of_released, of_listened, each_child}
-use Rattle.cp_legible.proofs.KeepingNodes.{nodes_like_under, nodes_forms, nodes_settle}
+use Rattle.cp_legible.proofs.KeptNodes.{nodes_like_under, nodes_forms, nodes_settle}
 
 -- The operation is a step that a test allows, and the node or strand that it names is one of the skeleton.
 abbrev pub NamesIn : Skeleton → Operation → Type 0

@@ -4,13 +4,13 @@ use Rattle.std.specs.Prelude.{◌^◌}
 use Rattle.cp_lists.specs.Lists.{IsIn}
 use Rattle.cp_lists.proofs.Items.{at_place}
 use Rattle.cp_model.specs.Strand.{Role}
-use Rattle.cp_model.specs.Problem.{IsPointOfView}
+use Rattle.cp_model.specs.PointOfView.{IsPointOfView}
 use Rattle.cp_model.specs.Tree.{Limits, Label, Tree, IsTrueOf}
-use Rattle.cp_skel.specs.Sound.{DeclaresItsVariables}
+use Rattle.cp_strand.specs.Declares.{DeclaresItsVariables}
 use Rattle.cp_tree.specs.Searched.{IsTreeOf}
 use Rattle.cp_language.specs.Problems.{Problem}
 use Rattle.cp_language.specs.Report.{HasItsVariables}
-use Rattle.cp_report.specs.Fitting.{TreeFits}
+use Rattle.cp_report.specs.FittingTrees.{TreeFits}
 use Rattle.cp_legible.proofs.LabelPatterns.{label_patterns}
 use Rattle.cp_legible.proofs.LabelPlaces.{label_placed, label_children}
 use Rattle.cp_legible.proofs.ProblemMaps.{maps_all}

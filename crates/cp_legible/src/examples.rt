@@ -6,7 +6,7 @@ ghost use Rattle.cp_roots.specs.Roots.{AreRoots};
 ghost use Rattle.cp_tree.specs.Example.{heard_root, heard_tree, one_step_limits};
 ghost use Rattle.cp_tree.specs.Searched.{IsTreeOf};
 ghost use Rattle.cp_language.specs.Report.{HasItsVariables};
-ghost use Rattle.cp_report.specs.Fitting.{TreeFits};
+ghost use Rattle.cp_report.specs.FittingTrees.{TreeFits};
 ghost use Rattle.cp_legible.specs.Example.{heard_problem};
 
 use cp_tree::heard_encryption_has_a_tree;

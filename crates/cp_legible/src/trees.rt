@@ -2,13 +2,13 @@
 ghost use Rattle.std.specs.Prelude.{◌<◌, ◌^◌, length};
 ghost use Rattle.cp_lists.specs.Lists.{IsIn};
 ghost use Rattle.cp_model.specs.Strand.{Role};
-ghost use Rattle.cp_model.specs.Problem.{IsPointOfView};
+ghost use Rattle.cp_model.specs.PointOfView.{IsPointOfView};
 ghost use Rattle.cp_model.specs.Tree.{Limits, Label, Tree, IsTrueOf};
-ghost use Rattle.cp_skel.specs.Sound.{DeclaresItsVariables};
+ghost use Rattle.cp_strand.specs.Declares.{DeclaresItsVariables};
 ghost use Rattle.cp_tree.specs.Searched.{IsTreeOf};
 ghost use Rattle.cp_language.specs.Problems.{Problem};
 ghost use Rattle.cp_language.specs.Report.{HasItsVariables};
-ghost use Rattle.cp_report.specs.Fitting.{TreeFits};
+ghost use Rattle.cp_report.specs.FittingTrees.{TreeFits};
 
 /// The tree that a search makes for a problem can be stated in a report. The problem maps to itself, over roles that declare their
 /// variables; the tree is true of it; and each label has its variables, fewer than 2^64 of them. Then each label is a skeleton over

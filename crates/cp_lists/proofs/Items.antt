@@ -1,5 +1,5 @@
 -- What stands at the places of a list, and of lists that are made of others.
-use Rattle.std.proofs.Common.{◌≡◌, ◌≢◌, ◌⊎◌, inl, inr, ◌∙◌, ℕ, zero, suc, ◌+◌, ◌<◌, ◌≤◌, List, [], ◌∷◌, ◌++◌, Option, Some, None, map, length, get_or, slice_get, set, take, drop, refl, sym, ap, subst, arith}
+use Rattle.std.proofs.Common.{◌≡◌, ◌≢◌, ◌⊎◌, inl, inr, ◌∙◌, ℕ, zero, suc, ◌+◌, ◌<◌, ◌≤◌, List, [], ◌∷◌, ◌++◌, Option, Some, None, option_map, map, length, get_or, slice_get, set, take, drop, refl, sym, ap, subst, arith}
 use Rattle.cp_lists.specs.Lists.{item_at, IsIn, here, there}
 
 -- ---- places and items
@@ -48,7 +48,15 @@ item_of_read [] i x l e = absurd (omega (arith, l))
 item_of_read (y ∷ xs) zero x l e = ap Some (sym e)
 item_of_read (y ∷ xs) (suc i) x l e = item_of_read xs i x (omega (arith, l)) e
 
+pub same_item : {A : Type 0} (xs : List A) (i j : ℕ) (x y : A) → i ≡ j → item_at xs i ≡ Some x → item_at xs j ≡ Some y → x ≡ y
+same_item xs i j x y e f g = let at : item_at xs i ≡ item_at xs j = ap (item_at xs) e in cc
+
 -- ---- what is made of each item
+
+pub mapped_item : {A B : Type 0} (f : A → B) (xs : List A) (i : ℕ) → item_at (map f xs) i ≡ option_map f (item_at xs i)
+mapped_item f [] i = refl
+mapped_item f (x ∷ xs) zero = refl
+mapped_item f (x ∷ xs) (suc i) = mapped_item f xs i
 
 pub map_of_item : {A B : Type 0} (f : A → B) (xs : List A) (i : ℕ) (x : A) → item_at xs i ≡ Some x → item_at (map f xs) i ≡ Some (f x)
 map_of_item f [] i x e = absurd (cc)
@@ -77,6 +85,12 @@ take_of_item (suc n) [] i x l e = e
 take_of_item (suc n) (y ∷ xs) zero x l e = e
 take_of_item (suc n) (y ∷ xs) (suc i) x l e = take_of_item n xs i x (omega (arith, l)) e
 
+-- One item more is taken.
+pub take_to_item : {A : Type 0} (xs : List A) (i : ℕ) (x : A) → item_at xs i ≡ Some x → take (suc i) xs ≡ take i xs ++ x ∷ []
+take_to_item [] i x e = absurd (cc)
+take_to_item (y ∷ xs) zero x e = let s : y ≡ x = cc in ap (λ z. z ∷ []) s
+take_to_item (y ∷ xs) (suc i) x e = ap (λ ys. y ∷ ys) (take_to_item xs i x e)
+
 pub item_of_drop : {A : Type 0} (n : ℕ) (xs : List A) (i : ℕ) → item_at (drop n xs) i ≡ item_at xs (n + i)
 item_of_drop zero xs i = let e : 0 + i ≡ i = omega arith in ap (item_at xs) (sym e)
 item_of_drop (suc n) [] i = refl
@@ -98,6 +112,10 @@ pub item_in_front : {A : Type 0} (xs ys : List A) (i : ℕ) → i < length xs �
 item_in_front [] ys i l = absurd (omega (arith, l))
 item_in_front (x ∷ xs) ys zero l = refl
 item_in_front (x ∷ xs) ys (suc i) l = item_in_front xs ys i (omega (arith, l))
+
+pub item_behind : {A : Type 0} (xs ys : List A) (i : ℕ) → item_at (xs ++ ys) (length xs + i) ≡ item_at ys i
+item_behind [] ys i = let e : 0 + i ≡ i = omega arith in ap (item_at ys) e
+item_behind (x ∷ xs) ys i = let e : suc (length xs) + i ≡ suc (length xs + i) = omega arith in ap (item_at (x ∷ (xs ++ ys))) e ∙ item_behind xs ys i
 
 pub item_last : {A : Type 0} (xs : List A) (y : A) → item_at (xs ++ y ∷ []) (length xs) ≡ Some y
 item_last [] y = refl

@@ -11,6 +11,9 @@ use Rattle.cp_lists.specs.Lists.{IsIn, here, there}
 pub not_in_none : {A : Type 0} {x : A} → IsIn x [] → ⊥
 not_in_none h = elim h [ ]
 
+pub none_in_empty : {A : Type 0} {x : A} {xs : List A} → xs ≡ [] → IsIn x xs → ⊥
+none_in_empty {x = x} e h = not_in_none (subst (IsIn x) e h)
+
 pub only_item : {A : Type 0} {x y : A} → IsIn x (y ∷ []) → x ≡ y
 only_item here = refl
 only_item (there h) = elim h [ ]
@@ -41,6 +44,11 @@ in_append_left ys (there h) = there (in_append_left ys h)
 pub in_append_right : {A : Type 0} {x : A} (xs : List A) {ys : List A} → IsIn x ys → IsIn x (xs ++ ys)
 in_append_right [] h = h
 in_append_right (y ∷ xs) h = there (in_append_right xs h)
+
+-- What is in one of two lists is in the first with a list behind that has what is in the second.
+pub in_longer : {A : Type 0} {x : A} {xs ys zs : List A} → IsIn x xs ⊎ IsIn x ys → (IsIn x ys → IsIn x zs) → IsIn x (xs ++ zs)
+in_longer {zs = zs} (inl h) f = in_append_left zs h
+in_longer {xs = xs} (inr h) f = in_append_right xs (f h)
 
 one_further : {A : Type 0} {x y : A} {xs : List A} {P : Type 0} → IsIn x xs ⊎ P → IsIn x (y ∷ xs) ⊎ P
 one_further (inl h) = inl (there h)
@@ -95,14 +103,19 @@ from_map f [] h = elim h [ ]
 
 -- ---- what is kept of a list
 
+-- An item that is put in front where a test is true.
+pub in_if_here : {A : Type 0} (b : Bool) (y : A) (ys : List A) → b ≡ true → IsIn y (if b then y ∷ ys else ys)
+in_if_here true y ys e = here
+in_if_here false y ys e = absurd (cc)
+
+pub in_if_behind : {A : Type 0} (b : Bool) (z y : A) (ys : List A) → IsIn y ys → IsIn y (if b then z ∷ ys else ys)
+in_if_behind true z y ys h = there h
+in_if_behind false z y ys h = h
+
 pub into_filter : {A : Type 0} (p : A → Bool) (xs : List A) {x : A} → IsIn x xs → p x ≡ true → IsIn x (filter p xs)
 into_filter p [] h e = elim h [ ]
-into_filter p (x ∷ xs) here e = subst (λ b. IsIn x (if b then x ∷ filter p xs else filter p xs)) (sym e) here
-into_filter p (y ∷ xs) {x} (there h) e = of (p y) (into_filter p xs h e)
-  where
-    of : (b : Bool) → IsIn x (filter p xs) → IsIn x (if b then y ∷ filter p xs else filter p xs)
-    of true i = there i
-    of false i = i
+into_filter p (x ∷ xs) here e = in_if_here (p x) x (filter p xs) e
+into_filter p (y ∷ xs) {x} (there h) e = in_if_behind (p y) y x (filter p xs) (into_filter p xs h e)
 
 kept_first : {A : Type 0} (p : A → Bool) (xs : List A) (y : A) {x : A} → p y ≡ true → (IsIn x (filter p xs) → IsIn x xs × (p x ≡ true)) → IsIn x (y ∷ filter p xs) → IsIn x (y ∷ xs) × (p x ≡ true)
 kept_first p xs y e rest here = (here, e)

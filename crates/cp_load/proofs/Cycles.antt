@@ -1,14 +1,15 @@
 -- The faults of pairs, part by part.
 use Rattle.std.proofs.Common.{◌≡◌, ℕ, ◌+◌, ◌-◌, ◌<◌, ◌≤◌, List, [], ◌∷◌, ◌++◌, length, get_or, map, take, drop, Bool, true, false, ◌&&◌, ◌||◌, refl, sym, ap, ◌∙◌, subst, arith}
-use Rattle.std.specs.Prelude.{◌↔◌, ◌==◌, Option, None, is_none, nat_le}
+use Rattle.std.specs.Prelude.{◌↔◌, ◌==◌, Option, Some, None, is_none, nat_le, if◌then◌else◌}
 use Rattle.std.proofs.lemmas.Bool.{cond-false}
 use Rattle.std.proofs.lemmas.Bool.Decides.{nat_tests}
 use Rattle.std.proofs.lemmas.List.{take_all, append_assoc}
 use Rattle.cp_lists.proofs.Members.{drop_read}
 use Rattle.cp_base.specs.declared.place.Place.{Place}
-use Rattle.cp_base.specs.declared.place.Code.TheVariants.{BadShape}
+use Rattle.cp_base.specs.declared.place.Code.{Code}
+use Rattle.cp_base.specs.declared.place.Code.TheVariants.{BadShape, BadNode, CyclicOrder}
 use Rattle.cp_base.specs.declared.place.Refusal.{Refusal}
-use Rattle.cp_model.specs.Skeleton.{SkeletonStrand}
+use Rattle.cp_model.specs.Skeleton.{SkeletonStrand, term_event_at}
 use Rattle.cp_model.specs.declared.node.OrderPair.{OrderPair}
 use Rattle.cp_lists.specs.Lists.{IsIn, here, there}
 use Rattle.cp_model.specs.declared.node.Node.{Node}
@@ -16,15 +17,17 @@ use Rattle.cp_model.specs.Order.{IsAtOrAfter, LeadsTo, on_strand, over_pair}
 use Rattle.cp_sexpr.specs.Syntax.{Form}
 use Rattle.cp_sexpr.specs.View.{view}
 use Rattle.cp_sexpr.specs.declared.form.Form as program
-use Rattle.cp_language.specs.Faults.{fault, comes_before}
+use Rattle.cp_language.specs.Faults.{fault, fault_unless, place_of}
+use Rattle.cp_language.specs.FirstFault.{comes_before}
 use Rattle.cp_language.specs.Roles.{unless_faulty, list_items}
 use Rattle.cp_language.specs.Terms.{exceeds}
-use Rattle.cp_language.specs.Problems.{on_one_strand, at_or_after, any_pair, reaches, closes_cycle, node_of, node_faults, pair_of_nodes, order_faults, pair_items_faults, pair_faults, pair_of, pairs_in, pairs_faults}
-use Rattle.cp_language.proofs.Reaching.{reaches_all}
-use Rattle.cp_order.specs.Leading.{Target}
+use Rattle.cp_language.specs.Problems.{on_one_strand, at_or_after, any_pair, reaches, closes_cycle, node_of, node_faults, pair_of_nodes, is_transmission, is_reception, direction_faults, order_faults, pair_items_faults, pair_faults, pair_of, pairs_in, pairs_faults}
+use Rattle.cp_language.proofs.BoundedSearch.{reaches_all}
+use Rattle.cp_order.specs.LeadingNodes.{Target}
 use Rattle.cp_forms.proofs.FirstOf as first
-use Rattle.cp_forms.specs.FirstFault.{first_onto, merged}
-use Rattle.cp_forms.proofs.Firsts.{first_onto-append, first_then_four, merged-unless}
+use Rattle.cp_forms.specs.FirstFault.{first_onto, merged, stands_before}
+use Rattle.cp_forms.proofs.Firsts.{first_onto-append, none_found, first_then_four, merged-unless}
+use Rattle.cp_load.specs.Behind.{is_behind_fault}
 
 -- ---- cycles
 
@@ -86,15 +89,60 @@ no-way-to before p other none = no_way before p other (stays_before before p.lat
 
 -- ---- nodes, or else their order
 
-module _ (o m i j k : Option Refusal) (b : Bool) (ns rs others : List Refusal) (found : m ≡ first_onto None ns) (second : i ≡ first_onto m rs) (test : b ≡ is_none i) (whole : k ≡ merged o j) where
+no_fault : (i : Option Refusal) → is_none i ≡ true → i ≡ None
+no_fault None h = refl
+no_fault (Some r) h = absurd (cc)
+
+module _ (o m i k : Option Refusal) (b : Bool) (ns rs others : List Refusal) (found : m ≡ first_onto None ns) (second : i ≡ first_onto m rs) (test : b ≡ is_none i) where
   both : i ≡ first_onto None (ns ++ rs)
   both = second ∙ ap (λ x. first_onto x rs) found ∙ sym (first_onto-append None ns rs)
 
-  pub nodes-there : b ≡ true → j ≡ first_onto i others → k ≡ first_onto o (unless_faulty (ns ++ rs) others)
-  nodes-there h e = merged-unless o i j k (ns ++ rs) others both (first.onto_none-there comes_before i j others (sym test ∙ h) e) whole
+  pub nodes-there : b ≡ true → k ≡ first_onto o others → k ≡ first_onto o (unless_faulty (ns ++ rs) others)
+  nodes-there h e = e ∙ sym (ap (λ fs. first_onto o (unless_faulty fs others)) (none_found (ns ++ rs) (sym both ∙ no_fault i (sym test ∙ h))))
 
-  pub nodes-faulty : b ≡ false → j ≡ i → k ≡ first_onto o (unless_faulty (ns ++ rs) others)
-  nodes-faulty h e = merged-unless o i j k (ns ++ rs) others both (first.onto_none-not comes_before i j others (sym test ∙ h) e) whole
+  pub nodes-faulty : b ≡ false → k ≡ merged o i → k ≡ first_onto o (unless_faulty (ns ++ rs) others)
+  nodes-faulty h e = merged-unless o i i k (ns ++ rs) others both (first.onto_none-not comes_before i i others (sym test ∙ h) refl) e
+
+-- ---- behind a fault
+
+two_true : (b c : Bool) → (b && c) ≡ true → (b ≡ true) × (c ≡ true)
+two_true true c h = (refl, h)
+two_true false c h = absurd (cc)
+
+unless_changed : (o : Option Refusal) (b : Bool) (at : Place) (code : Code) → stands_before o (record { place = at; code = code }) ≡ true → o ≡ first_onto o (fault_unless b at code)
+unless_changed o true at code h = refl
+unless_changed o false at code h = first.none_changed comes_before o (record { place = at; code = code }) h
+
+-- no fault of the order of a pair is the first then
+pub behind-fault : (o : Option Refusal) (strands : List SkeletonStrand) (before : List OrderPair) (at : Place) (f g : Form) (p : Option OrderPair) → is_behind_fault o at f g ≡ true
+    → o ≡ first_onto o (order_faults strands before at f g p)
+behind-fault o strands before at f g None h = refl
+behind-fault o strands before at f g (Some p) h = by_cycle (closes_cycle before p)
+  where
+    cyclic : Refusal
+    cyclic = record { place = at; code = CyclicOrder }
+
+    at_first : Refusal
+    at_first = record { place = place_of f; code = BadNode }
+
+    at_second : Refusal
+    at_second = record { place = place_of g; code = BadNode }
+
+    all : ((stands_before o cyclic && stands_before o at_first) ≡ true) × (stands_before o at_second ≡ true)
+    all = two_true (stands_before o cyclic && stands_before o at_first) (stands_before o at_second) h
+
+    front : (stands_before o cyclic ≡ true) × (stands_before o at_first ≡ true)
+    front = two_true (stands_before o cyclic) (stands_before o at_first) all.0
+
+    by_strand : (b : Bool) (c d : Bool) → o ≡ first_onto o (if b then [] else fault_unless c (place_of f) BadNode ++ fault_unless d (place_of g) BadNode)
+    by_strand true c d = refl
+    by_strand false c d =
+        unless_changed o d (place_of g) BadNode all.1 ∙ ap (λ x. first_onto x (fault_unless d (place_of g) BadNode)) (unless_changed o c (place_of f) BadNode front.1)
+        ∙ sym (first_onto-append o (fault_unless c (place_of f) BadNode) (fault_unless d (place_of g) BadNode))
+
+    by_cycle : (b : Bool) → o ≡ first_onto o (if b then fault at CyclicOrder else direction_faults strands f g p)
+    by_cycle true = first.none_changed comes_before o cyclic front.0
+    by_cycle false = by_strand (on_one_strand p) (is_transmission (term_event_at strands p.earlier)) (is_reception (term_event_at strands p.later))
 
 -- ---- one pair
 

@@ -1,50 +1,87 @@
 -- Pairs that have no cycle.
-use Rattle.std.proofs.Common.{◌≡◌, ◌⊎◌, inl, inr, ℕ, zero, suc, ◌+◌, ◌<◌, ◌≤◌, List, [], ◌∷◌, ◌++◌, length, get_or, map, drop, Bool, true, false, ◌||◌, if◌then◌else◌, refl, sym, ap, ◌∙◌, subst, arith}
-use Rattle.std.specs.Prelude.{Some, nat_le}
+use Rattle.std.proofs.Common.{◌≡◌, ◌⊎◌, inl, inr, ℕ, zero, suc, ◌+◌, ◌<◌, ◌≤◌, List, [], ◌∷◌, ◌++◌, length, get_or, map, take, drop, Bool, true, false, ◌||◌, if◌then◌else◌, length-append, refl, sym, ap, ◌∙◌, subst, arith}
+use Rattle.std.specs.Prelude.{Option, None, Some, nat_le, nat_lt}
 use Rattle.std.specs.List.Sorted.{IsPermutation}
-use Rattle.std.proofs.lemmas.Bool.{cond-false}
-use Rattle.std.proofs.lemmas.List.{append-nil, drop_all, append_assoc}
+use Rattle.std.proofs.lemmas.Bool.{cond-false, ltb-true}
+use Rattle.std.proofs.lemmas.List.{append-nil, drop_all, append_assoc, get_or_default}
 use Rattle.cp_lists.proofs.Permuted.{in_permuted}
 use Rattle.cp_lists.proofs.Members.{drop_read, in_append_left, in_append_right, from_map, into_map}
 use Rattle.cp_lists.specs.Lists.{IsIn, here, there}
 use Rattle.cp_model.specs.declared.node.Node.{Node}
 use Rattle.cp_model.specs.declared.node.OrderPair.{OrderPair}
 use Rattle.cp_model.specs.Order.{IsAtOrAfter, LeadsTo, on_strand, over_pair}
+use Rattle.cp_sexpr.specs.Syntax.{Form}
 use Rattle.cp_sexpr.specs.View.{view}
 use Rattle.cp_sexpr.specs.declared.form.Form as program
-use Rattle.cp_language.specs.Problems.{on_one_strand, at_or_after, any_pair, reaches, closes_cycle, node_of, pair_of_nodes, pair_of, pairs_in, between_strands}
-use Rattle.cp_language.proofs.Reaching.{reaches_all}
-use Rattle.cp_order.specs.Leading.{Tops, is_below}
-use Rattle.cp_load.specs.Acyclic.{IsAcyclic, IsAcyclicIf, IsSwept, pair_in, pairs_under, pairs_stated}
+use Rattle.cp_language.specs.Problems.{on_one_strand, at_or_after, any_pair, reaches, closes_cycle, node_of, pair_of_nodes, option_node, first_form, second_form, pair_of, pairs_in, between_strands}
+use Rattle.cp_language.specs.Roles.{list_items}
+use Rattle.cp_language.proofs.BoundedSearch.{reaches_all}
+use Rattle.cp_order.specs.LeadingNodes.{Tops, is_below}
+use Rattle.cp_order.proofs.AlongPairs.{leads_within_more}
+use Rattle.cp_load.specs.Acyclic.{IsAcyclic, IsAcyclicIf, IsAcyclicUpTo, IsSwept, pair_in, pairs_under, pairs_stated}
 use Rattle.cp_load.proofs.Cycles.{same_bool, none_in, not_after, stays_behind}
 
 -- ---- some of the pairs
 
-leads_within : (ps qs : List OrderPair) (x y : Node) → ((p : OrderPair) → IsIn p ps → IsIn p qs) → LeadsTo ps x y → LeadsTo qs x y
-leads_within ps qs x y f (on_strand a) = on_strand a
-leads_within ps qs x y f (over_pair {p} m a l) = over_pair (f p m) a (leads_within ps qs p.later y f l)
-
 some_acyclic : (ps qs : List OrderPair) → ((p : OrderPair) → IsIn p ps → IsIn p qs) → IsAcyclic qs → IsAcyclic ps
-some_acyclic ps qs f h p m l = h p (f p m) (leads_within ps qs p.later p.earlier f l)
+some_acyclic ps qs f h p m l = h p (f p m) (leads_within_more ps qs f p.later p.earlier l)
 
 pub acyclic-within : (b : Bool) (ps qs : List OrderPair) → ((p : OrderPair) → IsIn p ps → IsIn p qs) → IsAcyclicIf b qs → IsAcyclicIf b ps
 acyclic-within b ps qs f h e = some_acyclic ps qs f (h e)
 
--- the first of the pairs that are left, behind those before
-front_acyclic : (b : Bool) (ps qs rs whole : List OrderPair) → (ps ++ qs) ++ rs ≡ whole → IsAcyclicIf b whole → IsAcyclicIf b (ps ++ qs)
-front_acyclic b ps qs rs whole e = acyclic-within b (ps ++ qs) whole (λ p m. subst (IsIn p) e (in_append_left rs m))
+-- ---- the first so many of the pairs
+
+in_longer : {A : Type 0} {x : A} (n : ℕ) (xs ys : List A) → IsIn x (take n xs) → IsIn x (take n (xs ++ ys))
+in_longer zero xs ys m = elim m [ ]
+in_longer (suc n) [] ys m = elim m [ ]
+in_longer (suc n) (y ∷ xs) ys here = here
+in_longer (suc n) (y ∷ xs) ys (there m) = there (in_longer n xs ys m)
+
+in_front : {A : Type 0} {x : A} (n : ℕ) (xs ys : List A) → length xs ≤ n → IsIn x xs → IsIn x (take n (xs ++ ys))
+in_front n [] ys h m = elim m [ ]
+in_front zero (y ∷ xs) ys h m = absurd (omega (arith, h))
+in_front (suc n) (y ∷ xs) ys h here = here
+in_front (suc n) (y ∷ xs) ys h (there m) = there (in_front n xs ys (omega (arith, h)) m)
+
+front_up_to : (n : ℕ) (ps rs whole : List OrderPair) → ps ++ rs ≡ whole → IsAcyclicUpTo n whole → IsAcyclicUpTo n ps
+front_up_to n ps rs whole e = some_acyclic (take n ps) (take n whole) (λ p m. subst (λ qs. IsIn p (take n qs)) e (in_longer n ps rs m))
+
+front_acyclic : (n : ℕ) (ps rs whole : List OrderPair) → length ps ≤ n → ps ++ rs ≡ whole → IsAcyclicUpTo n whole → IsAcyclic ps
+front_acyclic n ps rs whole h e = some_acyclic ps (take n whole) (λ p m. subst (λ qs. IsIn p (take n qs)) e (in_front n ps rs h m))
+
+one_at_most : (o : Option OrderPair) → length (between_strands o) ≤ 1
+one_at_most None = omega arith
+one_at_most (Some p) = by_test (on_one_strand p)
+  where
+    by_test : (b : Bool) → length (if b then [] else p ∷ []) ≤ 1
+    by_test true = omega arith
+    by_test false = omega arith
+
+one_more_at_most : (before : List OrderPair) (f : Form) (n : ℕ) (b : Bool) → b ≡ nat_lt (length before) n → b ≡ true → length (before ++ pair_of f) ≤ n
+one_more_at_most before f n b is e =
+    let one = one_at_most (pair_of_nodes (option_node (first_form (list_items f))) (option_node (second_form (list_items f)))) in
+    let below : length before < n = ltb-true (length before) n (sym is ∙ e) in
+    omega (arith, one, below, length-append {A = OrderPair})
 
 module _ (items : List program.Form) (k : ℕ) (f : program.Form) (lt : k < length items) (is : f ≡ get_or items k f) (before whole : List OrderPair) where
+  left_over : before ++ pairs_in (map view (drop k items)) ≡ whole → (before ++ pair_of (view f)) ++ pairs_in (map view (drop (k + 1) items)) ≡ whole
+  left_over h = append_assoc before (pair_of (view f)) (pairs_in (map view (drop (k + 1) items))) ∙ sym (ap (λ gs. before ++ pairs_in (map view gs)) (drop_read items k f lt is)) ∙ h
+
+  -- the first of the pairs that are left, behind those before, where all have no cycle
   pub first-pair : (b : Bool) → before ++ pairs_in (map view (drop k items)) ≡ whole → IsAcyclicIf b whole → IsAcyclicIf b (before ++ pair_of (view f))
   first-pair b h =
-      let rest = pairs_in (map view (drop (k + 1) items)) in
-      front_acyclic b before (pair_of (view f)) rest whole (append_assoc before (pair_of (view f)) rest ∙ sym (ap (λ gs. before ++ pairs_in (map view gs)) (drop_read items k f lt is)) ∙ h)
+      acyclic-within b (before ++ pair_of (view f)) whole (λ p m. subst (IsIn p) (left_over h) (in_append_left (pairs_in (map view (drop (k + 1) items))) m))
+
+  -- the same, where the first so many have none
+  pub counted-pair : (n : ℕ) (b : Bool) → b ≡ nat_lt (length before) n → before ++ pairs_in (map view (drop k items)) ≡ whole → IsAcyclicUpTo n whole → IsAcyclicIf b (before ++ pair_of (view f))
+  counted-pair n b below h a e =
+      front_acyclic n (before ++ pair_of (view f)) (pairs_in (map view (drop (k + 1) items))) whole (one_more_at_most before (view f) n b below e) (left_over h) a
 
   split : before ++ pairs_stated (map view (drop k items)) ≡ whole → (before ++ pairs_under (view f)) ++ pairs_stated (map view (drop (k + 1) items)) ≡ whole
   split h = append_assoc before (pairs_under (view f)) (pairs_stated (map view (drop (k + 1) items))) ∙ sym (ap (λ gs. before ++ pairs_stated (map view gs)) (drop_read items k f lt is)) ∙ h
 
-  pub first-item : (b : Bool) → before ++ pairs_stated (map view (drop k items)) ≡ whole → IsAcyclicIf b whole → IsAcyclicIf b (before ++ pairs_under (view f))
-  first-item b h = front_acyclic b before (pairs_under (view f)) (pairs_stated (map view (drop (k + 1) items))) whole (split h)
+  pub first-item : (n : ℕ) → before ++ pairs_stated (map view (drop k items)) ≡ whole → IsAcyclicUpTo n whole → IsAcyclicUpTo n (before ++ pairs_under (view f))
+  first-item n h = front_up_to n (before ++ pairs_under (view f)) (pairs_stated (map view (drop (k + 1) items))) whole (split h)
 
   pub items-stated : (after : List OrderPair) → after ≡ before ++ pairs_under (view f) → before ++ pairs_stated (map view (drop k items)) ≡ whole → after ++ pairs_stated (map view (drop (k + 1) items)) ≡ whole
   items-stated after e h = ap (λ ps. ps ++ pairs_stated (map view (drop (k + 1) items))) e ∙ split h
@@ -61,7 +98,7 @@ pub known-acyclic : (before : List OrderPair) (p : OrderPair) (b : Bool) → on_
 known-acyclic before p b other e h =
     let all : IsAcyclicIf b (before ++ p ∷ []) = subst (λ c. IsAcyclicIf b (before ++ (if c then [] else p ∷ []))) other h in
     same_bool false (reaches (length before) before p.later p.earlier) (λ e. absurd (cc))
-    (λ r. absurd (all e p (in_append_right before here) (leads_within before (before ++ p ∷ []) p.later p.earlier (λ q m. in_append_left (p ∷ []) m) ((reaches_all before p.later p.earlier).0 r))))
+    (λ r. absurd (all e p (in_append_right before here) (leads_within_more before (before ++ p ∷ []) (λ q m. in_append_left (p ∷ []) m) p.later p.earlier ((reaches_all before p.later p.earlier).0 r))))
     ∙ sym (cond-false (on_one_strand p) (nat_le p.later.index p.earlier.index) (reaches (length before) before p.later p.earlier) other)
 
 -- the pair of the first two items
@@ -127,17 +164,12 @@ module _ (all rest more done : List OrderPair) (old new : Tops) (p : OrderPair) 
     ];
   }
 
-same_item : {A : Type 0} (xs : List A) (k : ℕ) (d e : A) → k < length xs → get_or xs k d ≡ get_or xs k e
-same_item [] k d e h = absurd (omega arith)
-same_item (x ∷ xs) zero d e h = refl
-same_item (x ∷ xs) (suc k) d e h = same_item xs k d e (omega (arith, h))
-
 pub swept-step : {A : Type 0} (f : A → OrderPair) (xs : List A) (k : ℕ) (d : A) (old new : Tops) → k < length xs → (done : List OrderPair) × IsSwept (map f xs) (map f (drop k xs)) done old
     → ((x : Node) → is_below new x ≡ (is_below old x || at_or_after x (f (get_or xs k d)).earlier)) → is_below new (f (get_or xs k d)).later ≡ false
     → (done : List OrderPair) × IsSwept (map f xs) (map f (drop (k + 1) xs)) done new
 swept-step f xs k d old new h s raised e =
     let x = get_or xs k d in
-    (f x ∷ s.0, swept-next (map f xs) (map f (drop k xs)) (map f (drop (k + 1) xs)) s.0 old new (f x) (ap (map f) (drop_read xs k x h (same_item xs k d x h))) s.1 raised e)
+    (f x ∷ s.0, swept-next (map f xs) (map f (drop k xs)) (map f (drop (k + 1) xs)) s.0 old new (f x) (ap (map f) (drop_read xs k x h (get_or_default xs k d x h))) s.1 raised e)
 
 done_or_none : {A : Type 0} {x : A} (done : List A) → IsIn x done ⊎ IsIn x [] → IsIn x done
 done_or_none done (inl m) = m

@@ -1,7 +1,7 @@
 -- Where the forms have no faults, the skeletons of the drafts are sound.
-use Rattle.std.proofs.Common.{◌≡◌, ℕ, zero, suc, ◌<◌, List, [], ◌∷◌, length, get_or, map, ◌⊎◌, inl, inr, refl, sym, subst, arith}
+use Rattle.std.proofs.Common.{◌≡◌, ℕ, ◌<◌, List, [], ◌∷◌, length, get_or, map, inl, inr, sym, subst}
 use Rattle.std.specs.Prelude.{Option, Some, option_map}
-use Rattle.cp_lists.proofs.Members.{into_map}
+use Rattle.cp_lists.proofs.Members.{into_map, in_cases, item_is_in}
 use Rattle.cp_lists.specs.Lists.{IsIn, here, there}
 use Rattle.cp_model.proofs.StatedItself.{keeps_its_own}
 use Rattle.cp_sexpr.specs.View.{view, views}
@@ -13,15 +13,11 @@ use Rattle.cp_wellformed.proofs.Problems.{are_skeletons, map_to_themselves, role
 use Rattle.cp_load.specs.Drafts.{draft_view, HaveSoundSkeletons, IsSoundIfThere}
 use Rattle.cp_load.specs.declared.drafts.Draft.{Draft}
 
-in_next : {A : Type 0} (x y : A) (xs : List A) → IsIn x (y ∷ xs) → (y ≡ x) ⊎ IsIn x xs
-in_next x _ xs here = inl refl
-in_next x y xs (there m) = inr m
-
 -- the entry whose problem this is
 entry_of : (es : List Entry) (p : Problem) → IsIn (Some p) (map (λ e. e.problem) es) → (e : Entry) × IsIn e es × (e.problem ≡ Some p)
 entry_of [] p m = elim m [ ]
 entry_of (e ∷ es) p m =
-    elim (in_next (Some p) e.problem (map (λ d. d.problem) es) m) [
+    elim (in_cases m) [
       | inl is ↦ (e, here, is)
       | inr rest ↦ let r = entry_of es p rest in (r.0, there r.1, r.2)
     ]
@@ -45,9 +41,4 @@ drafts_sound fs ds none same d m =
 
 -- one of the drafts
 pub one_sound : (ds : List (Option Draft)) (i : ℕ) (o : Option Draft) → HaveSoundSkeletons ds → i < length ds → o ≡ get_or ds i o → IsSoundIfThere o
-one_sound ds i o sound lt is d e = sound d (subst (λ x. IsIn x ds) e (listed ds i o lt is))
-  where
-    listed : (xs : List (Option Draft)) (k : ℕ) (x : Option Draft) → k < length xs → x ≡ get_or xs k x → IsIn x xs
-    listed [] k x lt is = absurd (omega arith)
-    listed (y ∷ xs) zero x lt is = subst (λ z. IsIn x (z ∷ xs)) is here
-    listed (y ∷ xs) (suc k) x lt is = there (listed xs k x (omega arith) is)
+one_sound ds i o sound lt is d e = sound d (subst (λ x. IsIn x ds) e (item_is_in ds i o lt is))

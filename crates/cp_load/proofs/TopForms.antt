@@ -1,7 +1,7 @@
 -- The forms of the input, one after another.
 use Rattle.std.proofs.Common.{◌≡◌, ℕ, suc, ◌+◌, ◌<◌, ◌≤◌, ◌||◌, List, [], ◌∷◌, ◌++◌, length, get_or, map, drop, refl, sym, ap, ◌∙◌}
 use Rattle.std.specs.Prelude.{Option, Some, None, option_map, Ok, Err}
-use Rattle.std.proofs.lemmas.List.{drop_all, append_assoc, append-nil}
+use Rattle.std.proofs.lemmas.List.{drop_all, append_assoc, append-nil, length-map}
 use Rattle.cp_lists.proofs.Members.{drop_read}
 use Rattle.cp_base.specs.declared.place.Place.{Place}
 use Rattle.cp_base.specs.declared.place.Code.TheVariants.{DuplicateProtocol}
@@ -15,7 +15,8 @@ use Rattle.cp_language.specs.Words.{is_one_of, TopHead, protocol_form, problem_f
 use Rattle.cp_language.specs.Faults.{fault, place_of}
 use Rattle.cp_language.specs.Roles.{Headed, headed, algebra_faults, roles_faults, protocol_faults, protocol_of}
 use Rattle.cp_language.specs.Problems.{Problem}
-use Rattle.cp_language.specs.Input.{protocol_names, headed_top_faults, protocols_onto, protocols_behind, faults_from, stated_problem, Entry, entries_from, protocols_in, protocols_of, faults_of, IsInput}
+use Rattle.cp_language.specs.Input.{protocol_names, headed_top_faults, protocols_onto, protocols_behind, faults_from, stated_problem, Entry, entries_from, faults_of}
+use Rattle.cp_language.specs.StatedInput.{protocols_in, protocols_of, IsInput}
 use Rattle.cp_roles.specs.Above.{names_of_protocols, turned}
 use Rattle.cp_forms.specs.FirstFault.{first_onto}
 use Rattle.cp_load.specs.Drafts.{draft_view}
@@ -23,9 +24,9 @@ use Rattle.cp_load.specs.Inputs.{problem_view, entries_view}
 use Rattle.cp_load.specs.declared.drafts.Draft.{Draft}
 use Rattle.cp_load.specs.declared.input.Problem as loaded
 use Rattle.cp_forms.proofs.Firsts.{first_onto-append, first_found, none_found}
-use Rattle.cp_scope.proofs.Naming.{AreSameNames, names-swap}
+use Rattle.cp_scope.proofs.DeclaredIdentifiers.{AreSameNames, names-swap}
 use Rattle.cp_roles.proofs.RoleNames.{name-names}
-use Rattle.cp_roles.proofs.Standing.{turned-push}
+use Rattle.cp_roles.proofs.ProtocolNames.{turned-push}
 use Rattle.cp_forms.proofs.Views.{items_of-forms_of}
 
 -- ---- the names of protocols
@@ -68,10 +69,6 @@ problems_from above (f ∷ fs) = stated_problem above (headed f) ∷ problems_fr
 problems-length : (above : List Protocol) (fs : List Form) → length (problems_from above fs) ≡ length fs
 problems-length above [] = refl
 problems-length above (f ∷ fs) = ap suc (problems-length (protocols_behind (headed f) above) fs)
-
-mapped-length : {A B : Type 0} (f : A → B) (xs : List A) → length (map f xs) ≡ length xs
-mapped-length f [] = refl
-mapped-length f (x ∷ xs) = ap suc (mapped-length f xs)
 
 pub draft-pushed : (xs ys : List (Option Draft)) (d : Option Draft) → ys ≡ xs ++ d ∷ []
     → map (option_map draft_view) ys ≡ map (option_map draft_view) xs ++ option_map draft_view d ∷ []
@@ -131,8 +128,8 @@ module _ (fs : List program.Form) (k : ℕ) where
   pub counted : length fs ≤ k → (above : List Protocol) (ds : List (Option Draft))
       → map (option_map draft_view) ds ++ problems_from above (map view (drop k fs)) ≡ problems_from [] (map view fs) → length ds ≡ length fs
   counted h above ds i =
-      sym (mapped-length (option_map draft_view) ds) ∙ ap length (problems-done h above (map (option_map draft_view) ds) (problems_from [] (map view fs)) i)
-      ∙ problems-length [] (map view fs) ∙ mapped-length view fs
+      sym (length-map ds (option_map draft_view)) ∙ ap length (problems-done h above (map (option_map draft_view) ds) (problems_from [] (map view fs)) i)
+      ∙ problems-length [] (map view fs) ∙ length-map fs view
 
 -- ---- the problems of drafts
 

@@ -15,16 +15,13 @@ use Rattle.cp_strand.specs.View.{event_view}
 use Rattle.cp_strand.specs.declared.protocol.Event.{Event}
 use Rattle.cp_load.specs.Originations.{origin_on, originates, unique_at, place_if_sent}
 use Rattle.cp_model.proofs.Gathered.{onto-append, uniques}
+use Rattle.cp_model.proofs.LawEvents.{payload_map}
 use Rattle.cp_load.proofs.Origins.{origin_from, origin-first}
 
 -- ---- along an instance
 
 pub same_prefix : (es : List Event) (r role : strand.Role) (h height : ℕ) → map event_view es ≡ prefix_of r h → r ≡ role → h ≡ height → map event_view es ≡ prefix_of role height
 same_prefix es r role h height e f g = e ∙ ap (λ x. prefix_of x h) f ∙ ap (prefix_of role) g
-
-payload_mapped : (f : Term → Term) (e : strand.Event Term) → payload (event_map f e) ≡ f (payload e)
-payload_mapped f (send m) = refl
-payload_mapped f (recv m) = refl
 
 sent_mapped : (f : Term → Term) (e : strand.Event Term) (n : ℕ) → place_if_sent (event_map f e) n ≡ place_if_sent e n
 sent_mapped f (send m) n = refl
@@ -36,7 +33,7 @@ module _ (f : Term → Term) (v : Term) (es : List Event) (i : ℕ) where
   mapped-origin-at e b lt is g =
       let rest = map (event_map f) (map event_view (drop (i + 1) es)) in
       ap (λ us. origin_from v i (map (event_map f) (map event_view us))) (drop_read es i e lt is)
-      ∙ ap (λ t. if carries t v then place_if_sent (event_map f (event_view e)) i else origin_from v (suc i) rest) (payload_mapped f (event_view e))
+      ∙ ap (λ t. if carries t v then place_if_sent (event_map f (event_view e)) i else origin_from v (suc i) rest) (payload_map f (event_view e))
       ∙ ap (λ c. if c then place_if_sent (event_map f (event_view e)) i else origin_from v (suc i) rest) (sym g)
       ∙ ap (λ p. if b then p else origin_from v (suc i) rest) (sent_mapped f (event_view e) i)
       ∙ ap (λ k. if b then place_if_sent (event_view e) i else origin_from v k rest) (sym (add-one i))

@@ -1,5 +1,5 @@
 -- Pairs without a cycle.
-use Rattle.std.specs.Prelude.{◌≡◌, ◌⊎◌, List, [], ◌∷◌, ◌++◌, Bool, true}
+use Rattle.std.specs.Prelude.{◌≡◌, ◌⊎◌, ℕ, List, [], ◌∷◌, ◌++◌, take, Bool, true}
 use Rattle.cp_lists.specs.Lists.{IsIn}
 use Rattle.cp_model.specs.declared.node.Node.{Node}
 use Rattle.cp_model.specs.declared.node.OrderPair.{OrderPair}
@@ -7,7 +7,7 @@ use Rattle.cp_model.specs.Order.{LeadsTo}
 use Rattle.cp_sexpr.specs.Syntax.{Form}
 use Rattle.cp_language.specs.Roles.{headed, item_or_none, items_behind}
 use Rattle.cp_language.specs.Problems.{first_form, second_form, option_node, pair_of_nodes, between_strands, at_or_after, any_pair, is_precedes_item, pairs_if}
-use Rattle.cp_order.specs.Leading.{Tops, is_below}
+use Rattle.cp_order.specs.LeadingNodes.{Tops, is_below}
 
 -- No pair's later node leads to its earlier one.
 abbrev pub IsAcyclic : List OrderPair → Type 0
@@ -16,6 +16,10 @@ IsAcyclic ps = (p : OrderPair) → IsIn p ps → LeadsTo ps p.later p.earlier �
 -- Where the flag is set, the pairs have no cycle.
 abbrev pub IsAcyclicIf : Bool → List OrderPair → Type 0
 IsAcyclicIf b ps = b ≡ true → IsAcyclic ps
+
+-- The first so many of the pairs have no cycle.
+abbrev pub IsAcyclicUpTo : ℕ → List OrderPair → Type 0
+IsAcyclicUpTo n ps = IsAcyclic (take n ps)
 
 -- The pair that these items of a pair state, if it is between two strands.
 abbrev pub pair_in : List Form → List OrderPair

@@ -4,3 +4,4 @@ pub mod Drafts
 pub mod Stages
 pub mod Originations
 pub mod Acyclic
+pub mod Behind

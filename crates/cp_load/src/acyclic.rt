@@ -1,4 +1,4 @@
-// Whether the pairs of a problem have no cycle, seen at once for all of them.
+// Whether the pairs of a problem have no cycle, seen at once for all of them; and else for how many of them it was seen.
 ghost use Rattle.std.specs.Prelude.{◌≡◌, ◌++◌, ◌||◌, map, IfOk, OnOk};
 ghost use Rattle.cp_lists.specs.Lists.{IsIn};
 ghost use Rattle.cp_model.specs.Bundle as bundle;
@@ -6,12 +6,12 @@ ghost use Rattle.cp_model.specs.declared.node.Node.{Node};
 ghost use Rattle.cp_model.specs.Skeleton as model;
 ghost use Rattle.cp_model.specs.declared.node.OrderPair.{OrderPair};
 ghost use Rattle.cp_sexpr.specs.View.{view};
-ghost use Rattle.cp_model.specs.Order.{at_or_after};
-ghost use Rattle.cp_order.specs.Leading.{tops_of, is_below};
-ghost use Rattle.cp_load.specs.Acyclic.{IsAcyclicIf, pairs_under, pairs_stated};
+ghost use Rattle.cp_model.specs.OrderTests.{at_or_after};
+ghost use Rattle.cp_order.specs.LeadingNodes.{tops_of, is_below};
+ghost use Rattle.cp_load.specs.Acyclic.{IsAcyclicIf, IsAcyclicUpTo, pairs_under, pairs_stated};
 
 use crate::pairs::add_pairs;
-use crate::ranking::ranks_of;
+use crate::ranks::ranks_of;
 use cp_forms::{ItemHead, headed, item_head};
 use cp_sexpr::Form;
 use cp_skel::{Node, OrderPair};
@@ -84,6 +84,27 @@ pub fn have_no_cycle(alloc: Global, pairs: &[OrderPair]) -> Result<bool, AllocEr
     none_leads_back(alloc, &ranked)
 }
 
+/// How many of the pairs, from the first on, were seen to have no cycle: all, or else as many as are found by halving. No
+/// contract says that one more would close a cycle.
+fn count_without_cycle(alloc: Global, pairs: &[OrderPair]) -> Result<usize, AllocError>
+    ensures { IfOk result (λ n. IsAcyclicUpTo n pairs.now) }
+{
+    if have_no_cycle(alloc, pairs)? {
+        return Ok(pairs.len());
+    }
+    let mut known = 0;
+    let mut refused = pairs.len();
+    while known + 1 < refused {
+        let middle = known + (refused - known) / 2;
+        if have_no_cycle(alloc, &pairs[..middle])? {
+            known = middle;
+            continue;
+        }
+        refused = middle;
+    }
+    Ok(known)
+}
+
 /// Puts the pairs that an item of a problem states behind others.
 fn add_pairs_under(item: &Form, pairs: &mut Vec<OrderPair>) -> Result<(), AllocError>
     ensures { OnOk result (pairs.new.items ≡ pairs.old.items ++ pairs_under (view item.now)) }
@@ -97,13 +118,13 @@ fn add_pairs_under(item: &Form, pairs: &mut Vec<OrderPair>) -> Result<(), AllocE
     }
 }
 
-/// Whether it was seen that the pairs that these items of a problem state have no cycle.
-pub(crate) fn state_no_cycle(alloc: Global, items: &[Form]) -> Result<bool, AllocError>
-    ensures { IfOk result (λ b. IsAcyclicIf b (pairs_stated (map view items.now))) }
+/// How many of the pairs that these items of a problem state, from the first on, were seen to have no cycle.
+pub(crate) fn stated_without_cycle(alloc: Global, items: &[Form]) -> Result<usize, AllocError>
+    ensures { IfOk result (λ n. IsAcyclicUpTo n (pairs_stated (map view items.now))) }
 {
     let mut pairs = Vec::new(alloc);
     for item in items {
         add_pairs_under(item, &mut pairs)?;
     }
-    have_no_cycle(alloc, &pairs)
+    count_without_cycle(alloc, &pairs)
 }

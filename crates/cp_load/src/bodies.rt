@@ -8,9 +8,9 @@ ghost use Rattle.cp_strand.specs.View.{declaration_view, strand_view};
 ghost use Rattle.cp_forms.specs.FirstFault.{first_onto};
 ghost use Rattle.cp_roles.specs.Named.{shared_roles_view};
 ghost use Rattle.cp_load.specs.Stages.{stage_view, no_stage};
-ghost use Rattle.cp_load.specs.Acyclic.{IsAcyclicIf, pairs_under};
+ghost use Rattle.cp_load.specs.Acyclic.{IsAcyclicUpTo, pairs_under};
 
-use crate::acyclic::state_no_cycle;
+use crate::acyclic::stated_without_cycle;
 use crate::items::{is_assumption_or_order, is_strand_item};
 use crate::orders::pairs_faults;
 use crate::pairs::add_pairs;
@@ -124,16 +124,16 @@ fn uniques_item_faults(
     Ok(())
 }
 
-/// The faults of an order, which a strand stands before; its pairs go behind those before. Where they are said to be
-/// acyclic, they have no cycle with those before.
+/// The faults of an order, which a strand stands before; its pairs go behind those before. So many of all of them, from the
+/// first on, have no cycle.
 fn order_item_faults(
     scope: Scope<'_>,
     before: &mut Vec<OrderPair>,
-    acyclic: bool,
+    acyclic_count: usize,
     item: Item<'_>,
     first: &mut FirstFault,
 ) -> Result<(), AllocError>
-    requires { IsAcyclicIf acyclic (before.old.items ++ pairs_in (map view item.items.now)) }
+    requires { IsAcyclicUpTo acyclic_count (before.old.items ++ pairs_in (map view item.items.now)) }
     ensures faults { OnOk result (first.new ≡ first_onto first.old (misplaced_unless item.entry.stage.after_strand item.entry.place
         (pairs_faults (map strand_view scope.entry.strands.now) before.old.items (map view item.entry.items.now)))) }
     ensures pairs { OnOk result (before.new.items ≡ before.old.items ++ pairs_in (map view item.entry.items.now)) }
@@ -143,7 +143,7 @@ fn order_item_faults(
             scope.alloc,
             scope.strands,
             before,
-            acyclic,
+            acyclic_count,
             item.items,
             first,
         );
@@ -152,17 +152,17 @@ fn order_item_faults(
     add_pairs(item.items, before)
 }
 
-/// The faults of an item of a problem; the pairs that it states go behind those before. Where they are said to be
-/// acyclic, they have no cycle with those before.
+/// The faults of an item of a problem; the pairs that it states go behind those before. So many of all of them, from the
+/// first on, have no cycle.
 fn item_faults(
     scope: Scope<'_>,
     before: &mut Vec<OrderPair>,
-    acyclic: bool,
+    acyclic_count: usize,
     stage: Stage,
     form: &Form,
     first: &mut FirstFault,
 ) -> Result<(), AllocError>
-    requires { IsAcyclicIf acyclic (before.old.items ++ pairs_under (view form.now)) }
+    requires { IsAcyclicUpTo acyclic_count (before.old.items ++ pairs_under (view form.now)) }
     ensures faults { OnOk result (first.new ≡ first_onto first.old (item_faults (problem_item_faults (shared_roles_view scope.entry.roles.now)
         (map declaration_view scope.entry.variables.now) (map strand_view scope.entry.strands.now) before.old.items (stage_view stage)) (view form.now))) }
     ensures pairs { OnOk result (before.new.items
@@ -183,7 +183,7 @@ fn item_faults(
         ItemHead::Listener => listener_item_faults(scope, item, first),
         ItemHead::Non | ItemHead::PenetratorNon => atoms_item_faults(scope, item, first),
         ItemHead::Unique => return uniques_item_faults(scope, item, first),
-        ItemHead::Precedes => return order_item_faults(scope, before, acyclic, item, first),
+        ItemHead::Precedes => return order_item_faults(scope, before, acyclic_count, item, first),
         ItemHead::Comment => {}
         ItemHead::OutOfProfile => first.note(place, Code::OutOfProfile),
         ItemHead::Role | ItemHead::Unknown => first.note(place, Code::UnknownForm),
@@ -200,14 +200,14 @@ pub(crate) fn body_faults(
     ensures { OnOk result (first.new ≡ first_onto first.old (body_faults (shared_roles_view scope.entry.roles.now) (map declaration_view scope.entry.variables.now)
         (map strand_view scope.entry.strands.now) [] no_stage (map view items.now))) }
 {
-    let acyclic = state_no_cycle(scope.alloc, items)?;
+    let acyclic_count = stated_without_cycle(scope.alloc, items)?;
     let mut before = Vec::new(scope.alloc);
     let mut stage = Stage {
         after_strand: false,
         after_item: false,
     };
     for item in items {
-        item_faults(scope, &mut before, acyclic, stage, item, first)?;
+        item_faults(scope, &mut before, acyclic_count, stage, item, first)?;
         stage = stage.after(item);
     }
     Ok(())

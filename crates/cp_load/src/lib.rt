@@ -7,24 +7,24 @@ mod drafts;
 mod error;
 mod input;
 mod items;
-mod loading;
+mod loader;
 mod nodes;
 mod orders;
-mod originating;
 mod pairs;
 mod problems;
-mod ranking;
+mod ranks;
+mod unique_origins;
 mod values;
 
 pub use acyclic::have_no_cycle;
 pub use drafts::{Draft, SkeletonDraft, all_finished};
 pub use error::LoadError;
 pub use input::{Input, Problem};
-pub use loading::{load, top_form};
+pub use loader::{load, top_form};
 pub use nodes::{Direction, node_direction, node_of};
 pub use orders::{closes_cycle, pair_of_nodes};
-pub use originating::carries_under;
 pub use pairs::{
     add_pair, add_pairs, is_on_one_strand, is_reception, is_transmission, node_if_there, pair_of,
 };
+pub use unique_origins::carries_under;
 pub use values::table_of;

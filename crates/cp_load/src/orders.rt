@@ -5,7 +5,8 @@ ghost use Rattle.cp_language.specs.Roles.{unless_faulty};
 ghost use Rattle.cp_language.specs.Problems.{node_of, node_faults, pair_of_nodes, at_or_after, any_pair, closes_cycle, order_faults, pair_items_faults, pair_faults, pairs_in, pairs_faults, between_strands, pair_of};
 ghost use Rattle.cp_strand.specs.View.{strand_view};
 ghost use Rattle.cp_forms.specs.FirstFault.{first_onto};
-ghost use Rattle.cp_load.specs.Acyclic.{IsAcyclicIf, pair_in};
+ghost use Rattle.cp_load.specs.Acyclic.{IsAcyclicIf, IsAcyclicUpTo, pair_in};
+ghost use Rattle.cp_load.specs.Behind.{is_behind_fault};
 
 use crate::nodes::{node_faults, node_of};
 use crate::pairs::{add_pair, direction_faults, is_on_one_strand, pair_of};
@@ -102,8 +103,17 @@ struct Stated<'a> {
     later: &'a Form,
 }
 
+/// Whether a fault stands already before each that the order of a pair can have, so that none of these is the first.
+fn is_behind_fault(first: &FirstFault, stated: Stated<'_>) -> bool
+    ensures { result ≡ is_behind_fault first.now stated.entry.place (view stated.entry.earlier.now) (view stated.entry.later.now) }
+{
+    first.stands_before(stated.place, Code::CyclicOrder)
+        && first.stands_before(place_of(stated.earlier), Code::BadNode)
+        && first.stands_before(place_of(stated.later), Code::BadNode)
+}
+
 /// The faults of the pair that two forms state: a cycle, or else its directions. Where the pairs are said to be acyclic,
-/// here and below, those before and the pair have no cycle.
+/// here and below, those before and the pair have no cycle. Nothing is asked where a fault stands already before them.
 fn order_faults(
     alloc: Global,
     before: Before<'_>,
@@ -117,6 +127,9 @@ fn order_faults(
     let Some(pair) = pair_of_nodes(node_of(stated.earlier), node_of(stated.later)) else {
         return Ok(());
     };
+    if is_behind_fault(first, stated) {
+        return Ok(());
+    }
     if closes_cycle(alloc, before.pairs, before.acyclic, pair)? {
         first.note(stated.place, Code::CyclicOrder);
     } else {
@@ -147,7 +160,7 @@ fn nodes_or_order_faults(
             earlier,
             later,
         };
-        order_faults(alloc, before, stated, &mut inside)?;
+        return order_faults(alloc, before, stated, first);
     }
     first.merge(inside);
     Ok(())
@@ -192,24 +205,25 @@ fn pair_faults(
     pair_items_faults(alloc, before, *place, items.as_slice(), first)
 }
 
-/// The faults of the pairs that these forms state, behind which these stand; the pairs go behind them.
+/// The faults of the pairs that these forms state, behind which these stand; the pairs go behind them. So many of all of
+/// them, from the first on, have no cycle.
 pub(crate) fn pairs_faults(
     alloc: Global,
     strands: &[Strand],
     before: &mut Vec<OrderPair>,
-    acyclic: bool,
+    acyclic_count: usize,
     items: &[Form],
     first: &mut FirstFault,
 ) -> Result<(), AllocError>
-    requires { IsAcyclicIf acyclic (before.old.items ++ pairs_in (map view items.now)) }
+    requires { IsAcyclicUpTo acyclic_count (before.old.items ++ pairs_in (map view items.now)) }
     ensures faults { OnOk result (first.new ≡ first_onto first.old (pairs_faults (map strand_view strands.now) before.old.items (map view items.now))) }
     ensures pairs { OnOk result (before.new.items ≡ before.old.items ++ pairs_in (map view items.now)) }
 {
     for form in items {
         let stated = Before {
             strands,
+            acyclic: before.len() < acyclic_count,
             pairs: before,
-            acyclic,
         };
         pair_faults(alloc, stated, form, first)?;
         add_pair(pair_of(form), before)?;

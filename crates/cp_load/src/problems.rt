@@ -6,7 +6,7 @@ ghost use Rattle.cp_strand.specs.View.{declaration_view, strand_view};
 ghost use Rattle.cp_roles.specs.Above.{protocols_view, turned};
 ghost use Rattle.cp_forms.specs.FirstFault.{first_onto};
 ghost use Rattle.cp_load.specs.Drafts.{draft_view};
-ghost use Rattle.cp_instances.specs.Making.{AreMade};
+ghost use Rattle.cp_instances.specs.MadeStrands.{AreMade};
 ghost use Rattle.cp_roles.specs.Named.{shared_roles_view};
 
 use crate::bodies::{Scope, body_faults};

@@ -13,8 +13,8 @@ ghost use Rattle.cp_load.specs.Drafts.{skeleton_drafted};
 ghost use Rattle.cp_scope.specs.Kinds.{is_of_kind};
 
 use crate::drafts::SkeletonDraft;
-use crate::originating::{add_own_uniques, originates};
 use crate::pairs::add_pairs;
+use crate::unique_origins::{add_own_uniques, originates};
 use cp_base::Code;
 use cp_forms::{FirstFault, ItemHead, headed, item_head, items_behind, place_of};
 use cp_scope::{Kind, Variable, atom_faults, atom_of, atoms_of, variable_term};

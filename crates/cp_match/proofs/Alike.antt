@@ -1,32 +1,68 @@
--- Keys of one sort could equal the same terms.
-use Rattle.std.proofs.Common.{◌≡◌, Bool, false, refl, sym, ap, ◌∙◌}
-use Rattle.cp_model.specs.Term.{SymmetricTerm, skey_variable, PairTerm, akey_variable, symmetric_term, asymmetric_term, text_variable, datum_variable, name_variable, key_term, Term, tag_term, atom_term, pair_term, enc_term}
+-- What could equal a term of a sort of atoms are the terms of this sort.
+use Rattle.std.proofs.Common.{◌≡◌, ℕ, Bool, false, refl, sym, ap, ◌∙◌}
+use Rattle.cp_model.specs.Term.{SymmetricTerm, skey_variable, PairTerm, akey_variable, symmetric_term, asymmetric_term, AtomTerm, text_variable, datum_variable, name_variable, key_term, Term, tag_term, atom_term, pair_term, enc_term}
 use Rattle.cp_term.specs.Keys.{key_as_term}
+use Rattle.cp_term.specs.Sorts.{is_atom_of_sort, is_of_sort}
+use Rattle.cp_term.specs.Variables.{variable_term}
+use Rattle.cp_term.specs.declared.variable.Sort.{Sort}
+use Rattle.cp_term.specs.declared.variable.Sort.TheVariants.{Text, Datum, Name, Skey, Akey}
+use Rattle.cp_unify.specs.Atoms.{atom_of}
+use Rattle.cp_unify.specs.Matched.{is_same_sort}
 use Rattle.cp_match.specs.Candidates.{may_equal}
 
-akeys_alike : (f g : Bool) (k j : PairTerm) (t : Term) → may_equal (key_as_term (asymmetric_term f k)) t ≡ may_equal (key_as_term (asymmetric_term g j)) t
-akeys_alike f g k j (tag_term bytes) = refl
-akeys_alike f g k j (atom_term (text_variable n)) = refl
-akeys_alike f g k j (atom_term (datum_variable n)) = refl
-akeys_alike f g k j (atom_term (name_variable n)) = refl
-akeys_alike f g k j (atom_term (key_term (symmetric_term h))) = refl
-akeys_alike f g k j (atom_term (key_term (asymmetric_term e h))) = refl
-akeys_alike f g k j (pair_term a b) = refl
-akeys_alike f g k j (enc_term a h) = refl
+-- The atoms of a sort are those that have the sort of a variable, or of any key, of this sort.
+asymmetric_sort : (g : Bool) (j : PairTerm) (a : AtomTerm) → is_atom_of_sort Akey a ≡ is_same_sort (key_term (asymmetric_term g j)) a
+asymmetric_sort g j (text_variable n) = refl
+asymmetric_sort g j (datum_variable n) = refl
+asymmetric_sort g j (name_variable n) = refl
+asymmetric_sort g j (key_term (symmetric_term h)) = refl
+asymmetric_sort g j (key_term (asymmetric_term e h)) = refl
 
-skeys_alike : (k j : SymmetricTerm) (t : Term) → may_equal (key_as_term (symmetric_term k)) t ≡ may_equal (key_as_term (symmetric_term j)) t
-skeys_alike k j (tag_term bytes) = refl
-skeys_alike k j (atom_term (text_variable n)) = refl
-skeys_alike k j (atom_term (datum_variable n)) = refl
-skeys_alike k j (atom_term (name_variable n)) = refl
-skeys_alike k j (atom_term (key_term (symmetric_term h))) = refl
-skeys_alike k j (atom_term (key_term (asymmetric_term e h))) = refl
-skeys_alike k j (pair_term a b) = refl
-skeys_alike k j (enc_term a h) = refl
+symmetric_sort : (j : SymmetricTerm) (a : AtomTerm) → is_atom_of_sort Skey a ≡ is_same_sort (key_term (symmetric_term j)) a
+symmetric_sort j (text_variable n) = refl
+symmetric_sort j (datum_variable n) = refl
+symmetric_sort j (name_variable n) = refl
+symmetric_sort j (key_term (symmetric_term h)) = refl
+symmetric_sort j (key_term (asymmetric_term e h)) = refl
 
--- What could equal a variable of a key's sort could equal any key of that sort.
-pub akey_candidate : (answer : Bool) (c t : Term) (g : Bool) (j : PairTerm) → answer ≡ may_equal (key_as_term (asymmetric_term false (akey_variable 0))) t → c ≡ key_as_term (asymmetric_term g j) → answer ≡ may_equal c t
-akey_candidate answer c t g j e is = e ∙ akeys_alike false g (akey_variable 0) j t ∙ sym (ap (λ (u : Term). may_equal u t) is)
+sort_of_variable : (s : Sort) (n : ℕ) (a : AtomTerm) → is_atom_of_sort s a ≡ is_same_sort (atom_of (variable_term s n)) a
+sort_of_variable Skey n a = symmetric_sort (skey_variable n) a
+sort_of_variable Akey n a = asymmetric_sort false (akey_variable n) a
+sort_of_variable Text n (text_variable m) = refl
+sort_of_variable Text n (datum_variable m) = refl
+sort_of_variable Text n (name_variable m) = refl
+sort_of_variable Text n (key_term (symmetric_term k)) = refl
+sort_of_variable Text n (key_term (asymmetric_term f k)) = refl
+sort_of_variable Datum n (text_variable m) = refl
+sort_of_variable Datum n (datum_variable m) = refl
+sort_of_variable Datum n (name_variable m) = refl
+sort_of_variable Datum n (key_term (symmetric_term k)) = refl
+sort_of_variable Datum n (key_term (asymmetric_term f k)) = refl
+sort_of_variable Name n (text_variable m) = refl
+sort_of_variable Name n (datum_variable m) = refl
+sort_of_variable Name n (name_variable m) = refl
+sort_of_variable Name n (key_term (symmetric_term k)) = refl
+sort_of_variable Name n (key_term (asymmetric_term f k)) = refl
 
-pub skey_candidate : (answer : Bool) (c t : Term) (j : SymmetricTerm) → answer ≡ may_equal (key_as_term (symmetric_term (skey_variable 0))) t → c ≡ key_as_term (symmetric_term j) → answer ≡ may_equal c t
-skey_candidate answer c t j e is = e ∙ skeys_alike (skey_variable 0) j t ∙ sym (ap (λ (u : Term). may_equal u t) is)
+-- A term whose atom has this sort.
+by_sort : (s : Sort) (u : AtomTerm) → ((a : AtomTerm) → is_atom_of_sort s a ≡ is_same_sort u a) → (t : Term) → is_of_sort s t ≡ may_equal (atom_term u) t
+by_sort s u same (tag_term bytes) = refl
+by_sort s u same (atom_term a) = same a
+by_sort s u same (pair_term a b) = refl
+by_sort s u same (enc_term a k) = refl
+
+own_atom : (s : Sort) (n : ℕ) → variable_term s n ≡ atom_term (atom_of (variable_term s n))
+own_atom Text n = refl
+own_atom Datum n = refl
+own_atom Name n = refl
+own_atom Skey n = refl
+own_atom Akey n = refl
+
+pub variable_candidate : (answer : Bool) (c t : Term) (s : Sort) (n : ℕ) → answer ≡ is_of_sort s t → c ≡ variable_term s n → answer ≡ may_equal c t
+variable_candidate answer c t s n e is = e ∙ by_sort s (atom_of (variable_term s n)) (sort_of_variable s n) t ∙ sym (ap (λ (u : Term). may_equal u t) (is ∙ own_atom s n))
+
+pub akey_candidate : (answer : Bool) (c t : Term) (g : Bool) (j : PairTerm) → answer ≡ is_of_sort Akey t → c ≡ key_as_term (asymmetric_term g j) → answer ≡ may_equal c t
+akey_candidate answer c t g j e is = e ∙ by_sort Akey (key_term (asymmetric_term g j)) (asymmetric_sort g j) t ∙ sym (ap (λ (u : Term). may_equal u t) is)
+
+pub skey_candidate : (answer : Bool) (c t : Term) (j : SymmetricTerm) → answer ≡ is_of_sort Skey t → c ≡ key_as_term (symmetric_term j) → answer ≡ may_equal c t
+skey_candidate answer c t j e is = e ∙ by_sort Skey (key_term (symmetric_term j)) (symmetric_sort j) t ∙ sym (ap (λ (u : Term). may_equal u t) is)

@@ -12,9 +12,9 @@ use Rattle.cp_term.specs.declared.path.Step.{Step}
 use Rattle.cp_term.specs.declared.path.Step.TheVariants.{Left, Right, Plaintext}
 use Rattle.cp_guard.specs.Above.{encryptions_above}
 use Rattle.cp_guard.specs.Inside.{IsInside}
-use Rattle.cp_guard.specs.Matching.{Matches}
+use Rattle.cp_guard.specs.Matches.{Matches}
 use Rattle.cp_match.specs.Ready.{AreReadyFor, HasMatch}
-use Rattle.cp_match.specs.declared.matching.Ready.{Ready}
+use Rattle.cp_match.specs.declared.pattern_matches.Ready.{Ready}
 
 -- Where the encryptions above are the same, positions are inside alike.
 moved_to : (ps : List Pattern) (s : Substitution) (t u : Term) (p q : List Step) → encryptions_above t p ≡ encryptions_above u q → IsInside ps s t p → IsInside ps s u q

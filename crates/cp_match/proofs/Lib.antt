@@ -1,7 +1,7 @@
-pub mod LawMatching
+pub mod LawMatches
 pub mod Unifiers
-pub mod Differing
-pub mod Agreeing
+pub mod DifferentTerms
+pub mod AgreedBindings
 pub mod Matched
 pub mod Inside
 pub mod FirstOutside

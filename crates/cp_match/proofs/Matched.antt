@@ -12,10 +12,10 @@ use Rattle.cp_model.specs.Term.{Variable, Term, atom_of_variable, Substitution, 
 use Rattle.cp_model.specs.Tree.{Pattern}
 use Rattle.cp_unify.specs.Beside.{Agrees, MatchesBeside, NeverMatchesBeside}
 use Rattle.cp_unify.specs.Bindings.{Binding, variable_of, put_term, as_substitution}
-use Rattle.cp_unify.proofs.Occurring.{bound, other}
-use Rattle.cp_guard.specs.Matching.{Matches}
+use Rattle.cp_unify.proofs.VariablesUnder.{bound, other}
+use Rattle.cp_guard.specs.Matches.{Matches}
 use Rattle.cp_match.specs.Ready.{IsReadyFor, AreReadyFor, HasMatch}
-use Rattle.cp_match.specs.declared.matching.Ready.{Ready}
+use Rattle.cp_match.specs.declared.pattern_matches.Ready.{Ready}
 
 -- ---- bindings with which some substitution agrees agree with themselves
 

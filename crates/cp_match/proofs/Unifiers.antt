@@ -9,7 +9,7 @@ use Rattle.cp_unify.specs.Unifiers.{AreAmong, IsMostGeneral, HasNoUnifier}
 use Rattle.cp_unify.proofs.Free.{free}
 use Rattle.cp_unify.proofs.Substituted.{value_met}
 use Rattle.cp_collapse.proofs.OneUnifier.{one_unifier}
-use Rattle.cp_match.specs.Unifying.{UnifiesMostGenerally, NeverEqual}
+use Rattle.cp_match.specs.Unifiers.{UnifiesMostGenerally, NeverEqual}
 
 unifies_most_generally : (a b : Term) (r : List Binding) → IsMostGeneral a b [] r → UnifiesMostGenerally a b (as_substitution r)
 unifies_most_generally a b r m = record {

@@ -1,5 +1,5 @@
 pub mod Candidates
-pub mod Unifying
+pub mod Unifiers
 pub mod Opened
 pub mod Ready
 pub mod Outside

@@ -1,14 +1,14 @@
 -- Patterns that are ready for matching under a substitution of their other variables.
 use Rattle.std.specs.Prelude.{◌≡◌, ◌↔◌, ℕ, false, List, [], ◌∷◌}
 use Rattle.cp_lists.specs.Lists.{IsIn}
-use Rattle.cp_model.specs.Linking.{ArePaired}
+use Rattle.cp_model.specs.Senders.{ArePaired}
 use Rattle.cp_model.specs.Term.{Variable, Term, atom_of_variable, Substitution, apply_to_atom}
 use Rattle.cp_model.specs.Tree.{Pattern}
 use Rattle.cp_unify.specs.Beside.{Agrees}
 use Rattle.cp_unify.specs.Bindings.{Binding, variable_of}
-use Rattle.cp_unify.specs.Matching.{is_number_of}
-use Rattle.cp_guard.specs.Matching.{IsFreeIn, Matches}
-use Rattle.cp_match.specs.declared.matching.Ready.{Ready}
+use Rattle.cp_unify.specs.Matches.{is_number_of}
+use Rattle.cp_guard.specs.Matches.{IsFreeIn, Matches}
+use Rattle.cp_match.specs.declared.pattern_matches.Ready.{Ready}
 
 -- The substitution gives the variable of each binding its term, but for those with these numbers.
 abbrev pub AgreesBut : List ℕ → Substitution → List Binding → Type 0

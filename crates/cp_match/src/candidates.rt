@@ -1,11 +1,10 @@
 // Positions whose terms could equal a critical term.
-ghost use Rattle.std.specs.Prelude.{◌≡◌, ◌++◌, ℕ, IfOk, OnOk};
+ghost use Rattle.std.specs.Prelude.{◌≡◌, ◌++◌, IfOk, OnOk};
 ghost use Rattle.cp_model.specs.Term.{tag_term};
 ghost use Rattle.cp_term.specs.Positions.{here_if, behind, positions_where};
-ghost use Rattle.cp_term.specs.Variables.{variable_term};
 ghost use Rattle.cp_match.specs.Candidates.{may_equal};
 
-use cp_term::{Path, Shape, Sort, Step, Term};
+use cp_term::{Path, Shape, Sort, Step, Term, is_of_sort};
 use std::alloc::{AllocError, Global};
 
 /// Whether the term is the tag of this text.
@@ -18,18 +17,6 @@ fn is_tag(text: &str, term: &Term) -> bool
     }
 }
 
-/// Whether the term is an atom of this sort.
-fn is_of_sort(sort: Sort, term: &Term) -> bool
-    ensures { (n : ℕ) → result ≡ may_equal (variable_term sort n) term.now }
-{
-    match term.shape() {
-        Shape::Variable(_, other) => other == sort,
-        Shape::Inverse(_) | Shape::Pubk(..) => sort == Sort::Akey,
-        Shape::Ltk(..) => sort == Sort::Skey,
-        _ => false,
-    }
-}
-
 /// Whether some values could make the two terms one: both are tags, of the same text; or atoms, of the same sort; or pairs;
 /// or encryptions.
 fn is_candidate(critical: &Term, term: &Term) -> bool
@@ -37,10 +24,10 @@ fn is_candidate(critical: &Term, term: &Term) -> bool
 {
     match critical.shape() {
         Shape::Tag(text) => is_tag(text, term),
-        Shape::Variable(_, sort) => is_of_sort(sort, term),
-        Shape::Inverse(_) => is_of_sort(Sort::Akey, term),
-        Shape::Pubk(..) => is_of_sort(Sort::Akey, term),
-        Shape::Ltk(..) => is_of_sort(Sort::Skey, term),
+        Shape::Variable(_, sort) => is_of_sort(term, sort),
+        Shape::Inverse(_) => is_of_sort(term, Sort::Akey),
+        Shape::Pubk(..) => is_of_sort(term, Sort::Akey),
+        Shape::Ltk(..) => is_of_sort(term, Sort::Skey),
         Shape::Pair(..) => match term.shape() {
             Shape::Pair(..) => true,
             _ => false,

@@ -2,10 +2,10 @@
 ghost use Rattle.std.specs.Prelude.{◌≡◌, ℕ, false};
 ghost use Rattle.cp_model.specs.Term.{Term, Substitution, apply_to, composed};
 ghost use Rattle.cp_model.specs.Tree.{Pattern};
-ghost use Rattle.cp_guard.specs.Matching.{Matches};
+ghost use Rattle.cp_guard.specs.Matches.{Matches};
 ghost use Rattle.cp_match.specs.Candidates.{may_equal};
 ghost use Rattle.cp_match.specs.Opened.{opened};
-ghost use Rattle.cp_match.specs.Unifying.{UnifiesMostGenerally, NeverEqual};
+ghost use Rattle.cp_match.specs.Unifiers.{UnifiesMostGenerally, NeverEqual};
 
 /// What a pattern matches, it matches under any further substitution.
 pub fn matching_stays()

@@ -3,16 +3,16 @@
 
 mod candidates;
 mod laws;
-mod matching;
-mod opening;
+mod opened_pattern;
 mod outside;
-mod unifying;
+mod pattern_matches;
+mod term_unifier;
 
 pub use candidates::positions_for;
 pub use laws::{
     matching_stays, most_general_unifiers_are_determined, others_are_never_equal, unifiers_match,
 };
-pub use matching::matches;
-pub use opening::open_pattern;
+pub use opened_pattern::open_pattern;
 pub use outside::{first_outside, is_inside};
-pub use unifying::unifier;
+pub use pattern_matches::matches;
+pub use term_unifier::unifier;

@@ -9,7 +9,7 @@ ghost use Rattle.cp_guard.specs.Inside.{IsInside, CarriesInsideAlone};
 ghost use Rattle.cp_match.specs.Outside.{IsFirstPositionOutside};
 ghost use Rattle.cp_match.specs.Ready.{AreReadyFor, HasMatch};
 
-use crate::matching::{Ready, all_ready, some_match};
+use crate::pattern_matches::{Ready, all_ready, some_match};
 use cp_term::{Path, Pattern, Shape, Step, Term, paths_of};
 use cp_unify::Subst;
 use std::alloc::{AllocError, Global};

@@ -1,5 +1,5 @@
--- The terms of declared variables.
-use Rattle.std.proofs.Common.{◌≡◌, ℕ, zero, suc, ◌+◌, List, [], ◌∷◌, Some, ap₂, subst, arith}
+-- The terms of declared variables, and their numbers.
+use Rattle.std.proofs.Common.{◌≡◌, ℕ, zero, suc, ◌+◌, List, [], ◌∷◌, Some, ap₂, subst, arith, ◌++◌, ◌<◌, length}
 use Rattle.cp_lists.specs.Lists.{item_at}
 use Rattle.cp_model.specs.Term.{Sort, Variable, atom_of_variable, atom_term}
 use Rattle.cp_model.specs.Strand.{Declaration}
@@ -20,3 +20,16 @@ pub declared_at : (ds : List Declaration) (x : Variable) → IsDeclared ds x →
 declared_at ds x is =
     let q : 0 + x.number ≡ x.number = omega arith in
     subst (λ (m : ℕ). item_at (variable_terms 0 ds) x.number ≡ Some (atom_term (atom_of_variable (record { sort = x.sort; number = m })))) q (variable_at 0 ds x.number x.sort is)
+
+-- ---- the numbers of declared variables
+
+-- What is declared is declared where more declarations come behind.
+pub still_declared : (ds more : List Declaration) (n : ℕ) (k : Sort) → declared_sort (item_at ds n) ≡ Some k → declared_sort (item_at (ds ++ more) n) ≡ Some k
+still_declared [] more n k e = absurd (cc)
+still_declared (d ∷ ds) more zero k e = e
+still_declared (d ∷ ds) more (suc n) k e = still_declared ds more n k e
+
+pub declared_below : (ds : List Declaration) (n : ℕ) (k : Sort) → declared_sort (item_at ds n) ≡ Some k → n < length ds
+declared_below [] n k e = absurd (cc)
+declared_below (d ∷ ds) zero k e = omega arith
+declared_below (d ∷ ds) (suc n) k e = let h : n < length ds = declared_below ds n k e in omega arith

@@ -2,7 +2,8 @@
 use Rattle.std.proofs.Common.{◌≡◌, ℕ, Some, map, refl, sym, ap, ◌∙◌, subst, le_trans, le_refl}
 use Rattle.cp_lists.specs.Lists.{item_at, IsIn}
 use Rattle.cp_lists.proofs.Mapped.{map_same, map_then}
-use Rattle.cp_model.specs.Term.{AtomTerm, atom_of_variable, Term, Substitution, apply_to, apply_to_atom, composed, unchanged}
+use Rattle.cp_model.specs.Term.{AtomTerm, atom_of_variable, Term, Substitution, apply_to, apply_to_atom, composed}
+use Rattle.cp_model.specs.Identity.{unchanged}
 use Rattle.cp_model.specs.Strand.{Role}
 use Rattle.cp_model.specs.Skeleton.{instance, listener, Skeleton}
 use Rattle.cp_model.specs.Homomorphism.{SkeletonMap, mapped, GoesToInstance, IsHomomorphism, IsEmbedding, Embeds}

@@ -1,16 +1,12 @@
 -- What occurs in traces and their prefixes, and ways up a strand.
-use Rattle.std.proofs.Common.{◌≡◌, ℕ, zero, suc, Some, ◌<◌, ◌≤◌, List, [], ◌∷◌, ◌++◌, take, subst, ◌⊎◌, inl, inr, arith, eq-or-lt_of_le, le_of_suc-le-suc}
+use Rattle.std.proofs.Common.{◌≡◌, ℕ, zero, suc, Some, ◌<◌, ◌≤◌, List, [], ◌∷◌, take, subst, ◌⊎◌, inl, inr, arith, eq-or-lt_of_le, le_of_suc-le-suc}
 use Rattle.cp_lists.specs.Lists.{item_at, IsIn, Steps, one_step}
-use Rattle.cp_lists.proofs.Members.{in_append, in_append_left, in_append_right}
+use Rattle.cp_lists.proofs.Members.{in_append, in_append_left, in_append_right, in_longer}
 use Rattle.cp_lists.proofs.Reached.{steps_append}
 use Rattle.cp_model.specs.Term.{Variable, Term, variables_of}
 use Rattle.cp_model.specs.Bundle.{node_at}
 use Rattle.cp_model.specs.declared.node.Node.{Node}
 use Rattle.cp_model.specs.Strand.{Event, payload, Role, variables_of_trace, variables_of_prefix}
-
-in_longer : {A : Type 0} {x : A} {xs ys zs : List A} → IsIn x xs ⊎ IsIn x ys → (IsIn x ys → IsIn x zs) → IsIn x (xs ++ zs)
-in_longer {zs = zs} (inl q) f = in_append_left zs q
-in_longer {xs = xs} (inr q) f = in_append_right xs (f q)
 
 -- What occurs in a prefix occurs in a longer one.
 variables_of_longer : (m n : ℕ) (es : List (Event Term)) → m ≤ n → (x : Variable) → IsIn x (variables_of_trace (take m es)) → IsIn x (variables_of_trace (take n es))
@@ -18,6 +14,12 @@ variables_of_longer zero n es le x p = elim p [ ]
 variables_of_longer (suc m) n [] le x p = elim p [ ]
 variables_of_longer (suc m) zero (e ∷ es) le x p = absurd (omega arith)
 variables_of_longer (suc m) (suc n) (e ∷ es) le x p = in_longer (in_append (variables_of (payload e)) (variables_of_trace (take m es)) p) (variables_of_longer m n es (omega arith) x)
+
+-- What occurs in a prefix occurs in the trace.
+pub in_front_of_trace : (height : ℕ) (es : List (Event Term)) (x : Variable) → IsIn x (variables_of_trace (take height es)) → IsIn x (variables_of_trace es)
+in_front_of_trace zero es x p = elim p [ ]
+in_front_of_trace (suc height) [] x p = elim p [ ]
+in_front_of_trace (suc height) (e ∷ es) x p = in_longer (in_append (variables_of (payload e)) (variables_of_trace (take height es)) p) (in_front_of_trace height es x)
 
 pub variables_of_higher : (role : Role) (m n : ℕ) → m ≤ n → (x : Variable) → IsIn x (variables_of_prefix role m) → IsIn x (variables_of_prefix role n)
 variables_of_higher role m n le x p = variables_of_longer m n role.trace le x p

@@ -18,12 +18,16 @@ use Rattle.cp_lists.proofs.Items.{item_of_take, take_of_item, item_of_map, map_o
 use Rattle.cp_lists.proofs.Reached.{steps_append}
 
 -- A strand of a skeleton on which there is an event.
-strand_of_option : (o : Option SkeletonStrand) (i : ℕ) (e : Event Term) → item_at (skeleton_trace_or_none o) i ≡ Some e → (st : SkeletonStrand) × (o ≡ Some st)
-strand_of_option None i e h = absurd (cc)
-strand_of_option (Some st) i e h = (st, refl)
+pub strand_with_event : (o : Option SkeletonStrand) (i : ℕ) (e : Event Term) → item_at (skeleton_trace_or_none o) i ≡ Some e → (st : SkeletonStrand) × (o ≡ Some st) × (item_at (skeleton_trace st) i ≡ Some e)
+strand_with_event None i e h = absurd (cc)
+strand_with_event (Some st) i e h = (st, refl, h)
 
 pub strand_of_event : (strands : List SkeletonStrand) (n : Node) (e : Event Term) → term_event_at strands n ≡ Some e → (st : SkeletonStrand) × (item_at strands n.strand ≡ Some st)
-strand_of_event strands n e h = strand_of_option (item_at strands n.strand) n.index e h
+strand_of_event strands n e h = let r = strand_with_event (item_at strands n.strand) n.index e h in (r.0, r.1)
+
+-- The event at a node of a strand.
+pub event_on : (k : Skeleton) (n : Node) (st : SkeletonStrand) (e : Event Term) → item_at k.strands n.strand ≡ Some st → term_event_at k.strands n ≡ Some e → item_at (skeleton_trace st) n.index ≡ Some e
+event_on k n st e at h = subst (λ (o : Option SkeletonStrand). item_at (skeleton_trace_or_none o) n.index ≡ Some e) at h
 
 -- An event of an instance is one of the role below the height.
 pub event_of_instance : (role : Role) (height : ℕ) (terms : Substitution) (i : ℕ) (e : Event Term) → item_at (skeleton_trace (instance role height terms)) i ≡ Some e →

@@ -1,7 +1,8 @@
 -- Values and terms under composed substitutions, and that they depend on the variables that occur alone.
 use Rattle.std.proofs.Common.{◌≡◌, Bool, true, false, refl, sym, ap, ap₂, ◌∙◌}
 use Rattle.cp_model.specs.Message.{KeyPair, symmetric, asymmetric, key, atom, pair, enc}
-use Rattle.cp_model.specs.Term.{SymmetricTerm, skey_variable, ltk_term, PairTerm, akey_variable, pubk_term, KeyTerm, symmetric_term, asymmetric_term, AtomTerm, text_variable, datum_variable, name_variable, key_term, Term, tag_term, atom_term, pair_term, enc_term, Assignment, flag_of, value_of_symmetric, value_of_half, value_of_key, value_of_atom, value_of, Substitution, apply_to_symmetric, apply_to_half, apply_to_key, apply_to_atom, apply_to, after, composed, unchanged, IsCarriedByTerm, itself_term, in_left_term, in_right_term, in_plaintext_term}
+use Rattle.cp_model.specs.Term.{SymmetricTerm, skey_variable, ltk_term, PairTerm, akey_variable, pubk_term, KeyTerm, symmetric_term, asymmetric_term, AtomTerm, text_variable, datum_variable, name_variable, key_term, Term, tag_term, atom_term, pair_term, enc_term, Assignment, flag_of, value_of_symmetric, value_of_half, value_of_key, value_of_atom, value_of, Substitution, apply_to_symmetric, apply_to_half, apply_to_key, apply_to_atom, apply_to, after, composed, IsCarriedByTerm, itself_term, in_left_term, in_right_term, in_plaintext_term}
+use Rattle.cp_model.specs.Identity.{unchanged}
 
 -- Flags add up.
 pub flags : (a b c : Bool) → flag_of a (flag_of b c) ≡ flag_of (flag_of a b) c

@@ -20,7 +20,7 @@ pub mod CarriedMessages
 pub mod CarriedParts
 pub mod Paired
 pub mod RunLinks
-pub mod FirstCarrying
+pub mod FirstCarriers
 pub mod OriginTrail
 pub mod SameTests
 pub mod Images
@@ -28,5 +28,6 @@ pub mod StatedItself
 pub mod StatedStays
 pub mod Gathered
 pub mod NodeTests
-pub mod Reaching
+pub mod BoundedSearch
 pub mod DeclaredVariables
+pub mod Numbers

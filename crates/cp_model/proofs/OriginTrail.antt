@@ -6,7 +6,7 @@ use Rattle.cp_model.specs.Strand.{Event, send, recv, payload, Protocol}
 use Rattle.cp_model.specs.Bundle.{node_at, event_at, OriginatesAt, Bundle, BundleStep, along_link, Precedes, IsBundle}
 use Rattle.cp_model.specs.declared.node.Node.{Node}
 use Rattle.cp_model.specs.RunView.{trace_view, items_or_none, link_in, if_reception, sender_in, StandsForBundle, row_view}
-use Rattle.cp_model.specs.Carrying.{CarriesAt, IsFirstOnStrand}
+use Rattle.cp_model.specs.FirstCarriers.{CarriesAt, IsFirstOnStrand}
 use Rattle.cp_model.specs.declared.bundle.Bundle as program
 use Rattle.cp_model.specs.declared.strand.Strand as program_strand
 use Rattle.cp_lists.proofs.Reached.{steps_append}

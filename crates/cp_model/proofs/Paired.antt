@@ -2,7 +2,7 @@
 use Rattle.std.proofs.Common.{◌≡◌, ℕ, zero, suc, ◌≤◌, List, [], ◌∷◌, ◌++◌, Option, Some, map, drop, length, refl, sym, subst, inl, inr, arith}
 use Rattle.std.proofs.lemmas.List.{append-nil, drop_all}
 use Rattle.cp_lists.specs.Lists.{item_at}
-use Rattle.cp_model.specs.Linking.{IsFirst, ArePaired}
+use Rattle.cp_model.specs.Senders.{IsFirst, ArePaired}
 
 -- Where nothing is left, all are paired.
 pub paired_whole : {A B C : Type 0} (R : B → C → Type 0) (f : A → B) (xs : List A) (ys : List C) (n : ℕ) → length xs ≤ n →

@@ -8,7 +8,7 @@ use Rattle.cp_model.specs.Bundle.{node_at, trace_or_none, event_at, AreOfProtoco
 use Rattle.cp_model.specs.declared.node.Node.{Node}
 use Rattle.cp_model.specs.Run.{Run, IsRun, IsFirstSender, IsBundleOf}
 use Rattle.cp_model.specs.RunView.{trace_view, items_or_none, event_in, link_in, if_reception, StandsForRun, StandsForBundle, run_along, row_view}
-use Rattle.cp_model.specs.Linking.{IsFirst, ArePaired, Sends, IsSenderOf, AreSendersOf}
+use Rattle.cp_model.specs.Senders.{IsFirst, ArePaired, Sends, IsSenderOf, AreSendersOf}
 use Rattle.cp_model.specs.declared.node.Node as program_node
 use Rattle.cp_model.specs.declared.strand.Strand as program_strand
 use Rattle.cp_model.specs.declared.bundle.Run as program_run

@@ -5,7 +5,7 @@ use Rattle.cp_lists.specs.Lists.{item_at, IsIn, here, there}
 use Rattle.cp_model.specs.Term.{Sort, text_sort, datum_sort, name_sort, skey_sort, akey_sort, Variable, SymmetricTerm, skey_variable, ltk_term, PairTerm, akey_variable, pubk_term, KeyTerm, symmetric_term, asymmetric_term, AtomTerm, text_variable, datum_variable, name_variable, key_term, Term, tag_term, atom_term, pair_term, enc_term, IsCarriedByTerm, itself_term, in_left_term, in_right_term, in_plaintext_term}
 use Rattle.cp_model.specs.Strand.{Event, send, recv, payload, OriginatesInTerms}
 use Rattle.cp_model.specs.declared.node.Node.{Node}
-use Rattle.cp_model.specs.Same.{same_text, same_bool, same_sort, same_purpose, same_symmetric, same_pair, same_key, same_atom, same_term, same_node, carries, one_later, origin_in, has_variable}
+use Rattle.cp_model.specs.Same.{same_text, same_bool, same_sort, same_purpose, same_symmetric, same_pair, same_key, same_atom, same_term, same_node, carries, one_later, origin_in, has_variable, has_variables}
 
 -- ---- from a test to equality
 
@@ -241,3 +241,12 @@ in_has_variable [] y p = elim p [ ]
 in_has_variable (x ∷ xs) y here =
     or_left (same_sort y.sort y.sort && (y.number == y.number)) (has_variable xs y) (and_from (same_sort y.sort y.sort) (y.number == y.number) (same_sort_itself y.sort) (eq-eqb y.number y.number refl))
 in_has_variable (x ∷ xs) y (there p) = or_right (same_sort x.sort y.sort && (x.number == y.number)) (has_variable xs y) (in_has_variable xs y p)
+
+pub variables_there : (xs ys : List Variable) → has_variables xs ys ≡ true → (x : Variable) → IsIn x ys → IsIn x xs
+variables_there xs [] e x p = elim p [ ]
+variables_there xs (y ∷ ys) e x here = variable_in xs y (and_parts (has_variable xs y) (has_variables xs ys) e).0
+variables_there xs (y ∷ ys) e x (there p) = variables_there xs ys (and_parts (has_variable xs y) (has_variables xs ys) e).1 x p
+
+pub there_variables : (xs ys : List Variable) → ((x : Variable) → IsIn x ys → IsIn x xs) → has_variables xs ys ≡ true
+there_variables xs [] h = refl
+there_variables xs (y ∷ ys) h = and_from (has_variable xs y) (has_variables xs ys) (in_has_variable xs y (h y here)) (there_variables xs ys (λ x p. h x (there p)))

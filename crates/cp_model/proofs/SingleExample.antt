@@ -1,12 +1,14 @@
 -- The example meets the premises of the laws about one sending strand.
 use Rattle.std.proofs.Common.{◌≡◌, inl, ℕ, ◌<◌, Some, refl, sym, ap, subst, le_refl, lt_trans, lt_irrefl, lt-suc_self, arith}
 use Rattle.cp_lists.specs.Lists.{item_at, IsIn, here, there, one_step, more_steps}
-use Rattle.cp_model.specs.Term.{Variable, text_variable, name_variable, Term, atom_term, pair_term, enc_term, IsCarriedByTerm, itself_term, in_left_term, in_right_term, in_plaintext_term, apply_to_atom, unchanged, Substitution}
+use Rattle.cp_model.specs.Term.{Variable, text_variable, name_variable, Term, atom_term, pair_term, enc_term, IsCarriedByTerm, itself_term, in_left_term, in_right_term, in_plaintext_term, apply_to_atom, Substitution}
+use Rattle.cp_model.specs.Identity.{unchanged}
 use Rattle.cp_model.specs.Strand.{send, OriginatesInTerms, Role, IsHeight}
 use Rattle.cp_model.specs.Bundle.{node_at}
 use Rattle.cp_model.specs.declared.node.Node.{Node}
 use Rattle.cp_model.specs.Skeleton.{Skeleton, UniqueAt, skeleton_trace_or_none, instance, skeleton_trace, OrderStep, along_strand_of, along_pair, Before, IsOrigin, GivesAssumptions, IsSkeleton}
-use Rattle.cp_model.specs.Problem.{variables_of_skeleton, IsDeclared, IsPointOfView}
+use Rattle.cp_model.specs.Problem.{variables_of_skeleton, IsDeclared}
+use Rattle.cp_model.specs.PointOfView.{IsPointOfView}
 use Rattle.cp_model.specs.Single.{IsOneSendingStrand}
 use Rattle.cp_model.specs.Example.{example_key, example_inverse, example_role, example_protocol, example_assumptions, example_skeleton}
 use Rattle.cp_lists.proofs.Members.{only_item, not_in_none}

@@ -1,10 +1,12 @@
 -- The map of a problem's own skeleton changes nothing.
 use Rattle.std.proofs.Common.{◌≡◌, ℕ, zero, suc, ◌+◌, ◌⊎◌, inl, inr, false, List, [], ◌∷◌, Option, Some, None, refl, sym, ap, ◌∙◌, subst, arith, map}
 use Rattle.cp_lists.specs.Lists.{item_at}
-use Rattle.cp_model.specs.Term.{Sort, text_sort, datum_sort, name_sort, skey_sort, akey_sort, skey_variable, akey_variable, Term, atom_term, atom_of_variable, apply_to, unchanged}
+use Rattle.cp_model.specs.Term.{Sort, text_sort, datum_sort, name_sort, skey_sort, akey_sort, skey_variable, akey_variable, Term, atom_term, atom_of_variable, apply_to}
+use Rattle.cp_model.specs.Identity.{unchanged}
 use Rattle.cp_model.specs.Strand.{Declaration}
 use Rattle.cp_model.specs.Skeleton.{Skeleton}
-use Rattle.cp_model.specs.Problem.{numbers_from, variable_terms, MapsToItself, IsPointOfView}
+use Rattle.cp_model.specs.Problem.{numbers_from, variable_terms}
+use Rattle.cp_model.specs.PointOfView.{MapsToItself, IsPointOfView}
 use Rattle.cp_model.specs.Homomorphism.{SkeletonMap, IsHomomorphism, CarriesHomomorphism, text_in, datum_in, name_in, skey_in, akey_in, substitution_by, number_or, strand_in, map_from_problem}
 use Rattle.cp_lists.proofs.Mapped.{map_same}
 use Rattle.cp_model.proofs.LawTerms.{term_unchanged}

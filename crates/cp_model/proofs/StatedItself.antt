@@ -1,12 +1,14 @@
 -- A point-of-view skeleton keeps what it states itself.
 use Rattle.std.proofs.Common.{◌≡◌, ◌↔◌, ℕ, suc, ◌<◌, ◌+◌, List, [], ◌∷◌, length, refl, sym, ap, subst, arith}
 use Rattle.cp_lists.specs.Lists.{IsIn, here, there, one_step}
-use Rattle.cp_model.specs.Term.{apply_to_atom, unchanged}
+use Rattle.cp_model.specs.Term.{apply_to_atom}
+use Rattle.cp_model.specs.Identity.{unchanged}
 use Rattle.cp_model.specs.Strand.{Declaration, Protocol}
 use Rattle.cp_model.specs.Skeleton.{Skeleton, along_pair, IsSkeleton}
 use Rattle.cp_model.specs.declared.node.OrderPair.{OrderPair}
 use Rattle.cp_model.specs.Homomorphism.{SkeletonMap, map_from_problem}
-use Rattle.cp_model.specs.Problem.{numbers_from, IsPointOfView}
+use Rattle.cp_model.specs.Problem.{numbers_from}
+use Rattle.cp_model.specs.PointOfView.{IsPointOfView}
 use Rattle.cp_model.specs.Stated.{unique_image, pair_image, IsImageOfOne, AreImages, KeepsStated}
 use Rattle.cp_model.proofs.Images.{own_images}
 use Rattle.cp_model.proofs.LawTerms.{atom_unchanged}

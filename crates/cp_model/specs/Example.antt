@@ -1,6 +1,7 @@
 -- An example: a skeleton of one strand that meets the premises of the laws about one sending strand.
 use Rattle.std.specs.Prelude.{[], ◌∷◌, None, true, false}
-use Rattle.cp_model.specs.Term.{text_sort, name_sort, pubk_term, KeyTerm, asymmetric_term, AtomTerm, text_variable, name_variable, key_term, atom_term, pair_term, enc_term, unchanged}
+use Rattle.cp_model.specs.Term.{text_sort, name_sort, pubk_term, KeyTerm, asymmetric_term, AtomTerm, text_variable, name_variable, key_term, atom_term, pair_term, enc_term}
+use Rattle.cp_model.specs.Identity.{unchanged}
 use Rattle.cp_model.specs.Strand.{send, Role, Protocol}
 use Rattle.cp_model.specs.Bundle.{node_at}
 use Rattle.cp_model.specs.Skeleton.{instance, Assumptions, Skeleton}

@@ -85,16 +85,13 @@ pub data Penetrator : Type 0 where
   decryption : Message → Key → Penetrator
   hearing : Message → Penetrator
 
-abbrev pub key_message : Key → Message
-key_message k = atom (key k)
-
 abbrev pub penetrator_trace : Penetrator → List (Event Message)
 penetrator_trace (create_tag bytes) = send (tag bytes) ∷ []
 penetrator_trace (create_atom a) = send (atom a) ∷ []
 penetrator_trace (pairing x y) = recv x ∷ recv y ∷ send (pair x y) ∷ []
 penetrator_trace (splitting x y) = recv (pair x y) ∷ send x ∷ send y ∷ []
-penetrator_trace (encryption x k) = recv (key_message k) ∷ recv x ∷ send (enc x k) ∷ []
-penetrator_trace (decryption x k) = recv (key_message (inverse k)) ∷ recv (enc x k) ∷ send x ∷ []
+penetrator_trace (encryption x k) = recv (atom (key k)) ∷ recv x ∷ send (enc x k) ∷ []
+penetrator_trace (decryption x k) = recv (atom (key (inverse k))) ∷ recv (enc x k) ∷ send x ∷ []
 penetrator_trace (hearing x) = recv x ∷ []
 
 -- A strand of a bundle: an instance of a role, of some height, under an assignment of its variables; or one of

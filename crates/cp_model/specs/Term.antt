@@ -164,16 +164,6 @@ apply_to s (atom_term a) = atom_term (apply_to_atom s a)
 apply_to s (pair_term a b) = pair_term (apply_to s a) (apply_to s b)
 apply_to s (enc_term a k) = enc_term (apply_to s a) (apply_to_key s k)
 
--- The substitution that changes nothing.
-abbrev pub unchanged : Substitution
-unchanged = record {
-  texts = λ n. n;
-  datums = λ n. n;
-  names = λ n. n;
-  skeys = skey_variable;
-  akeys = λ n. (false, akey_variable n);
-}
-
 -- The assignment under which each variable has the value that g gives to its term under s.
 abbrev pub after : Assignment → Substitution → Assignment
 after g s = record {

@@ -2,13 +2,13 @@
 #![tactic(auto)]
 
 mod bundle;
-mod carrying;
 mod key;
 mod laws;
-mod linking;
 mod message;
+mod message_parts;
 mod node;
 mod origin;
+mod runs;
 mod single;
 mod strand;
 
@@ -18,10 +18,10 @@ pub use laws::{
     before_is_leading_to_another, embeddings_compose, embeds_in_itself, homomorphism_then_standing,
     origin_at_or_before, run_makes_a_bundle, value_after_substitution,
 };
-pub use linking::{bundle_of, run_of};
 pub use message::Msg;
 pub use node::{Node, OrderPair};
 pub use origin::origin_before;
+pub use runs::{bundle_of, run_of};
 pub use single::{
     one_sending_strand_example, one_sending_strand_is_realised,
     one_strand_is_its_own_complete_list, skeleton_keeps_what_it_states, skeleton_maps_from_itself,

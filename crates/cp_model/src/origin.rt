@@ -4,7 +4,7 @@ ghost use Rattle.cp_model.specs.Message.{Message, IsCarriedBy};
 ghost use Rattle.cp_model.specs.Strand.{Event as PlainEvent, payload, Protocol};
 ghost use Rattle.cp_model.specs.Bundle.{Bundle as PlainBundle, event_at, OriginatesAt, Precedes, IsBundle};
 ghost use Rattle.cp_model.specs.RunView.{event_view, trace_view, StandsForBundle};
-ghost use Rattle.cp_model.specs.Carrying.{IsFirstCarrying, CarriesAt, IsFirstOnStrand};
+ghost use Rattle.cp_model.specs.FirstCarriers.{IsFirstCarrying, CarriesAt, IsFirstOnStrand};
 
 use crate::bundle::Bundle;
 use crate::message::Msg;

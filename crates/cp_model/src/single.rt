@@ -3,7 +3,7 @@
 ghost use Rattle.std.specs.Prelude.{◌≡◌, ℕ, List, [], ◌∷◌};
 ghost use Rattle.cp_model.specs.Example.{example_protocol, example_role, example_skeleton};
 ghost use Rattle.cp_model.specs.Homomorphism.{CarriesHomomorphism, IsCompleteList};
-ghost use Rattle.cp_model.specs.Problem.{IsPointOfView, MapsToItself};
+ghost use Rattle.cp_model.specs.PointOfView.{IsPointOfView, MapsToItself};
 ghost use Rattle.cp_model.specs.Single.{IsOneSendingStrand};
 ghost use Rattle.cp_model.specs.Skeleton.{IsSkeleton, Skeleton, instance};
 ghost use Rattle.cp_model.specs.Standing.{IsRealised};

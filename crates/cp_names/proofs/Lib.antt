@@ -1,4 +1,4 @@
-pub mod Marking
+pub mod MarkMeanings
 pub mod DeclaredMarks
 pub mod FreeNames
 pub mod Tables

@@ -10,7 +10,7 @@ ghost use Rattle.cp_names.specs.Marks.{AreMarksOf};
 use crate::locals::add_patterns;
 use crate::marks::marks_of;
 use crate::names::{declarations, label_names};
-use crate::occurring::{add_assumptions, add_strands, add_term, add_terms};
+use crate::occurrences::{add_assumptions, add_strands, add_term, add_terms};
 use cp_scope::Variable;
 use cp_skel::{Declaration, Test, TreeNode};
 use cp_term::Text;

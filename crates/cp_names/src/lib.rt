@@ -5,7 +5,7 @@ mod labels;
 mod locals;
 mod marks;
 mod names;
-mod occurring;
+mod occurrences;
 
 pub use labels::{LabelVariables, variables_of_label};
 pub use locals::locals_of;

@@ -7,7 +7,7 @@ ghost use Rattle.cp_lists.specs.Lists.{item_at};
 ghost use Rattle.cp_scope.specs.Terms.{variable_view};
 ghost use Rattle.cp_names.specs.Marks.{marked, is_of_sort, met_variables, AreMarksAmong};
 
-use crate::occurring::add_events;
+use crate::occurrences::add_events;
 use cp_scope::Variable;
 use cp_strand::{Declaration, Role, prefix_of};
 use cp_term::Sort;

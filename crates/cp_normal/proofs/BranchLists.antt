@@ -8,13 +8,13 @@ use Rattle.cp_lists.proofs.Members.{in_append, in_append_left, in_append_right}
 use Rattle.cp_completeness.specs.Normal.{skeleton_under}
 use Rattle.cp_unify.specs.Bindings.{Binding, as_substitution}
 use Rattle.cp_unify.specs.Unifiers.{IsMostGeneral, HasNoUnifier}
-use Rattle.cp_collapse.specs.Agreeing.{SaysTheSame}
+use Rattle.cp_collapse.specs.SameSkeletons.{SaysTheSame}
 use Rattle.cp_collapse.specs.Directed.{IsMostGeneralFor}
 use Rattle.cp_normal.specs.declared.form.Form.{Form}
 use Rattle.cp_normal.specs.FormView.{form_view}
-use Rattle.cp_normal.specs.Branching.{NeverEqual, HasBranch}
+use Rattle.cp_normal.specs.Branches.{NeverEqual, HasBranch}
 use Rattle.cp_normal.specs.Branched.{AreInOrder, no_atoms, never_equal_to, unified_with, IsBranch, AreBranchesOf}
-use Rattle.cp_collapse.proofs.Unifying.{most_general_for, never_equal}
+use Rattle.cp_collapse.proofs.AtomUnifiers.{most_general_for, never_equal}
 
 -- ---- in order
 

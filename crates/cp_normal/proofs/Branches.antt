@@ -10,9 +10,9 @@ use Rattle.cp_model.specs.Standing.{Standing, StandsIn, StandsApart}
 use Rattle.cp_completeness.specs.Normal.{IsHeardBefore, IsSolution, skeleton_under, StandsAmong, LosesNoStanding}
 use Rattle.cp_completeness.proofs.Heard.{heard_before}
 use Rattle.cp_completeness.proofs.Under.{stands_under, apart_under, factors_under, factors_then}
-use Rattle.cp_normal.specs.Narrowing.{IsStray, IsHeardAt}
+use Rattle.cp_normal.specs.NormalForms.{IsStray, IsHeardAt}
 use Rattle.cp_collapse.specs.Directed.{IsMostGeneralFor}
-use Rattle.cp_normal.specs.Branching.{NeverEqual, HasBranch, HasBranches}
+use Rattle.cp_normal.specs.Branches.{NeverEqual, HasBranch, HasBranches}
 use Rattle.cp_collapse.proofs.SameStandings.{same_stands, same_apart, same_factors}
 
 -- An assignment that gives two atoms one value solves every skeleton by their most general unifier.

@@ -1,7 +1,8 @@
 -- Normal forms come from a skeleton by one substitution each.
 use Rattle.std.proofs.Common.{◌≡◌, inl, List, [], ◌∷◌, map, refl, sym, ap, ap₂, ◌∙◌, subst}
 use Rattle.cp_lists.specs.Lists.{IsIn, one_step}
-use Rattle.cp_model.specs.Term.{Term, Assignment, value_of, after, Substitution, apply_to, unchanged, composed}
+use Rattle.cp_model.specs.Term.{Term, Assignment, value_of, after, Substitution, apply_to, composed}
+use Rattle.cp_model.specs.Identity.{unchanged}
 use Rattle.cp_model.specs.Strand.{send, recv, Protocol}
 use Rattle.cp_model.specs.Bundle.{node_at, Bundle, IsBundle}
 use Rattle.cp_model.specs.Skeleton.{FromProblem, Skeleton, along_pair, IsSkeleton}
@@ -12,11 +13,11 @@ use Rattle.cp_lists.proofs.Members.{in_append_left}
 use Rattle.cp_model.proofs.LawTerms.{value_after}
 use Rattle.cp_completeness.specs.Normal.{skeleton_under, with_pairs, variables_of_terms, SaysNoMore, LosesNoStanding}
 use Rattle.cp_completeness.proofs.Weaker.{stands_too}
-use Rattle.cp_collapse.specs.Agreeing.{SaysTheSame}
+use Rattle.cp_collapse.specs.SameSkeletons.{SaysTheSame}
 use Rattle.cp_normal.specs.BySubstitution.{StaysWithin, ComesBySubstitution, StandsAmongForms, ComeBySubstitutions}
 use Rattle.cp_normal.specs.Candidates.{unifiers_of}
 use Rattle.cp_normal.specs.Exact.{HasForms}
-use Rattle.cp_normal.specs.Narrowing.{IsNarrowed, NarrowsTo, none, one, IsNormalFormOf}
+use Rattle.cp_normal.specs.NormalForms.{IsNarrowed, NarrowsTo, none, one, IsNormalFormOf}
 use Rattle.cp_normal.proofs.FormsOf.{are_normal_forms, lose_no_standing}
 use Rattle.cp_normal.proofs.NarrowedStandings.{LeavesValues, solved_unchanged, solved_both, step_solved, rest_leaves, standings_leave}
 use Rattle.cp_normal.proofs.NarrowedUnder.{says_unchanged, says_both}

@@ -4,7 +4,7 @@ use Rattle.cp_lists.specs.Lists.{IsIn, here, there}
 use Rattle.cp_model.specs.Term.{Variable}
 use Rattle.cp_unify.specs.Unifiers.{AreAmong}
 use Rattle.cp_lists.proofs.Members.{in_cases}
-use Rattle.cp_unify.proofs.Deciding.{is_variable, is_variable_tells, occurs, occurs_tells}
+use Rattle.cp_unify.proofs.VariableTests.{is_variable, is_variable_tells, occurs, occurs_tells}
 
 abbrev pub distinct : List Variable → ℕ
 distinct [] = 0

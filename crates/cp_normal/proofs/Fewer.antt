@@ -8,16 +8,15 @@ use Rattle.cp_model.specs.declared.node.Node.{Node}
 use Rattle.cp_model.specs.Skeleton.{skeleton_trace, UniqueAt, Skeleton}
 use Rattle.cp_model.specs.Problem.{variables_of_strands, variables_of_atoms, variables_of_assumptions, variables_of_skeleton}
 use Rattle.cp_lists.proofs.Members.{in_append_left, in_append_right}
-use Rattle.cp_model.proofs.LawStandings.{strand_of_event}
+use Rattle.cp_model.proofs.LawStandings.{strand_of_event, event_on}
 use Rattle.cp_completeness.specs.Normal.{skeleton_under}
 use Rattle.cp_completeness.proofs.Under.{in_strands, in_uniques}
 use Rattle.cp_model.proofs.LawPrefixes.{in_trace}
-use Rattle.cp_completeness.proofs.Images.{event_on}
 use Rattle.cp_unify.specs.Bindings.{Binding, as_substitution}
 use Rattle.cp_unify.specs.Unifiers.{AreAmong, IsMostGeneral}
-use Rattle.cp_collapse.specs.Agreeing.{SaysTheSame}
-use Rattle.cp_normal.specs.Narrowing.{IsStray, IsHeardAt}
-use Rattle.cp_normal.specs.Branching.{HasFewerVariables}
+use Rattle.cp_collapse.specs.SameSkeletons.{SaysTheSame}
+use Rattle.cp_normal.specs.NormalForms.{IsStray, IsHeardAt}
+use Rattle.cp_normal.specs.Branches.{HasFewerVariables}
 use Rattle.cp_skel.proofs.UnderVariables.{carried_variables}
 use Rattle.cp_normal.proofs.Distinct.{distinct, fewer_distinct}
 use Rattle.cp_normal.proofs.Narrowed.{same_variables, under_has_fewer}

@@ -7,12 +7,11 @@ use Rattle.cp_model.specs.Strand.{Protocol}
 use Rattle.cp_model.specs.Bundle.{Bundle, IsBundle}
 use Rattle.cp_model.specs.Skeleton.{Skeleton, IsSkeleton}
 use Rattle.cp_model.specs.Standing.{Standing, StandsIn, StandsApart}
-use Rattle.cp_model.specs.Linking.{ArePaired}
+use Rattle.cp_model.specs.Senders.{ArePaired}
 use Rattle.cp_model.proofs.LawTerms.{term_composed}
 use Rattle.cp_unify.specs.Bindings.{Binding, as_substitution}
 use Rattle.cp_completeness.specs.Normal.{with_pairs, StandsAmong}
-use Rattle.cp_normal.specs.Narrowing.{IsNormalFormOf}
-use Rattle.cp_normal.specs.Branching.{IsSettled}
+use Rattle.cp_normal.specs.NormalForms.{IsNormalFormOf}
 use Rattle.cp_normal.specs.Exact.{HasForms}
 use Rattle.cp_normal.specs.FormView.{form_view}
 use Rattle.cp_normal.specs.Formed.{Formed, StandsAmongFormed, AreNormalForms, IsFormBeside, AreFormsBeside}
@@ -94,7 +93,6 @@ module _ (k : Skeleton) (forms : List Formed) (made : (f : Formed) → IsIn f fo
 pub record IsMadeFrom (f r : Form) : Type 0 where
   pub last : Form
   pub comes_on : ComesOn f last
-  pub settled : IsSettled (form_view last)
   pub form : IsFormOf last r
   pub variables : r.skeleton.variables ≡ f.skeleton.variables
 
@@ -117,14 +115,14 @@ module _ (f : Form) where
     }
 
     is_normal : IsNormalFormOf (form_view f) (with_pairs (form_view m.last) m.form.pairs)
-    is_normal = normal_form (form_view f) (form_view m.last) m.form.pairs m.comes_on.steps (m.form.normal, m.form.consistent) m.settled
+    is_normal = normal_form (form_view f) (form_view m.last) m.form.pairs m.comes_on.steps (m.form.normal, m.form.consistent) m.form.settled
 
     made_by : IsMadeBy (form_view f) made_form
     unfolding made_form is_normal
     made_by = record {
       normal = is_normal;
       by = form_unifiers (form_view f) (with_pairs (form_view m.last) m.form.pairs) is_normal
-          ∙ normal_form_unifiers (form_view f) (form_view m.last) m.form.pairs m.comes_on.steps (m.form.normal, m.form.consistent) m.settled;
+          ∙ normal_form_unifiers (form_view f) (form_view m.last) m.form.pairs m.comes_on.steps (m.form.normal, m.form.consistent) m.form.settled;
     }
 
   -- The forms, place by place.

@@ -5,14 +5,14 @@ use Rattle.cp_model.specs.Term.{AtomTerm}
 use Rattle.cp_model.specs.declared.node.Node.{Node}
 use Rattle.cp_model.specs.Skeleton.{UniqueAt, Skeleton, along_pair, IsSkeleton}
 use Rattle.cp_model.specs.declared.node.OrderPair.{OrderPair}
-use Rattle.cp_model.specs.Realising.{OriginatesAtTerm}
+use Rattle.cp_model.specs.Realisation.{OriginatesAtTerm}
 use Rattle.cp_model.specs.Strand.{Protocol}
 use Rattle.cp_completeness.specs.Normal.{IsCarriedAt, with_pairs, LosesNoStanding}
-use Rattle.cp_completeness.proofs.Losing.{pairs_lose_none}
+use Rattle.cp_completeness.proofs.NoStandingLost.{pairs_lose_none}
 use Rattle.cp_normal.proofs.Losses.{only_origin_pairs}
-use Rattle.cp_normal.specs.Normalising.{ClosesCycle, IsAddedPair, AreNormalPairs, IsContradictory}
+use Rattle.cp_normal.specs.Findings.{ClosesCycle, IsAddedPair, AreNormalPairs, IsContradictory}
 use Rattle.cp_normal.specs.Candidates.{unifiers_of}
-use Rattle.cp_normal.specs.Narrowing.{IsStray, NarrowsTo, IsNormal, IsNormalFormOf}
+use Rattle.cp_normal.specs.NormalForms.{IsStray, NarrowsTo, IsNormal, IsNormalFormOf}
 
 module _ (k : Skeleton) (pairs : List OrderPair) where
   originates_of : (v : AtomTerm) (n : Node) → OriginatesAtTerm (with_pairs k pairs) v n → OriginatesAtTerm k v n

@@ -4,14 +4,14 @@ use Rattle.cp_lists.specs.Lists.{IsIn, here, there}
 use Rattle.cp_lists.proofs.Members.{from_map}
 use Rattle.cp_model.specs.Skeleton.{Skeleton, IsSkeleton}
 use Rattle.cp_model.specs.Strand.{Protocol}
-use Rattle.cp_model.specs.Linking.{ArePaired}
+use Rattle.cp_model.specs.Senders.{ArePaired}
 use Rattle.cp_unify.specs.Bindings.{Binding}
 use Rattle.cp_completeness.specs.Normal.{LosesNoStanding}
 use Rattle.cp_skel.specs.Data.{SkeletonData as Program}
 use Rattle.cp_skel.specs.View.{skeleton_view}
 use Rattle.cp_normal.specs.BySubstitution.{ComeBySubstitutions}
 use Rattle.cp_normal.specs.Exact.{HasForms}
-use Rattle.cp_normal.specs.Narrowing.{IsNormalFormOf}
+use Rattle.cp_normal.specs.NormalForms.{IsNormalFormOf}
 use Rattle.cp_normal.specs.Formed.{Formed, IsFormBeside, AreFormsBeside}
 use Rattle.cp_normal.specs.declared.form.Form.{Form}
 use Rattle.cp_normal.proofs.BySubstitution.{come_by_substitutions}

@@ -9,16 +9,16 @@ use Rattle.cp_model.specs.Given.{listed}
 use Rattle.cp_model.specs.Skeleton.{UniqueAt, Skeleton, IsSkeleton}
 use Rattle.cp_lists.proofs.Members.{in_append, in_append_left, in_append_right}
 use Rattle.cp_completeness.specs.Normal.{LosesNoStanding}
-use Rattle.cp_completeness.proofs.Losing.{among_more, through_each}
+use Rattle.cp_completeness.proofs.NoStandingLost.{among_more, through_each}
 use Rattle.cp_skel.proofs.EachOnce.{listed-unique}
 use Rattle.cp_normal.specs.Branched.{AreInOrder, no_atoms, never_equal_to, unified_with}
-use Rattle.cp_normal.specs.Branching.{NeverEqual, HasBranch, HasBranches}
+use Rattle.cp_normal.specs.Branches.{NeverEqual, HasBranch, HasBranches}
 use Rattle.cp_normal.specs.Exact.{IsRefuted, HasForms, refuted, branching, cyclic, normal, EachHasForms, no_more, and_then}
-use Rattle.cp_normal.specs.Hearing.{heard_before}
-use Rattle.cp_normal.specs.Narrowing.{IsStray, IsHeardAt, IsNarrowed, none, one, IsNormalFormOf}
+use Rattle.cp_normal.specs.HeardAtoms.{heard_before}
+use Rattle.cp_normal.specs.NormalForms.{IsStray, IsHeardAt, IsNarrowed, none, one, IsNormalFormOf}
 use Rattle.cp_collapse.specs.Directed.{IsMostGeneralFor}
-use Rattle.cp_normal.specs.Normalising.{IsContradictory}
-use Rattle.cp_normal.specs.Straying.{IsFirstStray}
+use Rattle.cp_normal.specs.Findings.{IsContradictory}
+use Rattle.cp_normal.specs.StrayValues.{IsFirstStray}
 use Rattle.cp_normal.proofs.BranchLists.{all_have_branches}
 use Rattle.cp_normal.proofs.Branches.{branches_lose_none}
 use Rattle.cp_normal.proofs.Forms.{normal_form, pairs_lose_no_standing}

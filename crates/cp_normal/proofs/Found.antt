@@ -8,15 +8,15 @@ use Rattle.cp_model.specs.declared.node.Node.{Node}
 use Rattle.cp_model.specs.Skeleton.{SkeletonStrand, instance, listener, skeleton_trace_or_none, term_event_at, UniqueAt, Skeleton}
 use Rattle.cp_model.specs.declared.node.OrderPair.{OrderPair}
 use Rattle.cp_model.specs.Derivable.{IsOnInstance}
-use Rattle.cp_model.specs.Realising.{OriginatesAtTerm}
+use Rattle.cp_model.specs.Realisation.{OriginatesAtTerm}
 use Rattle.cp_skel.specs.Events.{Occurrence, occurrence_view, events_of}
-use Rattle.cp_collapse.specs.Having.{Has}
+use Rattle.cp_collapse.specs.Property.{Has}
 use Rattle.cp_normal.specs.Events.{Gathers, CarriesOne, IsElsewhere, IsSentAtOrigin, IsCarriedBefore, IsPairBetween}
 use Rattle.cp_collapse.specs.Partitions.{is_instance}
-use Rattle.cp_normal.specs.Normalising.{CarriesNonOriginating, HasTwoOrigins, LosesOrigin, IsAddedPair}
+use Rattle.cp_normal.specs.Findings.{CarriesNonOriginating, HasTwoOrigins, LosesOrigin, IsAddedPair}
 use Rattle.cp_skel.specs.declared.events.Occurrence as program
 use Rattle.cp_skel.proofs.EventLists.{listed_event, occurrence_at, listed_at}
-use Rattle.cp_collapse.proofs.Having.{of_views, to_views}
+use Rattle.cp_collapse.proofs.ItemsWithProperty.{of_views, to_views}
 
 module _ (k : Skeleton) (all read : List program.Occurrence) (listed : map occurrence_view all ≡ events_of k) (is_read : read ≡ all) where
   the_events : map occurrence_view read ≡ events_of k

@@ -13,8 +13,8 @@ use Rattle.cp_model.specs.Given.{atoms_onto}
 use Rattle.cp_model.proofs.Gathered.{onto-append, onto-takes, onto-only, atoms as gathering}
 use Rattle.cp_skel.specs.Events.{Occurrence, occurrence_view, is_role_strand, occurrences_on, occurrences_from, events_of}
 use Rattle.cp_skel.specs.declared.events.Occurrence as program
-use Rattle.cp_normal.specs.Hearing.{carried_atoms, received_atoms, heard_in, heard_before, heard_of, heard_among}
-use Rattle.cp_normal.specs.Narrowing.{IsHeardAt}
+use Rattle.cp_normal.specs.HeardAtoms.{carried_atoms, received_atoms, heard_in, heard_before, heard_of, heard_among}
+use Rattle.cp_normal.specs.NormalForms.{IsHeardAt}
 
 -- ---- the loops that gather them
 

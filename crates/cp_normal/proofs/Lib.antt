@@ -1,8 +1,8 @@
-pub mod Having
+pub mod AnyItem
 pub mod Losses
 pub mod Found
-pub mod Gathering
-pub mod Cycling
+pub mod ListLoops
+pub mod ClosedCycles
 pub mod Normalised
 pub mod OwnPairs
 pub mod Branches
@@ -13,11 +13,11 @@ pub mod Narrowed
 pub mod NarrowedStandings
 pub mod NarrowedUnder
 pub mod Fewer
-pub mod ComingOn
+pub mod UnifierSteps
 pub mod FormedBeside
 pub mod FormsAlone
 pub mod WithSubstitutions
-pub mod Keeping
+pub mod FormSkeletons
 pub mod Homomorphic
 pub mod StatedForms
 pub mod Greatest
@@ -26,7 +26,7 @@ pub mod Strayed
 pub mod BranchLists
 pub mod Exactly
 pub mod TreeOfForms
-pub mod Following
+pub mod NarrowingRounds
 pub mod Gathered
 pub mod Ranked
 pub mod StrayedText

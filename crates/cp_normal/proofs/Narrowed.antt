@@ -12,8 +12,8 @@ use Rattle.cp_unify.specs.Bindings.{Binding, as_substitution, variables_of_bindi
 use Rattle.cp_unify.specs.Unifiers.{AreAmong, IsMostGeneral}
 use Rattle.cp_unify.proofs.Members.{among_append}
 use Rattle.cp_unify.proofs.Steps.{applied_among}
-use Rattle.cp_collapse.specs.Agreeing.{AreSameStrands, no_strands, same_strands, SaysTheSame}
-use Rattle.cp_normal.specs.Branching.{HasFewerVariables}
+use Rattle.cp_collapse.specs.SameSkeletons.{AreSameStrands, no_strands, same_strands, SaysTheSame}
+use Rattle.cp_normal.specs.Branches.{HasFewerVariables}
 use Rattle.cp_collapse.proofs.SameStrands.{same_trace}
 use Rattle.cp_normal.proofs.Distinct.{distinct, fewer_distinct}
 use Rattle.cp_collapse.proofs.Bound.{gone, some_taken}

@@ -2,7 +2,8 @@
 use Rattle.std.proofs.Common.{◌≡◌, List, Some, sym, ap, ◌∙◌}
 use Rattle.cp_lists.specs.Lists.{item_at}
 use Rattle.cp_model.specs.Message.{Key, Atom, Message, atom, pair, enc}
-use Rattle.cp_model.specs.Term.{AtomTerm, Term, atom_term, IsCarriedByTerm, itself_term, in_left_term, in_right_term, in_plaintext_term, Assignment, value_of_atom, value_of, after, Substitution, apply_to, apply_to_atom, unchanged, composed}
+use Rattle.cp_model.specs.Term.{AtomTerm, Term, atom_term, IsCarriedByTerm, itself_term, in_left_term, in_right_term, in_plaintext_term, Assignment, value_of_atom, value_of, after, Substitution, apply_to, apply_to_atom, composed}
+use Rattle.cp_model.specs.Identity.{unchanged}
 use Rattle.cp_model.specs.Strand.{Event, send, recv, payload, event_map}
 use Rattle.cp_model.specs.Bundle.{node_at, event_at, Bundle}
 use Rattle.cp_model.specs.declared.node.Node.{Node}
@@ -14,8 +15,8 @@ use Rattle.cp_completeness.specs.Normal.{skeleton_under}
 use Rattle.cp_completeness.proofs.Under.{trace_under, same_image as image_below}
 use Rattle.cp_model.proofs.LawEvents.{payload_map}
 use Rattle.cp_completeness.proofs.Images.{IsImageOf, image_event_at}
-use Rattle.cp_collapse.specs.Agreeing.{SaysTheSame}
-use Rattle.cp_normal.specs.Narrowing.{IsNarrowed, NarrowsTo, none, one}
+use Rattle.cp_collapse.specs.SameSkeletons.{SaysTheSame}
+use Rattle.cp_normal.specs.NormalForms.{IsNarrowed, NarrowsTo, none, one}
 use Rattle.cp_collapse.proofs.SameFacts.{same_event}
 use Rattle.cp_collapse.proofs.SameStandings.{same_image}
 use Rattle.cp_normal.proofs.NarrowedUnder.{says_unchanged, says_both}

@@ -4,11 +4,11 @@ use Rattle.cp_lists.specs.Lists.{IsIn}
 use Rattle.cp_model.specs.declared.node.Node.{Node}
 use Rattle.cp_model.specs.Skeleton.{UniqueAt, Skeleton, Before, IsOrderPair, IsOrigin}
 use Rattle.cp_model.specs.declared.node.OrderPair.{OrderPair}
-use Rattle.cp_collapse.specs.Having.{Has}
+use Rattle.cp_collapse.specs.Property.{Has}
 use Rattle.cp_collapse.specs.Cycles.{IsClosedAt}
-use Rattle.cp_normal.specs.Normalising.{CarriesNonOriginating, HasTwoOrigins, LosesOrigin, ClosesCycle, AreNormalPairs, IsContradictory}
+use Rattle.cp_normal.specs.Findings.{CarriesNonOriginating, HasTwoOrigins, LosesOrigin, ClosesCycle, AreNormalPairs, IsContradictory}
 use Rattle.cp_normal.proofs.Found.{unique_has, has_unique}
-use Rattle.cp_normal.proofs.Cycling.{closed_if_cycle, cycle_if_closed, cycle_of_these}
+use Rattle.cp_normal.proofs.ClosedCycles.{closed_if_cycle, cycle_if_closed, cycle_of_these}
 
 module _ (k : Skeleton) (pairs read : List OrderPair) (entries read_entries : List UniqueAt) (normal : AreNormalPairs k pairs) (is_read : read ≡ pairs)
     (are_uniques : entries ≡ k.assumptions.uniquely_originating) (entries_read : read_entries ≡ entries)

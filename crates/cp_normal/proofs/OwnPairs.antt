@@ -10,7 +10,7 @@ use Rattle.cp_lists.proofs.Members.{in_append, in_append_left, in_append_right, 
 use Rattle.cp_model.specs.Skeleton.{Skeleton}
 use Rattle.cp_model.specs.declared.node.OrderPair.{OrderPair}
 use Rattle.cp_skel.proofs.EventLists.{moved}
-use Rattle.cp_normal.specs.Normalising.{IsAddedPair, AreNormalPairs}
+use Rattle.cp_normal.specs.Findings.{IsAddedPair, AreNormalPairs}
 use Rattle.cp_normal.specs.OwnPairs.{Key, key_of, is_same_key, has_key, AreKeysOf, is_other}
 
 -- ---- the loops

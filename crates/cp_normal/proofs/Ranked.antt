@@ -7,18 +7,17 @@ use Rattle.cp_model.specs.Problem.{variables_of_skeleton}
 use Rattle.cp_normal.specs.declared.form.Form.{Form}
 use Rattle.cp_normal.specs.declared.candidates.Candidate.{Candidate}
 use Rattle.cp_normal.specs.declared.candidates.Candidate.TheVariants.{Open, Settled}
-use Rattle.cp_normal.specs.Branching.{IsSettled}
 use Rattle.cp_normal.specs.FormView.{form_view}
 use Rattle.cp_normal.specs.Formed.{AreFormsBeside}
-use Rattle.cp_normal.specs.Candidates.{form_of, candidate_view, IsOpen, IsSound, ComesOn, FallsTo, IsRound, AreForms}
-use Rattle.cp_collapse.specs.Having.{Has}
+use Rattle.cp_normal.specs.Candidates.{form_of, candidate_view, IsOpen, ComesOn, FallsTo, IsRound, AreForms}
+use Rattle.cp_collapse.specs.Property.{Has}
 use Rattle.cp_normal.specs.Exact.{HasForms, HaveForms}
-use Rattle.cp_collapse.proofs.Having.{not_both}
+use Rattle.cp_collapse.proofs.ItemsWithProperty.{not_both}
 use Rattle.cp_normal.proofs.Distinct.{distinct}
 use Rattle.cp_normal.proofs.Fewer.{fewer_counted}
 use Rattle.cp_normal.proofs.Greatest.{greatest, greatest_falls}
 use Rattle.cp_normal.proofs.TreeOfForms.{has_forms}
-use Rattle.cp_normal.proofs.ComingOn.{comes_itself, comes_then}
+use Rattle.cp_normal.proofs.UnifierSteps.{comes_itself, comes_then}
 use Rattle.cp_normal.proofs.FormedBeside.{IsMadeFrom, are_forms_beside}
 
 -- ---- the measure
@@ -46,17 +45,15 @@ round_falls old new h r = greatest_falls rank old new h.0 h.1 (open_rank h.0 h.2
 
 -- ---- what is reached
 
--- The candidates come from f by steps, are sound, and have its variables and its normal forms.
+-- The candidates come from f by steps, and have its variables and its normal forms.
 pub record IsReached (f : Form) (candidates : List Candidate) : Type 0 where
   pub exact : (rs : List Skeleton) → HaveForms (map candidate_view candidates) rs → HaveForms (form_view f ∷ []) rs
-  pub sound : (c : Candidate) → IsIn c candidates → IsSound c
   pub variables : (c : Candidate) → IsIn c candidates → (form_of c).skeleton.variables ≡ f.skeleton.variables
   pub comes_on : (c : Candidate) → IsIn c candidates → ComesOn f (form_of c)
 
 reached_first : (f : Form) → IsReached f (Open f ∷ [])
 reached_first f = record {
   exact = λ rs h. h;
-  sound = λ c i. subst IsSound (sym (only_item i)) tt;
   variables = λ c i. subst (λ (d : Candidate). (form_of d).skeleton.variables ≡ f.skeleton.variables) (sym (only_item i)) refl;
   comes_on = λ c i. subst (λ (d : Candidate). ComesOn f (form_of d)) (sym (only_item i)) (comes_itself f);
 }
@@ -67,32 +64,24 @@ reached_at_first f candidates e = subst (IsReached f) (sym e) (reached_first f)
 pub reached_next : (f : Form) (old new : List Candidate) → IsReached f old → IsRound old new → IsReached f new
 reached_next f old new reached r = record {
   exact = λ rs h. reached.exact rs (r.exact rs h);
-  sound = λ d i. (r.all_follow d i).2.sound;
   variables = λ d i. let g = r.all_follow d i in g.2.variables ∙ reached.variables g.0 g.1;
   comes_on = λ d i. let g = r.all_follow d i in comes_then f (form_of g.0) (form_of d) (reached.comes_on g.0 g.1) g.2.comes_on;
 }
 
 -- ---- the end
 
-settled_of : (c : Candidate) → (IsOpen c → ⊥) → IsSound c → IsSettled (candidate_view c)
-settled_of (Open f) not sound = absurd (not tt)
-settled_of (Settled f) not sound = sound
-
 -- No candidate is open where the test finds none.
 pub none_open : (candidates read : List Candidate) (b : Bool) → b ≡ false → (Has IsOpen read → b ≡ true) → read ≡ candidates → Has IsOpen candidates → ⊥
 none_open candidates read b closed finds same h = not_both closed (finds (subst (Has IsOpen) (sym same) h))
 
-module _ (f : Form) (candidates : List Candidate) (reached : IsReached f candidates) (none : Has IsOpen candidates → ⊥) (forms : List Form) (are : AreForms candidates forms) where
-  all_settled : (c : Candidate) → IsIn c candidates → IsSettled (candidate_view c)
-  all_settled c i = settled_of c (λ o. none (c, i, o)) (reached.sound c i)
-
+module _ (f : Form) (candidates : List Candidate) (reached : IsReached f candidates) (forms : List Form) (are : AreForms candidates forms) where
   reached_exact : HasForms (form_view f) (map form_view forms)
-  reached_exact = has_forms (form_view f) (map form_view forms) (reached.exact (map form_view forms) (are.exact all_settled))
+  reached_exact = has_forms (form_view f) (map form_view forms) (reached.exact (map form_view forms) are.exact)
 
   made_so : (r : Form) → IsIn r forms → IsMadeFrom f r
   made_so r i =
       let c = are.each r i in
-      record { last = form_of c.0; comes_on = reached.comes_on c.0 c.1; settled = all_settled c.0 c.1; form = c.2; variables = c.2.variables ∙ reached.variables c.0 c.1 }
+      record { last = form_of c.0; comes_on = reached.comes_on c.0 c.1; form = c.2; variables = c.2.variables ∙ reached.variables c.0 c.1 }
 
   pub reached_forms : AreFormsBeside f.skeleton f.substitution forms
   reached_forms = are_forms_beside f forms reached_exact made_so

@@ -3,7 +3,7 @@ use Rattle.cp_model.specs.Strand.{Protocol}
 use Rattle.cp_model.specs.Skeleton.{Skeleton, IsSkeleton}
 use Rattle.cp_completeness.specs.Normal.{skeleton_under}
 use Rattle.cp_completeness.proofs.Skeletons.{skeleton_under_is_skeleton}
-use Rattle.cp_normal.specs.Narrowing.{IsNarrowed, NarrowsTo, none, one}
+use Rattle.cp_normal.specs.NormalForms.{IsNarrowed, NarrowsTo, none, one}
 use Rattle.cp_collapse.proofs.SameSkeletons.{same_is_skeleton}
 
 narrowed_is_skeleton : (protocol : Protocol) (k l : Skeleton) → IsNarrowed k l → IsSkeleton protocol k → IsSkeleton protocol l

@@ -7,10 +7,10 @@ use Rattle.cp_model.specs.declared.node.Node.{Node}
 use Rattle.cp_model.specs.Skeleton.{UniqueAt, Assumptions, Skeleton}
 use Rattle.cp_model.specs.declared.node.OrderPair.{OrderPair}
 use Rattle.cp_completeness.specs.Normal.{IsOriginPair, with_pairs}
-use Rattle.cp_collapse.specs.Agreeing.{SaysTheSame}
+use Rattle.cp_collapse.specs.SameSkeletons.{SaysTheSame}
 use Rattle.cp_collapse.proofs.SameFacts.{says_back, says_with_pairs, same_event, same_before, same_originates, same_carried, listed_too}
-use Rattle.cp_normal.specs.Narrowing.{IsStray, IsHeardAt}
-use Rattle.cp_normal.specs.Normalising.{IsAddedPair, AreNormalPairs, CarriesNonOriginating, HasTwoOrigins, LosesOrigin, ClosesCycle, IsContradictory}
+use Rattle.cp_normal.specs.NormalForms.{IsStray, IsHeardAt}
+use Rattle.cp_normal.specs.Findings.{IsAddedPair, AreNormalPairs, CarriesNonOriginating, HasTwoOrigins, LosesOrigin, ClosesCycle, IsContradictory}
 
 module _ (k l : Skeleton) (s : SaysTheSame k l) where
   pub same_heard : (a : AtomTerm) (x : Node) → IsHeardAt k a x → IsHeardAt l a x

@@ -6,8 +6,8 @@ use Rattle.cp_completeness.specs.Normal.{with_pairs}
 use Rattle.cp_completeness.proofs.Mapped.{before_more}
 use Rattle.cp_completeness.proofs.Skeletons.{with_pairs_is_skeleton}
 use Rattle.cp_skel.specs.Sound.{IsSound}
-use Rattle.cp_normal.specs.Normalising.{AreNormalPairs, IsContradictory}
-use Rattle.cp_normal.proofs.Keeping.{between}
+use Rattle.cp_normal.specs.Findings.{AreNormalPairs, IsContradictory}
+use Rattle.cp_normal.proofs.FormSkeletons.{between}
 use Rattle.cp_normal.proofs.Losses.{only_origin_pairs}
 
 pub form_sound : (k : Skeleton) (pairs : List OrderPair) → IsSound k → AreNormalPairs k pairs × (IsContradictory k → ⊥) → IsSound (with_pairs k pairs)

@@ -2,14 +2,14 @@
 use Rattle.std.proofs.Common.{List, sym, subst, inl}
 use Rattle.cp_model.specs.Strand.{Declaration}
 use Rattle.cp_model.specs.Skeleton.{Skeleton}
-use Rattle.cp_model.specs.Problem.{IsPointOfView}
+use Rattle.cp_model.specs.PointOfView.{IsPointOfView}
 use Rattle.cp_model.specs.Homomorphism.{CarriesHomomorphism}
 use Rattle.cp_model.specs.Stated.{KeepsStated}
 use Rattle.cp_model.proofs.StatedStays.{stated_stays}
 use Rattle.cp_completeness.specs.Normal.{skeleton_under}
 use Rattle.cp_completeness.proofs.StatedSteps.{stated_under, stated_with_pairs}
-use Rattle.cp_collapse.specs.Agreeing.{SaysTheSame}
-use Rattle.cp_normal.specs.Narrowing.{NarrowsTo, none, one, IsNormalFormOf}
+use Rattle.cp_collapse.specs.SameSkeletons.{SaysTheSame}
+use Rattle.cp_normal.specs.NormalForms.{NarrowsTo, none, one, IsNormalFormOf}
 use Rattle.cp_collapse.proofs.SameStrands.{as_many}
 use Rattle.cp_collapse.proofs.SameFacts.{same_assumptions, same_before}
 use Rattle.cp_model.proofs.SingleMaps.{itself}

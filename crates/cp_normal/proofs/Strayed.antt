@@ -10,13 +10,13 @@ use Rattle.cp_model.specs.Bundle.{node_at}
 use Rattle.cp_model.specs.declared.node.Node.{Node}
 use Rattle.cp_model.specs.Given.{listed}
 use Rattle.cp_model.specs.Skeleton.{SkeletonStrand, skeleton_trace, term_event_at, UniqueAt, Skeleton}
-use Rattle.cp_skel.specs.Deleting.{as_it_is}
+use Rattle.cp_skel.specs.Deletion.{as_it_is}
 use Rattle.cp_skel.proofs.EachOnce.{listed-unique}
 use Rattle.cp_skel.proofs.EventLists.{listed_event, occurrence_at, listed_at}
 use Rattle.cp_skel.specs.Events.{Occurrence, is_role_strand, occurrences_on, occurrences_from, events_of}
-use Rattle.cp_normal.specs.Narrowing.{IsStray}
-use Rattle.cp_normal.specs.Branching.{IsSettled}
-use Rattle.cp_normal.specs.Straying.{Strays, StraysOne, NoneBefore, IsFirstAt, IsEarlier, IsFirstStray}
+use Rattle.cp_normal.specs.NormalForms.{IsStray}
+use Rattle.cp_normal.specs.Branches.{IsSettled}
+use Rattle.cp_normal.specs.StrayValues.{Strays, StraysOne, NoneBefore, IsFirstAt, IsEarlier, IsFirstStray}
 
 -- ---- loops that find the first
 

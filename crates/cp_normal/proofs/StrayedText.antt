@@ -1,26 +1,27 @@
 -- The normal form of a skeleton in which a unique text strays.
 use Rattle.std.proofs.Common.{◌≡◌, ◌≢◌, ◌⊎◌, inl, inr, ◌<◌, ◌+◌, ◌*◌, ℕ, zero, suc, List, [], ◌∷◌, Some, refl, sym, ap, ◌∙◌, subst, arith}
 use Rattle.cp_lists.specs.Lists.{IsIn, here, there, one_step, more_steps}
-use Rattle.cp_model.specs.Term.{text_variable, Term, atom_term, itself_term, Assignment, value_of, unchanged, composed}
+use Rattle.cp_model.specs.Term.{text_variable, Term, atom_term, itself_term, Assignment, value_of, composed}
+use Rattle.cp_model.specs.Identity.{unchanged}
 use Rattle.cp_model.specs.Strand.{send, recv}
 use Rattle.cp_model.specs.Bundle.{node_at}
 use Rattle.cp_model.specs.declared.node.Node.{Node}
 use Rattle.cp_model.specs.Skeleton.{term_event_at, UniqueAt, Skeleton, OrderStep, along_strand_of, along_pair, Before}
 use Rattle.cp_model.specs.declared.node.OrderPair.{OrderPair}
-use Rattle.cp_model.specs.Realising.{OriginatesAtTerm}
+use Rattle.cp_model.specs.Realisation.{OriginatesAtTerm}
 use Rattle.cp_completeness.specs.Normal.{skeleton_under, with_pairs}
 use Rattle.cp_completeness.specs.Example.{speaker, unique_text, two_say_it, repeated, from_speaker}
 use Rattle.cp_completeness.proofs.Spoken.{originates, elsewhere}
 use Rattle.cp_unify.specs.Bindings.{Binding}
 use Rattle.cp_unify.proofs.Substituted.{after_met}
-use Rattle.cp_normal.specs.Normalising.{IsAddedPair, AreNormalPairs, IsContradictory}
-use Rattle.cp_normal.specs.Narrowing.{IsStray, IsNarrowed, one, none, IsNormalFormOf}
+use Rattle.cp_normal.specs.Findings.{IsAddedPair, AreNormalPairs, IsContradictory}
+use Rattle.cp_normal.specs.NormalForms.{IsStray, IsNarrowed, one, none, IsNormalFormOf}
 use Rattle.cp_collapse.specs.Directed.{IsMostGeneralFor}
-use Rattle.cp_normal.specs.Branching.{IsSettled}
+use Rattle.cp_normal.specs.Branches.{IsSettled}
 use Rattle.cp_normal.specs.Example.{heard_is_said, repeated_after_speaker}
 use Rattle.cp_collapse.proofs.SameFacts.{says_itself}
 use Rattle.cp_normal.proofs.Forms.{normal_form}
-use Rattle.cp_collapse.proofs.Unifying.{directed}
+use Rattle.cp_collapse.proofs.AtomUnifiers.{directed}
 
 abbrev narrowed : Skeleton
 narrowed = skeleton_under heard_is_said two_say_it

@@ -5,16 +5,16 @@ use Rattle.cp_model.specs.Term.{Variable, AtomTerm, atom_of_variable, atom_term,
 use Rattle.cp_model.specs.Strand.{Declaration, Event, payload}
 use Rattle.cp_model.specs.declared.node.Node.{Node}
 use Rattle.cp_model.specs.Skeleton.{skeleton_trace, FromProblem, Skeleton, term_event_at}
-use Rattle.cp_model.specs.Problem.{IsDeclared, variables_of_assumptions, variables_of_skeleton, HasDeclaredVariables}
+use Rattle.cp_model.specs.Problem.{IsDeclared, variables_of_assumptions, variables_of_skeleton}
+use Rattle.cp_model.specs.PointOfView.{HasDeclaredVariables}
 use Rattle.cp_lists.proofs.Members.{in_append, in_append_left, in_append_right, from_map}
-use Rattle.cp_model.proofs.LawStandings.{strand_of_event}
+use Rattle.cp_model.proofs.LawStandings.{strand_of_event, event_on}
 use Rattle.cp_completeness.specs.Normal.{skeleton_under, variables_of_terms}
-use Rattle.cp_completeness.proofs.Images.{event_on}
 use Rattle.cp_completeness.proofs.Under.{in_strands}
 use Rattle.cp_model.proofs.LawPrefixes.{in_trace}
-use Rattle.cp_unify.proofs.Occurring.{given_term}
+use Rattle.cp_unify.proofs.VariablesUnder.{given_term}
 use Rattle.cp_skel.proofs.UnderVariables.{carried_variables}
-use Rattle.cp_collapse.specs.Agreeing.{SaysTheSame}
+use Rattle.cp_collapse.specs.SameSkeletons.{SaysTheSame}
 use Rattle.cp_normal.specs.BySubstitution.{all_variables}
 use Rattle.cp_normal.proofs.Narrowed.{same_variables, of_skeleton}
 

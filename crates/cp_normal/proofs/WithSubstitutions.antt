@@ -10,7 +10,7 @@ use Rattle.cp_model.proofs.LawTerms.{value_after}
 use Rattle.cp_unify.specs.Bindings.{Binding, as_substitution}
 use Rattle.cp_skel.specs.Data.{SkeletonData as Program}
 use Rattle.cp_normal.specs.Exact.{HasForms}
-use Rattle.cp_normal.specs.Narrowing.{IsNormalFormOf}
+use Rattle.cp_normal.specs.NormalForms.{IsNormalFormOf}
 use Rattle.cp_normal.specs.Formed.{Formed, IsFormedFrom, StandsAmongFormed, AreNormalForms, IsFormBeside}
 use Rattle.cp_normal.specs.declared.form.Form.{Form}
 use Rattle.cp_normal.proofs.BySubstitution.{form_comes, comes_factors}

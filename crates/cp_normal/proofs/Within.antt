@@ -1,16 +1,17 @@
 -- Substitutions that change a skeleton within its own variables, and one after the other.
 use Rattle.std.proofs.Common.{◌≡◌, ◌⊎◌, inl, inr, ℕ, List, [], ◌∷◌, map, refl, sym, ap, ap₂, ◌∙◌, subst, ⊎_elim}
 use Rattle.cp_lists.specs.Lists.{IsIn}
-use Rattle.cp_model.specs.Term.{Sort, text_sort, datum_sort, name_sort, skey_sort, akey_sort, Variable, AtomTerm, atom_of_variable, KeyTerm, key_term, Term, tag_term, atom_term, pair_term, enc_term, variables_of_key, variables_of_atom, variables_of, Substitution, apply_to_key, apply_to_atom, apply_to, unchanged, composed}
+use Rattle.cp_model.specs.Term.{Sort, text_sort, datum_sort, name_sort, skey_sort, akey_sort, Variable, AtomTerm, atom_of_variable, KeyTerm, key_term, Term, tag_term, atom_term, pair_term, enc_term, variables_of_key, variables_of_atom, variables_of, Substitution, apply_to_key, apply_to_atom, apply_to, composed}
+use Rattle.cp_model.specs.Identity.{unchanged}
 use Rattle.cp_model.specs.Skeleton.{FromProblem, Skeleton}
 use Rattle.cp_model.specs.Problem.{variables_of_skeleton}
 use Rattle.cp_lists.proofs.Members.{in_append, in_append_left, in_append_right, only_item}
 use Rattle.cp_model.proofs.LawTerms.{atom_composed, term_composed, atom_unchanged, term_unchanged}
 use Rattle.cp_completeness.specs.Normal.{variables_of_terms, skeleton_under}
 use Rattle.cp_unify.specs.Unifiers.{AreAmong}
-use Rattle.cp_unify.proofs.Deciding.{occurs_tells}
-use Rattle.cp_unify.proofs.Occurring.{Leaves, leaves_variables_of, leaves_atom, given_atom, given_term}
-use Rattle.cp_collapse.specs.Agreeing.{SaysTheSame}
+use Rattle.cp_unify.proofs.VariableTests.{occurs_tells}
+use Rattle.cp_unify.proofs.VariablesUnder.{Leaves, leaves_variables_of, leaves_atom, given_atom, given_term}
+use Rattle.cp_collapse.specs.SameSkeletons.{SaysTheSame}
 use Rattle.cp_normal.specs.BySubstitution.{all_variables, StaysWithin}
 use Rattle.cp_collapse.specs.Directed.{IsMostGeneralFor}
 use Rattle.cp_normal.proofs.Narrowed.{same_variables, of_skeleton}

@@ -6,10 +6,10 @@ use Rattle.cp_model.specs.Skeleton.{Skeleton as Plain}
 use Rattle.cp_completeness.specs.Normal.{skeleton_under}
 use Rattle.cp_unify.specs.Bindings.{Binding, as_substitution}
 use Rattle.cp_unify.specs.Unifiers.{IsMostGeneral}
-use Rattle.cp_collapse.specs.Agreeing.{SaysTheSame}
+use Rattle.cp_collapse.specs.SameSkeletons.{SaysTheSame}
 use Rattle.cp_collapse.specs.Directed.{IsMostGeneralFor}
 use Rattle.cp_normal.specs.declared.form.Form.{Form}
-use Rattle.cp_normal.specs.Branching.{NeverEqual}
+use Rattle.cp_normal.specs.Branches.{NeverEqual}
 use Rattle.cp_normal.specs.FormView.{form_view}
 
 -- The branches of k by v and the atoms, in their order: for each atom that unifies with v one that says the same as k under

@@ -8,8 +8,8 @@ use Rattle.cp_model.specs.Skeleton.{Skeleton}
 use Rattle.cp_model.specs.Standing.{Standing, StandsIn, StandsApart}
 use Rattle.cp_model.specs.Problem.{variables_of_skeleton}
 use Rattle.cp_completeness.specs.Normal.{skeleton_under, with_pairs, variables_of_terms}
-use Rattle.cp_collapse.specs.Agreeing.{SaysTheSame}
-use Rattle.cp_normal.specs.Normalising.{AreNormalPairs}
+use Rattle.cp_collapse.specs.SameSkeletons.{SaysTheSame}
+use Rattle.cp_normal.specs.Findings.{AreNormalPairs}
 
 -- The variables that occur in a skeleton, or in a term of its map from the problem.
 abbrev pub all_variables : Skeleton → List Variable

@@ -1,14 +1,15 @@
 -- Skeletons on the way to normal forms.
 use Rattle.std.specs.Prelude.{◌≡◌, List, [], ◌∷◌, ◌++◌, map}
 use Rattle.cp_lists.specs.Lists.{IsIn}
-use Rattle.cp_model.specs.Term.{Term, Substitution, apply_to, unchanged, composed}
+use Rattle.cp_model.specs.Term.{Term, Substitution, apply_to, composed}
+use Rattle.cp_model.specs.Identity.{unchanged}
 use Rattle.cp_model.specs.Skeleton.{Skeleton}
 use Rattle.cp_model.specs.declared.node.OrderPair.{OrderPair}
 use Rattle.cp_unify.specs.Bindings.{as_substitution}
 use Rattle.cp_completeness.specs.Normal.{with_pairs}
-use Rattle.cp_normal.specs.Normalising.{AreNormalPairs, IsContradictory}
-use Rattle.cp_normal.specs.Narrowing.{NarrowsTo, none, one}
-use Rattle.cp_normal.specs.Branching.{HasFewerVariables, IsSettled}
+use Rattle.cp_normal.specs.Findings.{AreNormalPairs, IsContradictory}
+use Rattle.cp_normal.specs.NormalForms.{NarrowsTo, none, one}
+use Rattle.cp_normal.specs.Branches.{HasFewerVariables, IsSettled}
 use Rattle.cp_normal.specs.Exact.{HaveForms}
 use Rattle.cp_normal.specs.FormView.{form_view}
 use Rattle.cp_normal.specs.declared.form.Form.{Form}
@@ -28,11 +29,6 @@ abbrev pub IsOpen : Candidate → Type 0
 IsOpen (Open f) = Unit {0}
 IsOpen (Settled f) = ⊥
 
--- In a settled one no unique value strays.
-abbrev pub IsSound : Candidate → Type 0
-IsSound (Open f) = Unit {0}
-IsSound (Settled f) = IsSettled (form_view f)
-
 -- The second is settled, or both are open and it has fewer variables.
 abbrev pub FallsTo : Candidate → Candidate → Type 0
 FallsTo c (Settled g) = Unit {0}
@@ -49,9 +45,8 @@ pub record ComesOn (f g : Form) : Type 0 where
   pub steps : NarrowsTo (form_view f) (form_view g)
   pub followed : (t : Term) → apply_to (as_substitution g.substitution) t ≡ apply_to (unifiers_of steps) (apply_to (as_substitution f.substitution) t)
 
--- d is sound, follows on c, has its variables, and comes from it by steps.
+-- d follows on c, has its variables, and comes from it by steps.
 pub record Follows (c d : Candidate) : Type 0 where
-  pub sound : IsSound d
   pub falls : FallsTo c d
   pub variables : (form_of d).skeleton.variables ≡ (form_of c).skeleton.variables
   pub comes_on : ComesOn (form_of c) (form_of d)
@@ -77,8 +72,9 @@ pub record IsRound (old new : List Candidate) : Type 0 where
   pub all_follow : AllFollow old new
   pub exact : (rs : List Skeleton) → HaveForms (map candidate_view new) rs → HaveForms (map candidate_view old) rs
 
--- A normal form of a settled skeleton: it with its normal pairs, and with the same substitution.
+-- r is the normal form of a settled skeleton: this with its normal pairs, and with the same substitution.
 pub record IsFormOf (l r : Form) : Type 0 where
+  pub settled : IsSettled (form_view l)
   pub pairs : List OrderPair
   pub normal : AreNormalPairs (form_view l) pairs
   pub consistent : IsContradictory (form_view l) → ⊥
@@ -86,12 +82,13 @@ pub record IsFormOf (l r : Form) : Type 0 where
   pub variables : r.skeleton.variables ≡ l.skeleton.variables
   pub substitution : r.substitution ≡ l.substitution
 
--- The list of forms, with the form of l behind it if it has one; it has none where it contradicts itself.
-pub data PutsForm (l : Form) (old new : List Form) : Type 0 where
-  no_form : IsContradictory (form_view l) → new ≡ old → PutsForm l old new
-  form : {r : Form} → IsFormOf l r → new ≡ old ++ r ∷ [] → PutsForm l old new
+-- The list of forms, with the normal form of l behind it.
+pub record PutsForm (l : Form) (old new : List Form) : Type 0 where
+  pub form : Form
+  pub is_form : IsFormOf l form
+  pub behind : new ≡ old ++ form ∷ []
 
--- The forms of the candidates, which are settled.
+-- The normal forms of the candidates, which are settled.
 pub record AreForms (settled : List Candidate) (forms : List Form) : Type 0 where
-  pub exact : ((c : Candidate) → IsIn c settled → IsSettled (candidate_view c)) → HaveForms (map candidate_view settled) (map form_view forms)
+  pub exact : HaveForms (map candidate_view settled) (map form_view forms)
   pub each : (r : Form) → IsIn r forms → (c : Candidate) × IsIn c settled × IsFormOf (form_of c) r

@@ -6,7 +6,7 @@ use Rattle.cp_model.specs.Strand.{send, recv, payload}
 use Rattle.cp_model.specs.Skeleton.{UniqueAt}
 use Rattle.cp_model.specs.declared.node.OrderPair.{OrderPair}
 use Rattle.cp_skel.specs.Events.{Occurrence}
-use Rattle.cp_collapse.specs.Having.{Has}
+use Rattle.cp_collapse.specs.Property.{Has}
 
 -- The new pairs are the old ones, and those that an item of the list gives.
 abbrev pub Gathers : {A : Type 0} → (A → OrderPair → Type 0) → List A → List OrderPair → List OrderPair → Type 0

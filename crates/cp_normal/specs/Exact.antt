@@ -5,11 +5,11 @@ use Rattle.cp_model.specs.declared.node.Node.{Node}
 use Rattle.cp_model.specs.Skeleton.{Skeleton}
 use Rattle.cp_model.specs.declared.node.OrderPair.{OrderPair}
 use Rattle.cp_completeness.specs.Normal.{with_pairs}
-use Rattle.cp_normal.specs.Normalising.{CarriesNonOriginating, HasTwoOrigins, LosesOrigin, AreNormalPairs, IsContradictory}
-use Rattle.cp_normal.specs.Branching.{IsSettled}
+use Rattle.cp_normal.specs.Findings.{CarriesNonOriginating, HasTwoOrigins, LosesOrigin, AreNormalPairs, IsContradictory}
+use Rattle.cp_normal.specs.Branches.{IsSettled}
 use Rattle.cp_normal.specs.Branched.{AreInOrder}
-use Rattle.cp_normal.specs.Hearing.{heard_before}
-use Rattle.cp_normal.specs.Straying.{IsFirstStray}
+use Rattle.cp_normal.specs.HeardAtoms.{heard_before}
+use Rattle.cp_normal.specs.StrayValues.{IsFirstStray}
 
 -- The skeleton's assumptions contradict what its nodes carry.
 abbrev pub IsRefuted : Skeleton → Type 0

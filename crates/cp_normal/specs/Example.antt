@@ -1,6 +1,7 @@
 -- An example: the normal form of a skeleton in which a unique text strays.
 use Rattle.std.specs.Prelude.{[], ◌∷◌, ◌==◌, if◌then◌else◌}
-use Rattle.cp_model.specs.Term.{Substitution, unchanged}
+use Rattle.cp_model.specs.Term.{Substitution}
+use Rattle.cp_model.specs.Identity.{unchanged}
 use Rattle.cp_model.specs.Skeleton.{Skeleton}
 use Rattle.cp_completeness.specs.Normal.{skeleton_under, with_pairs}
 use Rattle.cp_completeness.specs.Example.{two_say_it, from_speaker}

@@ -1,10 +1,10 @@
-pub mod Normalising
+pub mod Findings
 pub mod OwnPairs
 pub mod Events
-pub mod Narrowing
-pub mod Branching
-pub mod Hearing
-pub mod Straying
+pub mod NormalForms
+pub mod Branches
+pub mod HeardAtoms
+pub mod StrayValues
 pub mod Branched
 pub mod Exact
 pub mod Candidates

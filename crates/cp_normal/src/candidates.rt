@@ -1,41 +1,29 @@
 // Skeletons on the way to normal forms, and rounds of narrowing.
 ghost use Rattle.std.specs.Prelude.{◌≡◌, ◌↔◌, ◌++◌, map, IsTrue, IfOk, OnOk};
-ghost use Rattle.cp_lists.specs.Lists.{IsIn};
 ghost use Rattle.cp_skel.specs.Events.{occurrence_view, events_of};
-ghost use Rattle.cp_normal.specs.Candidates.{form_of, IsOpen, IsSound, Puts, IsRound};
-ghost use Rattle.cp_collapse.specs.Having.{Has};
+ghost use Rattle.cp_normal.specs.Branches.{IsSettled};
+ghost use Rattle.cp_normal.specs.Candidates.{IsOpen, Puts, IsRound};
+ghost use Rattle.cp_collapse.specs.Property.{Has};
 ghost use Rattle.cp_normal.specs.Exact.{IsRefuted};
 ghost use Rattle.cp_normal.specs.FormView.{form_view};
-ghost use Rattle.cp_normal.specs.Straying.{IsFirstStray};
-ghost use Rattle.cp_normal.specs.declared.candidates.Candidate as program;
+ghost use Rattle.cp_normal.specs.StrayValues.{IsFirstStray};
 ghost use Rattle.cp_normal.specs.declared.candidates.Candidate.TheVariants as variants;
 
 use crate::form::Form;
-use crate::hearing::heard_atoms;
-use crate::narrowing::branches;
 use crate::normal::is_refuted;
-use crate::straying::{Stray, first_stray};
+use crate::received_atoms::heard_atoms;
+use crate::settled::Settled;
+use crate::stray_values::{Stray, first_stray};
+use crate::unified_branches::branches;
 use cp_skel::Occurrence;
 use std::alloc::{AllocError, Global};
 
 /// A skeleton on the way to normal forms, with its substitution: one in which unique values may stray, or one in which none
-/// does.
+/// does, and which does not contradict itself.
 #[derive(Drop)]
 pub(crate) enum Candidate {
     Open(Form),
-    Settled(Form),
-}
-
-impl Candidate {
-    /// The skeleton with its substitution.
-    pub(crate) fn into_form(self) -> Form
-        ensures { result ≡ form_of self }
-    {
-        match self {
-            Candidate::Open(form) => form,
-            Candidate::Settled(form) => form,
-        }
-    }
+    Settled(Settled),
 }
 
 /// Puts skeletons in which unique values may stray behind others.
@@ -68,8 +56,30 @@ fn put_branches(
     put_open(branches, next)
 }
 
-/// Puts what a skeleton in which unique values may stray leads to behind others: nothing where its assumptions contradict
-/// what its nodes carry, its branches where a unique value strays, and else itself.
+/// Puts a skeleton in which no unique value strays, where these are its events and its assumptions do not contradict what
+/// its nodes carry, behind others; nothing where it contradicts itself all the same.
+fn put_settled(
+    alloc: Global,
+    form: Form,
+    occurrences: &[Occurrence],
+    next: &mut Vec<Candidate>,
+) -> Result<(), AllocError>
+    requires listed { map occurrence_view occurrences.now ≡ events_of (form_view form) }
+    requires consistent { IsRefuted (form_view form) → ⊥ }
+    requires settled { IsSettled (form_view form) }
+    ensures { OnOk result (Puts (variants.Open form) next.old.items next.new.items) }
+{
+    match Settled::new(alloc, form, occurrences)? {
+        Some(settled) => {
+            next.push(Candidate::Settled(settled))?;
+            Ok(())
+        }
+        None => Ok(()),
+    }
+}
+
+/// Puts what a skeleton in which unique values may stray leads to behind others: nothing where it contradicts itself, its
+/// branches where a unique value strays, and else itself. Its events are listed here, and nowhere else.
 fn narrow(alloc: Global, form: Form, next: &mut Vec<Candidate>) -> Result<(), AllocError>
     ensures { OnOk result (Puts (variants.Open form) next.old.items next.new.items) }
 {
@@ -79,22 +89,18 @@ fn narrow(alloc: Global, form: Form, next: &mut Vec<Candidate>) -> Result<(), Al
     }
     match first_stray(alloc, &form.skeleton, &occurrences)? {
         Some(stray) => put_branches(alloc, &form, &occurrences, &stray, next),
-        None => {
-            next.push(Candidate::Settled(form))?;
-            Ok(())
-        }
+        None => put_settled(alloc, form, &occurrences, next),
     }
 }
 
 /// Puts what takes the place of a candidate behind others.
 fn advance(alloc: Global, candidate: Candidate, next: &mut Vec<Candidate>) -> Result<(), AllocError>
-    requires { IsSound candidate }
     ensures { OnOk result (Puts candidate next.old.items next.new.items) }
 {
     match candidate {
         Candidate::Open(form) => narrow(alloc, form, next),
-        Candidate::Settled(form) => {
-            next.push(Candidate::Settled(form))?;
+        Candidate::Settled(settled) => {
+            next.push(Candidate::Settled(settled))?;
             Ok(())
         }
     }
@@ -102,7 +108,6 @@ fn advance(alloc: Global, candidate: Candidate, next: &mut Vec<Candidate>) -> Re
 
 /// One step of narrowing for each candidate in which unique values may stray; what it leads to stands in its place.
 pub(crate) fn round(alloc: Global, candidates: Vec<Candidate>) -> Result<Vec<Candidate>, AllocError>
-    requires { (c : program.Candidate) → IsIn c candidates.items → IsSound c }
     ensures { IfOk result (λ next. IsRound candidates.items next.items) }
 {
     let mut rest = candidates;

@@ -1,7 +1,7 @@
 //! An example of narrowing.
 ghost use Rattle.cp_model.specs.Term.{text_variable};
 ghost use Rattle.cp_completeness.specs.Example.{unique_text, two_say_it, repeated};
-ghost use Rattle.cp_normal.specs.Narrowing.{IsStray, IsNormalFormOf};
+ghost use Rattle.cp_normal.specs.NormalForms.{IsStray, IsNormalFormOf};
 ghost use Rattle.cp_collapse.specs.Directed.{IsMostGeneralFor};
 ghost use Rattle.cp_normal.specs.Example.{heard_is_said, repeated_after_speaker};
 

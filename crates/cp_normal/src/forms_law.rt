@@ -13,7 +13,7 @@ ghost use Rattle.cp_skel.specs.Data.{SkeletonData};
 ghost use Rattle.cp_normal.specs.BySubstitution.{ComesBySubstitution, ComeBySubstitutions};
 ghost use Rattle.cp_normal.specs.Exact.{HasForms};
 ghost use Rattle.cp_normal.specs.Formed.{Formed, StandsAmongFormed, AreNormalForms, IsFormBeside};
-ghost use Rattle.cp_normal.specs.Narrowing.{IsNormalFormOf};
+ghost use Rattle.cp_normal.specs.NormalForms.{IsNormalFormOf};
 ghost use Rattle.cp_normal.specs.declared.form.Form.{Form};
 
 /// The normal forms that the rules give a skeleton are normal forms of it, and of a skeleton over a protocol they lose no

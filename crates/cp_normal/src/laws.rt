@@ -7,13 +7,13 @@ ghost use Rattle.cp_model.specs.Skeleton.{Skeleton, IsSkeleton};
 ghost use Rattle.cp_model.specs.declared.node.OrderPair.{OrderPair};
 ghost use Rattle.cp_model.specs.Standing.{Standing, StandsIn};
 ghost use Rattle.cp_model.specs.Homomorphism.{CarriesHomomorphism};
-ghost use Rattle.cp_model.specs.Problem.{IsPointOfView, MapsToItself};
+ghost use Rattle.cp_model.specs.PointOfView.{IsPointOfView, MapsToItself};
 ghost use Rattle.cp_model.specs.Stated.{KeepsStated};
-ghost use Rattle.cp_model.specs.Realising.{KeepsAssumptions};
+ghost use Rattle.cp_model.specs.Realisation.{KeepsAssumptions};
 ghost use Rattle.cp_completeness.specs.Normal.{skeleton_under, AddOnlyOriginPairs, LosesNoStanding};
-ghost use Rattle.cp_collapse.specs.Agreeing.{SaysTheSame};
-ghost use Rattle.cp_normal.specs.Normalising.{AreNormalPairs, IsContradictory};
-ghost use Rattle.cp_normal.specs.Narrowing.{NarrowsTo, IsNormal, IsNormalFormOf};
+ghost use Rattle.cp_collapse.specs.SameSkeletons.{SaysTheSame};
+ghost use Rattle.cp_normal.specs.Findings.{AreNormalPairs, IsContradictory};
+ghost use Rattle.cp_normal.specs.NormalForms.{NarrowsTo, IsNormal, IsNormalFormOf};
 
 /// A skeleton that contradicts itself stands apart in no bundle; and where normalising adds pairs, it adds only such as
 /// lose no standing.

@@ -4,22 +4,23 @@
 #![tactic(auto)]
 
 mod candidates;
-mod carrying;
+mod carried_values;
 mod examples;
 mod form;
 mod forms_law;
-mod hearing;
 mod laws;
-mod narrowing;
 mod normal;
-mod normalising;
+mod normal_forms;
 mod origins;
 mod own_pairs;
 mod pairs;
-mod straying;
+mod received_atoms;
+mod settled;
+mod stray_values;
+mod unified_branches;
 mod variables_laws;
 
-pub use carrying::carries_non_originating;
+pub use carried_values::carries_non_originating;
 pub use cp_collapse::{
     agreeing_skeletons_stand_alike, collapses, collapses_are_determined, collapses_are_listed,
     collapses_cover, collapses_have_declared_variables, collapses_keep_what_is_stated,
@@ -30,7 +31,7 @@ pub use form::Form;
 pub use forms_law::{forms_come_by_substitutions, normal_forms_have_substitutions};
 pub use laws::{contradictory_skeletons_stand_nowhere, normal_forms_keep_what_is_stated};
 pub use normal::normal_pairs;
-pub use normalising::{normalise, normalise_beside};
+pub use normal_forms::{normalise, normalise_beside};
 pub use origins::{has_two_origins, loses_origin};
 pub use pairs::added_pairs;
 pub use variables_laws::{

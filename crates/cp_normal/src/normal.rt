@@ -1,10 +1,11 @@
 // The pairs of a normal form, where there is one.
-ghost use Rattle.std.specs.Prelude.{◌≡◌, ◌↔◌, ◌⊎◌, map, option_map, IsTrue, IfOk};
+ghost use Rattle.std.specs.Prelude.{◌≡◌, ◌↔◌, map, option_map, IsTrue, IfOk};
 ghost use Rattle.cp_skel.specs.Events.{occurrence_view, events_of};
 ghost use Rattle.cp_skel.specs.View.{skeleton_view};
-ghost use Rattle.cp_normal.specs.Normalising.{AreNormalPairs, ClosesCycle, IsNormalised, CarriesNonOriginating, HasTwoOrigins, LosesOrigin};
+ghost use Rattle.cp_normal.specs.Exact.{IsRefuted};
+ghost use Rattle.cp_normal.specs.Findings.{AreNormalPairs, ClosesCycle, IsNormalised};
 
-use crate::carrying::some_carries_non_originating;
+use crate::carried_values::some_carries_non_originating;
 use crate::origins::{has_two_origins, some_loses_origin};
 use crate::own_pairs::{add_others, keys_of};
 use crate::pairs::pairs_among;
@@ -15,7 +16,7 @@ use std::alloc::{AllocError, Global};
 /// Whether the assumptions contradict what the nodes carry, where these are the events of the skeleton.
 pub(crate) fn is_refuted(k: &Skeleton, occurrences: &[Occurrence]) -> bool
     requires listed { map occurrence_view occurrences.now ≡ events_of (skeleton_view k.now) }
-    ensures { IsTrue result ↔ (CarriesNonOriginating (skeleton_view k.now) ⊎ (HasTwoOrigins (skeleton_view k.now) ⊎ LosesOrigin (skeleton_view k.now))) }
+    ensures { IsTrue result ↔ IsRefuted (skeleton_view k.now) }
 {
     if some_carries_non_originating(k, occurrences) {
         return true;
@@ -43,6 +44,25 @@ fn own_and_added(
     Ok(pairs)
 }
 
+/// The pairs of the normal form of a skeleton whose assumptions do not contradict what its nodes carry, where these are its
+/// events: none where the pairs close a cycle.
+pub(crate) fn normal_pairs_among(
+    alloc: Global,
+    k: &Skeleton,
+    occurrences: &[Occurrence],
+) -> Result<Option<Vec<OrderPair>>, AllocError>
+    requires listed { map occurrence_view occurrences.now ≡ events_of (skeleton_view k.now) }
+    requires consistent { IsRefuted (skeleton_view k.now) → ⊥ }
+    ensures { IfOk result (λ found. IsNormalised (skeleton_view k.now) (option_map (λ pairs. pairs.items) found)) }
+{
+    k.is_sound();
+    let pairs = own_and_added(alloc, k, occurrences)?;
+    if some_is_closed(alloc, &pairs, k.assumptions().uniquely_originating())? {
+        return Ok(None);
+    }
+    Ok(Some(pairs))
+}
+
 /// The pairs of the skeleton's normal form: its own, and those from recorded origins of unique values to the receptions
 /// of other strands, listeners too, that carry the value. There is no normal form where some node carries a
 /// non-originating value, where a unique value has two recorded origins or does not originate at its own, and where the
@@ -50,14 +70,9 @@ fn own_and_added(
 pub fn normal_pairs(alloc: Global, k: &Skeleton) -> Result<Option<Vec<OrderPair>>, AllocError>
     ensures { IfOk result (λ found. IsNormalised (skeleton_view k.now) (option_map (λ pairs. pairs.items) found)) }
 {
-    k.is_sound();
     let occurrences = k.events(alloc)?;
     if is_refuted(k, &occurrences) {
         return Ok(None);
     }
-    let pairs = own_and_added(alloc, k, &occurrences)?;
-    if some_is_closed(alloc, &pairs, k.assumptions().uniquely_originating())? {
-        return Ok(None);
-    }
-    Ok(Some(pairs))
+    normal_pairs_among(alloc, k, &occurrences)
 }

@@ -1,17 +1,17 @@
 // Recorded origins of unique values: values with two, and values that do not originate there.
 ghost use Rattle.std.specs.Prelude.{◌≡◌, ◌↔◌, map, IsTrue, IfOk};
 ghost use Rattle.cp_model.specs.Derivable.{IsOnInstance};
-ghost use Rattle.cp_model.specs.Realising.{OriginatesAtTerm};
+ghost use Rattle.cp_model.specs.Realisation.{OriginatesAtTerm};
 ghost use Rattle.cp_lists.specs.Lists.{item_at};
 ghost use Rattle.cp_strand.specs.View.{strand_view};
 ghost use Rattle.cp_skel.specs.View.{skeleton_view};
 ghost use Rattle.cp_skel.specs.Events.{occurrence_view, events_of};
-ghost use Rattle.cp_collapse.specs.Having.{Has};
+ghost use Rattle.cp_collapse.specs.Property.{Has};
 ghost use Rattle.cp_collapse.specs.Partitions.{is_instance};
 ghost use Rattle.cp_normal.specs.Events.{IsElsewhere, IsSentAtOrigin, IsCarriedBefore};
-ghost use Rattle.cp_normal.specs.Normalising.{HasTwoOrigins, LosesOrigin};
+ghost use Rattle.cp_normal.specs.Findings.{HasTwoOrigins, LosesOrigin};
 
-use crate::carrying::carries_value;
+use crate::carried_values::carries_value;
 use cp_skel::{Event, Node, Occurrence, Skeleton, Strand, StrandShape, UniqueAt};
 use std::alloc::{AllocError, Global};
 

@@ -4,11 +4,11 @@ ghost use Rattle.cp_lists.specs.Lists.{IsIn};
 ghost use Rattle.cp_model.specs.declared.node.OrderPair.{OrderPair as Plain};
 ghost use Rattle.cp_skel.specs.View.{skeleton_view};
 ghost use Rattle.cp_skel.specs.Events.{occurrence_view, events_of};
-ghost use Rattle.cp_collapse.specs.Having.{Has};
+ghost use Rattle.cp_collapse.specs.Property.{Has};
 ghost use Rattle.cp_normal.specs.Events.{Gathers, IsPairBetween};
-ghost use Rattle.cp_normal.specs.Normalising.{IsAddedPair};
+ghost use Rattle.cp_normal.specs.Findings.{IsAddedPair};
 
-use crate::carrying::carries_value;
+use crate::carried_values::carries_value;
 use cp_skel::{Event, Occurrence, OrderPair, Skeleton, UniqueAt};
 use std::alloc::{AllocError, Global};
 

@@ -4,8 +4,9 @@ use Rattle.std.proofs.lemmas.Bool.{or_cases, or_left, or_right, and_from, and_pa
 use Rattle.cp_lists.specs.Lists.{IsIn}
 use Rattle.cp_model.specs.declared.node.Node.{Node}
 use Rattle.cp_model.specs.declared.node.OrderPair.{OrderPair}
-use Rattle.cp_model.specs.Order.{IsAtOrAfter, LeadsTo, on_strand, over_pair, at_or_after, any_pair}
-use Rattle.cp_model.proofs.Reaching.{after_true, true_after, some_in, in_some, after_both, after_leads, leads_both}
+use Rattle.cp_model.specs.Order.{IsAtOrAfter, LeadsTo, on_strand, over_pair}
+use Rattle.cp_model.specs.OrderTests.{at_or_after, any_pair}
+use Rattle.cp_model.proofs.BoundedSearch.{after_true, true_after, some_in, in_some, after_both, after_leads, leads_both}
 use Rattle.cp_order.specs.Closed.{LeadsAlongOne, IsClosed}
 use Rattle.cp_order.specs.Composed.{is_between, leads_along_one}
 

@@ -6,12 +6,13 @@ use Rattle.cp_lists.specs.Lists.{IsIn, here, there}
 use Rattle.cp_lists.proofs.Members.{at_head, in_append_left, in_append_right, in_append, in_pushed}
 use Rattle.cp_model.specs.declared.node.Node.{Node}
 use Rattle.cp_model.specs.declared.node.OrderPair.{OrderPair}
-use Rattle.cp_model.specs.Order.{IsAtOrAfter, LeadsTo, at_or_after, any_pair, reaches}
+use Rattle.cp_model.specs.Order.{IsAtOrAfter, LeadsTo}
+use Rattle.cp_model.specs.OrderTests.{at_or_after, any_pair, reaches}
 use Rattle.cp_order.specs.Closed.{IsComposedOf, KeepsOrder, IsClosureOf}
 use Rattle.cp_order.specs.Composed.{all_joined, pairs_from, pairs_to, composed}
-use Rattle.cp_model.proofs.Reaching.{bounded_search}
+use Rattle.cp_model.proofs.BoundedSearch.{bounded_search}
 use Rattle.cp_order.proofs.AlongPairs.{each_led, pair_led, leads_within_more}
-use Rattle.cp_order.proofs.Composing.{joined-append}
+use Rattle.cp_order.proofs.ComposedPairs.{joined-append}
 
 -- ---- the search along so many pairs
 

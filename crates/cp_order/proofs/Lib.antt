@@ -1,6 +1,6 @@
 pub mod AlongPairs
-pub mod Composing
+pub mod ComposedPairs
 pub mod JoinedPairs
 mod LookedUp
-mod Gathering
-mod Sorting
+mod GatheredNodes
+mod PairsInOrder

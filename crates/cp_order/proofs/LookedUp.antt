@@ -9,12 +9,13 @@ use Rattle.cp_lists.proofs.Members.{not_in_none, into_filter, next_or_rest, none
 use Rattle.cp_lists.proofs.Items.{item_below, item_there, item_of_push, map_of_item, slice_get_item}
 use Rattle.cp_model.specs.declared.node.Node.{Node}
 use Rattle.cp_model.specs.declared.node.OrderPair.{OrderPair}
-use Rattle.cp_model.specs.Order.{LeadsTo, on_strand, at_or_after, any_pair}
-use Rattle.cp_order.specs.Leading.{Tops}
+use Rattle.cp_model.specs.Order.{LeadsTo, on_strand}
+use Rattle.cp_model.specs.OrderTests.{at_or_after, any_pair}
+use Rattle.cp_order.specs.LeadingNodes.{Tops}
 use Rattle.cp_order.specs.Closed.{IsClosed}
 use Rattle.cp_order.specs.Composed.{is_between, leads_along_one}
 use Rattle.cp_order.specs.Rows.{AreTopsAlongOne, AreRows, AreRowsOn, AreRowsOf, AreRowsSoFar, shown, is_in_last, is_in_row, is_in_rows, ends_at, ends_on}
-use Rattle.cp_model.proofs.Reaching.{after_true}
+use Rattle.cp_model.proofs.BoundedSearch.{after_true}
 use Rattle.cp_order.proofs.AlongPairs.{closed_search}
 
 -- ---- pairs that lead on alike

@@ -2,7 +2,7 @@
 use Rattle.std.specs.Prelude.{◌&&◌, ◌||◌, List, [], ◌∷◌, ◌++◌, Bool, if◌then◌else◌}
 use Rattle.cp_model.specs.declared.node.Node.{Node}
 use Rattle.cp_model.specs.declared.node.OrderPair.{OrderPair}
-use Rattle.cp_model.specs.Order.{at_or_after, any_pair}
+use Rattle.cp_model.specs.OrderTests.{at_or_after, any_pair}
 
 -- The pair leads from x, or a node after it, to y, or a node before it.
 abbrev pub is_between : Node → Node → OrderPair → Bool

@@ -1,4 +1,4 @@
-pub mod Leading
+pub mod LeadingNodes
 pub mod Sorted
 pub mod Closed
 pub mod Composed

@@ -4,8 +4,8 @@ use Rattle.std.specs.HashMap.{HashMap, get}
 use Rattle.cp_lists.specs.Lists.{IsIn, item_at}
 use Rattle.cp_model.specs.declared.node.Node.{Node}
 use Rattle.cp_model.specs.declared.node.OrderPair.{OrderPair}
-use Rattle.cp_model.specs.Order.{any_pair}
-use Rattle.cp_order.specs.Leading.{Tops, is_below}
+use Rattle.cp_model.specs.OrderTests.{any_pair}
+use Rattle.cp_order.specs.LeadingNodes.{Tops, is_below}
 use Rattle.cp_order.specs.Composed.{is_between}
 
 -- The nodes at the tops and below them are those from which, or from a node after them, a pair leads to the node y, or

@@ -3,8 +3,8 @@ use Rattle.std.specs.Prelude.{◌≡◌, ◌==◌, ◌&&◌, ◌||◌, nat_lt, �
 use Rattle.cp_model.specs.declared.node.Node.{Node}
 use Rattle.cp_model.specs.declared.node.OrderPair.{OrderPair}
 use Rattle.cp_model.specs.declared.node.OrderPair as program
-use Rattle.cp_model.specs.Order.{at_or_after}
-use Rattle.cp_order.specs.Leading.{is_within}
+use Rattle.cp_model.specs.OrderTests.{at_or_after}
+use Rattle.cp_order.specs.LeadingNodes.{is_within}
 
 -- By strand, and then by index.
 abbrev pub comes_before : Node → Node → Bool

@@ -3,13 +3,14 @@ ghost use Rattle.std.specs.Prelude.{◌≡◌, ◌≤◌, ◌↔◌, ◌∷◌, 
 ghost use Rattle.std.specs.List.{filter};
 ghost use Rattle.cp_lists.specs.Lists.{IsIn};
 ghost use Rattle.cp_model.specs.declared.node.OrderPair.{OrderPair};
-ghost use Rattle.cp_model.specs.Order.{LeadsTo, any_pair};
+ghost use Rattle.cp_model.specs.Order.{LeadsTo};
+ghost use Rattle.cp_model.specs.OrderTests.{any_pair};
 ghost use Rattle.cp_order.specs.Closed.{IsClosed, IsClosureOf};
-ghost use Rattle.cp_order.specs.Leading.{tops_of};
+ghost use Rattle.cp_order.specs.LeadingNodes.{tops_of};
 ghost use Rattle.cp_order.specs.Rows.{AreTopsAlongOne, AreRows, AreRowsOn, AreRowsOf, rows_by, is_in_rows, ends_at, ends_on};
 
-use crate::closing::{closed_pairs, with_pair};
-use crate::leading::is_at_or_before;
+use crate::closure::{closed_pairs, with_pair};
+use crate::leading_nodes::is_at_or_before;
 use crate::tops::{is_below, raise};
 use cp_model::{Node, OrderPair};
 use std::alloc::{AllocError, Global};
@@ -34,7 +35,7 @@ impl Model for ClosedPairs {
 
     ghost use Rattle.std.specs.Prelude.{map};
     ghost use Rattle.cp_order.specs.Closed.{IsClosed};
-    ghost use Rattle.cp_order.specs.Leading.{tops_of};
+    ghost use Rattle.cp_order.specs.LeadingNodes.{tops_of};
     ghost use Rattle.cp_order.specs.Rows.{AreRowsOf, rows_by};
 
     ghost view = { λ c. c.pairs.items };

@@ -2,11 +2,11 @@
 #![tactic(auto)]
 
 mod closed;
-mod closing;
-mod leading;
+mod closure;
+mod leading_nodes;
 mod order;
 mod tops;
 mod ways;
 
-pub use leading::{Leading, SortedPairs};
+pub use leading_nodes::{Leading, SortedPairs};
 pub use order::Order;

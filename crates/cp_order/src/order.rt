@@ -5,7 +5,7 @@ ghost use Rattle.cp_model.specs.Order.{LeadsTo};
 ghost use Rattle.cp_order.specs.Closed.{IsClosed, KeepsOrder, IsClosureOf};
 
 use crate::closed::ClosedPairs;
-use crate::leading::Leading;
+use crate::leading_nodes::Leading;
 use crate::ways::leads_within;
 use cp_model::{Node, OrderPair};
 use std::alloc::{AllocError, Global};

@@ -1,8 +1,8 @@
 // The greatest indices of nodes on strands.
 ghost use Rattle.std.specs.Prelude.{◌≡◌, ◌==◌, ◌<◌, ◌||◌, ℕ, None, Some, if◌then◌else◌, vec_len, IfOk, OnOk};
 ghost use Rattle.cp_model.specs.declared.node.Node.{Node};
-ghost use Rattle.cp_model.specs.Order.{at_or_after};
-ghost use Rattle.cp_order.specs.Leading.{tops_of, tops_at, tops_in, is_within, is_below};
+ghost use Rattle.cp_model.specs.OrderTests.{at_or_after};
+ghost use Rattle.cp_order.specs.LeadingNodes.{tops_of, tops_at, tops_in, is_within, is_below};
 
 use cp_model::Node;
 use std::alloc::{AllocError, Global};

@@ -1,9 +1,9 @@
 // Ways from node to node along strands and pairs.
 ghost use Rattle.std.specs.Prelude.{◌≡◌};
-ghost use Rattle.cp_model.specs.Order.{any_pair, reaches};
+ghost use Rattle.cp_model.specs.OrderTests.{any_pair, reaches};
 ghost use Rattle.cp_order.specs.Composed.{is_between, leads_along_one};
 
-use crate::leading::is_at_or_before;
+use crate::leading_nodes::is_at_or_before;
 use cp_model::{Node, OrderPair};
 
 /// Whether a pair leads from x, or a node after it, to y, or a node before it.

@@ -9,7 +9,7 @@ use Rattle.cp_model.specs.Tree.{Tree}
 use Rattle.cp_sexpr.specs.Spelling.{AppendsFront}
 use Rattle.cp_print.specs.Chosen.{chosen_by}
 use Rattle.cp_print.specs.declared.report.Labels.TheVariants.{All, Shapes}
-use Rattle.cp_print.specs.Writing.{ends_from, HasWritten}
+use Rattle.cp_print.specs.WrittenForms.{ends_from, HasWritten}
 
 module _ {E : Type 0} (entries : List Entry) (trees : List Tree) (a ea b eb : List ℕ) where
   pub all_written_text : (r : Result (Unit {0}) E) → OnOk r (HasWritten a ea b eb (chosen_report_forms (chosen_by All) entries trees)) → OnOk r (b ≡ a ++ report_text entries trees)

@@ -5,7 +5,7 @@ use Rattle.cp_model.specs.Bundle.{node_at}
 use Rattle.cp_model.specs.declared.node.Node.{Node}
 use Rattle.cp_model.specs.Skeleton.{SkeletonStrand, skeleton_trace}
 use Rattle.cp_language.specs.Report.{nodes_on, nodes_from}
-use Rattle.cp_print.proofs.Covering.{nodes_are}
+use Rattle.cp_print.proofs.CoveringPairs.{nodes_are}
 use Rattle.cp_print.specs.Order.{nodes_counted}
 
 one_more : (s i m n : ℕ) → n ≡ suc m → nodes_counted s i n ≡ node_at s i ∷ nodes_counted s (i + 1) m

@@ -10,8 +10,8 @@ use Rattle.cp_sexpr.specs.Syntax.{Form}
 use Rattle.cp_language.specs.Problems.{reaches}
 use Rattle.cp_language.specs.Printed.{plain_list}
 use Rattle.cp_language.specs.Report.{node_form, is_before, any_node, is_covering, covering_with, covering_from}
-use Rattle.cp_language.proofs.Reaching.{reaches_all}
-use Rattle.cp_print.proofs.Covering.{none_cover}
+use Rattle.cp_language.proofs.BoundedSearch.{reaches_all}
+use Rattle.cp_print.proofs.CoveringPairs.{none_cover}
 use Rattle.cp_print.specs.Order.{OrderedNode, marks_before, in_order, any_between, covers, covered, all_covered}
 
 same_bool : (b c : Bool) → (b ≡ true → c ≡ true) → (c ≡ true → b ≡ true) → b ≡ c

@@ -14,7 +14,7 @@ use Rattle.cp_load.specs.declared.input.Problem as loaded
 use Rattle.cp_load.specs.Inputs.{problem_view, entries_view}
 use Rattle.cp_skel.specs.declared.tree.TreeNode.{TreeNode}
 use Rattle.cp_skel.specs.Trees.{label_view}
-use Rattle.cp_print.specs.Writing.{HasWritten, Leaves, entry_forms, trees_behind}
+use Rattle.cp_print.specs.WrittenForms.{HasWritten, Leaves, entry_forms, trees_behind}
 use Rattle.cp_print.proofs.ValueForms.{either}
 use Rattle.cp_print.proofs.Writings.{leaves_none}
 

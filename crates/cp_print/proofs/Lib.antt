@@ -2,7 +2,7 @@ pub mod Spines
 pub mod Writings
 pub mod AllLabels
 pub mod ByMarks
-pub mod Covering
+pub mod CoveringPairs
 pub mod Entries
 pub mod PatternForms
 pub mod MarkedForms

@@ -10,7 +10,7 @@ use Rattle.cp_sexpr.specs.Syntax.{Form}
 use Rattle.cp_language.specs.Problems.{reaches}
 use Rattle.cp_language.specs.Printed.{plain_list}
 use Rattle.cp_language.specs.Report.{node_form, is_before, any_node, is_covering, covering_with, covering_from}
-use Rattle.cp_language.proofs.Reaching.{reaches_all}
+use Rattle.cp_language.proofs.BoundedSearch.{reaches_all}
 use Rattle.cp_print.specs.Order.{OrderedNode, in_order, all_covered, is_on_pair, is_on_pairs, nodes_on_pairs}
 use Rattle.cp_print.proofs.CoveringByMarks.{covered_are}
 

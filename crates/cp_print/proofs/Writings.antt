@@ -4,7 +4,7 @@ use Rattle.std.proofs.lemmas.List.{append-nil}
 use Rattle.cp_sexpr.specs.Syntax.{Form}
 use Rattle.cp_sexpr.specs.Spelling.{top_spelling, AppendsFront}
 use Rattle.cp_language.specs.Report.{text_of_forms}
-use Rattle.cp_print.specs.Writing.{ends_from, HasWritten, Leaves}
+use Rattle.cp_print.specs.WrittenForms.{ends_from, HasWritten, Leaves}
 
 pub text-append : (fs gs : List Form) → text_of_forms (fs ++ gs) ≡ text_of_forms fs ++ text_of_forms gs
 text-append [] gs = refl

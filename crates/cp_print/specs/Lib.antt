@@ -2,5 +2,5 @@ pub mod Named
 pub mod MarkedForms
 pub mod Order
 pub mod Chosen
-pub mod Writing
+pub mod WrittenForms
 pub mod Parts

@@ -5,7 +5,7 @@ use Rattle.cp_sexpr.specs.Syntax.{Form}
 use Rattle.cp_scope.specs.Terms.{variable_view}
 use Rattle.cp_language.specs.Printed.{place_among, local_or_name}
 use Rattle.cp_language.specs.Report.{named_by}
-use Rattle.cp_print.specs.declared.naming.Naming.{Naming}
+use Rattle.cp_print.specs.declared.variable_names.Naming.{Naming}
 
 -- A variable by its name, and a local by its place.
 abbrev pub named_in : Naming → model.Variable → Form

@@ -10,10 +10,10 @@ ghost use Rattle.cp_skel.specs.View.{skeleton_view};
 ghost use Rattle.cp_print.specs.Named.{named_in};
 
 use crate::items::{node_form, numerals};
-use crate::making::{headed_list, plain_list, two, word};
-use crate::naming::Naming;
+use crate::makers::{headed_list, plain_list, two, word};
 use crate::patterns::pattern_form;
 use crate::terms::{atom_form, term_form};
+use crate::variable_names::Naming;
 use cp_sexpr::Form;
 use cp_skel::{Atom, Skeleton, Test, UniqueAt};
 use cp_term::{Pattern, Term, Text};

@@ -5,7 +5,7 @@ ghost use Rattle.cp_language.specs.Report.{item_unless_empty, node_form, parent_
 ghost use Rattle.cp_sexpr.specs.View.{view};
 ghost use Rattle.cp_skel.specs.Trees.{operation_view, mark_view, outcome_view};
 
-use crate::making::{headed_list, numeral, one, plain_list, two, word};
+use crate::makers::{headed_list, numeral, one, plain_list, two, word};
 use cp_sexpr::Form;
 use cp_skel::{Mark, Node, Operation, Outcome};
 use std::alloc::{AllocError, Global};

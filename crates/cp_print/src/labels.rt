@@ -11,10 +11,10 @@ ghost use Rattle.cp_print.specs.Named.{named_in};
 
 use crate::assumptions::{add_test, forms_of, map_form, pattern_forms};
 use crate::items::{add_mark, add_parent, add_unless_empty, node_forms, numerals, operation_words};
-use crate::making::{headed_list, numeral};
-use crate::naming::Naming;
+use crate::makers::{headed_list, numeral};
 use crate::order::covering_pairs;
 use crate::strands::{add_strand_forms, vars};
+use crate::variable_names::Naming;
 use cp_names::variables_of_label;
 use cp_sexpr::Form;
 use cp_skel::{Skeleton, TreeNode, listed};

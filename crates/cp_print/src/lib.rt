@@ -4,12 +4,12 @@
 mod assumptions;
 mod items;
 mod labels;
-mod making;
-mod naming;
+mod makers;
 mod order;
 mod patterns;
 mod report;
 mod strands;
 mod terms;
+mod variable_names;
 
 pub use report::{print, print_pieces, print_shape_pieces, print_shapes};

@@ -10,7 +10,7 @@ ghost use Rattle.cp_strand.specs.View.{strand_view};
 ghost use Rattle.cp_skel.specs.View.{skeleton_view};
 
 use crate::items::node_form;
-use crate::making::{plain_list, two};
+use crate::makers::{plain_list, two};
 use cp_names::is_marked;
 use cp_sexpr::Form;
 use cp_skel::{Leading, Node, OrderPair, Skeleton, SortedPairs, Strand, StrandShape};
@@ -117,7 +117,7 @@ fn add_covered(
 }
 
 /// How many events a strand has.
-#[tactic(auto, using(crate::proofs::Covering::length_min, crate::proofs::Covering::length_map))]
+#[tactic(auto, using(crate::proofs::CoveringPairs::lengths))]
 fn length_of(strand: &Strand) -> usize
     ensures { result ≡ length (skeleton_trace (strand_view strand.now)) }
 {
@@ -138,7 +138,7 @@ fn add_nodes_on(strand: usize, count: usize, nodes: &mut Vec<Node>) -> Result<()
 }
 
 /// The nodes of these strands, by strand and index.
-#[tactic(auto, using(crate::proofs::Covering::nodes_are))]
+#[tactic(auto, using(crate::proofs::CoveringPairs::nodes_are))]
 fn nodes_of(alloc: Global, strands: &[Strand]) -> Result<Vec<Node>, AllocError>
     ensures { IfOk result (λ nodes. nodes.items ≡ nodes_from 0 (map strand_view strands.now)) }
 {

@@ -4,8 +4,8 @@ ghost use Rattle.cp_language.specs.Printed.{pattern_form};
 ghost use Rattle.cp_language.specs.Report.{named_by};
 ghost use Rattle.cp_sexpr.specs.View.{view};
 
-use crate::naming::Naming;
 use crate::terms::term_form;
+use crate::variable_names::Naming;
 use cp_names::locals_of;
 use cp_sexpr::Form;
 use cp_term::{Pattern, Text};

@@ -9,11 +9,11 @@ ghost use Rattle.cp_sexpr.specs.Spelling.{AppendsFront};
 ghost use Rattle.cp_sexpr.specs.View.{view};
 ghost use Rattle.cp_skel.specs.Trees.{label_view, tree_view};
 ghost use Rattle.cp_print.specs.Chosen.{chosen_by};
-ghost use Rattle.cp_print.specs.Writing.{ends_from, HasWritten, entry_forms, trees_behind};
+ghost use Rattle.cp_print.specs.WrittenForms.{ends_from, HasWritten, entry_forms, trees_behind};
 
 use crate::items::outcome_words;
 use crate::labels::label_form;
-use crate::making::{headed_list, numeral, word};
+use crate::makers::{headed_list, numeral, word};
 use cp_load::{Input, Problem};
 use cp_names::problem_names;
 use cp_sexpr::{Form, write_top};

@@ -10,9 +10,9 @@ ghost use Rattle.cp_strand.specs.View.{sort_view, declaration_view, strand_view,
 ghost use Rattle.cp_print.specs.MarkedForms.{vars_by, maplets_by};
 ghost use Rattle.cp_print.specs.Named.{named_in};
 
-use crate::making::{headed_list, numeral, one, plain_list, two, word};
-use crate::naming::{Naming, name_of, sort_text};
+use crate::makers::{headed_list, numeral, one, plain_list, two, word};
 use crate::terms::{atom_form, term_form};
+use crate::variable_names::{Naming, name_of, sort_text};
 use cp_names::{is_marked, prefix_marks};
 use cp_sexpr::Form;
 use cp_strand::{Declaration, Instance, Role, Strand, StrandShape, applied};

@@ -8,8 +8,8 @@ ghost use Rattle.cp_strand.specs.Atoms.{atom_of};
 ghost use Rattle.cp_print.specs.Named.{named_in};
 ghost use Rattle.cp_print.specs.Parts.{as_one};
 
-use crate::making::{headed_list, one, plain_list, quoted, two, word};
-use crate::naming::Naming;
+use crate::makers::{headed_list, one, plain_list, quoted, two, word};
+use crate::variable_names::Naming;
 use cp_sexpr::Form;
 use cp_term::{Shape, Sort, Term, VarId};
 use std::alloc::{AllocError, Global};

@@ -3,9 +3,9 @@ use Rattle.std.proofs.Common.{◌≡◌, ℕ, ◌+◌, ◌≤◌, List, [], ◌�
 use Rattle.cp_base.specs.declared.place.Place.{Place}
 use Rattle.cp_sexpr.specs.Syntax.{Form, symbol, string, number, list, Forms, none, more}
 use Rattle.cp_sexpr.specs.Pieces.{Piece, blank, opening, closing, quoted, token, BeginsWithout, IsCut, IsTokenByte, IsWhiteSpace, space, line_feed, quote, open_parenthesis, close_parenthesis, after_piece, after_pieces}
-use Rattle.cp_sexpr.specs.Reading.{opened_after, AreAccepted, max_depth}
+use Rattle.cp_sexpr.specs.Written.{opened_after, AreAccepted, max_depth}
 use Rattle.cp_sexpr.specs.Spelling.{spelling, first_spelling, next_spelling, top_gap, first_top_spelling, next_top_spelling, top_text}
-use Rattle.cp_sexpr.specs.ReadingBack.{depth_of, top_spellings}
+use Rattle.cp_sexpr.specs.ReadBack.{depth_of, top_spellings}
 use Rattle.cp_sexpr.proofs.Fronts.{IsCut-append, opened_after-append, first_accepted, last_accepted, shallow, shorter}
 use Rattle.cp_sexpr.proofs.Grammar.{accepted_number}
 use Rattle.cp_sexpr.proofs.Unique.{one_piece}

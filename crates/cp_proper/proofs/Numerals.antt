@@ -4,7 +4,7 @@ use Rattle.std.specs.Fmt.{digits, digits_onto, digit_glyph}
 use Rattle.std.specs.List.{AllByRecursion}
 use Rattle.std.proofs.Math.Nat.{pow-le-pow_right}
 use Rattle.cp_sexpr.specs.Pieces.{IsTokenByte, IsToken}
-use Rattle.cp_sexpr.specs.Reading.{IsDigit, BeginsWithDigit}
+use Rattle.cp_sexpr.specs.Written.{IsDigit, BeginsWithDigit}
 
 -- ---- digits in front of others
 

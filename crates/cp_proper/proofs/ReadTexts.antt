@@ -3,8 +3,9 @@ use Rattle.std.proofs.Common.{◌≡◌, ℕ, List, [], refl, ap, ◌∙◌, sub
 use Rattle.cp_base.specs.declared.place.Refusal.{Refusal}
 use Rattle.cp_sexpr.specs.Syntax.{Form, symbol, string, number, list, Forms, none, more}
 use Rattle.cp_sexpr.specs.Pieces.{IsCut, start}
-use Rattle.cp_sexpr.specs.Reading.{AreAccepted, IsReading}
-use Rattle.cp_sexpr.specs.ReadingBack.{IsSpellable, AreSpellable, all_unplaced, top_spellings, ReadsAs}
+use Rattle.cp_sexpr.specs.Reading.{IsReading}
+use Rattle.cp_sexpr.specs.Written.{AreAccepted}
+use Rattle.cp_sexpr.specs.ReadBack.{IsSpellable, AreSpellable, all_unplaced, top_spellings, ReadsAs}
 use Rattle.cp_sexpr.proofs.Given.{read_is_spellable}
 use Rattle.cp_sexpr.proofs.ReadBack.{top_forms_read_back}
 use Rattle.cp_sexpr.proofs.Unique.{one_reading_of}

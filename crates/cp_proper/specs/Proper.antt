@@ -3,8 +3,8 @@ use Rattle.std.specs.Prelude.{ℕ, ◌^◌, ◌<◌, ◌≤◌, List}
 use Rattle.std.specs.List.{AllByRecursion}
 use Rattle.cp_sexpr.specs.Syntax.{Form, symbol, string, number, list, Forms, none, more}
 use Rattle.cp_sexpr.specs.Pieces.{IsToken, IsStringByte}
-use Rattle.cp_sexpr.specs.Reading.{BeginsWithDigit, max_depth}
-use Rattle.cp_sexpr.specs.ReadingBack.{depth_of}
+use Rattle.cp_sexpr.specs.Written.{BeginsWithDigit, max_depth}
+use Rattle.cp_sexpr.specs.ReadBack.{depth_of}
 
 -- Bytes that may stand in quotes.
 abbrev pub IsStringText : List ℕ → Type 0

@@ -5,7 +5,7 @@ ghost use Rattle.cp_lists.specs.Lists.{IsIn};
 ghost use Rattle.cp_model.specs.Tree.{Label, Tree};
 ghost use Rattle.cp_sexpr.specs.Syntax.{Forms, forms_of};
 ghost use Rattle.cp_sexpr.specs.Reading.{IsReading};
-ghost use Rattle.cp_sexpr.specs.ReadingBack.{all_unplaced, top_spellings, ReadsAs};
+ghost use Rattle.cp_sexpr.specs.ReadBack.{all_unplaced, top_spellings, ReadsAs};
 ghost use Rattle.cp_language.specs.Problems.{Problem};
 ghost use Rattle.cp_language.specs.Input.{Entry, faults_of, input_of};
 ghost use Rattle.cp_language.specs.Report.{HasItsVariables, tree_forms, report_forms};

@@ -5,7 +5,7 @@ use Rattle.std.proofs.lemmas.Bool.Decides.{Decides-eqb}
 use Rattle.std.proofs.lemmas.List.{append_assoc}
 use Rattle.cp_base.specs.declared.place.Place.{Place}
 use Rattle.cp_base.specs.declared.place.Refusal.{Refusal}
-use Rattle.cp_language.specs.Faults.{rank_of, comes_before}
+use Rattle.cp_language.specs.FirstFault.{rank_of, comes_before}
 use Rattle.cp_forms.specs.FirstFault as faults
 use Rattle.cp_report.specs.ReadBack.{fault_places}
 use Rattle.cp_variables.specs.FirstMisfit.{earlier_of, first_onto, merged}

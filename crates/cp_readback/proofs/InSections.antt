@@ -12,7 +12,8 @@ use Rattle.cp_sexpr.specs.View.{view}
 use Rattle.cp_language.specs.Faults.{place_of}
 use Rattle.cp_language.specs.Roles.{headed}
 use Rattle.cp_language.specs.Problems.{Problem}
-use Rattle.cp_language.specs.Input.{headed_top_faults, protocols_behind, faults_from, stated_problem, entries_from, protocols_in}
+use Rattle.cp_language.specs.Input.{headed_top_faults, protocols_behind, faults_from, stated_problem, entries_from}
+use Rattle.cp_language.specs.StatedInput.{protocols_in}
 use Rattle.cp_roles.specs.Above.{turned}
 use Rattle.cp_forms.specs.FirstFault as faults
 use Rattle.cp_forms.proofs.Firsts as faults_met

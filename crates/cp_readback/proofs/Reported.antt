@@ -2,13 +2,12 @@
 use Rattle.std.proofs.Common.{◌≡◌, ℕ, zero, suc, List, [], ◌∷◌, ◌++◌, length, map, refl, sym, ap, ◌∙◌, subst}
 use Rattle.std.specs.Prelude.{Option, Some, None, option_map, Ok, Err}
 use Rattle.std.proofs.lemmas.List.{length-map}
-use Rattle.cp_lists.specs.Lists.{item_at, IsIn, here, there}
-use Rattle.cp_lists.proofs.Members.{from_map}
+use Rattle.cp_lists.specs.Lists.{item_at}
 use Rattle.cp_base.specs.declared.place.Place.{Place}
 use Rattle.cp_base.specs.declared.place.Refusal.{Refusal}
 use Rattle.cp_model.specs.Strand.{Protocol}
 use Rattle.cp_model.specs.Tree.{Tree}
-use Rattle.cp_sexpr.specs.Syntax.{Form, forms_of as syntax_of}
+use Rattle.cp_sexpr.specs.Syntax.{Form}
 use Rattle.cp_sexpr.specs.View.{view, views}
 use Rattle.cp_sexpr.specs.declared.form.Form as program
 use Rattle.cp_language.specs.Roles.{headed}
@@ -16,7 +15,6 @@ use Rattle.cp_language.specs.Problems.{Problem}
 use Rattle.cp_language.specs.Input.{stated_problem, protocols_behind, faults_from, faults_of, Entry, entries_from, input_of}
 use Rattle.cp_forms.specs.FirstFault as faults
 use Rattle.cp_forms.proofs.Views.{items_of-forms_of}
-use Rattle.cp_wellformed.proofs.Problems.{roles_are_well_formed}
 use Rattle.cp_load.specs.Drafts.{draft_view, HaveSoundSkeletons}
 use Rattle.cp_load.specs.Inputs.{problem_view, entries_view}
 use Rattle.cp_load.specs.declared.drafts.Draft.{Draft}
@@ -31,7 +29,7 @@ use Rattle.cp_variables.proofs.Firsts.{first_found}
 use Rattle.cp_stated.proofs.NoMisfits.{none_in_both}
 use Rattle.cp_readback.specs.Sections.{section_view}
 use Rattle.cp_readback.specs.declared.sections.Section as of_program
-use Rattle.cp_readback.specs.Reports.{forms_in, problems_stated, drafts_view, problem_at, trees_by, HaveTrees, HaveDeclaredVariables}
+use Rattle.cp_readback.specs.Reports.{forms_in, problems_stated, drafts_view, problem_at, trees_by, HaveTrees}
 use Rattle.cp_readback.proofs.FaultPlaces.{gathered}
 
 -- ---- the problems of the input
@@ -50,18 +48,6 @@ sound-drafts ss ds none same =
     let fs = map (λ s. s.form.now) ss in
     drafts_sound fs ds (ap (faults_from []) (items_of-forms_of (map view fs)) ∙ ap (faults_from []) (forms-same ss) ∙ none)
     (same ∙ ap (λ gs. map (λ e. e.problem) (entries_from [] gs)) (sym (forms-same ss)))
-
-pub declared-variables : (fs : List Form) (os : List (Option Problem)) → faults_from [] fs ≡ [] → os ≡ map (λ e. e.problem) (entries_from [] fs) → HaveDeclaredVariables os
-declared-variables fs os none same p m role i =
-    let all : entries_from [] fs ≡ input_of (syntax_of fs) = ap (entries_from []) (sym (items_of-forms_of fs)) in
-    let listed = subst (λ qs. IsIn (Some p) qs) same m in
-    let found = from_map (λ (e : Entry). e.problem) (entries_from [] fs) listed in
-    (roles_are_well_formed (syntax_of fs) found.0 p role (ap (faults_from []) (items_of-forms_of fs) ∙ none) (subst (λ es. IsIn found.0 es) all found.1) found.2 i).trace
-
-pub problem_in : (os : List (Option Problem)) (n : ℕ) (p : Problem) → problem_at os n ≡ Some p → IsIn (Some p) os
-problem_in [] n p e = absurd (cc)
-problem_in (o ∷ os) zero p e = subst (λ q. IsIn q (o ∷ os)) e here
-problem_in (o ∷ os) (suc n) p e = there (problem_in os n p e)
 
 pub draft-read : (ds : List (Option Draft)) (n : ℕ) (d : Option Draft) → Some d ≡ item_at ds n → option_map draft_view d ≡ problem_at (drafts_view ds) n
 draft-read [] n d e = absurd (cc)
@@ -135,9 +121,6 @@ module _ (fs : List program.Form) (o : Option Place) (found : o ≡ first_onto N
 
   pub trees-fit : (os : List (Option Problem)) (ss : List Section) → os ≡ problems_stated sections → ss ≡ sections → HaveTrees os ss
   trees-fit os ss stated are = subst (λ ts. HaveTrees os ts) (sym are) (subst (λ qs. HaveTrees qs sections) (sym stated) (have-trees (first_place (map view fs)) [] sections none-here.1))
-
-  pub variables-declared : (os : List (Option Problem)) → os ≡ problems_stated sections → HaveDeclaredVariables os
-  variables-declared os stated = declared-variables (forms_in sections) os input-fits stated
 
   pub drafts-fit : (ss : List of_program.Section) (ds : List (Option Draft)) → map section_view ss ≡ sections → drafts_view ds ≡ problems_stated sections → HaveSoundSkeletons ds
   drafts-fit ss ds are stated = sound-drafts ss ds (ap (λ ts. faults_from [] (forms_in ts)) are ∙ input-fits) (stated ∙ ap problems_stated (sym are))

@@ -1,20 +1,18 @@
 -- What a report that was read back stands for, and the parts that it is made of.
 use Rattle.std.specs.Prelude.{◌≡◌, ℕ, zero, suc, List, [], ◌∷◌, map, option_map, Option, Some, None}
 use Rattle.cp_base.specs.declared.place.Place.{Place}
-use Rattle.cp_lists.specs.Lists.{item_at, IsIn}
-use Rattle.cp_model.specs.Strand.{Role}
+use Rattle.cp_lists.specs.Lists.{item_at}
 use Rattle.cp_model.specs.Tree.{Tree}
 use Rattle.cp_sexpr.specs.Syntax.{Form}
 use Rattle.cp_sexpr.specs.View.{view}
 use Rattle.cp_language.specs.Problems.{Problem}
 use Rattle.cp_language.specs.Input.{entries_from}
-use Rattle.cp_skel.specs.Sound.{DeclaresItsVariables}
 use Rattle.cp_skel.specs.Trees.{tree_view}
 use Rattle.cp_load.specs.Drafts.{draft_view}
 use Rattle.cp_load.specs.Inputs.{entries_view}
 use Rattle.cp_load.specs.declared.drafts.Draft.{Draft}
 use Rattle.cp_report.specs.ReadBack as report
-use Rattle.cp_readback.specs.declared.reading.Report.{Report}
+use Rattle.cp_readback.specs.declared.report.Report.{Report}
 
 abbrev pub report_view : Report → report.Report
 report_view r = record { entries = entries_view (map (λ f. view f.now) r.forms.items) r.problems.items; trees = map tree_view r.trees.items }
@@ -46,7 +44,3 @@ trees_by (o ∷ os) (s ∷ ss) = report.tree_onto o s.behind (trees_by os ss)
 -- Behind each form that states a problem stands a tree for it.
 abbrev pub HaveTrees : List (Option Problem) → List report.Section → Type 0
 HaveTrees os ss = (n : ℕ) (p : Problem) (s : report.Section) → problem_at os n ≡ Some p → item_at ss n ≡ Some s → (next : Place) × (report.tree_misfits (Some p) next s.behind ≡ [])
-
--- The roles of the protocols of these problems declare the variables of their events.
-abbrev pub HaveDeclaredVariables : List (Option Problem) → Type 0
-HaveDeclaredVariables os = (p : Problem) → IsIn (Some p) os → (role : Role) → IsIn role p.protocol.roles → DeclaresItsVariables role

@@ -2,8 +2,8 @@
 #![tactic(auto)]
 
 mod error;
-mod reading;
+mod report;
 mod sections;
 
 pub use error::ReadBackError;
-pub use reading::{Report, read_back};
+pub use report::{Report, read_back};

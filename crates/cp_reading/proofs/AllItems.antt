@@ -19,7 +19,7 @@ use Rattle.cp_forms.proofs.FirstOf.{first_then}
 use Rattle.cp_items.specs.Parts.{is_fitting, operation_item_misfits}
 use Rattle.cp_reading.specs.Parts.{mark_item_misfits, no_parent_item_misfits, parent_item_misfits, operation_of_item_misfits, escape_of_items_misfits, children_item_misfits}
 use Rattle.cp_reading.specs.Items.{HasFitting}
-use Rattle.cp_items.proofs.Fitting.{fitting-both, unless-found}
+use Rattle.cp_items.proofs.FitItems.{fitting-both, unless-found}
 use Rattle.cp_items.proofs.InBlocks.{operation-counted}
 
 mark-is : (tree : Option (List Form)) (items : List Form) (o : Option Form) → mark_item_misfits tree (has_children items) o ≡ mark_misfits tree items o

@@ -19,10 +19,10 @@ use Rattle.cp_language.specs.Faults.{place_of}
 use Rattle.cp_report.specs.Labels.{items_of_label, test_of, mark_in, label_of}
 use Rattle.cp_report.specs.ReadBack as report
 use Rattle.cp_report.specs.ReadBack.{word_misfits, count_misfits, behind_outcome}
-use Rattle.cp_reading.specs.Counting.{AreCountsOf, AreCountsIn, is_tested, is_shape_mark, is_shape, count_of, count_kinds, status_entries_misfits, status_form_misfits}
+use Rattle.cp_reading.specs.Counts.{AreCountsOf, AreCountsIn, is_tested, is_shape_mark, is_shape, count_of, count_kinds, status_entries_misfits, status_form_misfits}
 use Rattle.cp_reading.specs.declared.status.Counts.{Counts}
 use Rattle.cp_items.specs.Parts.{is_fitting}
-use Rattle.cp_items.proofs.Fitting.{symbol-fits, symbol-unknown}
+use Rattle.cp_items.proofs.FitItems.{symbol-fits, symbol-unknown}
 
 expanded_by : (s : Scope) (o : Option Form) → is_expanded (test_of s o) ≡ (if is_known o then 1 else 0)
 expanded_by s None = refl

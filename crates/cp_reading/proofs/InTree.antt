@@ -13,7 +13,7 @@ use Rattle.cp_report.specs.ReadBack.{labels_misfits, places_of, if_whole, ending
 use Rattle.cp_variables.specs.FirstMisfit.{first_onto}
 use Rattle.cp_report.specs.Misfits.{stands_before}
 use Rattle.cp_forms.proofs.FirstOf.{first_onto-append, first_then}
-use Rattle.cp_reading.specs.Counting.{AreCountsIn, ending_form_misfits}
+use Rattle.cp_reading.specs.Counts.{AreCountsIn, ending_form_misfits}
 use Rattle.cp_reading.specs.declared.status.Counts.{Counts}
 use Rattle.cp_reading.proofs.Counted.{counts_are, status_is}
 

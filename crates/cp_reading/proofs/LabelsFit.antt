@@ -12,7 +12,7 @@ use Rattle.cp_report.specs.Heads.{entries_of}
 use Rattle.cp_report.specs.Labels.{behind_number, items_of_label, items_misfits, numbered_misfits, label_misfits, label_of}
 use Rattle.cp_report.specs.ReadBack.{labels_misfits, if_whole, ending_misfits, labels_in_front, behind_labels, tree_misfits, tree_of}
 use Rattle.cp_stated.proofs.NoMisfits.{none_in_both}
-use Rattle.cp_reading.specs.Counting.{outcome_in}
+use Rattle.cp_reading.specs.Counts.{outcome_in}
 use Rattle.cp_reading.specs.Items.{HasFitting}
 use Rattle.cp_reading.proofs.AllItems.{has-fitting}
 

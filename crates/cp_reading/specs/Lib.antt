@@ -2,6 +2,6 @@ pub mod Lines
 pub mod Families
 pub mod Parts
 pub mod Kinds
-pub mod Counting
+pub mod Counts
 pub mod InFront
 pub mod Items

@@ -6,9 +6,9 @@ mod family;
 mod in_front;
 mod items;
 mod labels;
-mod making;
 mod marks;
 mod order;
+mod stated_labels;
 mod status;
 mod trees;
 

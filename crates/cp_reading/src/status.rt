@@ -8,7 +8,7 @@ ghost use Rattle.cp_skel.specs.Trees.{outcome_view};
 ghost use Rattle.cp_variables.specs.FirstMisfit.{first_onto};
 ghost use Rattle.cp_items.specs.Parts.{is_fitting};
 ghost use Rattle.cp_reading.specs.Kinds.{kind_misfits};
-ghost use Rattle.cp_reading.specs.Counting.{AreCountsIn, is_tested, is_shape, count_of, count_kinds, status_entries_misfits, status_form_misfits, outcome_in};
+ghost use Rattle.cp_reading.specs.Counts.{AreCountsIn, is_tested, is_shape, count_of, count_kinds, status_entries_misfits, status_form_misfits, outcome_in};
 
 use crate::marks::{limit_misfits, mark_of};
 use cp_base::Place;

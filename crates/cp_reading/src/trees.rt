@@ -2,21 +2,18 @@
 ghost use Rattle.std.specs.Prelude.{◌≡◌, [], map, option_map, Some, IfOk, OnOk, IfSome};
 ghost use Rattle.cp_sexpr.specs.View.{view};
 ghost use Rattle.cp_base.specs.declared.place.Place.{Place as Where};
-ghost use Rattle.cp_lists.specs.Lists.{IsIn};
-ghost use Rattle.cp_model.specs.Strand.{Role};
-ghost use Rattle.cp_skel.specs.Sound.{DeclaresItsVariables};
 ghost use Rattle.cp_skel.specs.Trees.{tree_view};
 ghost use Rattle.cp_load.specs.Drafts.{draft_view};
 ghost use Rattle.cp_report.specs.ReadBack.{places_of, labels_misfits, if_whole, tree_misfits, tree_of};
 ghost use Rattle.cp_variables.specs.FirstMisfit.{first_onto};
 ghost use Rattle.cp_reading.specs.Families.{labels_of, IsFamily};
 ghost use Rattle.cp_reading.specs.Items.{IsSetting};
-ghost use Rattle.cp_reading.specs.Counting.{ending_form_misfits};
+ghost use Rattle.cp_reading.specs.Counts.{ending_form_misfits};
 
 use crate::family::{Family, family_of};
 use crate::in_front::split_at_labels;
 use crate::labels::{Setting, label_misfits};
-use crate::making::labels_stated;
+use crate::stated_labels::labels_stated;
 use crate::status::{Counts, counts_of, outcome_in, status_misfits};
 use cp_base::Place;
 use cp_forms::place_of;
@@ -125,7 +122,6 @@ pub fn behind_misfits(
 
 /// The tree that what stands behind a problem is, where it fits. The error is that memory ran out.
 pub fn tree_of(alloc: Global, problem: &Draft, behind: &[Form]) -> Result<Tree, AllocError>
-    requires declared { (role : Role) → IsIn role (draft_view problem.now).protocol.roles → DeclaresItsVariables role }
     requires fits { (next : Where) × (tree_misfits (Some (draft_view problem.now)) next (map view behind.now) ≡ []) }
     ensures { IfOk result (λ t. tree_view t ≡ tree_of (draft_view problem.now) (map view behind.now)) }
 {

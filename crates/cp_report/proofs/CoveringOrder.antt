@@ -6,11 +6,12 @@ use Rattle.std.proofs.lemmas.Bool.Decides.{nat_tests}
 use Rattle.cp_lists.specs.Lists.{IsIn, here, there}
 use Rattle.cp_model.specs.declared.node.Node.{Node}
 use Rattle.cp_model.specs.declared.node.OrderPair.{OrderPair}
-use Rattle.cp_model.specs.Order.{IsAtOrAfter, LeadsTo, on_strand, over_pair, reaches}
+use Rattle.cp_model.specs.Order.{IsAtOrAfter, LeadsTo, on_strand, over_pair}
+use Rattle.cp_model.specs.OrderTests.{reaches}
 use Rattle.cp_model.specs.Same.{same_node}
 use Rattle.cp_model.proofs.SameTests.{node_is, is_node}
-use Rattle.cp_model.proofs.Reaching.{after_leads, leads_both}
-use Rattle.cp_language.proofs.Reaching.{reaches_all}
+use Rattle.cp_model.proofs.BoundedSearch.{after_leads, leads_both}
+use Rattle.cp_language.proofs.BoundedSearch.{reaches_all}
 use Rattle.cp_language.specs.Report.{is_before, any_node, is_covering}
 
 -- ---- counting

@@ -2,19 +2,22 @@
 use Rattle.std.proofs.Common.{◌≡◌, ◌⊎◌, inl, inr, List, [], ◌∷◌, ◌++◌, length, Bool, true, false, refl, sym, ap, ◌∙◌, subst, if◌then◌else◌}
 use Rattle.std.specs.Prelude.{not, map, Option, Some, None, ◌&&◌}
 use Rattle.std.proofs.lemmas.Bool.{false_from_ne_true, and_parts, or_from}
+use Rattle.std.proofs.lemmas.List.{map-append}
 use Rattle.cp_base.specs.declared.place.Place.{Place}
 use Rattle.cp_lists.specs.Lists.{IsIn, here, there}
 use Rattle.cp_lists.proofs.Members.{in_append, in_append_left, in_append_right, in_cases}
+use Rattle.cp_order.proofs.AlongPairs.{leads_within_more}
 use Rattle.cp_model.specs.Term.{Term}
 use Rattle.cp_model.specs.Strand.{Event}
 use Rattle.cp_model.specs.declared.node.Node.{Node}
 use Rattle.cp_model.specs.declared.node.OrderPair.{OrderPair}
 use Rattle.cp_model.specs.Skeleton.{SkeletonStrand, term_event_at}
-use Rattle.cp_model.specs.Order.{LeadsTo, on_strand, over_pair, reaches}
+use Rattle.cp_model.specs.Order.{LeadsTo}
+use Rattle.cp_model.specs.OrderTests.{reaches}
 use Rattle.cp_model.specs.Same.{same_node}
 use Rattle.cp_model.proofs.SameTests.{node_is}
 use Rattle.cp_sexpr.specs.Syntax.{Form}
-use Rattle.cp_language.proofs.Reaching.{reaches_all}
+use Rattle.cp_language.proofs.BoundedSearch.{reaches_all}
 use Rattle.cp_language.specs.Problems.{is_known, is_transmission, is_reception, on_one_strand, pair_of, pairs_in}
 use Rattle.cp_language.specs.Printed.{plain_list, no_place}
 use Rattle.cp_language.specs.Report.{node_form, is_covering, covering_with, covering_from}
@@ -52,10 +55,6 @@ covers_from pairs nodes (x ∷ xs) = covers_with pairs nodes x nodes ++ covers_f
 abbrev pub pair_form : OrderPair → Form
 pair_form p = plain_list (node_form p.earlier ∷ node_form p.later ∷ [])
 
-map_append : {A B : Type 0} (f : A → B) (xs ys : List A) → map f (xs ++ ys) ≡ map f xs ++ map f ys
-map_append f [] ys = refl
-map_append f (x ∷ xs) ys = ap (λ zs. f x ∷ zs) (map_append f xs ys)
-
 module _ (pairs : List OrderPair) (nodes : List Node) where
   forms_with : (x : Node) (ys : List Node) → covering_with pairs nodes x ys ≡ map pair_form (covers_with pairs nodes x ys)
   forms_with x [] = refl
@@ -72,7 +71,7 @@ module _ (pairs : List OrderPair) (nodes : List Node) where
   forms_from (x ∷ xs) =
       ap (λ fs. fs ++ covering_from pairs nodes xs) (forms_with x nodes)
       ∙ ap (λ fs. map pair_form (covers_with pairs nodes x nodes) ++ fs) (forms_from xs)
-      ∙ sym (map_append pair_form (covers_with pairs nodes x nodes) (covers_from pairs nodes xs))
+      ∙ sym (map-append pair_form (covers_with pairs nodes x nodes) (covers_from pairs nodes xs))
 
   -- ---- which pairs they are
 
@@ -185,11 +184,6 @@ not_among (q ∷ qs) p other =
         let f = node_is q.later p.later two.1 in
         other (subst (λ (o : OrderPair). IsIn o (q ∷ qs)) (λ i. record { earlier = e i; later = f i }) here)
 
--- fewer pairs lead no further
-pub leads_with : (before all : List OrderPair) → ((p : OrderPair) → IsIn p before → IsIn p all) → (x y : Node) → LeadsTo before x y → LeadsTo all x y
-leads_with before all within x y (on_strand a) = on_strand a
-leads_with before all within x y (over_pair {p} m a l) = over_pair (within p m) a (leads_with before all within p.later y l)
-
 -- A pair from a transmission to a reception of another strand.
 pub record Goes (strands : List SkeletonStrand) (p : OrderPair) : Type 0 where
   pub sent : is_transmission (term_event_at strands p.earlier) ≡ true
@@ -209,7 +203,7 @@ module _ (strands : List SkeletonStrand) (all : List OrderPair) (no_way_back : (
   further before p within m other g =
       five_true (is_transmission (term_event_at strands p.earlier)) (is_reception (term_event_at strands p.later)) (on_one_strand p) (has_pair before p) (reaches (length before) before p.later p.earlier)
       g.sent g.received g.other (not_among before p other)
-      (false_from_ne_true (reaches (length before) before p.later p.earlier) (λ h. no_way_back p m (leads_with before all within p.later p.earlier ((reaches_all before p.later p.earlier).0 h))))
+      (false_from_ne_true (reaches (length before) before p.later p.earlier) (λ h. no_way_back p m (leads_within_more before all within p.later p.earlier ((reaches_all before p.later p.earlier).0 h))))
 
   one_fits : (before : List OrderPair) (p : OrderPair) → Goes strands p → is_further_pair strands before (Some p) ≡ true → pair_misfits strands before (pair_form p) ≡ []
   one_fits before p g h =

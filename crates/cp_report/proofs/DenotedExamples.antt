@@ -6,7 +6,7 @@ use Rattle.cp_model.specs.Term.{text_sort, text_variable, name_variable, key_ter
 use Rattle.cp_model.specs.Bundle.{node_at}
 use Rattle.cp_model.specs.Tree.{by_added_listener, Label, Tree}
 use Rattle.cp_sexpr.specs.Syntax.{Forms, forms_of}
-use Rattle.cp_sexpr.specs.ReadingBack.{all_unplaced}
+use Rattle.cp_sexpr.specs.ReadBack.{all_unplaced}
 use Rattle.cp_language.specs.Problems.{Problem}
 use Rattle.cp_language.specs.Input.{Entry}
 use Rattle.cp_language.specs.Report.{report_forms}

@@ -1,11 +1,11 @@
 -- The names of a label's variables are different: a name that is given is none of those that are taken.
 use Rattle.std.proofs.Common.{◌≡◌, ◌⊎◌, inl, inr, ℕ, zero, suc, ◌+◌, ◌-◌, ◌<◌, ◌≤◌, ◌^◌, List, [], ◌∷◌, ◌++◌, length, Bool, true, false, refl, sym, ap, ◌∙◌, subst, arith, if◌then◌else◌, codes, decimal}
-use Rattle.std.specs.Prelude.{Some, drop}
+use Rattle.std.specs.Prelude.{Some}
 use Rattle.std.proofs.lemmas.Bool.{both_ways, cases_lt}
 use Rattle.std.proofs.lemmas.Fmt.{decimal_injective}
-use Rattle.std.proofs.lemmas.List.{length-append}
+use Rattle.std.proofs.lemmas.List.{length-append, append_cancel_left}
 use Rattle.cp_lists.specs.Lists.{item_at, IsIn, here, there}
-use Rattle.cp_lists.proofs.Items.{at_place, item_in_front, place_of as place_in}
+use Rattle.cp_lists.proofs.Items.{at_place, item_in_front, place_of as place_in, item_behind}
 use Rattle.cp_lists.proofs.Members.{in_append, in_append_left, in_last}
 use Rattle.cp_lists.proofs.Without.{Without, without, no_fewer}
 use Rattle.cp_model.specs.Term.{Variable}
@@ -16,12 +16,8 @@ use Rattle.cp_language.proofs.ValidTests.{one_of, is_one}
 
 -- ---- numbered names
 
-append_same : {A : Type 0} (xs ys zs : List A) → xs ++ ys ≡ xs ++ zs → ys ≡ zs
-append_same [] ys zs e = e
-append_same (x ∷ xs) ys zs e = append_same xs ys zs (ap (drop 1) e)
-
 numbered_differ : (x : List ℕ) (m n : ℕ) → m < 2 ^ 64 → n < 2 ^ 64 → numbered_name x m ≡ numbered_name x n → m ≡ n
-numbered_differ x m n p q e = decimal_injective m n p q (append_same (x ++ codes "-") (decimal m) (decimal n) e)
+numbered_differ x m n p q e = decimal_injective m n p q (append_cancel_left (x ++ codes "-") (decimal m) (decimal n) e)
 
 -- More texts than a list has cannot all be in it.
 too_many : (n : ℕ) (f : ℕ → List ℕ) → ((i j : ℕ) → i ≤ n → j ≤ n → f i ≡ f j → i ≡ j) → (taken : List (List ℕ)) → length taken ≡ n → ((i : ℕ) → i ≤ n → IsIn (f i) taken) → ⊥
@@ -70,10 +66,6 @@ name_is_free taken x small m = by (is_one_of x taken) refl m
 -- Two places with one name are one.
 abbrev pub AreDifferent : List (List ℕ) → Type 0
 AreDifferent names = (i j : ℕ) (t : List ℕ) → item_at names i ≡ Some t → item_at names j ≡ Some t → i ≡ j
-
-behind_front : {A : Type 0} (xs ys : List A) (k : ℕ) → item_at (xs ++ ys) (length xs + k) ≡ item_at ys k
-behind_front [] ys k = let e : 0 + k ≡ k = omega arith in ap (item_at ys) e
-behind_front (x ∷ xs) ys k = let e : suc (length xs) + k ≡ suc (length xs + k) = omega arith in ap (item_at (x ∷ (xs ++ ys))) e ∙ behind_front xs ys k
 
 some_name : {s t : List ℕ} → Some s ≡ Some t → s ≡ t
 some_name e = cc
@@ -218,7 +210,7 @@ module _ (occurs : List Variable) where
       by (inr l) =
           let k : ℕ = i - length xs in
           let at : i ≡ length xs + k = omega arith in
-          inr (k, at, sym (behind_front xs ys k) ∙ sym (ap (item_at (xs ++ ys)) at) ∙ e)
+          inr (k, at, sym (item_behind xs ys k) ∙ sym (ap (item_at (xs ++ ys)) at) ∙ e)
 
   -- The names of a label's variables that occur are different where those of the problem's are.
   pub names_different : (of_problem : List (List ℕ)) (variables : List Declaration) → length of_problem + length (behind (length of_problem) variables) < 2 ^ 64 → AreDifferent of_problem

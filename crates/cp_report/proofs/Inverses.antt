@@ -4,7 +4,8 @@ use Rattle.std.specs.Prelude.{◌&&◌, ◌==◌}
 use Rattle.std.proofs.lemmas.Bool.{eq-eqb}
 use Rattle.cp_lists.specs.Lists.{IsIn, here, there}
 use Rattle.cp_lists.proofs.Members.{only_item, in_append, in_append_left}
-use Rattle.cp_model.specs.Term.{Sort, text_sort, datum_sort, name_sort, skey_sort, akey_sort, Variable, atom_of_variable, AtomTerm, Term, atom_term, variables_of_atom, variables_of, Substitution, apply_to, apply_to_atom, composed, unchanged}
+use Rattle.cp_model.specs.Term.{Sort, text_sort, datum_sort, name_sort, skey_sort, akey_sort, Variable, atom_of_variable, AtomTerm, Term, atom_term, variables_of_atom, variables_of, Substitution, apply_to, apply_to_atom, composed}
+use Rattle.cp_model.specs.Identity.{unchanged}
 use Rattle.cp_model.specs.Stated.{IsImageOfOne, AreImages}
 use Rattle.cp_model.specs.Same.{same_sort}
 use Rattle.cp_model.proofs.SameTests.{variable_is, same_sort_itself}

@@ -19,7 +19,7 @@ use Rattle.cp_report.specs.Heads.{item_with, entries_under, optional_misfits, ma
 use Rattle.cp_report.specs.Spelled.{Scope, pattern_misfits}
 use Rattle.cp_report.specs.Skeletons.{declarations_of_label, scope_of, node_misfits, strands_of_label, around_strands_misfits}
 use Rattle.cp_report.specs.Labels.{is_among, has_child_in, has_parent_in, is_label_in, parent_misfits, children_misfits, operation_word, is_operation, makes_root, operation_misfits, operation_place_misfits, word_of_label, unrealised_misfits, test_misfits, escape_misfits, has_children, has_mark, mark_misfits, no_parent_misfits, wants_parent, missing_misfits, about_strands_misfits, items_misfits, numbered_misfits, label_misfits}
-use Rattle.cp_report.specs.Fitting.{IsOperationOn, IsTestOn, HasMarkOrChildren, IsParentOf, FitsIn}
+use Rattle.cp_report.specs.FittingTrees.{IsOperationOn, IsTestOn, HasMarkOrChildren, IsParentOf, FitsIn}
 use Rattle.cp_report.specs.UpToNames.{renamed, renaming}
 use Rattle.cp_report.proofs.SpelledTerms.{StandsFor, none_and, printed_term_fits}
 use Rattle.cp_report.proofs.CoveringSkeletons.{there_too}

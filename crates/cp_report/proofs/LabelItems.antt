@@ -2,8 +2,10 @@
 use Rattle.std.proofs.Common.{◌≡◌, ◌⊎◌, inl, inr, ℕ, List, [], ◌∷◌, ◌++◌, Bool, true, false, refl, sym, ap, ◌∙◌, if◌then◌else◌, append_assoc}
 use Rattle.std.specs.Prelude.{Option, Some, None, map, not, codes, ◌&&◌}
 use Rattle.std.proofs.lemmas.Bool.{and_parts}
+use Rattle.std.proofs.lemmas.List.{append-nil}
 use Rattle.cp_lists.specs.Lists.{IsIn, here, there}
 use Rattle.cp_lists.proofs.Members.{in_append, head_or_behind}
+use Rattle.cp_lists.proofs.Appended.{none_in_both}
 use Rattle.cp_model.specs.Skeleton.{SkeletonStrand, instance, listener}
 use Rattle.cp_model.specs.Given.{listed}
 use Rattle.cp_model.specs.Term.{Variable}
@@ -165,10 +167,6 @@ abbrev pub lines_of : List Group → List Line
 lines_of [] = []
 lines_of (g ∷ gs) = g.line ∷ lines_of gs
 
-both_none : {A : Type 0} (xs ys : List A) → xs ++ ys ≡ [] → (xs ≡ []) × (ys ≡ [])
-both_none [] ys e = (refl, e)
-both_none (x ∷ xs) ys e = absurd (cc)
-
 -- A line none of whose items stands may stand in front.
 skip_line : (l : Line) (ls : List Line) (fs : List Form) → Lack l.heads fs → order_misfits ls fs ≡ [] → order_misfits (l ∷ ls) fs ≡ []
 skip_line l ls [] lack e = refl
@@ -237,11 +235,7 @@ joined_onto before [] = before
 joined_onto before (g ∷ gs) = joined_onto (before ++ g.forms) gs
 
 joined : (before : List Form) (gs : List Group) → joined_onto before gs ≡ before ++ all_forms gs
-joined before [] = sym (end before)
-  where
-    end : (fs : List Form) → fs ++ [] ≡ fs
-    end [] = refl
-    end (f ∷ fs) = ap (λ gs. f ∷ gs) (end fs)
+joined before [] = sym (append-nil before)
 joined before (g ∷ gs) = joined (before ++ g.forms) gs ∙ append_assoc before g.forms (all_forms gs)
 
 -- The items of a label form are these groups, one behind the other.
@@ -332,7 +326,7 @@ label_items_in_order of_problem names l = ap (order_misfits lines_of_label) (lab
 pub front_in_order : (lines : List Line) (items : List Form) → order_misfits lines items ≡ [] → order_misfits lines (up_to_strands items) ≡ []
 front_in_order lines [] e = refl
 front_in_order lines (f ∷ fs) e =
-    let parts = both_none (misfit_unless (is_not_empty (lines_from f lines)) (place_of f)) (order_misfits (lines_behind lines (lines_from f lines)) fs) e in
+    let parts = none_in_both (misfit_unless (is_not_empty (lines_from f lines)) (place_of f)) (order_misfits (lines_behind lines (lines_from f lines)) fs) e in
     by (has_head heads_behind_strands f)
     (ap (λ ps. ps ++ order_misfits (lines_behind lines (lines_from f lines)) (up_to_strands fs)) parts.0 ∙ front_in_order (lines_behind lines (lines_from f lines)) fs parts.1)
   where

@@ -1,10 +1,11 @@
 -- A label form as it is printed denotes the same label.
-use Rattle.std.proofs.Common.{◌≡◌, ℕ, ◌+◌, ◌<◌, List, [], ◌∷◌, ◌++◌, length, Bool, true, false, refl, sym, ap, ◌∙◌, subst, arith, if◌then◌else◌}
+use Rattle.std.proofs.Common.{◌≡◌, ℕ, ◌+◌, ◌<◌, List, [], ◌∷◌, ◌++◌, length, Bool, true, false, refl, sym, ap, ◌∙◌, subst, arith, if◌then◌else◌, ⊎_elim}
 use Rattle.std.specs.Prelude.{Option, Some, None, map, codes, drop}
+use Rattle.std.proofs.lemmas.Simd.{map-map}
 use Rattle.cp_lists.specs.Lists.{item_at, IsIn, here, there}
 use Rattle.cp_lists.proofs.Items.{item_below}
-use Rattle.cp_lists.proofs.Members.{in_append_left, in_append_right}
-use Rattle.cp_model.specs.Linking.{ArePaired}
+use Rattle.cp_lists.proofs.Members.{in_append_left, in_append_right, head_or_behind, at_head}
+use Rattle.cp_model.specs.Senders.{ArePaired}
 use Rattle.cp_model.specs.Term.{Variable, variables_of}
 use Rattle.cp_model.specs.Strand.{Declaration}
 use Rattle.cp_model.specs.Problem.{variables_of_skeleton, IsDeclared}
@@ -70,13 +71,9 @@ pub not_among : (locals xs : List Variable) (x : Variable) → IsIn x xs → (Is
 not_among locals [] x m other = elim m [ ]
 not_among locals (y ∷ xs) x m other = by (has_variable locals y) refl m (λ i. not_among locals xs x i other)
   where
-    first : {A : Type 0} {a b : A} {bs : List A} {P : Type 0} → IsIn a (b ∷ bs) → (a ≡ b → P) → (IsIn a bs → P) → P
-    first here f g = f refl
-    first (there i) f g = g i
-
     by : (b : Bool) → has_variable locals y ≡ b → IsIn x (y ∷ xs) → (IsIn x xs → IsIn x (variables_but locals xs)) → IsIn x (if b then variables_but locals xs else y ∷ variables_but locals xs)
-    by true e i rest = first i (λ same. absurd (other (subst (λ (z : Variable). IsIn z locals) (sym same) (variable_in locals y e)))) rest
-    by false e i rest = first i (λ same. subst (λ (z : Variable). IsIn x (z ∷ variables_but locals xs)) same here) (λ j. there (rest j))
+    by true e i rest = ⊎_elim (λ same. absurd (other (subst (λ (z : Variable). IsIn z locals) (sym same) (variable_in locals y e)))) rest (head_or_behind i)
+    by false e i rest = ⊎_elim at_head (λ j. there (rest j)) (head_or_behind i)
 
 pub of_pattern : (qs : List Pattern) (q : Pattern) (x : Variable) → IsIn q qs → IsIn x (variables_but q.locals (variables_of q.term)) → IsIn x (variables_of_patterns qs)
 of_pattern [] q x m i = elim m [ ]
@@ -86,10 +83,6 @@ of_pattern (r ∷ qs) q x (there m) i = in_append_right (variables_but r.locals 
 pub paired_map : {A B : Type 0} (R : A → B → Type 0) (g : A → B) (xs : List A) → ((x : A) → IsIn x xs → R x (g x)) → ArePaired R xs (map g xs)
 paired_map R g [] h = tt
 paired_map R g (x ∷ xs) h = (h x here, paired_map R g xs (λ y m. h y (there m)))
-
-map_twice : {A B C : Type 0} (g : A → B) (h : B → C) (xs : List A) → map h (map g xs) ≡ map (λ x. h (g x)) xs
-map_twice g h [] = refl
-map_twice g h (x ∷ xs) = ap (λ ys. h (g x) ∷ ys) (map_twice g h xs)
 
 declared_below : (ds : List Declaration) (x : Variable) → IsDeclared ds x → x.number < length ds
 declared_below ds x h = by (item_at ds x.number) refl h
@@ -140,7 +133,7 @@ module _ (under : IsUnder) (p : Problem) (l : Label) (h : PrintedLabel p l) (pat
 
   patterns_same : ArePaired (IsSamePattern (number l)) l.escape (map (pattern_of (declarations_of_label (items p l))) (entries_under (codes "escape") (items p l)))
   patterns_same =
-      subst (λ (qs : List Pattern). ArePaired (IsSamePattern (number l)) l.escape qs) (sym (ap (map (pattern_of (declarations_of_label (items p l)))) (escape_are (of_problem p) (names p l) l) ∙ map_twice (pattern_form (named p l)) (pattern_of (declarations_of_label (items p l))) l.escape))
+      subst (λ (qs : List Pattern). ArePaired (IsSamePattern (number l)) l.escape qs) (sym (ap (map (pattern_of (declarations_of_label (items p l)))) (escape_are (of_problem p) (names p l) l) ∙ map-map (pattern_of (declarations_of_label (items p l))) (pattern_form (named p l)) l.escape))
       (paired_map (IsSamePattern (number l)) (λ q. pattern_of (declarations_of_label (items p l)) (pattern_form (named p l) q)) l.escape one_pattern)
 
   -- ---- the label

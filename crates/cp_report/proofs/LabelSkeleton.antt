@@ -3,7 +3,7 @@ use Rattle.std.proofs.Common.{◌≡◌, ℕ, ◌<◌, ◌^◌, List, ◌∷◌,
 use Rattle.std.specs.Prelude.{map, codes}
 use Rattle.cp_lists.specs.Lists.{IsIn}
 use Rattle.cp_lists.proofs.Members.{in_append_left, in_append_right}
-use Rattle.cp_model.specs.Linking.{ArePaired}
+use Rattle.cp_model.specs.Senders.{ArePaired}
 use Rattle.cp_model.specs.Term.{Variable, AtomTerm, variables_of_atom, Substitution, apply_to, apply_to_atom}
 use Rattle.cp_model.specs.Strand.{Role}
 use Rattle.cp_model.specs.Problem.{variables_of_strands, variables_of_atoms, variables_of_uniques, variables_of_assumptions, variables_of_skeleton}
@@ -25,7 +25,7 @@ use Rattle.cp_language.specs.Problems.{is_known, pairs_in, Problem}
 use Rattle.cp_report.specs.Heads.{entries_under, entries_or_none, items_with, strand_heads}
 use Rattle.cp_report.specs.Spelled.{atom_in}
 use Rattle.cp_report.specs.Skeletons.{declaration_of, declarations_of_label, scope_of, strand_of, strands_of_label, unique_of, atoms_under, uniques_under, problem_variables, strands_mapped, values_of_map, from_problem_by, pairs_under, assumptions_under, from_problem_of, skeleton_stated}
-use Rattle.cp_report.specs.Fitting.{MapsAll}
+use Rattle.cp_report.specs.FittingTrees.{MapsAll}
 use Rattle.cp_report.specs.UpToNames.{renamed, renaming, unique_renamed, AreSameAssumptions, IsSameStrand, IsSameSkeleton}
 use Rattle.cp_report.proofs.SpelledTerms.{StandsFor}
 use Rattle.cp_report.proofs.CoveringSkeletons.{IsSameKind, covers_of, covers_back, same_order, last_node, there_too}

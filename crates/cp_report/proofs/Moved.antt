@@ -6,7 +6,7 @@ use Rattle.std.proofs.lemmas.List.{map-append}
 use Rattle.cp_base.specs.declared.place.Place.{Place}
 use Rattle.cp_sexpr.specs.Syntax.{Form, symbol, string, number, list, Forms, none, more}
 use Rattle.cp_sexpr.specs.Pieces.{start}
-use Rattle.cp_sexpr.specs.ReadingBack.{unplaced, all_unplaced}
+use Rattle.cp_sexpr.specs.ReadBack.{unplaced, all_unplaced}
 use Rattle.cp_language.specs.Faults.{place_of, items_of}
 use Rattle.cp_language.specs.Roles.{front_of, last_form}
 use Rattle.cp_report.specs.Misfits.{misfit, misfit_unless, unless_misfit, where_fitting, lacking, each_misfits, entries_misfits, list_misfits, number_misfits, symbol_misfits, any_number_misfits}

@@ -6,7 +6,7 @@ use Rattle.cp_model.specs.Strand.{Declaration}
 use Rattle.cp_model.specs.Same.{same_text}
 use Rattle.cp_sexpr.specs.Syntax.{Form, symbol, string, number, list}
 use Rattle.cp_sexpr.specs.Pieces.{start}
-use Rattle.cp_sexpr.specs.ReadingBack.{unplaced}
+use Rattle.cp_sexpr.specs.ReadBack.{unplaced}
 use Rattle.cp_language.specs.Words.{is_one_of}
 use Rattle.cp_language.specs.Terms.{variable_named}
 use Rattle.cp_language.specs.Roles.{text_of_symbol, sort_named, sort_or_text, list_items}

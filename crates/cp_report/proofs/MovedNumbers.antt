@@ -8,7 +8,7 @@ use Rattle.cp_model.specs.Skeleton.{SkeletonStrand, term_event_at}
 use Rattle.cp_model.specs.Tree.{by_collapse, by_contraction, by_displacement, by_added_strand, by_added_listener}
 use Rattle.cp_sexpr.specs.Syntax.{Form, symbol, string, number, list}
 use Rattle.cp_sexpr.specs.Pieces.{start}
-use Rattle.cp_sexpr.specs.ReadingBack.{unplaced}
+use Rattle.cp_sexpr.specs.ReadBack.{unplaced}
 use Rattle.cp_language.specs.Roles.{text_of_symbol}
 use Rattle.cp_language.specs.Problems.{is_known, number_of, name_in_front, Problem}
 use Rattle.cp_report.specs.Misfits.{entries_misfits, number_misfits}

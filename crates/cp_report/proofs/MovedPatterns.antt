@@ -5,7 +5,7 @@ use Rattle.cp_base.specs.declared.place.Place.{Place}
 use Rattle.cp_model.specs.Strand.{Declaration}
 use Rattle.cp_sexpr.specs.Syntax.{Form, symbol, string, number, list, Forms, none, more}
 use Rattle.cp_sexpr.specs.Pieces.{start}
-use Rattle.cp_sexpr.specs.ReadingBack.{unplaced, all_unplaced}
+use Rattle.cp_sexpr.specs.ReadBack.{unplaced, all_unplaced}
 use Rattle.cp_report.specs.Heads.{has_head, entries_of}
 use Rattle.cp_report.specs.Spelled.{Local, is_any, local_by, local_of, term_misfits, term_in, LocalAt, local_at, locals_in, locals_in_each, keeps_sort, clash_misfits, has_local, locals_onto, pattern_scope, pattern_misfits, variables_of_locals, pattern_of}
 use Rattle.cp_report.proofs.Moved.{at_start, IsMoved, both, test_moved, head_moved, entries_moved}

@@ -15,7 +15,7 @@ use Rattle.cp_model.specs.Problem.{numbers_from, variable_terms}
 use Rattle.cp_model.specs.Same.{has_variable}
 use Rattle.cp_sexpr.specs.Syntax.{Form, symbol, string, number, list}
 use Rattle.cp_sexpr.specs.Pieces.{start}
-use Rattle.cp_sexpr.specs.ReadingBack.{unplaced}
+use Rattle.cp_sexpr.specs.ReadBack.{unplaced}
 use Rattle.cp_language.specs.Words.{is_one_of, ItemHead, non_item, penetrator_non_item, unique_item, strand_item, listener_item, precedes_item}
 use Rattle.cp_language.specs.Faults.{fault, items_of}
 use Rattle.cp_language.specs.Terms.{variable_named, lacks, exceeds, atom_faults, as_atom, term_of}

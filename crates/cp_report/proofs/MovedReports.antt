@@ -8,7 +8,7 @@ use Rattle.cp_model.specs.Tree.{Outcome, complete, at_step_limit, at_strand_limi
 use Rattle.cp_model.specs.Same.{same_text}
 use Rattle.cp_sexpr.specs.Syntax.{Form, Forms}
 use Rattle.cp_sexpr.specs.Pieces.{start}
-use Rattle.cp_sexpr.specs.ReadingBack.{unplaced, all_unplaced}
+use Rattle.cp_sexpr.specs.ReadBack.{unplaced, all_unplaced}
 use Rattle.cp_language.specs.Words.{is_one_of, TopHead, protocol_form, problem_form, free_form, top_out_of_profile, no_top, top_head}
 use Rattle.cp_language.specs.Faults.{place_of, items_of}
 use Rattle.cp_language.specs.Roles.{Headed, headed, text_of_symbol}

@@ -11,11 +11,11 @@ use Rattle.cp_model.specs.Strand.{Event, send, recv, Declaration, Role}
 use Rattle.cp_model.specs.Same.{same_text, origin_in}
 use Rattle.cp_sexpr.specs.Syntax.{Form, symbol, string, number, list}
 use Rattle.cp_sexpr.specs.Pieces.{start}
-use Rattle.cp_sexpr.specs.ReadingBack.{unplaced}
+use Rattle.cp_sexpr.specs.ReadBack.{unplaced}
 use Rattle.cp_language.specs.Words.{is_one_of, heads_out_of_profile, SortWord, of_sort, of_messages, sort_out_of_profile, no_sort, sort_word, EventHead, sending, receiving, event_out_of_profile, no_event, event_head, ItemHead, role_item, non_item, penetrator_non_item, unique_item, item_head}
 use Rattle.cp_language.specs.Faults.{fault, place_of, items_of}
-use Rattle.cp_language.specs.Terms.{lacks, atom_faults, as_atom, term_of}
-use Rattle.cp_language.specs.Roles.{Headed, headed, text_of_symbol, fixed_head_faults, fixed_faults, items_behind, front_of, last_form, sort_named, is_of_messages, sort_or_text, sort_word_faults, last_sort_faults, identifier_faults, identifiers_faults, declared_identifiers, list_items, declaration_faults, declarations_faults, vars_faults, declared_of, declarations_in, declarations_of, message_faults, event_head_faults, headed_event_faults, event_faults, events_faults, trace_faults, message_of, is_sending, event_of, events_in, events_of, is_somewhere, unless_faulty, role_unique_faults, each_faults, role_item_faults, headed_item_faults, item_faults, name_faults_at, role_faults, atoms_in, item_or_none, forms_under, is_non_item, is_penetrator_non_item, is_unique_item, role_of, is_role_item, protocol_item_faults, role_name_onto, roles_faults, algebra_faults, protocol_faults, roles_in, protocol_of}
+use Rattle.cp_language.specs.Terms.{lacks, term_faults, atom_faults, as_atom, term_of}
+use Rattle.cp_language.specs.Roles.{Headed, headed, text_of_symbol, fixed_head_faults, fixed_faults, items_behind, front_of, last_form, sort_named, is_of_messages, sort_or_text, sort_word_faults, last_sort_faults, identifier_faults, identifiers_faults, declared_identifiers, list_items, declaration_faults, declarations_faults, vars_faults, declared_of, declarations_in, declarations_of, message_faults, event_head_faults, headed_event_faults, event_faults, events_faults, trace_faults, where_faultless, message_of, is_sending, event_of, events_in, events_of, is_somewhere, unless_faulty, role_unique_faults, each_faults, role_item_faults, headed_item_faults, item_faults, name_faults_at, role_faults, atoms_in, item_or_none, forms_under, is_non_item, is_penetrator_non_item, is_unique_item, role_of, is_role_item, protocol_item_faults, role_name_onto, roles_faults, algebra_faults, protocol_faults, roles_in, protocol_of}
 use Rattle.cp_report.specs.Heads.{entries_of}
 use Rattle.cp_report.proofs.Moved.{all_moved, place_moved, items_moved, entries_moved, last_moved, front_moved}
 use Rattle.cp_report.proofs.MovedItems.{list_items_moved, text_moved, sort_named_moved}
@@ -151,9 +151,15 @@ events_faults_moved ds (f ∷ fs) = two _ _ _ _ (event_faults_moved ds f) (event
 trace_faults_moved : (ds : List Declaration) → IsMovedFault (trace_faults ds)
 trace_faults_moved ds f = fixed_moved (codes "trace") (λ at es. lacks 1 at es ++ events_faults ds es) (λ at fs. two _ _ _ _ (lacks_moved 1 at fs) (events_faults_moved ds fs)) f
 
+faultless_moved : (rs : List Refusal) (t : Term) → where_faultless (faults_at_start rs) t ≡ where_faultless rs t
+faultless_moved [] t = refl
+faultless_moved (r ∷ rs) t = refl
+
 message_of_moved : (ds : List Declaration) (fs : List Form) → message_of ds (all_moved fs) ≡ message_of ds fs
 message_of_moved ds [] = refl
-message_of_moved ds (f ∷ fs) = term_of_moved ds f
+message_of_moved ds (f ∷ fs) =
+    ap (λ rs. where_faultless rs (term_of ds (unplaced f))) (term_faults_moved ds f) ∙ ap (where_faultless (faults_at_start (term_faults ds f))) (term_of_moved ds f)
+    ∙ faultless_moved (term_faults ds f) (term_of ds f)
 
 event_of_moved : (ds : List Declaration) (o : Option Headed) → event_of ds (option_map headed_at_start o) ≡ event_of ds o
 event_of_moved ds None = refl

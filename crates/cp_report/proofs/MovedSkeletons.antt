@@ -11,7 +11,7 @@ use Rattle.cp_model.specs.Homomorphism.{substitution_by}
 use Rattle.cp_model.specs.Given.{has_atom}
 use Rattle.cp_sexpr.specs.Syntax.{Form}
 use Rattle.cp_sexpr.specs.Pieces.{start}
-use Rattle.cp_sexpr.specs.ReadingBack.{unplaced}
+use Rattle.cp_sexpr.specs.ReadBack.{unplaced}
 use Rattle.cp_language.specs.Faults.{place_of}
 use Rattle.cp_language.specs.Terms.{as_atom}
 use Rattle.cp_language.specs.Roles.{text_of_symbol, list_items}

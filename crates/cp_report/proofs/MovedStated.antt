@@ -7,7 +7,7 @@ use Rattle.cp_model.specs.Skeleton.{SkeletonStrand, UniqueAt}
 use Rattle.cp_model.specs.Given.{has_unique, given_non, given_penetrator_non, given_uniques}
 use Rattle.cp_sexpr.specs.Syntax.{Form}
 use Rattle.cp_sexpr.specs.Pieces.{start}
-use Rattle.cp_sexpr.specs.ReadingBack.{unplaced}
+use Rattle.cp_sexpr.specs.ReadBack.{unplaced}
 use Rattle.cp_language.specs.Faults.{place_of}
 use Rattle.cp_language.specs.Roles.{list_items}
 use Rattle.cp_language.specs.Problems.{second_form, number_of, pairs_in, Problem}

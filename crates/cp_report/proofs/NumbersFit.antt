@@ -15,7 +15,7 @@ use Rattle.cp_language.specs.Problems.{is_known, name_in_front, Problem}
 use Rattle.cp_report.specs.Misfits.{misfit_unless, each_misfits, entries_misfits}
 use Rattle.cp_report.specs.Skeletons.{node_misfits}
 use Rattle.cp_report.specs.Labels.{is_number, OperationWord, operation_word, blocks, operation_misfits, operation_place_misfits}
-use Rattle.cp_report.specs.Fitting.{IsOperationOn}
+use Rattle.cp_report.specs.FittingTrees.{IsOperationOn}
 use Rattle.cp_report.proofs.SpelledTerms.{none_and}
 use Rattle.cp_report.proofs.PrintedMaps.{numbers_same}
 

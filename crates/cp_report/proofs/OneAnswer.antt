@@ -6,9 +6,9 @@ use Rattle.cp_base.specs.declared.place.Place.{Place}
 use Rattle.cp_base.specs.declared.place.Code.TheVariants.{BadShape}
 use Rattle.cp_base.specs.declared.place.Refusal.{Refusal}
 use Rattle.cp_lists.specs.Lists.{IsIn}
-use Rattle.cp_lists.proofs.Members.{not_in_none, into_map, from_map}
+use Rattle.cp_lists.proofs.Members.{into_map, from_map, none_in_empty}
 use Rattle.cp_sexpr.specs.Syntax.{Forms}
-use Rattle.cp_language.specs.Faults.{comes_before, IsFirstFault}
+use Rattle.cp_language.specs.FirstFault.{comes_before, IsFirstFault}
 use Rattle.cp_language.proofs.OneAnswer.{first_fault, one_first as one_first_fault}
 use Rattle.cp_report.specs.Misfits.{stands_before, IsFirstMisfit}
 use Rattle.cp_report.specs.ReadBack.{misfits, Report, report_of, IsReadBack}
@@ -59,13 +59,10 @@ first_misfit p places =
 
 -- ---- answers
 
-no_misfit : {places : List Place} {p : Place} → places ≡ [] → IsIn p places → ⊥
-no_misfit {p = p} e m = not_in_none (subst (λ (l : List Place). IsIn p l) e m)
-
 pub one_answer : (fs : Forms) (a b : Result Report Place) → IsReadBack fs a → IsReadBack fs b → a ≡ b
 one_answer fs (Ok r) (Ok s) g h = ap Ok (g.1 ∙ sym h.1)
-one_answer fs (Ok r) (Err p) g h = absurd (no_misfit g.0 h.listed)
-one_answer fs (Err p) (Ok r) g h = absurd (no_misfit h.0 g.listed)
+one_answer fs (Ok r) (Err p) g h = absurd (none_in_empty g.0 h.listed)
+one_answer fs (Err p) (Ok r) g h = absurd (none_in_empty h.0 g.listed)
 one_answer fs (Err p) (Err q) g h = ap Err (one_first (misfits fs) p q g h)
 
 some_by : (fs : Forms) (places : List Place) → misfits fs ≡ places → (a : Result Report Place) × IsReadBack fs a

@@ -6,7 +6,7 @@ use Rattle.std.proofs.lemmas.Bool.{both_ways, false_from_ne_true, eq-eqb, eqb-tr
 use Rattle.cp_lists.specs.Lists.{item_at, IsIn}
 use Rattle.cp_lists.proofs.Items.{map_of_item}
 use Rattle.cp_lists.proofs.Members.{into_map, from_map, into_filter, from_filter}
-use Rattle.cp_model.specs.Linking.{ArePaired}
+use Rattle.cp_model.specs.Senders.{ArePaired}
 use Rattle.cp_model.specs.Term.{Variable, atom_of_variable, AtomTerm, Term, atom_term, variables_of_atom, Substitution, apply_to, apply_to_atom, composed}
 use Rattle.cp_model.specs.Strand.{Declaration}
 use Rattle.cp_model.specs.Homomorphism.{substitution_by, map_from_problem}
@@ -15,13 +15,14 @@ use Rattle.cp_model.specs.Skeleton.{SkeletonStrand, term_event_at, UniqueAt, Ass
 use Rattle.cp_model.specs.Stated.{unique_image, pair_image, IsImageOfOne, AreImages, KeepsStated}
 use Rattle.cp_model.specs.declared.node.OrderPair.{OrderPair}
 use Rattle.cp_model.specs.Given.{has_atom, has_unique}
-use Rattle.cp_model.specs.Order.{LeadsTo, reaches}
+use Rattle.cp_model.specs.Order.{LeadsTo}
+use Rattle.cp_model.specs.OrderTests.{reaches}
 use Rattle.cp_model.proofs.LawTerms.{atom_composed}
 use Rattle.cp_model.proofs.LawAgreement.{agree_atom}
 use Rattle.cp_model.proofs.Gathered.{atoms, uniques}
-use Rattle.cp_language.proofs.Reaching.{reaches_all}
+use Rattle.cp_language.proofs.BoundedSearch.{reaches_all}
 use Rattle.cp_language.specs.Problems.{is_known, on_one_strand}
-use Rattle.cp_report.specs.Fitting.{sort_of_atom, HasSortOf}
+use Rattle.cp_report.specs.FittingTrees.{sort_of_atom, HasSortOf}
 use Rattle.cp_report.specs.Skeletons.{map_by, images_among, is_in_order}
 use Rattle.cp_report.specs.UpToNames.{unique_renamed, AreSameAssumptions}
 use Rattle.cp_report.proofs.CoveringOrder.{three_parts, all_three, not_true}

@@ -4,12 +4,14 @@ use Rattle.std.specs.Prelude.{Some}
 use Rattle.std.proofs.lemmas.List.{append-nil}
 use Rattle.cp_lists.specs.Lists.{item_at, IsIn, here, there}
 use Rattle.cp_lists.proofs.Members.{in_append, only_item}
-use Rattle.cp_model.specs.Linking.{ArePaired}
+use Rattle.cp_model.specs.Senders.{ArePaired}
 use Rattle.cp_model.specs.Term.{Variable, atom_of_variable, variables_of_atom}
 use Rattle.cp_model.specs.Strand.{Declaration}
-use Rattle.cp_model.specs.Problem.{numbers_from, variable_terms, declared_sort, IsDeclared, variables_of_skeleton, IsPointOfView}
+use Rattle.cp_model.specs.Problem.{variable_terms, declared_sort, IsDeclared, variables_of_skeleton}
+use Rattle.cp_model.specs.PointOfView.{IsPointOfView}
 use Rattle.cp_model.specs.Tree.{Label}
 use Rattle.cp_model.proofs.StatedItself.{keeps_its_own}
+use Rattle.cp_model.proofs.Numbers.{numbers_length}
 use Rattle.cp_sexpr.specs.Syntax.{Forms}
 use Rattle.cp_language.specs.Report.{variables_of_terms, occurring}
 use Rattle.cp_language.specs.Problems.{Problem}
@@ -17,7 +19,7 @@ use Rattle.cp_language.specs.Input.{faults_of, Entry, input_of}
 use Rattle.cp_wellformed.specs.Example.{example_input}
 use Rattle.cp_wellformed.proofs.Problems.{are_skeletons, map_to_themselves}
 use Rattle.cp_wellformed.proofs.Example.{is_well_formed}
-use Rattle.cp_report.specs.Fitting.{HasSortOf, FitsIn, TreeFits, problems_in}
+use Rattle.cp_report.specs.FittingTrees.{HasSortOf, FitsIn, TreeFits, problems_in}
 use Rattle.cp_report.specs.Laws.{CanBeStated}
 use Rattle.cp_report.specs.Example.{own_label, own_tree, own_trees}
 use Rattle.cp_report.proofs.SpelledTerms.{sort_of_named}
@@ -48,10 +50,6 @@ terms_declared ds x m =
     let at : x.number ≡ r.0 = omega (arith, r.1) in
     ap (λ (n : ℕ). declared_sort (item_at ds n)) at ∙ r.2
 
-as_many : {A : Type 0} (n : ℕ) (xs : List A) → length (numbers_from n xs) ≡ length xs
-as_many n [] = refl
-as_many n (x ∷ xs) = ap suc (as_many (suc n) xs)
-
 -- ---- one problem
 
 module _ (input : Forms) (well_formed : faults_of input ≡ []) (e : Entry) (listed : IsIn e (input_of input)) (p : Problem) (at : e.problem ≡ Some p) (few : length p.variables < 2 ^ 64) where
@@ -72,7 +70,7 @@ module _ (input : Forms) (well_formed : faults_of input ≡ []) (e : Entry) (lis
     few = few;
     skeleton = are_skeletons input e p well_formed listed at;
     maps_all = record {
-      strands = ap length own.strands ∙ as_many 0 p.skeleton.strands;
+      strands = ap length own.strands ∙ numbers_length 0 p.skeleton.strands;
       values = subst (λ ts. ArePaired HasSortOf p.variables ts) (sym own.values) (their_sorts 0 p.variables);
     };
     stated = keeps_its_own p.protocol p.variables p.skeleton (are_skeletons input e p well_formed listed at) own;

@@ -4,22 +4,23 @@ use Rattle.std.specs.Prelude.{Option, Some, None}
 use Rattle.std.proofs.lemmas.List.{length-append}
 use Rattle.cp_lists.specs.Lists.{item_at, IsIn, here, there}
 use Rattle.cp_lists.proofs.Members.{in_append_left, in_append_right}
-use Rattle.cp_model.specs.Linking.{ArePaired}
+use Rattle.cp_model.specs.Senders.{ArePaired}
 use Rattle.cp_model.specs.Term.{Variable}
 use Rattle.cp_model.specs.Strand.{Declaration, Role}
-use Rattle.cp_model.specs.Problem.{variables_of_strands, variables_of_atoms, variables_of_uniques, IsPointOfView}
+use Rattle.cp_model.specs.Problem.{variables_of_strands, variables_of_atoms, variables_of_uniques}
+use Rattle.cp_model.specs.PointOfView.{IsPointOfView}
 use Rattle.cp_model.specs.Skeleton.{Skeleton}
 use Rattle.cp_model.specs.Tree.{Label, Tree}
+use Rattle.cp_model.proofs.LawPrefixes.{in_front_of_trace}
 use Rattle.cp_skel.proofs.UnderVariables.{in_trace as trace_under, applies_at, in_atoms, in_uniques}
 use Rattle.cp_sexpr.specs.Syntax.{Forms}
 use Rattle.cp_language.specs.Names.{identifiers_in, first_of, problem_names}
 use Rattle.cp_language.specs.Terms.{variable_named}
 use Rattle.cp_language.specs.Problems.{Problem}
 use Rattle.cp_language.specs.Input.{faults_of, Entry, input_of}
-use Rattle.cp_wellformed.proofs.Roles.{in_trace}
 use Rattle.cp_wellformed.proofs.Problems.{map_to_themselves, roles_are_well_formed, roles_found, variables_found}
 use Rattle.cp_report.specs.UpToNames.{IsReport}
-use Rattle.cp_report.specs.Fitting.{FitsIn, TreeFits, problem_onto, problems_in}
+use Rattle.cp_report.specs.FittingTrees.{FitsIn, TreeFits, problem_onto, problems_in}
 use Rattle.cp_report.specs.Laws.{ArePrinted, CanBeStated}
 use Rattle.cp_report.proofs.DistinctNames.{AreDifferent, problem_different}
 use Rattle.cp_report.proofs.PrintedStrands.{IsFound}
@@ -77,7 +78,7 @@ module _ (input : Forms) (well_formed : faults_of input ≡ []) (e : Entry) (lis
   role_is_found : (role : Role) (height : ℕ) → IsIn role p.protocol.roles → IsFound p.protocol.roles role height
   role_is_found role height m =
       let r = roles_are_well_formed input e p role well_formed listed at m in
-      record { named = roles_found input e p role well_formed listed at m; own = r.identifiers; declared = λ x i. r.trace x (in_trace height role.trace x i) }
+      record { named = roles_found input e p role well_formed listed at m; own = r.identifiers; declared = λ x i. r.trace x (in_front_of_trace height role.trace x i) }
 
   names_differ : length p.variables < 2 ^ 64 → AreDifferent (problem_names p.declared p.variables)
   names_differ few = problem_different p.declared p.variables few (first_different p.declared p.variables (λ n d less there_is. variables_found input e p n d well_formed listed at less there_is))

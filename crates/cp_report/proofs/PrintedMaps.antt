@@ -5,7 +5,7 @@ use Rattle.std.proofs.lemmas.Bool.Decides.{nat_tests}
 use Rattle.cp_base.specs.declared.place.Place.{Place}
 use Rattle.cp_lists.specs.Lists.{IsIn, here, there}
 use Rattle.cp_lists.proofs.Members.{in_append_left, in_append_right}
-use Rattle.cp_model.specs.Linking.{ArePaired}
+use Rattle.cp_model.specs.Senders.{ArePaired}
 use Rattle.cp_model.specs.Term.{Sort, Variable, AtomTerm, Term, atom_term, variables_of, apply_to}
 use Rattle.cp_model.specs.Strand.{Declaration}
 use Rattle.cp_model.specs.Skeleton.{SkeletonStrand}
@@ -21,7 +21,7 @@ use Rattle.cp_language.specs.Report.{variables_of_terms, value_forms}
 use Rattle.cp_report.specs.Misfits.{misfit_unless, list_misfits, entries_misfits}
 use Rattle.cp_report.specs.Spelled.{Scope, sort_in, term_in}
 use Rattle.cp_report.specs.Skeletons.{mapping_misfits, values_mapped, named_declarations, strand_number_misfits}
-use Rattle.cp_report.specs.Fitting.{sort_of_atom, HasSortOf}
+use Rattle.cp_report.specs.FittingTrees.{sort_of_atom, HasSortOf}
 use Rattle.cp_report.specs.UpToNames.{renamed, renaming}
 use Rattle.cp_report.proofs.SpelledTerms.{StandsFor, atom_fits, printed_term_fits}
 use Rattle.cp_report.proofs.CoveringPairs.{AreApart}

@@ -21,7 +21,7 @@ use Rattle.cp_language.specs.Report.{maplets_from, strand_form}
 use Rattle.cp_report.specs.Misfits.{misfit_unless, unless_misfit}
 use Rattle.cp_report.specs.Spelled.{Scope, term_misfits, sort_in, term_in}
 use Rattle.cp_report.specs.Skeletons.{declared_in_prefix, mapping_misfits, value_mapped, values_mapped, height_misfits, prefix_misfits, strand_misfits, instance_with, strand_of}
-use Rattle.cp_report.specs.Fitting.{sort_of_atom}
+use Rattle.cp_report.specs.FittingTrees.{sort_of_atom}
 use Rattle.cp_report.specs.UpToNames.{renamed, renaming, IsSameStrand}
 use Rattle.cp_report.proofs.SpelledTerms.{StandsFor, sort_of_named, atom_fits, printed_term_fits}
 use Rattle.cp_report.proofs.PrintedVariables.{declared_there}

@@ -5,7 +5,7 @@ use Rattle.std.specs.Prelude.{Some, map, not, option_map}
 use Rattle.std.proofs.lemmas.Bool.{and_from}
 use Rattle.cp_base.specs.declared.place.Place.{Place}
 use Rattle.cp_lists.specs.Lists.{item_at, IsIn, here, there}
-use Rattle.cp_model.specs.Linking.{ArePaired}
+use Rattle.cp_model.specs.Senders.{ArePaired}
 use Rattle.cp_model.specs.Term.{Variable, AtomTerm, atom_term, variables_of_atom, apply_to, apply_to_atom}
 use Rattle.cp_model.specs.Strand.{send, event_map}
 use Rattle.cp_model.specs.declared.node.Node.{Node}

@@ -1,21 +1,21 @@
 -- Strands that are the same under a renaming have the same events under it, and their roles give the same assumptions.
-use Rattle.std.proofs.Common.{◌≡◌, ◌⊎◌, inl, inr, ℕ, zero, suc, ◌<◌, ◌+◌, List, [], ◌∷◌, ◌++◌, Bool, true, false, refl, sym, ap, ◌∙◌, subst, if◌then◌else◌, arith, ⊎_elim}
+use Rattle.std.proofs.Common.{◌≡◌, ◌⊎◌, inl, inr, ℕ, zero, suc, ◌<◌, ◌+◌, List, [], ◌∷◌, ◌++◌, Bool, true, false, refl, sym, ap, ◌∙◌, subst, if◌then◌else◌, arith}
 use Rattle.std.specs.Prelude.{Option, Some, None, map, option_map, nat_lt}
-use Rattle.std.proofs.lemmas.Bool.{and_parts}
 use Rattle.std.proofs.lemmas.Bool.Decides.{nat_tests}
 use Rattle.cp_lists.specs.Lists.{item_at, IsIn, here, there}
 use Rattle.cp_lists.proofs.Members.{in_append, in_append_left, in_append_right, into_map, head_or_behind}
-use Rattle.cp_model.specs.Linking.{ArePaired}
-use Rattle.cp_model.specs.Term.{Variable, AtomTerm, Term, atom_term, variables_of, variables_of_atom, Substitution, apply_to, apply_to_atom, composed, AgreeOnTerms}
+use Rattle.cp_lists.proofs.Items.{mapped_item}
+use Rattle.cp_model.specs.Senders.{ArePaired}
+use Rattle.cp_model.specs.Term.{AtomTerm, Term, atom_term, variables_of, variables_of_atom, Substitution, apply_to, apply_to_atom, composed, AgreeOnTerms}
 use Rattle.cp_model.specs.Strand.{Event, send, recv, payload, event_map, Role, prefix_of, variables_of_trace, variables_of_prefix, Applies, AppliesAt}
 use Rattle.cp_model.specs.Bundle.{node_at}
 use Rattle.cp_model.specs.declared.node.Node.{Node}
 use Rattle.cp_model.specs.Skeleton.{SkeletonStrand, instance, listener, skeleton_trace, skeleton_trace_or_none, term_event_at, UniqueAt}
 use Rattle.cp_model.specs.Given.{applying, unique_if_below, applying_uniques, given_non, given_penetrator_non, given_uniques}
-use Rattle.cp_model.specs.Same.{origin_in, has_variable, has_variables}
+use Rattle.cp_model.specs.Same.{origin_in, has_variables}
 use Rattle.cp_model.proofs.LawTerms.{atom_composed, term_composed}
 use Rattle.cp_model.proofs.LawAgreement.{agree_atom, agree_event}
-use Rattle.cp_model.proofs.SameTests.{variable_in, origin_found}
+use Rattle.cp_model.proofs.SameTests.{origin_found, variables_there}
 use Rattle.cp_report.specs.Skeletons.{is_instance_there}
 use Rattle.cp_report.specs.UpToNames.{IsSameStrand, unique_renamed}
 use Rattle.cp_report.proofs.CoveringSkeletons.{IsSameKind}
@@ -41,11 +41,6 @@ module _ (f : Substitution) where
   trace_renamed (listener t) (listener u) e = sym (ap (λ (x : Term). recv x ∷ send x ∷ []) e)
   trace_renamed (instance role height terms) (listener u) e = absurd e
   trace_renamed (listener t) (instance role height terms) e = absurd e
-
-  mapped_item : {A B : Type 0} (g : A → B) (xs : List A) (i : ℕ) → item_at (map g xs) i ≡ option_map g (item_at xs i)
-  mapped_item g [] i = refl
-  mapped_item g (x ∷ xs) zero = refl
-  mapped_item g (x ∷ xs) (suc i) = mapped_item g xs i
 
   trace_on : (ks ls : List SkeletonStrand) → ArePaired (IsSameStrand f) ks ls → (s : ℕ) → skeleton_trace_or_none (item_at ls s) ≡ map (event_map (apply_to f)) (skeleton_trace_or_none (item_at ks s))
   trace_on [] [] p s = refl
@@ -81,12 +76,6 @@ module _ (f : Substitution) where
 
   -- ---- what roles give
 
-  all_occur : (xs ys : List Variable) → has_variables xs ys ≡ true → (x : Variable) → IsIn x ys → IsIn x xs
-  all_occur xs [] e x m = elim m [ ]
-  all_occur xs (y ∷ ys) e x m =
-      let two = and_parts (has_variable xs y) (has_variables xs ys) e in
-      ⊎_elim (λ same. subst (λ (z : Variable). IsIn z xs) (sym same) (variable_in xs y two.0)) (λ i. all_occur xs ys two.1 x i) (head_or_behind m)
-
   module _ (role : Role) (height : ℕ) (terms terms' : Substitution) (agree : AgreeOnTerms (variables_of_prefix role height) (composed terms f) terms') where
     -- a value whose variables occur in the prefix
     value_renamed : (v : AtomTerm) → Applies role height v → apply_to_atom f (apply_to_atom terms v) ≡ apply_to_atom terms' v
@@ -98,7 +87,7 @@ module _ (f : Substitution) where
       where
         taken : has_variables (variables_of_prefix role height) (variables_of_atom v) ≡ true → IsIn (apply_to_atom terms' v) (map (apply_to_atom f) old)
         taken e =
-            let applies : Applies role height v = all_occur (variables_of_prefix role height) (variables_of_atom v) e in
+            let applies : Applies role height v = variables_there (variables_of_prefix role height) (variables_of_atom v) e in
             subst (λ (u : AtomTerm). IsIn u (map (apply_to_atom f) old)) (value_renamed v applies) (into_map (apply_to_atom f) (given v here applies))
 
         first : has_variables (variables_of_prefix role height) (variables_of_atom v) ≡ true → (w ≡ apply_to_atom terms' v) ⊎ IsIn w (applying role height terms' vs)

@@ -5,7 +5,8 @@ use Rattle.std.proofs.lemmas.Bool.{false_from_ne_true}
 use Rattle.cp_base.specs.declared.place.Place.{Place}
 use Rattle.cp_lists.specs.Lists.{IsIn, here, there}
 use Rattle.cp_lists.proofs.Members.{in_append, head_or_behind, only_item}
-use Rattle.cp_model.specs.Linking.{ArePaired}
+use Rattle.cp_lists.proofs.Appended.{none_in_both}
+use Rattle.cp_model.specs.Senders.{ArePaired}
 use Rattle.cp_model.specs.Strand.{Protocol}
 use Rattle.cp_model.specs.Tree.{Label, Tree}
 use Rattle.cp_sexpr.specs.Syntax.{Form, Forms, forms_of}
@@ -19,7 +20,7 @@ use Rattle.cp_language.specs.Names.{problem_names}
 use Rattle.cp_language.proofs.ValidTests.{one_of}
 use Rattle.cp_report.specs.Heads.{is_headed_by, is_of_tree}
 use Rattle.cp_report.specs.ReadBack.{Section, Sections, with_form, sections_of, input_forms, places_of, tree_misfits, next_place, trees_misfits, fault_places, first_place, misfits, tree_of, tree_onto, trees_from, Report, report_of}
-use Rattle.cp_report.specs.Fitting.{problem_onto, problems_in}
+use Rattle.cp_report.specs.FittingTrees.{problem_onto, problems_in}
 use Rattle.cp_report.specs.UpToNames.{IsSameTree, IsSameEntry, IsReport}
 use Rattle.cp_report.specs.Laws.{ArePrinted}
 use Rattle.cp_report.proofs.Moved.{at_start}
@@ -47,14 +48,10 @@ abbrev AreInput : List Form → Type 0
 AreInput [] = Unit {0}
 AreInput (f ∷ fs) = (is_of_tree f ≡ false) × AreInput fs
 
-empty_parts : {A : Type 0} (xs ys : List A) → xs ++ ys ≡ [] → (xs ≡ []) × (ys ≡ [])
-empty_parts [] ys e = (refl, e)
-empty_parts (x ∷ xs) ys e = absurd (cc)
-
 are_input : (above : List Protocol) (fs : List Form) → faults_from above fs ≡ [] → AreInput fs
 are_input above [] e = tt
 are_input above (f ∷ fs) e =
-    let both = empty_parts (headed_top_faults above (place_of f) (headed f)) (faults_from (protocols_behind (headed f) above) fs) e in
+    let both = none_in_both (headed_top_faults above (place_of f) (headed f)) (faults_from (protocols_behind (headed f) above) fs) e in
     (headed_input above (place_of f) (headed f) both.0, are_input (protocols_behind (headed f) above) fs both.1)
 
 -- ---- sections

@@ -3,7 +3,7 @@ use Rattle.std.proofs.Common.{◌≡◌, ℕ, List, [], ◌∷◌, ◌++◌, ref
 use Rattle.std.specs.Prelude.{map, drop}
 use Rattle.cp_lists.specs.Lists.{IsIn}
 use Rattle.cp_lists.proofs.Members.{in_append, in_append_left, in_append_right}
-use Rattle.cp_model.specs.Linking.{ArePaired}
+use Rattle.cp_model.specs.Senders.{ArePaired}
 use Rattle.cp_model.specs.Term.{Variable, atom_of_variable, AtomTerm, Term, variables_of_atom, variables_of, Substitution, apply_to, apply_to_atom}
 use Rattle.cp_model.specs.Strand.{Event, event_map, Role, variables_of_prefix, prefix_of, variables_of_trace}
 use Rattle.cp_model.specs.Problem.{variables_of_strands, variables_of_atoms, variables_of_uniques, variables_of_assumptions, variables_of_skeleton}

@@ -5,7 +5,7 @@ use Rattle.std.proofs.lemmas.List.{length-append}
 use Rattle.cp_base.specs.declared.place.Place.{Place}
 use Rattle.cp_lists.specs.Lists.{item_at, IsIn}
 use Rattle.cp_lists.proofs.Members.{in_append_left, in_append_right}
-use Rattle.cp_model.specs.Linking.{ArePaired}
+use Rattle.cp_model.specs.Senders.{ArePaired}
 use Rattle.cp_model.specs.Term.{Variable, atom_of_variable, Term, variables_of_atom, Substitution, apply_to, apply_to_atom}
 use Rattle.cp_model.specs.Strand.{Event, send, event_map, Declaration, Role, prefix_of, variables_of_trace, IsHeight}
 use Rattle.cp_model.specs.Problem.{variables_of_strands}

@@ -4,6 +4,7 @@ use Rattle.std.specs.Prelude.{◌+◌, length, Bool, Some, None, codes}
 use Rattle.cp_base.specs.declared.place.Place.{Place}
 use Rattle.cp_lists.specs.Lists.{IsIn, here, there}
 use Rattle.cp_lists.proofs.Members.{in_append_left, in_append_right}
+use Rattle.cp_lists.proofs.Appended.{none_in_both, none_before}
 use Rattle.cp_model.proofs.SameTests.{same_sort_itself}
 use Rattle.cp_model.specs.Term.{Sort, name_sort, skey_sort, akey_sort, text_sort, datum_sort, Variable, atom_of_variable, SymmetricTerm, skey_variable, ltk_term, PairTerm, akey_variable, pubk_term, KeyTerm, symmetric_term, asymmetric_term, AtomTerm, text_variable, datum_variable, name_variable, key_term, Term, tag_term, atom_term, pair_term, enc_term, variables_of_symmetric, variables_of_pair, variables_of_key, variables_of_atom, variables_of, inverse_term, apply_to, apply_to_atom, apply_to_key}
 use Rattle.cp_model.specs.Strand.{Declaration}
@@ -18,7 +19,7 @@ use Rattle.cp_language.specs.Printed.{word, numeral, headed_list, no_place, vari
 use Rattle.cp_report.specs.Misfits.{misfit_unless, lacking, all_misfits}
 use Rattle.cp_report.specs.Heads.{has_head}
 use Rattle.cp_report.specs.Spelled.{Local, Scope, place_of_local, value_misfits, atom_misfits, atom_in, term_misfits, each_term_misfits, variable_misfits, name_misfits, spread_misfits, key_misfits, last_key_misfits, is_of_sort, known_or, sort_in, term_in, terms_in}
-use Rattle.cp_report.specs.Fitting.{sort_of_atom}
+use Rattle.cp_report.specs.FittingTrees.{sort_of_atom}
 use Rattle.cp_report.specs.UpToNames.{renamed, renaming}
 
 -- What is used of a form that stands for a variable.
@@ -49,13 +50,9 @@ spells_one s f t e n r = record { fit = none_and _ _ e refl; spread = spread n; 
     spread : has_head (codes "cat" ∷ []) f ≡ false → spread_misfits (Some f) ≡ []
     spread g = let h : has_head (codes "cat" ∷ []) f ≡ false = g in rw h refl
 
-none_in_front : (xs : List Place) → xs ++ [] ≡ [] → xs ≡ []
-none_in_front [] g = refl
-none_in_front (x ∷ xs) g = absurd (cc)
-
 -- Items gathered to one form fit, and that form stands for what they are paired.
 gathered_fits : (s : Scope) (named : Variable → Form) (f : Form) (fs : Forms) (t : Term) → Spells s (more f fs) t → term_misfits s (gathered named (more f fs)) ≡ []
-gathered_fits s named f none t h = none_in_front (term_misfits s f) h.fit
+gathered_fits s named f none t h = none_before (term_misfits s f) [] h.fit
 gathered_fits s named f (more g fs) t h = none_and _ _ h.fit h.spread
 
 gathered_term : (s : Scope) (named : Variable → Form) (f : Form) (fs : Forms) → term_in s (gathered named (more f fs)) ≡ paired (terms_in s (more f fs))
@@ -79,11 +76,7 @@ items_behind_key (more f fs) k = ap (λ xs. f ∷ xs) (items_behind_key fs k)
 misfits_with_key : (s : Scope) (fs : Forms) (k : Form) → all_misfits (each_term_misfits s fs) ≡ [] → term_misfits s k ≡ [] → all_misfits (each_term_misfits s (append fs (more k none))) ≡ []
 misfits_with_key s none k e f = none_and _ _ f refl
 misfits_with_key s (more g fs) k e f =
-    let parts = both_none (term_misfits s g) (all_misfits (each_term_misfits s fs)) e in none_and _ _ parts.0 (misfits_with_key s fs k parts.1 f)
-  where
-    both_none : (xs ys : List Place) → xs ++ ys ≡ [] → (xs ≡ []) × (ys ≡ [])
-    both_none [] ys g = (refl, g)
-    both_none (x ∷ xs) ys g = absurd (cc)
+    let parts = none_in_both (term_misfits s g) (all_misfits (each_term_misfits s fs)) e in none_and _ _ parts.0 (misfits_with_key s fs k parts.1 f)
 
 terms_with_key : (s : Scope) (fs : Forms) (k : Form) → terms_in s (append fs (more k none)) ≡ terms_in s fs ++ term_in s k ∷ []
 terms_with_key s none k = refl

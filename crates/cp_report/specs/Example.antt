@@ -4,7 +4,7 @@ use Rattle.cp_model.specs.Tree.{by_problem, dead, complete, Label, Tree}
 use Rattle.cp_sexpr.specs.Syntax.{Forms}
 use Rattle.cp_language.specs.Problems.{Problem}
 use Rattle.cp_language.specs.Input.{input_of}
-use Rattle.cp_report.specs.Fitting.{problems_in}
+use Rattle.cp_report.specs.FittingTrees.{problems_in}
 
 -- The label of a problem itself.
 abbrev pub own_label : Problem → Label

@@ -5,6 +5,6 @@ pub mod Skeletons
 pub mod Labels
 pub mod ReadBack
 pub mod UpToNames
-pub mod Fitting
+pub mod FittingTrees
 pub mod Laws
 pub mod Example

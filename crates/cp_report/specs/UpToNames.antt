@@ -1,7 +1,7 @@
 -- When two reports are the same but for the names of variables, places, and the pairs that generate an order.
 use Rattle.std.specs.Prelude.{◌≡◌, ◌↔◌, ℕ, List, [], false, map, Option, Some, None}
 use Rattle.cp_lists.specs.Lists.{IsIn}
-use Rattle.cp_model.specs.Linking.{ArePaired}
+use Rattle.cp_model.specs.Senders.{ArePaired}
 use Rattle.cp_model.specs.Term.{Sort, text_sort, datum_sort, name_sort, skey_sort, akey_sort, Variable, skey_variable, akey_variable, variables_of, Substitution, apply_to, apply_to_atom, composed, AgreeOnTerms}
 use Rattle.cp_model.specs.Strand.{variables_of_prefix}
 use Rattle.cp_model.specs.declared.node.Node.{Node}
@@ -9,7 +9,7 @@ use Rattle.cp_model.specs.Skeleton.{SkeletonStrand, instance, listener, UniqueAt
 use Rattle.cp_model.specs.Stated.{AreImages}
 use Rattle.cp_model.specs.Tree.{Pattern, Test, Label, Tree}
 use Rattle.cp_sexpr.specs.Syntax.{Forms}
-use Rattle.cp_sexpr.specs.ReadingBack.{unplaced}
+use Rattle.cp_sexpr.specs.ReadBack.{unplaced}
 use Rattle.cp_language.specs.Input.{Entry}
 use Rattle.cp_language.specs.Report.{occurring}
 use Rattle.cp_report.specs.ReadBack.{misfits, Report, report_of}

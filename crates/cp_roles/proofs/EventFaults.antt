@@ -1,14 +1,19 @@
 -- The faults of events.
-use Rattle.std.proofs.Common.{◌≡◌, ◌≤◌, List, [], ◌∷◌, ◌++◌, length, get_or, map, refl, ap, ◌∙◌, arith}
+use Rattle.std.proofs.Common.{◌≡◌, ◌≤◌, List, [], ◌∷◌, ◌++◌, length, get_or, map, true, false, refl, sym, ap, ◌∙◌, arith}
+use Rattle.std.specs.Prelude.{Option, Some, None, is_none}
 use Rattle.cp_base.specs.declared.place.Place.{Place}
 use Rattle.cp_base.specs.declared.place.Code.TheVariants.{BadShape}
+use Rattle.cp_base.specs.declared.place.Refusal.{Refusal}
+use Rattle.cp_model.specs.Term.{Term, tag_term}
 use Rattle.cp_model.specs.Strand.{Declaration}
 use Rattle.cp_sexpr.specs.Syntax.{Form}
 use Rattle.cp_sexpr.specs.View.{view}
 use Rattle.cp_sexpr.specs.declared.form.Form as program
 use Rattle.cp_language.specs.Faults.{fault, place_of}
 use Rattle.cp_language.specs.Terms.{term_faults}
-use Rattle.cp_language.specs.Roles.{message_faults, event_faults, events_faults, each_faults}
+use Rattle.cp_language.specs.Roles.{message_faults, event_faults, events_faults, where_faultless, each_faults}
+use Rattle.cp_forms.specs.FirstFault.{first_onto}
+use Rattle.cp_forms.proofs.Firsts.{none_found}
 
 pub three_messages : (ds : List Declaration) (at : Place) (fs : List program.Form) (a b c : program.Form) → 3 ≤ length fs → a ≡ get_or fs 0 a → b ≡ get_or fs 1 b → c ≡ get_or fs 2 c
     → term_faults ds (view a) ++ term_faults ds (view b) ++ fault (place_of (view c)) BadShape ≡ message_faults ds at (map view fs)
@@ -23,3 +28,16 @@ three_messages ds at (x ∷ y ∷ z ∷ fs) a b c l e f g =
 pub each-event : (ds : List Declaration) (fs : List Form) → each_faults (event_faults ds) fs ≡ events_faults ds fs
 each-event ds [] = refl
 each-event ds (f ∷ fs) = ap (λ rs. event_faults ds f ++ rs) (each-event ds fs)
+
+-- ---- terms with faults and without
+
+no_fault : (o : Option Refusal) → is_none o ≡ true → o ≡ None
+no_fault None h = refl
+no_fault (Some r) h = absurd (cc)
+
+pub stands_faultless : (rs : List Refusal) (o : Option Refusal) (t : Term) → o ≡ first_onto None rs → is_none o ≡ true → where_faultless rs t ≡ t
+stands_faultless rs o t e h = ap (λ ss. where_faultless ss t) (none_found rs (sym e ∙ no_fault o h))
+
+pub stands_faulty : (rs : List Refusal) (o : Option Refusal) (t : Term) → o ≡ first_onto None rs → is_none o ≡ false → where_faultless rs t ≡ tag_term []
+stands_faulty [] o t e h = let n : is_none o ≡ true = ap is_none e in absurd (cc)
+stands_faulty (r ∷ rs) o t e h = refl

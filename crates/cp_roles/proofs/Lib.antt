@@ -1,4 +1,5 @@
 pub mod ExactOrigins
 pub mod EventFaults
 pub mod RoleNames
-pub mod Standing
+pub mod ProtocolNames
+pub mod DeclaredEvents

@@ -18,7 +18,7 @@ use Rattle.cp_language.specs.Roles.{Headed, headed, name_faults_at, vars_faults,
 use Rattle.cp_forms.specs.FirstFault.{first_onto}
 use Rattle.cp_roles.specs.Named.{names_of_roles, role_behind, with_role}
 use Rattle.cp_forms.proofs.Firsts.{first_onto-append, first_then_four}
-use Rattle.cp_scope.proofs.Naming.{AreSameNames, names-swap}
+use Rattle.cp_scope.proofs.DeclaredIdentifiers.{AreSameNames, names-swap}
 
 -- ---- one role
 

@@ -2,7 +2,8 @@
 ghost use Rattle.std.specs.Prelude.{◌≡◌, map, IfOk};
 ghost use Rattle.cp_sexpr.specs.View.{view};
 ghost use Rattle.cp_language.specs.Words.{event_head};
-ghost use Rattle.cp_language.specs.Roles.{headed, message_faults, event_head_faults, event_faults, events_faults, trace_faults, message_of, event_of, events_in, events_of, items_behind};
+ghost use Rattle.cp_language.specs.Terms.{term_faults, term_of};
+ghost use Rattle.cp_language.specs.Roles.{headed, message_faults, event_head_faults, event_faults, events_faults, trace_faults, where_faultless, message_of, event_of, events_in, events_of, items_behind};
 ghost use Rattle.cp_strand.specs.View.{declaration_view, event_view};
 ghost use Rattle.cp_forms.specs.FirstFault.{first_onto};
 ghost use Rattle.cp_forms.specs.Heads.{event_head_view};
@@ -70,17 +71,30 @@ pub(crate) fn trace_faults(variables: &[Declaration], form: &Form, first: &mut F
     }
 }
 
+/// What a term stands for, or none where it has faults.
+fn faultless_term(alloc: Global, variables: &[Declaration], form: &Form) -> Result<Term, AllocError>
+    ensures { IfOk result (λ t. t ≡ where_faultless (term_faults (map declaration_view variables.now) (view form.now)) (term_of (map declaration_view variables.now) (view form.now))) }
+{
+    let mut faults = FirstFault::new();
+    term_faults(variables, form, &mut faults);
+    if faults.is_none() {
+        term_of(alloc, variables, form)
+    } else {
+        no_term(alloc)
+    }
+}
+
 /// The message of a transmission or a reception with these items behind its head.
 fn message_of(alloc: Global, variables: &[Declaration], items: &[Form]) -> Result<Term, AllocError>
     ensures { IfOk result (λ t. t ≡ message_of (map declaration_view variables.now) (map view items.now)) }
 {
     match items {
-        [message, ..] => term_of(alloc, variables, message),
+        [message, ..] => faultless_term(alloc, variables, message),
         [] => no_term(alloc),
     }
 }
 
-/// The event that a form stands for. What stands for a form with faults has no meaning.
+/// The event that a form stands for. What stands for a form with faults has no meaning, but its message has no variables.
 fn event_of(alloc: Global, variables: &[Declaration], form: &Form) -> Result<Event, AllocError>
     ensures { IfOk result (λ e. event_view e ≡ event_of (map declaration_view variables.now) (headed (view form.now))) }
 {

@@ -61,7 +61,8 @@ fn algebra_faults(form: &Form, first: &mut FirstFault)
 pub fn no_protocol(alloc: Global) -> Result<Protocol, AllocError>
     ensures { IfOk result (λ p. p ≡ protocol_of []) }
 {
-    Ok(Protocol::new(Text::new(alloc, "")?, Vec::new(alloc)))
+    let roles = Vec::new(alloc);
+    Ok(Protocol::new(Text::new(alloc, "")?, roles))
 }
 
 /// The protocol with these items behind its head, where those above it have these names. What stands for a protocol

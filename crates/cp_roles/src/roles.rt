@@ -95,10 +95,11 @@ fn role_name_faults(before: &[Rc<Role>], form: &Form, first: &mut FirstFault)
 fn no_role(alloc: Global) -> Result<Role, AllocError>
     ensures { IfOk result (λ r. r ≡ role_of []) }
 {
+    let trace = Vec::new(alloc);
     Ok(Role::new(
         Text::new(alloc, "")?,
         Vec::new(alloc),
-        Vec::new(alloc),
+        trace,
         Vec::new(alloc),
         Vec::new(alloc),
         Vec::new(alloc),

@@ -2,16 +2,16 @@
 use Rattle.std.proofs.Common.{◌≡◌, List, ◌++◌, map, ap, ◌∙◌}
 use Rattle.cp_model.specs.Strand.{Declaration, Protocol}
 use Rattle.cp_model.specs.Skeleton.{Skeleton, IsSkeleton}
-use Rattle.cp_model.specs.Problem.{IsPointOfView}
+use Rattle.cp_model.specs.PointOfView.{IsPointOfView}
 use Rattle.cp_term.specs.Table.{Declared}
 use Rattle.cp_skel.specs.View.{skeleton_view}
 use Rattle.cp_skel.specs.Data.{SkeletonData as Program}
-use Rattle.cp_collapse.specs.Collapsing.{AreCollapses}
+use Rattle.cp_collapse.specs.Collapses.{AreCollapses}
 use Rattle.cp_roots.specs.declared.root.Root.{Root as Made}
 use Rattle.cp_roots.specs.RootView.{root_view}
 use Rattle.cp_roots.specs.Roots.{Root, first_roots, AreRoots}
 use Rattle.cp_roots.specs.Sound.{AreSound}
-use Rattle.cp_roots.specs.Gathering.{AllHave, RootsHave, AreFirstRoots}
+use Rattle.cp_roots.specs.GatheredRoots.{AllHave, RootsHave, AreFirstRoots}
 use Rattle.cp_roots.proofs.EachCollapse.{are_roots}
 use Rattle.cp_roots.proofs.RootsSoFar.{AreRootsOf}
 use Rattle.cp_roots.proofs.SoundRoots.{are_sound}

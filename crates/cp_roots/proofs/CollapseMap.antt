@@ -8,7 +8,8 @@ use Rattle.cp_model.specs.Bundle.{node_at}
 use Rattle.cp_model.specs.declared.node.Node.{Node}
 use Rattle.cp_model.specs.Skeleton.{instance, listener, term_event_at, Skeleton, OrderStep, along_strand_of, along_pair, Before, IsOrderPair, IsSkeleton}
 use Rattle.cp_model.specs.declared.node.OrderPair.{OrderPair}
-use Rattle.cp_model.specs.Problem.{numbers_from, variable_terms, IsDeclared, IsPointOfView}
+use Rattle.cp_model.specs.Problem.{numbers_from, variable_terms, IsDeclared}
+use Rattle.cp_model.specs.PointOfView.{IsPointOfView}
 use Rattle.cp_model.specs.Homomorphism.{GoesToInstance, IsHomomorphism, substitution_by, number_or, strand_in, map_from_problem, CarriesHomomorphism}
 use Rattle.cp_lists.proofs.Items.{item_below, map_of_item, place_of}
 use Rattle.cp_model.proofs.LawStandings.{strand_of_event}
@@ -17,7 +18,7 @@ use Rattle.cp_completeness.specs.Normal.{skeleton_under}
 use Rattle.cp_completeness.proofs.Mapped.{changed, carried_under}
 use Rattle.cp_model.proofs.DeclaredVariables.{declared_at}
 use Rattle.cp_collapse.specs.Partitions.{place_in}
-use Rattle.cp_collapse.specs.Collapsing.{IsCollapsed}
+use Rattle.cp_collapse.specs.Collapses.{IsCollapsed}
 use Rattle.cp_collapse.proofs.Lowest.{numbers_at, at_numbers}
 use Rattle.cp_collapse.proofs.Merged.{merging_is_homomorphism}
 

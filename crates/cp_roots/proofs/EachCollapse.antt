@@ -5,13 +5,13 @@ use Rattle.cp_lists.specs.Lists.{IsIn, here, there}
 use Rattle.cp_model.specs.Strand.{Declaration}
 use Rattle.cp_model.specs.Skeleton.{Skeleton}
 use Rattle.cp_model.specs.Tree.{by_collapse}
-use Rattle.cp_model.specs.Problem.{IsPointOfView}
+use Rattle.cp_model.specs.PointOfView.{IsPointOfView}
 use Rattle.cp_lists.proofs.Members.{in_append_left, in_append_right}
 use Rattle.cp_collapse.specs.Partitions.{place_in}
-use Rattle.cp_collapse.specs.Collapsing.{IsCollapse, AreCollapsesBy, no_collapses, collapse_by, AreCollapses}
-use Rattle.cp_hom.specs.FirstPlaces.{firsts}
+use Rattle.cp_collapse.specs.Collapses.{IsCollapse, AreCollapsesBy, no_collapses, collapse_by, AreCollapses}
+use Rattle.cp_fingerprint.specs.FirstPlaces.{firsts}
 use Rattle.cp_roots.specs.Roots.{Root, living, first_roots, AreFormsOfCollapses, no_collapses as none_of_none, forms_of_one, AreRoots}
-use Rattle.cp_roots.specs.Gathering.{AreNormalForms}
+use Rattle.cp_roots.specs.GatheredRoots.{AreNormalForms}
 use Rattle.cp_roots.proofs.Firsts.{firsts_of_places}
 
 -- The roots of one collapse, and how they are made.

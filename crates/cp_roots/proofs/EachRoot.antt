@@ -6,7 +6,7 @@ use Rattle.cp_lists.proofs.Members.{in_append, from_map}
 use Rattle.cp_model.specs.Skeleton.{Skeleton}
 use Rattle.cp_model.specs.Tree.{Operation, by_problem, by_collapse}
 use Rattle.cp_normal.specs.Exact.{HasForms}
-use Rattle.cp_collapse.specs.Collapsing.{AreCollapses}
+use Rattle.cp_collapse.specs.Collapses.{AreCollapses}
 use Rattle.cp_roots.specs.Roots.{Root, in_report_order, living, first_roots, AreFormsOfCollapses, no_collapses, forms_of_one, AreRoots}
 
 module _ (P : Skeleton → Type 0) where

@@ -4,11 +4,12 @@ use Rattle.std.proofs.lemmas.List.{length-map}
 use Rattle.cp_lists.specs.Lists.{item_at}
 use Rattle.cp_model.specs.Skeleton.{Skeleton}
 use Rattle.cp_model.specs.Problem.{numbers_from}
+use Rattle.cp_model.proofs.Numbers.{numbers_length}
 use Rattle.cp_lists.proofs.Items.{item_below, item_there, map_of_item}
 use Rattle.cp_collapse.specs.Partitions.{lowest_before, place_in, IsPartition}
-use Rattle.cp_collapse.proofs.Lowest.{numbers_at, numbers_length}
+use Rattle.cp_collapse.proofs.Lowest.{numbers_at}
 use Rattle.cp_collapse.proofs.Places.{own_entry, one_at_place, place_of_entry}
-use Rattle.cp_hom.specs.FirstPlaces.{first_of, firsts}
+use Rattle.cp_fingerprint.specs.FirstPlaces.{first_of, firsts}
 
 -- ---- which is the first
 

@@ -7,10 +7,11 @@ use Rattle.cp_model.specs.Bundle.{Bundle}
 use Rattle.cp_model.specs.declared.node.Node.{Node}
 use Rattle.cp_model.specs.Skeleton.{UniqueAt, Skeleton, OrderStep, along_strand_of, along_pair, Before, IsOrderPair, IsOrigin, GivesAssumptions, IsSkeleton}
 use Rattle.cp_model.specs.declared.node.OrderPair.{OrderPair}
-use Rattle.cp_model.specs.Realising.{OriginatesAtTerm, KeepsAssumptions}
+use Rattle.cp_model.specs.Realisation.{OriginatesAtTerm, KeepsAssumptions}
 use Rattle.cp_model.specs.Standing.{Standing, StandsIn, StandsApart}
 use Rattle.cp_model.specs.Homomorphism.{SkeletonMap, GoesToInstance, IsHomomorphism, map_from_problem, CarriesHomomorphism, FactorsThrough}
-use Rattle.cp_model.specs.Problem.{IsDeclared, variables_of_atoms, variables_of_uniques, variables_of_assumptions, HasDeclaredVariables}
+use Rattle.cp_model.specs.Problem.{IsDeclared, variables_of_atoms, variables_of_uniques, variables_of_assumptions}
+use Rattle.cp_model.specs.PointOfView.{HasDeclaredVariables}
 use Rattle.cp_model.specs.Given.{listed}
 use Rattle.cp_model.specs.Stated.{KeepsStated}
 use Rattle.cp_lists.proofs.Members.{in_append_left}

@@ -1,21 +1,22 @@
 -- Normal forms that are put behind other roots.
-use Rattle.std.proofs.Common.{◌≡◌, ◌⊎◌, inl, inr, ℕ, List, [], ◌∷◌, ◌++◌, map, length, reverse, nat_eq, true, false, refl, sym, ap, ap₂, ◌∙◌, subst, append_assoc, arith, eq-eqb, eqb-true}
+use Rattle.std.proofs.Common.{◌≡◌, ◌⊎◌, inl, inr, ℕ, List, [], ◌∷◌, ◌++◌, map, length, reverse, nat_eq, true, false, refl, sym, ap, ap₂, ◌∙◌, subst, append_assoc}
 use Rattle.std.proofs.lemmas.List.{reverse-append, reverse-reverse, map-append, append-nil}
 use Rattle.cp_lists.specs.Lists.{IsIn, here}
 use Rattle.cp_model.specs.Skeleton.{Skeleton}
 use Rattle.cp_model.specs.Tree.{Operation, by_problem, by_collapse}
 use Rattle.cp_lists.proofs.Members.{in_append, in_append_left, in_append_right, from_reverse, only_item}
+use Rattle.cp_lists.proofs.Appended.{some_counted}
 use Rattle.cp_term.specs.Table.{Declared}
 use Rattle.cp_skel.specs.Trees.{operation_view}
 use Rattle.cp_skel.specs.View.{skeleton_view}
 use Rattle.cp_skel.specs.Data.{SkeletonData as Program}
 use Rattle.cp_skel.specs.declared.tree.Operation.{Operation as How}
 use Rattle.cp_roots.specs.declared.root.Root.{Root}
-use Rattle.cp_hom.specs.FirstPlaces.{firsts}
+use Rattle.cp_fingerprint.specs.FirstPlaces.{firsts}
 use Rattle.cp_roots.specs.RootView.{root_view}
 use Rattle.cp_roots.specs.Roots as plain
 use Rattle.cp_roots.specs.Roots.{in_report_order, living}
-use Rattle.cp_roots.specs.Gathering.{AllHave, RootsHave, AreNormalForms, PutsForms, PutsCollapse, AreFirstRoots}
+use Rattle.cp_roots.specs.GatheredRoots.{AllHave, RootsHave, AreNormalForms, PutsForms, PutsCollapse, AreFirstRoots}
 
 -- The root that is made so, of this skeleton.
 abbrev pub root_of : How → Program → Root
@@ -80,13 +81,6 @@ all_put by forms all left start now e done part = record {
 
 -- ---- the first roots, and those of a collapse
 
-pub none_there : {A : Type 0} (xs : List A) (n : ℕ) → n ≡ length xs → nat_eq n 0 ≡ true → xs ≡ []
-none_there [] n e t = refl
-none_there (x ∷ xs) n e t = let z : n ≡ 0 = eqb-true n 0 t in absurd (omega (arith, e, z))
-
-some_there : {A : Type 0} (xs : List A) (n : ℕ) → n ≡ length xs → nat_eq n 0 ≡ false → xs ≡ [] → ⊥
-some_there xs n e t none = let z : true ≡ false = sym (eq-eqb n 0 (e ∙ ap length none)) ∙ t in cc
-
 module _ (k : Program) (copied : Program) (same : skeleton_view copied ≡ skeleton_view k) (named : copied.variables ≡ k.variables) where
   -- The problem itself, dead.
   pub dead_root : (another : Program) (how : How) (forms : List Program) (empty roots : List Root) → forms ≡ [] → AreNormalForms (skeleton_view copied) (map skeleton_view forms) → skeleton_view another ≡ skeleton_view k → another.variables ≡ k.variables →
@@ -114,7 +108,7 @@ module _ (k : Program) (copied : Program) (same : skeleton_view copied ≡ skele
 
   pub living_roots : (forms : List Program) (n : ℕ) (empty roots : List Root) → n ≡ length forms → nat_eq n 0 ≡ false → AreNormalForms (skeleton_view copied) (map skeleton_view forms) → ((r : Program) → IsIn r forms → r.variables ≡ copied.variables) →
       empty ≡ [] → PutsForms by_problem forms empty roots → AreFirstRoots (skeleton_view k) k.variables roots
-  living_roots forms n empty roots count test = some_living forms empty roots (some_there forms n count test)
+  living_roots forms n empty roots count test = some_living forms empty roots (some_counted forms n count test)
 
 pub collapse_put : (l : Program) (by : Operation) (partition places : List ℕ) (forms : List Program) (old new : List Root) → AreNormalForms (skeleton_view l) (map skeleton_view forms) → ((r : Program) → IsIn r forms → r.variables ≡ l.variables) →
     places ≡ l.from_problem.strands → partition ≡ firsts places → by ≡ by_collapse partition → PutsForms by forms old new → PutsCollapse l old new

@@ -10,7 +10,7 @@ use Rattle.cp_skel.specs.Data.{SkeletonData as Program}
 use Rattle.cp_roots.specs.declared.root.Root.{Root as Made}
 use Rattle.cp_roots.specs.RootView.{root_view}
 use Rattle.cp_roots.specs.Roots.{Root}
-use Rattle.cp_roots.specs.Gathering.{AllHave, RootsHave, PutsCollapse}
+use Rattle.cp_roots.specs.GatheredRoots.{AllHave, RootsHave, PutsCollapse}
 use Rattle.cp_roots.proofs.EachCollapse.{AreOfEach, roots_of, one_more}
 use Rattle.cp_roots.proofs.PutForms.{next_first, have_reversed}
 

@@ -5,28 +5,28 @@ use Rattle.cp_lists.specs.Lists.{item_at, IsIn, here, there}
 use Rattle.cp_model.specs.Strand.{Declaration, Protocol}
 use Rattle.cp_model.specs.Bundle.{Bundle, IsBundle}
 use Rattle.cp_model.specs.Skeleton.{Skeleton, IsSkeleton}
-use Rattle.cp_model.specs.Realising.{KeepsAssumptions}
+use Rattle.cp_model.specs.Realisation.{KeepsAssumptions}
 use Rattle.cp_model.specs.Standing.{Standing, StandsIn, StandsApart}
 use Rattle.cp_model.specs.Homomorphism.{CarriesHomomorphism, FactorsThrough}
-use Rattle.cp_model.specs.Problem.{IsPointOfView}
+use Rattle.cp_model.specs.PointOfView.{IsPointOfView}
 use Rattle.cp_model.specs.Stated.{KeepsStated}
 use Rattle.cp_model.specs.Tree.{Operation, by_problem, by_collapse}
 use Rattle.cp_lists.proofs.Members.{in_append, in_append_left, in_append_right, in_cases, into_map, from_map}
 use Rattle.cp_model.proofs.SingleMaps.{itself, own_carries}
 use Rattle.cp_model.proofs.StatedItself.{keeps_its_own}
 use Rattle.cp_completeness.proofs.Under.{factors_then}
-use Rattle.cp_normal.specs.Narrowing.{IsNormalFormOf}
-use Rattle.cp_collapse.specs.Collapsing.{IsCollapse, AreCollapsesBy, no_collapses, collapse_by, AreCollapses}
+use Rattle.cp_normal.specs.NormalForms.{IsNormalFormOf}
+use Rattle.cp_collapse.specs.Collapses.{IsCollapse, AreCollapsesBy, no_collapses, collapse_by, AreCollapses}
 use Rattle.cp_normal.proofs.Homomorphic.{form_carries}
 use Rattle.cp_normal.proofs.StatedForms.{form_keeps}
 use Rattle.cp_collapse.proofs.StatedCollapse.{collapse_keeps}
-use Rattle.cp_normal.proofs.Keeping.{form_is_skeleton, normal_keeps_assumptions}
+use Rattle.cp_normal.proofs.FormSkeletons.{form_is_skeleton, normal_keeps_assumptions}
 use Rattle.cp_collapse.proofs.CollapsesCover.{collapses_are_complete}
 use Rattle.cp_collapse.proofs.MergedSkeletons.{merged_is_skeleton}
-use Rattle.cp_hom.specs.FirstPlaces.{firsts}
+use Rattle.cp_fingerprint.specs.FirstPlaces.{firsts}
 use Rattle.cp_roots.specs.Roots.{Root, living, first_roots}
 use Rattle.cp_roots.specs.Sound.{StandsThroughRoot, AreSound}
-use Rattle.cp_roots.specs.Gathering.{AreNormalForms}
+use Rattle.cp_roots.specs.GatheredRoots.{AreNormalForms}
 use Rattle.cp_roots.proofs.InReportOrder.{skeleton_listed, assumptions_listed, carries_listed, stated_listed, stands_listed, apart_listed, factors_listed}
 use Rattle.cp_roots.proofs.CollapseMap.{collapse_carries}
 use Rattle.cp_roots.proofs.EachCollapse.{AreOfEach, roots_of, listed_of}

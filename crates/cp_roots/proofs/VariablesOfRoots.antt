@@ -5,7 +5,7 @@ use Rattle.cp_lists.specs.Lists.{item_at}
 use Rattle.cp_model.specs.Strand.{Declaration}
 use Rattle.cp_model.specs.Skeleton.{Skeleton}
 use Rattle.cp_roots.specs.Roots.{Root, AreRoots}
-use Rattle.cp_model.specs.Problem.{HasDeclaredVariables}
+use Rattle.cp_model.specs.PointOfView.{HasDeclaredVariables}
 use Rattle.cp_normal.proofs.VariablesOfForms.{forms_declared}
 use Rattle.cp_collapse.proofs.VariablesOfCollapses.{collapses_declared}
 use Rattle.cp_roots.proofs.EachRoot.{each_root}

@@ -2,4 +2,4 @@ pub mod Over
 pub mod Roots
 pub mod Sound
 pub mod RootView
-pub mod Gathering
+pub mod GatheredRoots

@@ -4,7 +4,7 @@ use Rattle.cp_model.specs.Skeleton.{Skeleton}
 use Rattle.cp_model.specs.Given.{listed}
 use Rattle.cp_model.specs.Tree.{Operation, by_problem, by_collapse}
 use Rattle.cp_normal.specs.Exact.{HasForms}
-use Rattle.cp_collapse.specs.Collapsing.{AreCollapses}
+use Rattle.cp_collapse.specs.Collapses.{AreCollapses}
 
 -- A root: how it is made, its skeleton, and whether it is dead.
 pub record Root : Type 0 where

@@ -1,13 +1,13 @@
 //! The roots of a problem, from which its search starts: its normal forms, and those of its collapses.
 #![tactic(auto)]
 
-mod gathering;
+mod gathered_roots;
 mod instances;
 mod partition;
+mod problem_roots;
 mod root;
-mod rooting;
 mod variables_law;
 
+pub use problem_roots::roots;
 pub use root::Root;
-pub use rooting::roots;
 pub use variables_law::roots_have_declared_variables;

@@ -1,8 +1,8 @@
 // The partition by which strands are merged, read off where they go.
 ghost use Rattle.std.specs.Prelude.{◌≡◌, IfOk};
-ghost use Rattle.cp_hom.specs.FirstPlaces.{firsts};
+ghost use Rattle.cp_fingerprint.specs.FirstPlaces.{firsts};
 
-use cp_hom::first_of;
+use cp_fingerprint::first_of;
 use std::alloc::{AllocError, Global};
 
 /// The partition by which strands go to these places: for each strand the first that goes to its place.

@@ -4,7 +4,7 @@ ghost use Rattle.cp_lists.specs.Lists.{item_at};
 ghost use Rattle.cp_model.specs.Strand.{Declaration};
 ghost use Rattle.cp_model.specs.Skeleton.{Skeleton};
 ghost use Rattle.cp_roots.specs.Roots.{Root, AreRoots};
-ghost use Rattle.cp_model.specs.Problem.{HasDeclaredVariables};
+ghost use Rattle.cp_model.specs.PointOfView.{HasDeclaredVariables};
 
 /// The variables that occur in the roots of a problem, and in their ways from it, are declared where those of the problem
 /// are.

@@ -1,9 +1,9 @@
 pub mod Sizes
 pub mod TermSorts
-mod Lacking
+mod MissingItems
 pub mod Judged
-pub mod Pairing
+pub mod PairedTerms
 pub mod Meanings
-pub mod Naming
+pub mod DeclaredIdentifiers
 pub mod Gathered
 pub mod NamesInUse

@@ -6,15 +6,15 @@ use Rattle.cp_lists.proofs.Items.{item_below, place_of, at_place}
 use Rattle.cp_lists.proofs.Members.{drop_read, in_rest, next_or_rest, none_left}
 use Rattle.cp_model.specs.Skeleton.{Skeleton}
 use Rattle.cp_skel.specs.View.{skeleton_view}
-use Rattle.cp_hom.specs.Maps.{IsIsomorphic}
-use Rattle.cp_hom.specs.Fingerprints.{Traits, traits_of, MayEmbed}
-use Rattle.cp_hom.proofs.Traits.{embedded_may_embed}
+use Rattle.cp_fingerprint.specs.Isomorphic.{IsIsomorphic}
+use Rattle.cp_fingerprint.specs.Fingerprints.{Traits, traits_of, MayEmbed}
+use Rattle.cp_fingerprint.proofs.Traits.{embedded_may_embed}
 use Rattle.cp_term.proofs.CarriedTerms.{not_both}
 use Rattle.cp_search.specs.declared.made.Made.{Made}
-use Rattle.cp_search.specs.Finding.{FindsLeast, IsFlagged}
-use Rattle.cp_search.specs.Sharing.{with_sharing}
-use Rattle.cp_search.proofs.Sharing.{there_listed, listed_there, AreAscending, are_ascending, ascending_from}
-use Rattle.cp_search.specs.Making.{made_way, AreFound, AreReaching, MayBeSeenIn, MayBeSeen}
+use Rattle.cp_search.specs.LeastNumber.{FindsLeast, IsFlagged}
+use Rattle.cp_search.specs.LabelsByNumber.{with_sharing}
+use Rattle.cp_search.proofs.LabelsByNumber.{there_listed, listed_there, AreAscending, are_ascending, ascending_from}
+use Rattle.cp_search.specs.MadeLabels.{made_way, AreFound, AreReaching, MayBeSeenIn, MayBeSeen}
 use Rattle.cp_search.proofs.Ways.{finds_alike}
 use Rattle.cp_tree.specs.Made.{IsEdge, Reaches}
 

@@ -8,14 +8,14 @@ use Rattle.cp_model.specs.Skeleton.{Skeleton}
 use Rattle.cp_model.specs.Homomorphism.{Embeds}
 use Rattle.cp_skel.specs.View.{skeleton_view}
 use Rattle.cp_derive.specs.Unrealised.{ListsUnrealised}
-use Rattle.cp_hom.specs.Fingerprints.{traits_of}
+use Rattle.cp_fingerprint.specs.Fingerprints.{traits_of}
 use Rattle.cp_shapes.specs.Shapes.{EmbedsAt}
-use Rattle.cp_general.specs.Generalising.{IsMostGeneral}
+use Rattle.cp_general.specs.Generalisation.{IsMostGeneral}
 use Rattle.cp_tree.specs.Made.{Way, Reaches, MayPointTo}
 use Rattle.cp_tree.specs.Made as plain
 use Rattle.cp_search.specs.declared.made.Made.{Made}
-use Rattle.cp_search.specs.Finding.{FindsLeast}
-use Rattle.cp_search.specs.Making.{made_way, made_view, IsFound, AreFound, MayBeSeen, AddsMade}
+use Rattle.cp_search.specs.LeastNumber.{FindsLeast}
+use Rattle.cp_search.specs.MadeLabels.{made_way, made_view, IsFound, AreFound, MayBeSeen, AddsMade}
 use Rattle.cp_search.proofs.Ways.{finds_alike, skeleton_of, still_found}
 
 module _ (ms : List Made) (x : Made) where

@@ -13,7 +13,7 @@ use Rattle.cp_shapes.proofs.Gathered.{AreTo, next_row}
 use Rattle.cp_tree.specs.Candidates.{Candidate, skeletons_of, IsLabelAt}
 use Rattle.cp_tree.specs.Searched.{IsMarkedAmong, as_shape, as_instance}
 use Rattle.cp_search.specs.Candidates.{candidate_mark}
-use Rattle.cp_search.specs.Labelling.{AreCandidateMarks}
+use Rattle.cp_search.specs.TreeLabels.{AreCandidateMarks}
 
 index_at : (ns : List ℕ) (i n : ℕ) → item_at ns i ≡ Some n → slice_index_or ns i 0 ≡ n
 index_at [] i n e = absurd (cc)

@@ -6,8 +6,10 @@ use Rattle.cp_lists.proofs.Members.{into_map, from_map}
 use Rattle.cp_model.specs.Strand.{Declaration, Protocol}
 use Rattle.cp_model.specs.Skeleton.{Skeleton}
 use Rattle.cp_model.specs.Derivable.{IsUnrealised}
-use Rattle.cp_model.specs.Problem.{numbers_from, IsPointOfView}
+use Rattle.cp_model.specs.Problem.{numbers_from}
+use Rattle.cp_model.specs.PointOfView.{IsPointOfView}
 use Rattle.cp_model.specs.Tree.{Limits}
+use Rattle.cp_model.proofs.Numbers.{numbers_length}
 use Rattle.cp_strand.specs.View.{strand_view}
 use Rattle.cp_skel.specs.View.{skeleton_view}
 use Rattle.cp_skel.specs.Trees.{variables_view, test_view}
@@ -17,14 +19,13 @@ use Rattle.cp_tree.specs.Made as plain
 use Rattle.cp_tree.specs.Made.{Way, way_of, seen_in_of, MayPointTo, IsNew}
 use Rattle.cp_tree.specs.Sound.{IsSoundMade, ExpandsSoundly}
 use Rattle.cp_tree.specs.Searched.{mark_by, Becomes, is_tested}
-use Rattle.cp_tree.proofs.Numbered.{length_of_numbers}
 use Rattle.cp_search.specs.declared.made.Made.{Made}
 use Rattle.cp_search.specs.declared.settled.Settled.{Settled}
 use Rattle.cp_search.specs.declared.settled.Settled.TheVariants as settled
 use Rattle.cp_search.specs.declared.settled.Expanded.{Expanded}
-use Rattle.cp_search.specs.Finding.{FindsLeast}
-use Rattle.cp_search.specs.Making.{made_view, made_way, IsFound, AreFound, AddMade}
-use Rattle.cp_search.specs.Settling.{expanded_label, IsToExpand, IsOpenMark, AreSoundMade, ExpandsLabel, IsSearched}
+use Rattle.cp_search.specs.LeastNumber.{FindsLeast}
+use Rattle.cp_search.specs.MadeLabels.{made_view, made_way, IsFound, AreFound, AddMade}
+use Rattle.cp_search.specs.SettledLabels.{expanded_label, IsToExpand, IsOpenMark, AreSoundMade, ExpandsLabel, IsSearched}
 use Rattle.cp_search.proofs.OneMoreSettled.{numbers_of_map}
 use Rattle.cp_search.proofs.SettledNext.{settled_next}
 use Rattle.cp_search.proofs.SettledLeaves.{some_unrealised}
@@ -54,7 +55,7 @@ module _ (protocol : Protocol) (limits : Limits) (i n : ℕ) (old new : List Mad
   few_strands = let l : length m.skeleton.strands ≤ limits.strands = expands.strands in let k = length-map m.skeleton.strands strand_view in omega (arith, l, k)
 
   as_many : length e.children.items ≡ length x.children
-  as_many = ap length x.numbers ∙ length_of_numbers (length old) x.children
+  as_many = ap length x.numbers ∙ numbers_length (length old) x.children
 
   becomes : Becomes protocol limits ways IsOpenMark i n (made_view m) (expanded_label m e) (map made_view x.made.added)
   becomes = subst (Becomes protocol limits ways IsOpenMark i n (made_view m) (expanded_label m e)) (sym x.made.same)

@@ -4,7 +4,7 @@ use Rattle.cp_lists.specs.Lists.{item_at}
 use Rattle.cp_model.specs.Strand.{Protocol}
 use Rattle.cp_model.specs.Skeleton.{Skeleton}
 use Rattle.cp_model.specs.Derivable.{IsUnrealised}
-use Rattle.cp_model.specs.Realising.{AllDerivable}
+use Rattle.cp_model.specs.Realisation.{AllDerivable}
 use Rattle.cp_model.specs.Tree.{Mark, dead, seen, Test, Label, Limits, is_expanded}
 use Rattle.cp_skel.specs.View.{skeleton_view}
 use Rattle.cp_tree.specs.Candidates.{Candidate, IsCandidate, CandidatesFrom}
@@ -14,8 +14,8 @@ use Rattle.cp_search.specs.declared.made.Made as program
 use Rattle.cp_search.specs.declared.settled.Settled.{Settled}
 use Rattle.cp_search.specs.declared.settled.Settled.TheVariants as settled
 use Rattle.cp_search.specs.Candidates.{open_from}
-use Rattle.cp_search.specs.Labelling.{labels_with}
-use Rattle.cp_search.specs.Settling.{settled_labels, IsOpenMark}
+use Rattle.cp_search.specs.TreeLabels.{labels_with}
+use Rattle.cp_search.specs.SettledLabels.{settled_labels, IsOpenMark}
 
 -- The mark of the label is open.
 pub record IsOpenLabel (l : Label) : Type 0 where

@@ -6,7 +6,8 @@ use Rattle.cp_lists.proofs.Items.{place_of, item_of_map, map_of_item}
 use Rattle.cp_lists.proofs.Mapped.{map_then, map_alike}
 use Rattle.cp_model.specs.Strand.{Declaration, Protocol}
 use Rattle.cp_model.specs.Skeleton.{Skeleton, IsSkeleton}
-use Rattle.cp_model.specs.Problem.{numbers_from, IsPointOfView, HasDeclaredVariables}
+use Rattle.cp_model.specs.Problem.{numbers_from}
+use Rattle.cp_model.specs.PointOfView.{IsPointOfView, HasDeclaredVariables}
 use Rattle.cp_model.specs.Tree.{Mark, dead, seen, Label, Tree, Outcome, Limits}
 use Rattle.cp_skel.specs.Trees.{variables_view}
 use Rattle.cp_roots.specs.Roots.{Root as PlainRoot}
@@ -21,10 +22,10 @@ use Rattle.cp_tree.specs.Searched.{AreSettled, IsMarkedAmong, as_shape, as_insta
 use Rattle.cp_search.specs.declared.made.Made.{Made}
 use Rattle.cp_search.specs.declared.settled.Settled.{Settled}
 use Rattle.cp_search.specs.Candidates.{open_from}
-use Rattle.cp_search.specs.Labelling.{labels_with, AreCandidateMarks}
-use Rattle.cp_search.specs.Making.{made_view, made_way}
+use Rattle.cp_search.specs.TreeLabels.{labels_with, AreCandidateMarks}
+use Rattle.cp_search.specs.MadeLabels.{made_view, made_way}
 use Rattle.cp_search.specs.Roots.{root_made}
-use Rattle.cp_search.specs.Settling.{settled_labels, AreSoundRoots, IsSearched}
+use Rattle.cp_search.specs.SettledLabels.{settled_labels, AreSoundRoots, IsSearched}
 use Rattle.cp_search.proofs.FinalLabels.{TakeMarks, marks_taken, children_still, ways_still, settled_marked, candidates_are, open_ones}
 
 -- ---- marks of candidates

@@ -1,10 +1,11 @@
 -- A label that is expanded: what it is asked for, and what comes of it.
-use Rattle.std.proofs.Common.{◌≡◌, ◌≢◌, ℕ, suc, List, [], ◌∷◌, length, map, false, Some, refl, sym, ap, ◌∙◌, subst}
+use Rattle.std.proofs.Common.{◌≡◌, ◌≢◌, ℕ, List, [], ◌∷◌, length, map, false, Some, refl, sym, ap, ◌∙◌, subst}
 use Rattle.cp_lists.specs.Lists.{item_at, here}
 use Rattle.cp_model.specs.Strand.{Declaration, Protocol}
 use Rattle.cp_model.specs.Skeleton.{Skeleton}
 use Rattle.cp_model.specs.Derivable.{IsUnrealised}
-use Rattle.cp_model.specs.Problem.{numbers_from, IsPointOfView}
+use Rattle.cp_model.specs.Problem.{numbers_from}
+use Rattle.cp_model.specs.PointOfView.{IsPointOfView}
 use Rattle.cp_model.specs.declared.node.Node.{Node}
 use Rattle.cp_skel.specs.View.{skeleton_view}
 use Rattle.cp_skel.specs.Trees.{variables_view}
@@ -18,17 +19,14 @@ use Rattle.cp_tree.specs.Made as plain
 use Rattle.cp_tree.specs.Sound.{ExpandsSoundly}
 use Rattle.cp_search.specs.declared.made.Made.{Made}
 use Rattle.cp_search.specs.declared.settled.Expanded.{Expanded}
-use Rattle.cp_search.specs.Making.{AddMade}
-use Rattle.cp_search.specs.Settling.{ExpandsLabel, AreSoundMade}
+use Rattle.cp_search.specs.MadeLabels.{AddMade}
+use Rattle.cp_search.specs.SettledLabels.{ExpandsLabel, AreSoundMade}
 use Rattle.cp_search.proofs.ExpandedNext.{children_sound}
+use Rattle.cp_search.proofs.OneMoreSettled.{numbers_of_map}
 
 pub some_unrealised : (k : Skeleton) (ns : List Node) → ListsUnrealised k ns → ns ≢ [] → IsUnrealised k
 some_unrealised k [] lists some = absurd (some refl)
 some_unrealised k (n ∷ ns) lists some = let u = (lists.each n).0 here in record { node = n; message = u.message; reception = u.reception; underivable = u.underivable }
-
-numbers_mapped : {A B : Type 0} (f : A → B) (n : ℕ) (xs : List A) → numbers_from n (map f xs) ≡ numbers_from n xs
-numbers_mapped f n [] = refl
-numbers_mapped f n (x ∷ xs) = ap (λ ns. n ∷ ns) (numbers_mapped f (suc n) xs)
 
 pub label_expanded : (protocol : Protocol) (i : ℕ) (old new : List Made) (label : Made) (test : Test) (x : expansions.Expansion) (e : Expanded) → AreSoundMade protocol old → item_at old i ≡ Some label
     → (label.dead ≡ false) × (label.unrealised.items ≢ []) → ListsUnrealised (skeleton_view label.skeleton) label.unrealised.items → ((variables : List Declaration) (k : Skeleton) → IsPointOfView variables k → ExpandsSoundly protocol k)
@@ -48,5 +46,5 @@ label_expanded protocol i old new label test x e sound at lives lists law is sam
       same = ap skeleton_view skeleton ∙ same;
       made = made;
       sound = children_sound protocol i old new label (expansion_view test x) made sound at lives.0 (some_unrealised (skeleton_view label.skeleton) label.unrealised.items lists lives.1) is law;
-      numbers = numbers ∙ sym (numbers_mapped child_view (length old) x.children.items);
+      numbers = numbers ∙ sym (numbers_of_map child_view (length old) x.children.items);
     }

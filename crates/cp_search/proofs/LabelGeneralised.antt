@@ -4,19 +4,19 @@ use Rattle.cp_lists.specs.Lists.{item_at}
 use Rattle.cp_lists.proofs.Members.{only_item}
 use Rattle.cp_model.specs.Strand.{Declaration, Protocol}
 use Rattle.cp_model.specs.Skeleton.{Skeleton, IsSkeleton}
-use Rattle.cp_model.specs.Problem.{IsPointOfView}
+use Rattle.cp_model.specs.PointOfView.{IsPointOfView}
 use Rattle.cp_model.specs.Tree.{by_generalising}
 use Rattle.cp_term.specs.Table.{Declared}
 use Rattle.cp_skel.specs.Data.{SkeletonData}
 use Rattle.cp_skel.specs.View.{skeleton_view}
 use Rattle.cp_skel.specs.Trees.{variables_view}
-use Rattle.cp_general.specs.Generalising.{IsMostGeneral, GeneralisesTo, last_step, next_step}
+use Rattle.cp_general.specs.Generalisation.{IsMostGeneral, GeneralisesTo, last_step, next_step}
 use Rattle.cp_tree.specs.Made.{made_of_generalisation}
 use Rattle.cp_tree.specs.Sound.{IsSoundMade, GeneralisesSoundly}
 use Rattle.cp_search.specs.declared.made.Made.{Made}
-use Rattle.cp_search.specs.Making.{made_view, AddsMade, AddsGeneral, AreFound}
-use Rattle.cp_search.specs.Settling.{AreSoundMade}
-use Rattle.cp_search.specs.Generalising.{GeneralisesLabel}
+use Rattle.cp_search.specs.MadeLabels.{made_view, AddsMade, AddsGeneral, AreFound}
+use Rattle.cp_search.specs.SettledLabels.{AreSoundMade}
+use Rattle.cp_search.specs.GeneralLabels.{GeneralisesLabel}
 use Rattle.cp_search.proofs.SoundBehind.{sound_behind}
 
 -- No step applies to what a skeleton generalises to.

@@ -16,8 +16,8 @@ use Rattle.cp_search.specs.declared.made.Made.{Made}
 use Rattle.cp_search.specs.declared.settled.Settled.{Settled}
 use Rattle.cp_search.specs.declared.settled.Settled.TheVariants as settled
 use Rattle.cp_search.specs.declared.settled.Expanded.{Expanded}
-use Rattle.cp_search.specs.Labelling.{label_with, labels_with}
-use Rattle.cp_search.specs.Settling.{AreExpandedOf}
+use Rattle.cp_search.specs.TreeLabels.{label_with, labels_with}
+use Rattle.cp_search.specs.SettledLabels.{AreExpandedOf}
 
 -- The labels so far with those of the rest are all; of the rests, the marks alone are kept last first.
 pub record AreLabelledSoFar (all : List Label) (labels : List TreeNode) (ms : List Made) (ss : List Settled) (marks : List Mark) : Type 0 where

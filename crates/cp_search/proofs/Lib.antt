@@ -14,10 +14,10 @@ pub mod SettledLeaves
 pub mod SettledNext
 pub mod SettledAs
 pub mod StillToCome
-pub mod Waiting
+pub mod WaitingLabels
 pub mod LabelGeneralised
-pub mod Sharing
-pub mod Spreading
+pub mod LabelsByNumber
+pub mod SpreadFlags
 pub mod WayEdges
 pub mod Ways
 pub mod LabelExpanded

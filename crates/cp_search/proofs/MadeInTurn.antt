@@ -12,7 +12,7 @@ use Rattle.cp_roots.specs.declared.root.Root.{Root}
 use Rattle.cp_tree.specs.Made as plain
 use Rattle.cp_tree.specs.Made.{made_of_child}
 use Rattle.cp_search.specs.declared.made.Made.{Made}
-use Rattle.cp_search.specs.Making.{made_view, AreFound, AddsMade, AddMade}
+use Rattle.cp_search.specs.MadeLabels.{made_view, AreFound, AddsMade, AddMade}
 use Rattle.cp_search.specs.Roots.{root_made}
 use Rattle.cp_search.proofs.StillToCome.{next_whole}
 

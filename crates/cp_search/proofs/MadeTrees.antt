@@ -8,11 +8,11 @@ use Rattle.cp_skel.specs.declared.tree.Tree.{Tree as ProgramTree}
 use Rattle.cp_roots.specs.RootView.{root_view}
 use Rattle.cp_roots.specs.declared.root.Root.{Root}
 use Rattle.cp_tree.specs.Searched.{HasOutcome, IsTreeFrom}
-use Rattle.cp_search.specs.declared.searching.Search.{Search}
+use Rattle.cp_search.specs.declared.label_search.Search.{Search}
 use Rattle.cp_search.specs.Candidates.{open_from}
-use Rattle.cp_search.specs.Labelling.{labels_with, AreCandidateMarks}
+use Rattle.cp_search.specs.TreeLabels.{labels_with, AreCandidateMarks}
 use Rattle.cp_search.specs.Roots.{root_made}
-use Rattle.cp_search.specs.Settling.{HasSearched}
+use Rattle.cp_search.specs.SettledLabels.{HasSearched}
 use Rattle.cp_search.proofs.FoundTrees.{is_tree}
 
 pub if_made : {E : Type 0} (protocol : Protocol) (variables : List Declaration) (limits : Limits) (roots : List Root) (s : Search) → HasSearched protocol limits (map root_made roots) s → length s.settled.items ≡ length s.made

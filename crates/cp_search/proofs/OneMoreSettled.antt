@@ -1,7 +1,6 @@
 -- One label more is settled, and labels are made behind others.
-use Rattle.std.proofs.Common.{◌≡◌, ℕ, zero, suc, ◌+◌, ◌<◌, ◌≤◌, List, [], ◌∷◌, ◌++◌, length, map, take, Option, Some, sym, ap, subst, ◌∙◌, refl, arith}
+use Rattle.std.proofs.Common.{◌≡◌, ℕ, suc, ◌+◌, ◌<◌, ◌≤◌, List, [], ◌∷◌, ◌++◌, length, map, Option, sym, ap, subst, ◌∙◌, refl, arith}
 use Rattle.std.proofs.lemmas.List.{append_assoc, append-nil}
-use Rattle.cp_lists.specs.Lists.{item_at}
 use Rattle.cp_model.specs.Strand.{Protocol}
 use Rattle.cp_model.specs.Problem.{numbers_from}
 use Rattle.cp_model.specs.Tree.{Mark, Label, Limits, is_expanded, expanded_count}
@@ -10,11 +9,6 @@ use Rattle.cp_tree.specs.Searched.{Becomes, is_dead, is_seen, is_realised, is_ge
 use Rattle.cp_search.proofs.GrownWays.{least_still, new_still}
 
 -- ---- lists
-
-pub take_next : {A : Type 0} (n : ℕ) (xs : List A) (x : A) → item_at xs n ≡ Some x → take (suc n) xs ≡ take n xs ++ x ∷ []
-take_next n [] x at = absurd (cc)
-take_next zero (y ∷ xs) x at = let same : y ≡ x = cc in ap (λ z. z ∷ []) same
-take_next (suc n) (y ∷ xs) x at = ap (λ zs. y ∷ zs) (take_next n xs x at)
 
 pub numbers_of_map : {A B : Type 0} (f : A → B) (n : ℕ) (xs : List A) → numbers_from n (map f xs) ≡ numbers_from n xs
 numbers_of_map f n [] = refl

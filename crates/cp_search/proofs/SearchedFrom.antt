@@ -12,9 +12,9 @@ use Rattle.cp_tree.specs.Sound.{IsSoundMade}
 use Rattle.cp_tree.specs.Searched.{AreSettled, all_settled, children_of}
 use Rattle.cp_search.specs.declared.made.Made.{Made}
 use Rattle.cp_search.specs.declared.settled.Settled.{Settled}
-use Rattle.cp_search.specs.Making.{made_view, made_way, AddMade}
+use Rattle.cp_search.specs.MadeLabels.{made_view, made_way, AddMade}
 use Rattle.cp_search.specs.Roots.{root_made}
-use Rattle.cp_search.specs.Settling.{IsOpenMark, AreSoundMade, AreSoundRoots, IsSearched}
+use Rattle.cp_search.specs.SettledLabels.{IsOpenMark, AreSoundMade, AreSoundRoots, IsSearched}
 use Rattle.cp_search.proofs.SettledNext.{no_labels}
 use Rattle.cp_search.proofs.SoundBehind.{for_the_same}
 

@@ -7,17 +7,17 @@ use Rattle.cp_model.specs.Tree.{Limits}
 use Rattle.cp_skel.specs.View.{skeleton_view}
 use Rattle.cp_skel.specs.Trees.{variables_view}
 use Rattle.cp_skel.specs.declared.tree.Mark.{Mark as ProgramMark}
-use Rattle.cp_general.specs.Generalising.{IsMostGeneral}
+use Rattle.cp_general.specs.Generalisation.{IsMostGeneral}
 use Rattle.cp_tree.specs.Made as plain
 use Rattle.cp_tree.specs.Made.{Way, way_of, MayPointTo}
 use Rattle.cp_tree.specs.Searched.{leaf, Becomes, is_generalised}
 use Rattle.cp_search.specs.declared.made.Made.{Made}
 use Rattle.cp_search.specs.declared.settled.Settled.{Settled}
 use Rattle.cp_search.specs.declared.settled.Settled.TheVariants as settled
-use Rattle.cp_search.specs.Finding.{FindsLeast}
-use Rattle.cp_search.specs.Making.{made_view, made_way, IsFound, AreFound}
-use Rattle.cp_search.specs.Settling.{generalised_label, IsLeafOf, dead_leaf, seen_leaf, open_leaf, above_bound, at_limit, no_leaf, IsOpenMark, AreSoundMade, IsSearched}
-use Rattle.cp_search.specs.Generalising.{IsOwnGeneralisation, Generalises, SettlesAs}
+use Rattle.cp_search.specs.LeastNumber.{FindsLeast}
+use Rattle.cp_search.specs.MadeLabels.{made_view, made_way, IsFound, AreFound}
+use Rattle.cp_search.specs.SettledLabels.{generalised_label, IsLeafOf, dead_leaf, seen_leaf, open_leaf, above_bound, at_limit, no_leaf, IsOpenMark, AreSoundMade, IsSearched}
+use Rattle.cp_search.specs.GeneralLabels.{IsOwnGeneralisation, Generalises, SettlesAs}
 use Rattle.cp_search.proofs.SettledNext.{settled_next}
 use Rattle.cp_search.proofs.SettledLeaves.{all_derivable, leaf_settled, next_label}
 

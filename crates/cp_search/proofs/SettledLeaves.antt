@@ -1,5 +1,5 @@
 -- The next label is settled as a leaf.
-use Rattle.std.proofs.Common.{◌≡◌, ◌≢◌, ⊎_elim, ℕ, ◌+◌, ◌<◌, ◌≤◌, List, [], ◌∷◌, ◌++◌, length, map, true, false, nat_eq, option_map, Option, Some, None, sym, ap, subst, ◌∙◌, refl, arith, eqb-true}
+use Rattle.std.proofs.Common.{◌≡◌, ◌≢◌, ⊎_elim, ℕ, ◌+◌, ◌<◌, ◌≤◌, List, [], ◌∷◌, ◌++◌, length, map, false, option_map, Option, Some, None, sym, ap, subst, ◌∙◌, refl, arith}
 use Rattle.std.proofs.lemmas.List.{append-nil, length-map}
 use Rattle.cp_lists.specs.Lists.{item_at, IsIn, here}
 use Rattle.cp_lists.proofs.Members.{not_in_none}
@@ -7,7 +7,7 @@ use Rattle.cp_model.specs.Strand.{Protocol}
 use Rattle.cp_model.specs.declared.node.Node.{Node}
 use Rattle.cp_model.specs.Skeleton.{Skeleton}
 use Rattle.cp_model.specs.Derivable.{IsUnrealised, DerivableAt}
-use Rattle.cp_model.specs.Realising.{AllDerivable}
+use Rattle.cp_model.specs.Realisation.{AllDerivable}
 use Rattle.cp_model.specs.Tree.{Mark, Limits}
 use Rattle.cp_strand.specs.View.{strand_view}
 use Rattle.cp_skel.specs.View.{skeleton_view}
@@ -15,7 +15,7 @@ use Rattle.cp_skel.specs.Trees.{mark_view}
 use Rattle.cp_skel.specs.declared.tree.Mark.{Mark as ProgramMark}
 use Rattle.cp_skel.specs.declared.tree.Mark.TheVariants as program
 use Rattle.cp_derive.specs.Unrealised.{ListsUnrealised, IsUnrealisedAt}
-use Rattle.cp_general.specs.Generalising.{IsMostGeneral}
+use Rattle.cp_general.specs.Generalisation.{IsMostGeneral}
 use Rattle.cp_tree.specs.Made as plain
 use Rattle.cp_tree.specs.Made.{Way, way_of, seen_in_of, MayPointTo, IsNew}
 use Rattle.cp_tree.specs.Searched.{leaf, Becomes, is_dead, is_seen, is_realised}
@@ -23,9 +23,9 @@ use Rattle.cp_tree.specs.Searched as becomes
 use Rattle.cp_search.specs.declared.made.Made.{Made}
 use Rattle.cp_search.specs.declared.settled.Settled.{Settled}
 use Rattle.cp_search.specs.declared.settled.Settled.TheVariants as settled
-use Rattle.cp_search.specs.Finding.{FindsLeast}
-use Rattle.cp_search.specs.Making.{made_view, made_way, IsFound, AreFound}
-use Rattle.cp_search.specs.Settling.{leaf_label, IsLeafOf, dead_leaf, seen_leaf, open_leaf, above_bound, at_limit, no_leaf, IsToExpand, IsOpenMark, AreSoundMade, IsSearched}
+use Rattle.cp_search.specs.LeastNumber.{FindsLeast}
+use Rattle.cp_search.specs.MadeLabels.{made_view, made_way, IsFound, AreFound}
+use Rattle.cp_search.specs.SettledLabels.{leaf_label, IsLeafOf, dead_leaf, seen_leaf, open_leaf, above_bound, at_limit, no_leaf, IsToExpand, IsOpenMark, AreSoundMade, IsSearched}
 use Rattle.cp_search.proofs.SettledNext.{settled_next}
 
 -- ---- what is tested
@@ -33,14 +33,6 @@ use Rattle.cp_search.proofs.SettledNext.{settled_next}
 pub none_found : (o : Option ℕ) → ((n : ℕ) → o ≡ Some n → ⊥) → o ≡ None
 none_found None none = refl
 none_found (Some n) none = absurd (none n refl)
-
-pub none_listed : {A : Type 0} (xs : List A) (n : ℕ) → n ≡ length xs → nat_eq n 0 ≡ true → xs ≡ []
-none_listed [] n e t = refl
-none_listed (x ∷ xs) n e t = let z : n ≡ 0 = eqb-true n 0 t in absurd (omega (arith, e, z))
-
-pub some_listed : {A : Type 0} (xs : List A) (n : ℕ) → n ≡ length xs → nat_eq n 0 ≡ false → xs ≢ []
-some_listed [] n e f = absurd (let t : nat_eq n 0 ≡ true = ap (λ (k : ℕ). nat_eq k 0) e in cc)
-some_listed (x ∷ xs) n e f = λ q. cc
 
 -- ---- what is unrealised
 

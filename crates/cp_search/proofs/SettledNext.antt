@@ -2,7 +2,8 @@
 use Rattle.std.proofs.Common.{◌≡◌, ⊎_elim, ℕ, suc, ◌+◌, ◌<◌, ◌≤◌, List, [], ◌∷◌, ◌++◌, length, map, take, Some, sym, ap, subst, ◌∙◌, refl, arith}
 use Rattle.std.proofs.lemmas.List.{append_assoc, length-append, length-map, map-append, take-append-le, length-take-le}
 use Rattle.cp_lists.specs.Lists.{item_at}
-use Rattle.cp_lists.proofs.Items.{item_below, item_still, item_in_front, item_of_push, map_of_item}
+use Rattle.cp_lists.proofs.Items.{item_below, item_still, item_in_front, item_of_push, map_of_item, take_to_item}
+use Rattle.cp_lists.proofs.Appended.{length_pushed}
 use Rattle.cp_model.specs.Strand.{Protocol}
 use Rattle.cp_model.specs.Problem.{numbers_from}
 use Rattle.cp_model.specs.Tree.{Label, Limits, is_expanded, expanded_count}
@@ -15,9 +16,9 @@ use Rattle.cp_search.specs.declared.made.Made.{Made}
 use Rattle.cp_search.specs.declared.settled.Settled.{Settled}
 use Rattle.cp_search.specs.declared.settled.Settled.TheVariants as settled
 use Rattle.cp_search.specs.declared.settled.Expanded.{Expanded}
-use Rattle.cp_search.specs.Making.{made_view, made_way, AreFound}
-use Rattle.cp_search.specs.Settling.{settled_label, settled_labels, IsOpenMark, AreExpandedOf, AreSoundMade, IsSearched}
-use Rattle.cp_search.proofs.OneMoreSettled.{take_next, numbers_of_map, children_behind, count_behind, one_more, settled_still}
+use Rattle.cp_search.specs.MadeLabels.{made_view, made_way, AreFound}
+use Rattle.cp_search.specs.SettledLabels.{settled_label, settled_labels, IsOpenMark, AreExpandedOf, AreSoundMade, IsSearched}
+use Rattle.cp_search.proofs.OneMoreSettled.{numbers_of_map, children_behind, count_behind, one_more, settled_still}
 
 pub no_labels : (ms : List Made) → settled_labels ms [] ≡ []
 no_labels [] = refl
@@ -34,10 +35,7 @@ take_more : {B : Type 0} (f : Made → B) (n : ℕ) (ms added : List Made) (m : 
 take_more f n ms added m at =
     let l : n < length ms = item_below ms n m at in
     let e = length-map ms f in
-    ap (take (suc n)) (map-append f ms added) ∙ (take-append-le (suc n) (map f ms) (map f added) (omega (arith, l, e)) ∙ take_next n (map f ms) (f m) (map_of_item f ms n m at))
-
-one_longer : {A : Type 0} (xs : List A) (x : A) → length (xs ++ x ∷ []) ≡ suc (length xs)
-one_longer xs x = let e = length-append xs (x ∷ []) in omega (arith, e)
+    ap (take (suc n)) (map-append f ms added) ∙ (take-append-le (suc n) (map f ms) (map f added) (omega (arith, l, e)) ∙ take_to_item (map f ms) n (f m) (map_of_item f ms n m at))
 
 module _ (protocol : Protocol) (limits : Limits) (roots : List plain.Made) (ms : List Made) (ss : List Settled) (n : ℕ) (r : IsSearched protocol limits roots ms ss n) (m : Made) (at : item_at ms (length ss) ≡ Some m) (added : List Made) (s : Settled) where
   abbrev label : Label
@@ -67,13 +65,13 @@ module _ (protocol : Protocol) (limits : Limits) (roots : List plain.Made) (ms :
       (item_of_push ss s i (settled.Expanded e) there)
 
   within_next : length (ss ++ s ∷ []) ≤ length (ms ++ added)
-  within_next = let l : length ss < length ms = item_below ms (length ss) m at in let e = one_longer ss s in let f = length-append ms added in omega (arith, l, e, f)
+  within_next = let l : length ss < length ms = item_below ms (length ss) m at in let e = length_pushed ss s in let f = length-append ms added in omega (arith, l, e, f)
 
   ways_next : way_of label ≡ made_way m → map way_of (settled_labels (ms ++ added) (ss ++ s ∷ [])) ≡ take (length (ss ++ s ∷ [])) (map made_way (ms ++ added))
   ways_next way =
       ap (map way_of) (labels_next ms added ss m s at) ∙ (map-append way_of labels (label ∷ [])
       ∙ (ap (λ (ws : List Way). ws ++ way_of label ∷ []) r.ways ∙ (ap (λ (w : Way). take place (map made_way ms) ++ w ∷ []) way
-      ∙ (sym (take_more made_way place ms added m at) ∙ ap (λ (k : ℕ). take k (map made_way (ms ++ added))) (sym (one_longer ss s))))))
+      ∙ (sym (take_more made_way place ms added m at) ∙ ap (λ (k : ℕ). take k (map made_way (ms ++ added))) (sym (length_pushed ss s))))))
 
   as_many : place ≡ 0 + length (take place (map made_view ms))
   as_many =
@@ -92,7 +90,7 @@ module _ (protocol : Protocol) (limits : Limits) (roots : List plain.Made) (ms :
   not_more =
       let l : length ss < length ms = item_below ms (length ss) m at in
       let e = length-map ms made_way in
-      let f = one_longer (take place (map made_view ms)) (made_view m) in
+      let f = length_pushed (take place (map made_view ms)) (made_view m) in
       let g = as_many in
       omega (arith, l, e, f, g)
 
@@ -103,7 +101,7 @@ module _ (protocol : Protocol) (limits : Limits) (roots : List plain.Made) (ms :
       let front = settled_still protocol limits IsOpenMark (map made_way ms) (map made_way added) 0 0 (take place (map made_view ms) ++ made_view m ∷ []) (labels ++ label ∷ []) given not_more (become_in_front b) in
       let all = subst (λ (ws : List Way). AreSettled protocol limits ws IsOpenMark 0 0 (take place (map made_view ms) ++ made_view m ∷ []) (labels ++ label ∷ []) given) (sym (map-append made_way ms added)) front in
       let made = subst (λ (xs : List plain.Made). AreSettled protocol limits (map made_way (ms ++ added)) IsOpenMark 0 0 xs (labels ++ label ∷ []) given)
-      (sym (take_more made_view place ms added m at) ∙ ap (λ (k : ℕ). take k (map made_view (ms ++ added))) (sym (one_longer ss s))) all in
+      (sym (take_more made_view place ms added m at) ∙ ap (λ (k : ℕ). take k (map made_view (ms ++ added))) (sym (length_pushed ss s))) all in
       subst (λ (ls : List Label). AreSettled protocol limits (map made_way (ms ++ added)) IsOpenMark 0 0 (take (length (ss ++ s ∷ [])) (map made_view (ms ++ added))) ls given) (sym (labels_next ms added ss m s at)) made
 
   numbers_next : label.children ≡ numbers_from (length ms) added → children_of (settled_labels (ms ++ added) (ss ++ s ∷ [])) ≡ numbers_from (length roots) (r.children ++ map made_view added)

@@ -7,9 +7,9 @@ use Rattle.cp_lists.proofs.Members.{not_in_none, in_append_left, in_last, in_pus
 use Rattle.cp_tree.specs.Made.{Way, IsEdge, to_child, to_seen, Reaches, MayPointTo}
 use Rattle.cp_search.specs.declared.made.Made.{Made}
 use Rattle.cp_search.specs.declared.graph.Edge.{Edge}
-use Rattle.cp_search.specs.Finding.{FindsLeast, IsFlagged}
+use Rattle.cp_search.specs.LeastNumber.{FindsLeast, IsFlagged}
 use Rattle.cp_search.specs.Graph.{HasEdge, AddsEdge, Leads, AreWithin}
-use Rattle.cp_search.specs.Making.{made_way, IsEdgeOf, IsEdgeOfSome, AreEdgesOf, AreParentsWithin, AreFound, AreReaching}
+use Rattle.cp_search.specs.MadeLabels.{made_way, IsEdgeOf, IsEdgeOfSome, AreEdgesOf, AreParentsWithin, AreFound, AreReaching}
 
 -- ---- one edge more
 

@@ -1,12 +1,12 @@
 -- To which labels one may point, where labels come behind.
-use Rattle.std.proofs.Common.{◌≡◌, ◌∙◌, ℕ, zero, suc, ◌<◌, ◌≤◌, List, [], ◌∷◌, ◌++◌, length, map, option_map, take, Option, Some, None, refl, sym, ap, subst, arith}
+use Rattle.std.proofs.Common.{◌≡◌, ◌∙◌, ℕ, ◌<◌, ◌≤◌, List, [], ◌∷◌, ◌++◌, length, map, option_map, take, Option, Some, None, sym, ap, subst, arith}
 use Rattle.std.proofs.lemmas.List.{take-append-le}
 use Rattle.cp_lists.specs.Lists.{item_at}
-use Rattle.cp_lists.proofs.Items.{item_in_front}
+use Rattle.cp_lists.proofs.Items.{item_in_front, mapped_item}
 use Rattle.cp_model.specs.Skeleton.{Skeleton}
 use Rattle.cp_shapes.specs.Shapes.{EmbedsAt}
 use Rattle.cp_tree.specs.Made.{Way, Reaches, MayPointTo}
-use Rattle.cp_search.specs.Finding.{FindsLeast}
+use Rattle.cp_search.specs.LeastNumber.{FindsLeast}
 
 -- ---- the least of numbers
 
@@ -17,17 +17,12 @@ finds_alike P Q there back (Some n) first = record { holds = there n first.holds
 
 -- ---- labels with the same labels before them
 
-pub item_mapped : {A B : Type 0} (f : A → B) (xs : List A) (i : ℕ) → item_at (map f xs) i ≡ option_map f (item_at xs i)
-item_mapped f [] i = refl
-item_mapped f (x ∷ xs) zero = refl
-item_mapped f (x ∷ xs) (suc i) = item_mapped f xs i
-
 abbrev pub skeleton_of : Way → Skeleton
 skeleton_of w = w.skeleton
 
 module _ (first second : List Way) (m : ℕ) (alike : (i : ℕ) → i ≤ m → item_at first i ≡ item_at second i) where
   skeletons_alike : (i : ℕ) → i ≤ m → item_at (map skeleton_of first) i ≡ item_at (map skeleton_of second) i
-  skeletons_alike i l = item_mapped skeleton_of first i ∙ (ap (option_map skeleton_of) (alike i l) ∙ sym (item_mapped skeleton_of second i))
+  skeletons_alike i l = mapped_item skeleton_of first i ∙ (ap (option_map skeleton_of) (alike i l) ∙ sym (mapped_item skeleton_of second i))
 
   embed_alike : (i j : ℕ) → i ≤ m → j ≤ m → EmbedsAt (map skeleton_of first) i j → EmbedsAt (map skeleton_of second) i j
   embed_alike i j k l h = record {

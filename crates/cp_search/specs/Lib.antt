@@ -1,9 +1,9 @@
-pub mod Finding
+pub mod LeastNumber
 pub mod Graph
-pub mod Making
+pub mod MadeLabels
 pub mod Roots
-pub mod Settling
-pub mod Sharing
-pub mod Generalising
+pub mod SettledLabels
+pub mod LabelsByNumber
+pub mod GeneralLabels
 pub mod Candidates
-pub mod Labelling
+pub mod TreeLabels

@@ -3,7 +3,7 @@ ghost use Rattle.std.specs.Prelude.{◌≡◌, ◌<◌, length, map, IfOk, IfSom
 ghost use Rattle.cp_skel.specs.Trees.{mark_view};
 ghost use Rattle.cp_skel.specs.View.{skeleton_view};
 ghost use Rattle.cp_search.specs.Candidates.{is_open, open_from, candidate_mark};
-ghost use Rattle.cp_search.specs.Labelling.{AreCandidateMarks};
+ghost use Rattle.cp_search.specs.TreeLabels.{AreCandidateMarks};
 
 use crate::made::Made;
 use crate::settled::Settled;

@@ -3,10 +3,10 @@ ghost use Rattle.std.specs.Prelude.{◌≡◌, ◌<◌, length, map, IfOk, OnOk}
 ghost use Rattle.cp_model.specs.Problem.{numbers_from};
 ghost use Rattle.cp_cohort.specs.Views.{child_view};
 ghost use Rattle.cp_tree.specs.Made.{made_of_child};
-ghost use Rattle.cp_search.specs.Making.{AreFound, AddMade};
+ghost use Rattle.cp_search.specs.MadeLabels.{AreFound, AddMade};
 
 use crate::labels::Labels;
-use crate::making::make;
+use crate::new_labels::make;
 use cp_cohort::Child;
 use std::alloc::{AllocError, Global};
 

@@ -2,14 +2,15 @@
 ghost use Rattle.std.specs.Prelude.{◌≡◌, ◌↔◌, ◌<◌, length, IsTrue, IfOk, IfSome};
 ghost use Rattle.cp_lists.specs.Lists.{IsIn};
 ghost use Rattle.cp_skel.specs.View.{skeleton_view};
-ghost use Rattle.cp_hom.specs.Fingerprints.{traits_of};
-ghost use Rattle.cp_search.specs.Finding.{FindsLeast, IsFlagged};
-ghost use Rattle.cp_search.specs.Making.{MayBeSeenIn, MayBeSeen, AreFound};
+ghost use Rattle.cp_fingerprint.specs.Fingerprints.{traits_of};
+ghost use Rattle.cp_search.specs.LeastNumber.{FindsLeast, IsFlagged};
+ghost use Rattle.cp_search.specs.MadeLabels.{MayBeSeenIn, MayBeSeen, AreFound};
 ghost use Rattle.cp_search.specs.declared.made.Made as program;
 
 use crate::labels::Labels;
-use crate::reaching::reaching;
-use cp_hom::{Fingerprint, isomorphic};
+use crate::reachability::reaching;
+use cp_fingerprint::Fingerprint;
+use cp_hom::isomorphic;
 use cp_skel::Skeleton;
 use std::alloc::{AllocError, Global};
 

@@ -1,7 +1,7 @@
 // From which numbers another can be reached along edges.
 ghost use Rattle.std.specs.Prelude.{◌≡◌, ◌↔◌, ◌<◌, ℕ, List, length, true, false, IfOk};
 ghost use Rattle.cp_lists.specs.Lists.{IsIn};
-ghost use Rattle.cp_search.specs.Finding.{IsFlagged};
+ghost use Rattle.cp_search.specs.LeastNumber.{IsFlagged};
 ghost use Rattle.cp_search.specs.Graph.{Leads, AreWithin, IsClosed, unflagged};
 ghost use Rattle.cp_search.specs.declared.graph.Edge as edges;
 

@@ -2,8 +2,8 @@
 ghost use Rattle.std.specs.Prelude.{◌≡◌, ◌<◌, ◌≤◌, nat_eq, ℕ, [], ◌∷◌, ◌++◌, if◌then◌else◌, length, map, Some, IsTrue, IfSome, OnOk};
 ghost use Rattle.cp_lists.specs.Lists.{item_at};
 ghost use Rattle.cp_search.specs.Graph.{AddsEdge};
-ghost use Rattle.cp_search.specs.Making.{made_way, AreEdgesOf, AreParentsWithin};
-ghost use Rattle.cp_search.specs.Sharing.{with_sharing, numbers_by};
+ghost use Rattle.cp_search.specs.MadeLabels.{made_way, AreEdgesOf, AreParentsWithin};
+ghost use Rattle.cp_search.specs.LabelsByNumber.{with_sharing, numbers_by};
 ghost use Rattle.cp_tree.specs.Made.{IsEdge};
 
 use crate::graph::Edge;
@@ -105,8 +105,8 @@ impl Model for Labels {
 
     ghost view = { λ l. l.all.items };
 
-    ghost use Rattle.cp_search.specs.Making.{AreEdgesOf, AreParentsWithin};
-    ghost use Rattle.cp_search.specs.Sharing.{with_sharing, numbers_by};
+    ghost use Rattle.cp_search.specs.MadeLabels.{AreEdgesOf, AreParentsWithin};
+    ghost use Rattle.cp_search.specs.LabelsByNumber.{with_sharing, numbers_by};
 
     ghost invariant = { λ l. ((q : ℕ) → numbers_by l.alike (λ v. v.items) q ≡ with_sharing q 0 l.all.items) × AreEdgesOf l.all.items l.edges.items × AreParentsWithin l.all.items l.latest_parent };
 }

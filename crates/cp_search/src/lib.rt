@@ -4,16 +4,16 @@
 mod candidates;
 mod children;
 mod copies;
-mod generalising;
+mod general_labels;
 mod graph;
-mod labelling;
+mod label_search;
 mod labels;
 mod made;
-mod making;
-mod reaching;
+mod new_labels;
+mod reachability;
 mod roots;
-mod searching;
 mod settled;
+mod settled_tree;
 mod trees;
 
 pub use trees::search;

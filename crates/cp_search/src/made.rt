@@ -1,5 +1,5 @@
 // Labels as they are made.
-use cp_hom::Fingerprint;
+use cp_fingerprint::Fingerprint;
 use cp_skel::{Node, Operation, Skeleton};
 
 /// A label as it is made: from which label, by which operation, its skeleton, whether it is general, since it was made by

@@ -1,10 +1,10 @@
 // The labels of the roots.
 ghost use Rattle.std.specs.Prelude.{[], map, IfOk, OnOk};
-ghost use Rattle.cp_search.specs.Making.{AreFound, AddsMade, AddMade};
+ghost use Rattle.cp_search.specs.MadeLabels.{AreFound, AddsMade, AddMade};
 ghost use Rattle.cp_search.specs.Roots.{root_made};
 
 use crate::labels::Labels;
-use crate::making::{make, make_dead};
+use crate::new_labels::{make, make_dead};
 use cp_roots::Root;
 use std::alloc::{AllocError, Global};
 

@@ -1,12 +1,10 @@
 // The tree of a problem.
 ghost use Rattle.std.specs.Prelude.{◌≡◌, ◌↔◌, ℕ, Some, IfOk};
-ghost use Rattle.cp_lists.specs.Lists.{item_at, IsIn};
-ghost use Rattle.cp_model.specs.Strand.{Role as PlainRole};
+ghost use Rattle.cp_lists.specs.Lists.{item_at};
 ghost use Rattle.cp_model.specs.Bundle.{Bundle, IsBundle};
 ghost use Rattle.cp_model.specs.Standing.{Standing, StandsIn, StandsApart};
-ghost use Rattle.cp_model.specs.Problem.{IsPointOfView};
+ghost use Rattle.cp_model.specs.PointOfView.{IsPointOfView};
 ghost use Rattle.cp_model.specs.Tree.{dead, at_step_limit, at_strand_limit, Label, ReachedSteps, ReachedStrands, IsTrueOf};
-ghost use Rattle.cp_skel.specs.Sound.{DeclaresItsVariables};
 ghost use Rattle.cp_skel.specs.View.{skeleton_view};
 ghost use Rattle.cp_skel.specs.Trees.{variables_view, limits_view, tree_view};
 ghost use Rattle.cp_answers.specs.Lawful.{IsLawful};
@@ -15,8 +13,8 @@ ghost use Rattle.cp_tree.specs.Searched.{IsTreeOf};
 ghost use Rattle.cp_tree.specs.Edges.{edges};
 ghost use Rattle.cp_tree.specs.Declared.{DeclaresItsOwn};
 
-use crate::labelling::tree_of;
-use crate::searching::search_from;
+use crate::label_search::search_from;
+use crate::settled_tree::tree_of;
 use cp_roots::{roots, roots_have_declared_variables};
 use cp_skel::{Limits, Protocol, Skeleton, Tree};
 use cp_tree::{
@@ -46,8 +44,8 @@ use std::alloc::{AllocError, Global};
 /// on to the labels to which its edges lead. A label that is dead stands apart in no bundle.
 ///
 /// The problem has to be of the protocol, in that its strands' roles are, and a point-of-view skeleton: it maps to itself, it
-/// declares the variables that occur in it, and its assumptions and its pairs are those that it states. The protocol's roles have
-/// to declare the variables of their events. The error is that memory ran out.
+/// declares the variables that occur in it, and its assumptions and its pairs are those that it states. The error is that memory
+/// ran out.
 pub fn search(
     alloc: Global,
     protocol: &Protocol,
@@ -56,7 +54,6 @@ pub fn search(
 ) -> Result<Tree, AllocError>
     requires over { IsOver protocol.now (skeleton_view problem.now) }
     requires own { IsPointOfView (variables_view problem.now.variables) (skeleton_view problem.now) }
-    requires roles { (role : PlainRole) → IsIn role protocol.now.roles → DeclaresItsVariables role }
     ensures true_tree { IfOk result (λ t. IsTrueOf protocol.now (skeleton_view problem.now) (limits_view limits) (tree_view t)) }
     ensures exact { IfOk result (λ t. IsTreeOf protocol.now (skeleton_view problem.now) (variables_view problem.now.variables) (limits_view limits) (tree_view t)) }
     ensures variables { IfOk result (λ t. (i : ℕ) (l : Label) → item_at (tree_view t).labels i ≡ Some l → DeclaresItsOwn (variables_view problem.now.variables) l) }
@@ -70,6 +67,7 @@ pub fn search(
     limits_are_exact();
     search_trees_declare_their_variables();
     problem.is_sound();
+    protocol.is_sound();
     let roots = roots(alloc, protocol, problem)?;
     let search = search_from(alloc, protocol, limits, roots)?;
     tree_of(alloc, search)

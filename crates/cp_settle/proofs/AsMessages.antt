@@ -7,7 +7,7 @@ use Rattle.cp_model.specs.Term.{SymmetricTerm, skey_variable, ltk_term, PairTerm
 use Rattle.cp_model.specs.Tree.{Pattern}
 use Rattle.cp_model.proofs.LawTerms.{atom_after, value_after}
 use Rattle.cp_term.specs.Code.{own_numbers, atom_from, term_from, atom_back, term_back}
-use Rattle.cp_guard.specs.Matching.{Matches, MatchesMessage}
+use Rattle.cp_guard.specs.Matches.{Matches, MatchesMessage}
 use Rattle.cp_guard.proofs.Decided.{dec_matches}
 use Rattle.cp_settle.specs.Candidates.{OneMatches}
 

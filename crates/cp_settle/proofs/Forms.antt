@@ -4,20 +4,20 @@ use Rattle.std.proofs.lemmas.List.{append-nil}
 use Rattle.cp_lists.specs.Lists.{IsIn, here, there}
 use Rattle.cp_lists.proofs.Members.{from_map, only_item, not_in_none}
 use Rattle.cp_model.specs.Term.{Substitution, apply_to, composed}
-use Rattle.cp_model.specs.Linking.{ArePaired}
+use Rattle.cp_model.specs.Senders.{ArePaired}
 use Rattle.cp_skel.specs.Trees.{variables_view}
 use Rattle.cp_normal.specs.declared.form.Form.{Form}
 use Rattle.cp_normal.specs.Formed.{Formed, IsFormedFrom, IsFormBeside, AreFormsBeside}
-use Rattle.cp_settle.specs.Releasing.{Release, Tried, IsReleasedInside, MeetsBoth}
-use Rattle.cp_settle.specs.Settling.{form_of, Stage, on_the_way, normal, Settles, released_inside, normalising, settled, EachSettles, no_forms, next_form}
+use Rattle.cp_settle.specs.Releases.{Release, Tried, IsReleasedInside, MeetsBoth}
+use Rattle.cp_settle.specs.Stages.{form_of, Stage, on_the_way, normal, Settles, released_inside, normalising, settled, EachSettles, no_forms, next_form}
 use Rattle.cp_settle.specs.Views.{tried_view}
 use Rattle.cp_settle.specs.declared.release.Tried as program
 use Rattle.cp_settle.specs.declared.candidates.Candidate.{Candidate}
 use Rattle.cp_settle.specs.declared.candidates.Candidate.TheVariants.{OnTheWay, Normal, Settled}
-use Rattle.cp_settle.specs.Leading.{LeadTo}
+use Rattle.cp_settle.specs.CandidateResults.{LeadTo}
 use Rattle.cp_settle.specs.Candidates.{tried_form, normal_form, OneMatches, ComesFrom, FallsTo, Puts}
-use Rattle.cp_settle.proofs.Branching.{same_trace}
-use Rattle.cp_settle.proofs.Matching.{one_matches_under}
+use Rattle.cp_settle.proofs.OccurrenceBranches.{same_trace}
+use Rattle.cp_settle.proofs.FurtherMatches.{one_matches_under}
 
 -- ---- released inside
 

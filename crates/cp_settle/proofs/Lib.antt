@@ -1,11 +1,11 @@
 pub mod AllAbove
 pub mod AsMessages
-pub mod Counting
-pub mod Matching
+pub mod UnmatchedEncryptions
+pub mod FurtherMatches
 pub mod Ranked
 pub mod Rounds
-pub mod Branching
+pub mod OccurrenceBranches
 pub mod Forms
-pub mod Putting
+pub mod BranchLoops
 pub mod Made
 pub mod Occurrences

@@ -10,17 +10,17 @@ use Rattle.cp_unify.specs.Bindings.{Binding, as_substitution}
 use Rattle.cp_skel.specs.Data.{SkeletonData}
 use Rattle.cp_skel.specs.View.{skeleton_view}
 use Rattle.cp_skel.specs.Trees.{declared_view, variables_view}
-use Rattle.cp_collapse.specs.Agreeing.{SaysTheSame}
+use Rattle.cp_collapse.specs.SameSkeletons.{SaysTheSame}
 use Rattle.cp_normal.proofs.FormedBeside.{same_substitution}
 use Rattle.cp_match.specs.Opened.{opened, declared_as}
-use Rattle.cp_match.specs.Unifying.{UnifiesMostGenerally, NeverEqual}
-use Rattle.cp_settle.specs.Settling.{pattern_in, branch_of}
+use Rattle.cp_match.specs.Unifiers.{UnifiesMostGenerally, NeverEqual}
+use Rattle.cp_settle.specs.Stages.{pattern_in, branch_of}
 use Rattle.cp_settle.specs.Views.{tried_view}
 use Rattle.cp_settle.specs.declared.release.Tried as program
 use Rattle.cp_settle.specs.declared.candidates.Candidate.{Candidate}
 use Rattle.cp_settle.specs.declared.candidates.Candidate.TheVariants.{OnTheWay}
 use Rattle.cp_settle.specs.Candidates.{choice_of, PutsBranches}
-use Rattle.cp_settle.proofs.Putting.{never_put, branch_put}
+use Rattle.cp_settle.proofs.BranchLoops.{never_put, branch_put}
 
 module _ (x : program.Tried) (e : Term) (p : Pattern) (k : SkeletonData) (o : Term) (old : List Candidate) (copied : k ≡ x.skeleton) (is_opened : o ≡ opened p (as_substitution x.substitution) (length k.variables)) where
   in_x : o ≡ pattern_in (tried_view x) p

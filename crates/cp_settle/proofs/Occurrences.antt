@@ -1,6 +1,6 @@
 -- The conditions on a release, from what the tests find.
 use Rattle.std.proofs.Common.{◌≡◌, ◌<◌, ℕ, Bool, true, false}
-use Rattle.cp_settle.specs.Releasing.{Release, Tried, IsReleasedInside, IsInsideAlone, MeetsBoth}
+use Rattle.cp_settle.specs.Releases.{Release, Tried, IsReleasedInside, IsInsideAlone, MeetsBoth}
 use Rattle.cp_settle.specs.Conditions.{HasNoneBefore}
 
 module _ (r : Release) (x : Tried) where

@@ -3,15 +3,15 @@ use Rattle.std.proofs.Common.{◌≡◌, ◌⊎◌, inl, inr, ◌<◌, ◌≤◌
 use Rattle.cp_lists.specs.Lists.{IsIn}
 use Rattle.cp_model.specs.Term.{Term, apply_to}
 use Rattle.cp_model.specs.Strand.{Event, payload}
-use Rattle.cp_collapse.specs.Having.{Has}
+use Rattle.cp_collapse.specs.Property.{Has}
 use Rattle.cp_normal.proofs.Greatest.{greatest, greatest_falls}
-use Rattle.cp_settle.specs.Releasing.{Release, Tried}
+use Rattle.cp_settle.specs.Releases.{Release, Tried}
 use Rattle.cp_settle.specs.Views.{tried_view}
 use Rattle.cp_settle.specs.declared.candidates.Candidate.{Candidate}
 use Rattle.cp_settle.specs.declared.candidates.Candidate.TheVariants.{OnTheWay, Normal, Settled}
 use Rattle.cp_settle.specs.Candidates.{IsOpen, OneMatches, trace_in, ComesFrom, MatchesMore, FallsTo, IsRound}
 use Rattle.cp_settle.proofs.AsMessages.{one_matches, one_does, does_one}
-use Rattle.cp_settle.proofs.Counting.{unmatched_in, fewer_unmatched, no_more_in, fewer_in}
+use Rattle.cp_settle.proofs.UnmatchedEncryptions.{unmatched_in, fewer_unmatched, no_more_in, fewer_in}
 
 -- How many encryptions in the earlier events of the release's strand match no pattern.
 abbrev pub left_unmatched : Release → Tried → ℕ

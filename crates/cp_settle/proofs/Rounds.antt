@@ -3,15 +3,15 @@ use Rattle.std.proofs.Common.{append_assoc, ◌≡◌, ◌⊎◌, inl, inr, List
 use Rattle.std.proofs.lemmas.List.{reverse-append, reverse-reverse, append-nil}
 use Rattle.cp_lists.specs.Lists.{IsIn, here, there}
 use Rattle.cp_lists.proofs.Members.{in_append, in_append_left, in_append_right, from_reverse, only_item}
-use Rattle.cp_collapse.specs.Having.{Has}
-use Rattle.cp_collapse.proofs.Having.{not_both}
-use Rattle.cp_settle.specs.Releasing.{Release, Tried}
-use Rattle.cp_settle.specs.Settling.{Settles, on_the_way}
+use Rattle.cp_collapse.specs.Property.{Has}
+use Rattle.cp_collapse.proofs.ItemsWithProperty.{not_both}
+use Rattle.cp_settle.specs.Releases.{Release, Tried}
+use Rattle.cp_settle.specs.Stages.{Settles, on_the_way}
 use Rattle.cp_settle.specs.Views.{tried_view}
 use Rattle.cp_settle.specs.declared.release.Tried as program
 use Rattle.cp_settle.specs.declared.candidates.Candidate.{Candidate}
 use Rattle.cp_settle.specs.declared.candidates.Candidate.TheVariants.{OnTheWay, Normal, Settled}
-use Rattle.cp_settle.specs.Leading.{LeadsTo, LeadTo}
+use Rattle.cp_settle.specs.CandidateResults.{LeadsTo, LeadTo}
 use Rattle.cp_settle.specs.Candidates.{tried_of, IsOpen, FallsTo, TakesPlace, Puts, AllFall, IsRound}
 
 -- ---- what candidates lead to

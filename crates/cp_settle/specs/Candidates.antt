@@ -7,15 +7,15 @@ use Rattle.cp_model.specs.Skeleton.{skeleton_trace_or_none, Skeleton}
 use Rattle.cp_model.specs.Tree.{Pattern}
 use Rattle.cp_completeness.specs.Normal.{skeleton_under}
 use Rattle.cp_term.specs.declared.path.Step.{Step}
-use Rattle.cp_collapse.specs.Agreeing.{SaysTheSame}
+use Rattle.cp_collapse.specs.SameSkeletons.{SaysTheSame}
 use Rattle.cp_normal.specs.declared.form.Form as normal_forms
 use Rattle.cp_guard.specs.Above.{encryptions_above}
-use Rattle.cp_guard.specs.Matching.{Matches}
-use Rattle.cp_match.specs.Unifying.{UnifiesMostGenerally, NeverEqual}
-use Rattle.cp_settle.specs.Releasing.{Release, Tried}
-use Rattle.cp_settle.specs.Settling.{Choice, pattern_in, branch_of}
+use Rattle.cp_guard.specs.Matches.{Matches}
+use Rattle.cp_match.specs.Unifiers.{UnifiesMostGenerally, NeverEqual}
+use Rattle.cp_settle.specs.Releases.{Release, Tried}
+use Rattle.cp_settle.specs.Stages.{Choice, pattern_in, branch_of}
 use Rattle.cp_settle.specs.Views.{tried_view}
-use Rattle.cp_settle.specs.Leading.{LeadsTo, LeadTo}
+use Rattle.cp_settle.specs.CandidateResults.{LeadsTo, LeadTo}
 use Rattle.cp_settle.specs.declared.release.Tried as program
 use Rattle.cp_settle.specs.declared.candidates.Candidate.{Candidate}
 use Rattle.cp_settle.specs.declared.candidates.Candidate.TheVariants.{OnTheWay, Normal, Settled}

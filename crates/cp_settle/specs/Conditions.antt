@@ -6,7 +6,7 @@ use Rattle.cp_model.specs.Bundle.{node_at}
 use Rattle.cp_model.specs.Skeleton.{term_event_at}
 use Rattle.cp_term.specs.declared.path.Step.{Step}
 use Rattle.cp_match.specs.Outside.{IsFirstPositionOutside}
-use Rattle.cp_settle.specs.Releasing.{Release, Tried, IsInsideAlone}
+use Rattle.cp_settle.specs.Releases.{Release, Tried, IsInsideAlone}
 
 -- The event at this index of the release's strand has this message, in which this is the first position outside the patterns.
 pub record IsFirstAt (r : Release) (x : Tried) (index : ℕ) (t : Term) (path : List Step) : Type 0 where

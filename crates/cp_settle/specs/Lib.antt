@@ -1,6 +1,6 @@
-pub mod Releasing
-pub mod Settling
+pub mod Releases
+pub mod Stages
 pub mod Views
 pub mod Conditions
-pub mod Leading
+pub mod CandidateResults
 pub mod Candidates

@@ -4,7 +4,7 @@ use Rattle.cp_skel.specs.View.{skeleton_view}
 use Rattle.cp_skel.specs.Trees.{variables_view}
 use Rattle.cp_settle.specs.declared.release.Release as program
 use Rattle.cp_settle.specs.declared.release.Tried as programs
-use Rattle.cp_settle.specs.Releasing.{Release, Tried}
+use Rattle.cp_settle.specs.Releases.{Release, Tried}
 
 -- The release.
 abbrev pub release_view : program.Release → Release

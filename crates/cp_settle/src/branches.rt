@@ -1,6 +1,6 @@
 // The branches by an occurrence of the term outside the patterns.
 ghost use Rattle.std.specs.Prelude.{[], ◌∷◌, map, OnOk};
-ghost use Rattle.cp_settle.specs.Settling.{choices};
+ghost use Rattle.cp_settle.specs.Stages.{choices};
 ghost use Rattle.cp_settle.specs.Views.{tried_view};
 ghost use Rattle.cp_settle.specs.Candidates.{choice_of, PutsBranches};
 

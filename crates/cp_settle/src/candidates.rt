@@ -1,14 +1,14 @@
 // What is tried, on the way to what it leads to, and rounds of trying.
 ghost use Rattle.std.specs.Prelude.{◌≡◌, ◌↔◌, ◌++◌, map, IsTrue, IfOk, OnOk};
-ghost use Rattle.cp_collapse.specs.Having.{Has};
-ghost use Rattle.cp_settle.specs.Releasing.{Release as Plain, IsReleasedInside, IsFirstOutside, MeetsBoth};
+ghost use Rattle.cp_collapse.specs.Property.{Has};
+ghost use Rattle.cp_settle.specs.Releases.{Release as Plain, IsReleasedInside, IsFirstOutside, MeetsBoth};
 ghost use Rattle.cp_settle.specs.Views.{release_view, tried_view};
 ghost use Rattle.cp_settle.specs.Candidates.{tried_of, normal_form, IsOpen, Puts, IsRound};
 ghost use Rattle.cp_settle.specs.declared.candidates.Candidate.TheVariants as variants;
 
 use crate::branches::put_branches;
 use crate::conditions::{Position, first_outside_before, is_released_inside};
-use crate::enclosing::encryptions_above;
+use crate::encryptions::encryptions_above;
 use crate::release::{Release, Tried};
 use cp_normal::{Form, normalise_beside};
 use std::alloc::{AllocError, Global};

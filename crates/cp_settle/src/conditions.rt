@@ -1,7 +1,7 @@
 // The two conditions on a release.
 ghost use Rattle.std.specs.Prelude.{◌≡◌, ◌↔◌, IsTrue, IfOk, MatchOption};
 ghost use Rattle.cp_model.specs.Term.{apply_to};
-ghost use Rattle.cp_settle.specs.Releasing.{IsReleasedInside, IsInsideAlone, IsFirstOutside};
+ghost use Rattle.cp_settle.specs.Releases.{IsReleasedInside, IsInsideAlone, IsFirstOutside};
 ghost use Rattle.cp_settle.specs.Views.{release_view, tried_view};
 ghost use Rattle.cp_settle.specs.Conditions.{IsFirstAt, HasNoneBefore};
 

@@ -5,10 +5,10 @@
 mod branches;
 mod candidates;
 mod conditions;
-mod enclosing;
+mod encryptions;
 mod release;
-mod settling;
+mod tried_skeletons;
 
-pub use enclosing::encryptions_above;
+pub use encryptions::encryptions_above;
 pub use release::{Release, Tried};
-pub use settling::settle;
+pub use tried_skeletons::settle;

@@ -8,8 +8,9 @@ use Rattle.cp_base.specs.declared.place.Code.TheVariants.{BadByte, OpenString, U
 use Rattle.cp_base.specs.declared.place.Refusal.{Refusal}
 use Rattle.cp_sexpr.specs.Syntax.{Forms}
 use Rattle.cp_sexpr.specs.Pieces.{Piece, blank, comment, opening, closing, quoted, token, BeginsWith, BeginsWithout, IsWhiteSpace, IsTokenByte, IsStringByte, IsCommentByte, quote, semicolon, open_parenthesis, close_parenthesis, line_feed, space, start, place_after, after_piece}
-use Rattle.cp_sexpr.specs.Reading.{BeginsWithDigit, IsRefusedPiece, IsAccepted, IsRefused, by_piece, by_byte, by_open_string, by_string_byte, by_end, IsReading, refusal, max_depth}
-use Rattle.cp_sexpr.specs.Building.{Unfinished, Building, nothing_yet, with_piece, places_of}
+use Rattle.cp_sexpr.specs.Reading.{IsRefused, by_piece, by_byte, by_open_string, by_string_byte, by_end, IsReading, refusal}
+use Rattle.cp_sexpr.specs.Written.{BeginsWithDigit, IsRefusedPiece, IsAccepted, max_depth}
+use Rattle.cp_sexpr.specs.UnfinishedForms.{Unfinished, Building, nothing_yet, with_piece, places_of}
 use Rattle.cp_sexpr.proofs.Fronts.{shorter}
 use Rattle.cp_sexpr.proofs.Grammar.{digit_or_not, number_or_not}
 use Rattle.cp_sexpr.proofs.Readings.{ReadUpTo, read_nothing, read_piece, read_all, read_refused}

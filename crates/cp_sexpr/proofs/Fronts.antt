@@ -5,7 +5,7 @@ use Rattle.std.proofs.Math.Seq.{take-append_seam}
 use Rattle.cp_base.specs.declared.place.Place.{Place}
 use Rattle.cp_base.specs.declared.place.Code.TheVariants.{TooDeep}
 use Rattle.cp_sexpr.specs.Pieces.{Piece, blank, comment, opening, closing, quoted, token, spelling, IsPiece, BeginsWith, IsCut, after_byte, place_after, after_piece, after_pieces}
-use Rattle.cp_sexpr.specs.Reading.{opened_behind, opened_after, IsAccepted, AreAccepted, max_depth}
+use Rattle.cp_sexpr.specs.Written.{opened_behind, opened_after, IsAccepted, AreAccepted, max_depth}
 
 -- What is cut into pieces, and what is left into more, is cut into all of them.
 pub IsCut-append : (ps : List Piece) (text middle : List ℕ) (qs : List Piece) (rest : List ℕ) → IsCut text ps middle → IsCut middle qs rest → IsCut text (ps ++ qs) rest

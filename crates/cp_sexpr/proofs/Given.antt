@@ -7,8 +7,9 @@ use Rattle.std.proofs.lemmas.Int.Digits.{digits_value-lt}
 use Rattle.cp_base.specs.declared.place.Place.{Place}
 use Rattle.cp_sexpr.specs.Syntax.{Forms}
 use Rattle.cp_sexpr.specs.Pieces.{Piece, opening, closing, IsPiece, IsCut, after_piece, after_pieces}
-use Rattle.cp_sexpr.specs.Reading.{IsDigit, IsNumber, value, Writes, nothing, skip_blank, skip_comment, a_string, a_symbol, a_number, a_list, opened_after, AreAccepted, IsReading, max_depth}
-use Rattle.cp_sexpr.specs.ReadingBack.{AreSpellable, depth_of}
+use Rattle.cp_sexpr.specs.Reading.{IsReading}
+use Rattle.cp_sexpr.specs.Written.{IsDigit, IsNumber, value, Writes, nothing, skip_blank, skip_comment, a_string, a_symbol, a_number, a_list, opened_after, AreAccepted, max_depth}
+use Rattle.cp_sexpr.specs.ReadBack.{AreSpellable, depth_of}
 use Rattle.cp_sexpr.proofs.Fronts.{opened_after-append, first_accepted, last_accepted, shallow}
 use Rattle.cp_sexpr.proofs.Numbers.{digit_value-digit}
 

@@ -7,8 +7,8 @@ use Rattle.cp_base.specs.declared.place.Code.{Code}
 use Rattle.cp_base.specs.declared.place.Code.TheVariants.{BadNumber, Unbalanced}
 use Rattle.cp_sexpr.specs.Syntax.{symbol, string, number, list, Forms, none, more, append}
 use Rattle.cp_sexpr.specs.Pieces.{Piece, blank, comment, opening, closing, quoted, token, after_piece, after_pieces}
-use Rattle.cp_sexpr.specs.Reading.{IsDigit, BeginsWithDigit, IsNumber, value, Writes, nothing, skip_blank, skip_comment, a_string, a_symbol, a_number, a_list, IsRefusedPiece, AreAccepted}
-use Rattle.cp_sexpr.specs.Building.{Unfinished, Building, begins_with_digit, word, with_piece, with_pieces, places_of}
+use Rattle.cp_sexpr.specs.Written.{IsDigit, BeginsWithDigit, IsNumber, value, Writes, nothing, skip_blank, skip_comment, a_string, a_symbol, a_number, a_list, IsRefusedPiece, AreAccepted}
+use Rattle.cp_sexpr.specs.UnfinishedForms.{Unfinished, Building, begins_with_digit, word, with_piece, with_pieces, places_of}
 use Rattle.cp_sexpr.proofs.Stacks.{append-none, append-append, built}
 use Rattle.cp_sexpr.proofs.Fronts.{after_pieces-append}
 

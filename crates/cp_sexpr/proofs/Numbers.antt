@@ -5,7 +5,7 @@ use Rattle.std.specs.Str.Parse.{digits_value, AllDigits}
 use Rattle.std.proofs.lemmas.Bool.Decides.{nat_tests}
 use Rattle.std.proofs.lemmas.Int.Digits.{digits_value-lt, digits_value_more}
 use Rattle.std.proofs.Math.Nat.{pow-le-pow_right}
-use Rattle.cp_sexpr.specs.Reading.{IsDigit, value}
+use Rattle.cp_sexpr.specs.Written.{IsDigit, value}
 
 pub digit_value-digit : (b : ℕ) → IsDigit b → digit_value b ≡ b - 48
 digit_value-digit b h = grind (arith, nat_tests)

@@ -5,9 +5,9 @@ use Rattle.std.proofs.lemmas.Fmt.{decimal_is_IsNumeral, decimal_by_steps, length
 use Rattle.cp_base.specs.declared.place.Place.{Place}
 use Rattle.cp_sexpr.specs.Syntax.{Form, symbol, string, number, list, Forms, none, more, append}
 use Rattle.cp_sexpr.specs.Pieces.{Piece, blank, opening, closing, quoted, token, BeginsWithout, IsCut, IsTokenByte, IsWhiteSpace, space, line_feed, quote, open_parenthesis, close_parenthesis, start, after_piece, after_pieces}
-use Rattle.cp_sexpr.specs.Reading.{IsDigit, IsNumber, value, Writes, nothing, skip_blank, a_string, a_symbol, a_number, opened_after, AreAccepted, IsWritten, max_depth}
+use Rattle.cp_sexpr.specs.Written.{IsDigit, IsNumber, value, Writes, nothing, skip_blank, a_string, a_symbol, a_number, opened_after, AreAccepted, IsWritten, max_depth}
 use Rattle.cp_sexpr.specs.Spelling.{spelling, first_spelling, next_spelling, top_gap, first_top_spelling, next_top_spelling, top_text}
-use Rattle.cp_sexpr.specs.ReadingBack.{unplaced, all_unplaced, IsSpellable, AreSpellable, depth, depth_of, top_spellings, ReadsAs}
+use Rattle.cp_sexpr.specs.ReadBack.{unplaced, all_unplaced, IsSpellable, AreSpellable, depth, depth_of, top_spellings, ReadsAs}
 use Rattle.cp_sexpr.proofs.Stacks.{append-none, append-append}
 use Rattle.cp_sexpr.proofs.Fronts.{IsCut-append, IsCut-push, AreAccepted-append, AreAccepted-push, after_pieces-append, opened_after-append}
 use Rattle.cp_sexpr.proofs.Grammar.{WritesFirst, first_list}

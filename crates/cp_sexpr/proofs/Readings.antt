@@ -6,8 +6,9 @@ use Rattle.cp_base.specs.declared.place.Code.{Code}
 use Rattle.cp_base.specs.declared.place.Refusal.{Refusal}
 use Rattle.cp_sexpr.specs.Syntax.{Forms, none}
 use Rattle.cp_sexpr.specs.Pieces.{Piece, blank, comment, opening, closing, quoted, token, BeginsWith, IsCut, start, after_piece, after_pieces}
-use Rattle.cp_sexpr.specs.Reading.{Writes, opened_after, IsRefusedPiece, AreAccepted, IsRefused, by_piece, by_end, IsWritten, IsFaulty, IsErrorOf}
-use Rattle.cp_sexpr.specs.Building.{Unfinished, Building, nothing_yet, with_piece, with_pieces, places_of, RefusesPiece, RefusesEnd}
+use Rattle.cp_sexpr.specs.Reading.{IsRefused, by_piece, by_end, IsFaulty, IsErrorOf}
+use Rattle.cp_sexpr.specs.Written.{Writes, opened_after, IsRefusedPiece, AreAccepted, IsWritten}
+use Rattle.cp_sexpr.specs.UnfinishedForms.{Unfinished, Building, nothing_yet, with_piece, with_pieces, places_of, RefusesPiece, RefusesEnd}
 use Rattle.cp_sexpr.specs.declared.error.ReadError.{ReadError}
 use Rattle.cp_sexpr.specs.declared.error.ReadError.TheVariants.{Refused, Memory}
 use Rattle.cp_sexpr.proofs.Stacks.{built}

@@ -7,7 +7,7 @@ use Rattle.cp_base.specs.declared.place.Place.{Place}
 use Rattle.cp_base.specs.declared.place.Code.TheVariants.{BadByte, OpenString}
 use Rattle.cp_sexpr.specs.Pieces.{blank, comment, quoted, token, BeginsWith, BeginsWithout, EndsLine, IsWhiteSpace, IsVisible, IsTokenByte, IsStringByte, IsCommentByte, quote, semicolon, line_feed, place_after}
 use Rattle.cp_sexpr.specs.Reading.{IsRefused, by_byte, by_open_string, by_string_byte, refusal}
-use Rattle.cp_sexpr.specs.Scanning.{IsRun}
+use Rattle.cp_sexpr.specs.CutPieces.{IsRun}
 
 pub front_of_kind : (P : ℕ → Type 0) (t : List ℕ) (n : ℕ) → n ≤ length t → ((k : ℕ) → k < n → P (get_or t k 0)) → AllByRecursion P (take n t)
 front_of_kind P [] zero l h = tt

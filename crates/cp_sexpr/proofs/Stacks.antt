@@ -4,10 +4,10 @@ use Rattle.std.specs.declared.alloc.Global.{Global}
 use Rattle.cp_base.specs.declared.place.Place.{Place}
 use Rattle.cp_sexpr.specs.Syntax.{list, Forms, none, more, append}
 use Rattle.cp_sexpr.specs.View.{view, views}
-use Rattle.cp_sexpr.specs.Building.{Unfinished, Building, with_form, with_list_open, with_list_closed, unfinished_onto, places_of}
+use Rattle.cp_sexpr.specs.UnfinishedForms.{Unfinished, Building, with_form, with_list_open, with_list_closed, unfinished_onto, places_of}
 use Rattle.cp_sexpr.specs.declared.form.Form as program
 use Rattle.cp_sexpr.specs.declared.form.Form.{the_lemmas}
-use Rattle.cp_sexpr.specs.declared.building.OpenList.{OpenList}
+use Rattle.cp_sexpr.specs.declared.builder.OpenList.{OpenList}
 
 pub append-none : (fs : Forms) → append fs none ≡ fs
 append-none none = refl

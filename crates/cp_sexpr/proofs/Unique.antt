@@ -8,7 +8,8 @@ use Rattle.cp_base.specs.declared.place.Code.TheVariants.{BadByte, Unclosed}
 use Rattle.cp_base.specs.declared.place.Refusal.{Refusal}
 use Rattle.cp_sexpr.specs.Syntax.{Forms, none}
 use Rattle.cp_sexpr.specs.Pieces.{Piece, blank, comment, opening, closing, quoted, token, spelling, IsPiece, BeginsWith, BeginsWithout, EndsLine, IsCut, IsWhiteSpace, IsVisible, IsTokenByte, IsStringByte, IsCommentByte, line_feed, quote, start, place_after, after_piece, after_pieces}
-use Rattle.cp_sexpr.specs.Reading.{Writes, opened_behind, opened_after, IsRefusedPiece, AreAccepted, IsRefused, by_piece, by_byte, by_open_string, by_string_byte, by_end, IsWritten, IsFaulty, IsReading, refusal}
+use Rattle.cp_sexpr.specs.Reading.{IsRefused, by_piece, by_byte, by_open_string, by_string_byte, by_end, IsFaulty, IsReading, refusal}
+use Rattle.cp_sexpr.specs.Written.{Writes, opened_behind, opened_after, IsRefusedPiece, AreAccepted, IsWritten}
 use Rattle.cp_sexpr.proofs.Fronts.{length-spelling}
 use Rattle.cp_sexpr.proofs.Grammar.{written_is_built}
 

@@ -1,9 +1,10 @@
 pub mod Syntax
 pub mod View
 pub mod Pieces
+pub mod Written
 pub mod Reading
 pub mod Spelling
 pub mod ListSpelling
-pub mod Scanning
-pub mod Building
-pub mod ReadingBack
+pub mod CutPieces
+pub mod UnfinishedForms
+pub mod ReadBack

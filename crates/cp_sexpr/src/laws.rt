@@ -1,8 +1,9 @@
 // What holds of reading and spelling, whatever the text and the forms.
 ghost use Rattle.std.specs.Prelude.{◌≡◌, ◌≤◌, ℕ, List, Result, Ok};
 ghost use Rattle.cp_base.specs.declared.place.Refusal.{Refusal as RefusalData};
-ghost use Rattle.cp_sexpr.specs.Reading.{IsReading, max_depth};
-ghost use Rattle.cp_sexpr.specs.ReadingBack.{IsSpellable, AreSpellable, depth, depth_of, top_spellings, ReadsAs};
+ghost use Rattle.cp_sexpr.specs.Reading.{IsReading};
+ghost use Rattle.cp_sexpr.specs.Written.{max_depth};
+ghost use Rattle.cp_sexpr.specs.ReadBack.{IsSpellable, AreSpellable, depth, depth_of, top_spellings, ReadsAs};
 ghost use Rattle.cp_sexpr.specs.Spelling.{spelling};
 ghost use Rattle.cp_sexpr.specs.Syntax.{Form as FormData, Forms, none, more};
 

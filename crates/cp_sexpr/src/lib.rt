@@ -1,16 +1,16 @@
 //! Forms: their reader, and their writer in normal spelling.
 #![tactic(auto)]
 
-mod building;
+mod builder;
 mod error;
 mod form;
 mod laws;
 mod piece;
-mod reading;
-mod writing;
+mod reader;
+mod writer;
 
 pub use error::ReadError;
 pub use form::Form;
 pub use laws::{one_reading, reads_back};
-pub use reading::{MAX_LENGTH, read};
-pub use writing::{write, write_top};
+pub use reader::{MAX_LENGTH, read};
+pub use writer::{write, write_top};

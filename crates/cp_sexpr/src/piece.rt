@@ -3,7 +3,7 @@ ghost use Rattle.std.specs.Prelude.{◌≡◌, ◌+◌, ◌<◌, ◌≤◌, ◌^
 ghost use Rattle.cp_base.specs.declared.place.Place.{Place as PlaceData};
 ghost use Rattle.cp_sexpr.specs.Pieces.{BeginsWith, place_after, quote};
 ghost use Rattle.cp_sexpr.specs.Reading.{IsRefused};
-ghost use Rattle.cp_sexpr.specs.Scanning.{IsOfKind, IsRun, piece_of};
+ghost use Rattle.cp_sexpr.specs.CutPieces.{IsOfKind, IsRun, piece_of};
 
 use cp_base::{Code, Place, Refusal};
 use std::str;

@@ -5,9 +5,9 @@ use Rattle.cp_lists.specs.Lists.{item_at, IsIn, here, there}
 use Rattle.cp_model.specs.Skeleton.{Skeleton}
 use Rattle.cp_lists.proofs.Items.{item_below, item_there}
 use Rattle.cp_shapes.specs.Shapes.{IsLeast, IsInstanceWithin, IsShapeAt, IsShapeOf, IsMarkOf}
-use Rattle.std.proofs.lemmas.List.{drop_all}
+use Rattle.std.proofs.lemmas.List.{drop_all, nil_from_length}
 use Rattle.cp_shapes.specs.Rows.{IsRising, IsRowOf, AreRowsOf, is_empty_row, FindsShape}
-use Rattle.cp_shapes.proofs.Rising.{rising_behind}
+use Rattle.cp_shapes.proofs.RisingRows.{rising_behind}
 use Rattle.cp_shapes.proofs.Instances.{embeds_first_within, instance_on}
 use Rattle.cp_shapes.proofs.Minimal.{IsMinimalBelow, minimal_below}
 
@@ -135,13 +135,9 @@ module _ (ks : List Skeleton) (rows : List (List ℕ)) (are : AreRowsOf ks rows)
   row_empty m [] at s = refl
   row_empty m (n ∷ ns) at s = absurd (s.no_instance n (((are.each m (n ∷ ns) at).listed n).0 here))
 
-  no_length : (r : List ℕ) → length r ≡ 0 → r ≡ []
-  no_length [] e = refl
-  no_length (n ∷ ns) e = absurd (omega (arith, e))
-
   flag_of_row : (m : ℕ) (o : Option (List ℕ)) → item_at rows m ≡ o → is_empty_row o ≡ true → IsShapeAt ks m
   flag_of_row m None at e = absurd (cc)
-  flag_of_row m (Some r) at e = empty_row m r at (no_length r (eqb-true (length r) 0 e))
+  flag_of_row m (Some r) at e = empty_row m r at (nil_from_length r (eqb-true (length r) 0 e))
 
   flag_of_shape : (m : ℕ) → IsShapeAt ks m → is_empty_row (item_at rows m) ≡ true
   flag_of_shape m s = let r = row_of m s.within in ap is_empty_row r.1 ∙ eq-eqb (length r.0) 0 (ap length (row_empty m r.0 r.1 s))

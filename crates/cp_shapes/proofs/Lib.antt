@@ -1,7 +1,7 @@
 pub mod Minimal
 pub mod Instances
-pub mod Rising
+pub mod RisingRows
 pub mod Found
 pub mod Gathered
-pub mod Telling
+pub mod InstancesByEmbeddings
 pub mod Standings

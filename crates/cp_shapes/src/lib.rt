@@ -2,8 +2,8 @@
 #![tactic(auto)]
 
 mod laws;
-mod marking;
 mod rows;
+mod shape_marks;
 
 pub use laws::{shapes_are_apart, standings_go_through_shapes};
-pub use marking::shapes;
+pub use shape_marks::shapes;

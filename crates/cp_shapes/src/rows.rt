@@ -1,11 +1,12 @@
 // For each candidate those of which it is an instance.
 ghost use Rattle.std.specs.Prelude.{◌≡◌, ◌↔◌, ◌<◌, length, map, IsTrue, IfOk};
 ghost use Rattle.cp_skel.specs.View.{skeleton_view};
-ghost use Rattle.cp_hom.specs.Fingerprints.{traits_of};
+ghost use Rattle.cp_fingerprint.specs.Fingerprints.{traits_of};
 ghost use Rattle.cp_shapes.specs.Shapes.{IsInstanceWithin};
 ghost use Rattle.cp_shapes.specs.Rows.{IsRowOf, AreRowsOf, rows_view};
 
-use cp_hom::{Fingerprint, embed};
+use cp_fingerprint::Fingerprint;
+use cp_hom::embed;
 use cp_skel::Skeleton;
 use std::alloc::{AllocError, Global};
 

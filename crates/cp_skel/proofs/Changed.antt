@@ -7,10 +7,10 @@ use Rattle.cp_model.specs.Strand.{Role, variables_of_prefix}
 use Rattle.cp_model.specs.Skeleton.{SkeletonStrand, instance, Assumptions, Skeleton}
 use Rattle.cp_model.specs.Homomorphism.{substitution_by}
 use Rattle.cp_skel.specs.Given.{AddsGiven}
-use Rattle.cp_skel.specs.Joining.{joined}
-use Rattle.cp_strand.specs.Occurring.{prefix_variables, is_added, added_variables, AreTermsFor, terms_of}
+use Rattle.cp_skel.specs.JoinedAssumptions.{joined}
+use Rattle.cp_strand.specs.PrefixVariables.{prefix_variables, is_added, added_variables, AreTermsFor, terms_of}
 use Rattle.cp_strand.specs.Valued.{valued}
-use Rattle.cp_skel.specs.Changing.{AddsStrand, CanExtend, Extends, IsClosedPrefix}
+use Rattle.cp_skel.specs.Extensions.{AddsStrand, CanExtend, Extends, IsClosedPrefix}
 use Rattle.cp_skel.proofs.ValuedTerms.{value-terms, all-added, keeps-terms}
 
 abbrev pub made : Role → ℕ → ℕ → List Term → List Term → List Term

@@ -1,34 +1,31 @@
 -- Skeletons that are changed have declared variables, where what is added has.
-use Rattle.std.proofs.Common.{◌≡◌, ◌≢◌, ◌⊎◌, inl, inr, ℕ, zero, suc, List, [], ◌∷◌, ◌++◌, length, refl, sym, ap, ◌∙◌, subst, ⊎_elim, arith, Bool, true, false}
+use Rattle.std.proofs.Common.{◌≡◌, ◌≢◌, ◌⊎◌, inl, inr, ℕ, List, [], ◌∷◌, ◌++◌, length, refl, sym, ap, ◌∙◌, subst, ⊎_elim, arith, Bool, true, false}
 use Rattle.std.specs.Prelude.{Some}
 use Rattle.cp_lists.specs.Lists.{item_at, IsIn, here, there}
-use Rattle.cp_model.specs.Term.{Sort, Variable, AtomTerm, Term, atom_term, atom_of_variable, variables_of_atom, variables_of, Substitution, apply_to_atom}
+use Rattle.cp_model.specs.Term.{Variable, AtomTerm, Term, atom_term, atom_of_variable, variables_of_atom, variables_of, Substitution, apply_to_atom}
 use Rattle.cp_model.specs.Strand.{Declaration, Role, prefix_of, variables_of_trace, variables_of_prefix}
 use Rattle.cp_model.specs.Skeleton.{SkeletonStrand, instance, listener, skeleton_trace, UniqueAt, Assumptions, FromProblem, Skeleton}
 use Rattle.cp_model.specs.declared.node.OrderPair.{OrderPair}
 use Rattle.cp_model.specs.Same.{has_variable}
-use Rattle.cp_model.specs.Problem.{declared_sort, IsDeclared, variables_of_strands, variables_of_atoms, variables_of_uniques, variables_of_assumptions, HasDeclaredVariables}
+use Rattle.cp_model.specs.Problem.{IsDeclared, variables_of_strands, variables_of_atoms, variables_of_uniques, variables_of_assumptions}
+use Rattle.cp_model.specs.PointOfView.{HasDeclaredVariables}
+use Rattle.cp_model.proofs.SameTests.{variable_in, in_has_variable}
+use Rattle.cp_model.proofs.DeclaredVariables.{still_declared}
 use Rattle.cp_lists.proofs.Members.{in_append, in_append_left, in_append_right}
-use Rattle.cp_skel.specs.Changing.{AddsListener, IsClosedPrefix, AddsStrand, Extends}
+use Rattle.cp_lists.proofs.Items.{item_of_push}
+use Rattle.cp_skel.specs.Extensions.{AddsListener, IsClosedPrefix, AddsStrand, Extends}
 use Rattle.cp_skel.specs.Given.{IsGivenFrom, IsOriginFrom, AddsOnce, AddsGiven}
-use Rattle.cp_strand.specs.Occurring.{prefix_variables, added_variables, terms_of}
+use Rattle.cp_strand.specs.PrefixVariables.{prefix_variables, added_variables, terms_of}
 use Rattle.cp_skel.specs.Ordered.{ordered_by}
-use Rattle.cp_skel.proofs.GivenParts.{has-in, in-has}
 use Rattle.cp_skel.proofs.PrefixVariables.{in-prefix, in-added}
-use Rattle.cp_skel.proofs.StaySkeletons.{item-behind}
 use Rattle.cp_skel.proofs.UnderVariables.{applies_at, of_atom, of_trace, in_trace, strand_with, in_strands, atom_with, in_atoms, unique_with, in_uniques}
 
 -- ---- more declarations
 
-sort_still : (ds more : List Declaration) (n : ℕ) (k : Sort) → declared_sort (item_at ds n) ≡ Some k → declared_sort (item_at (ds ++ more) n) ≡ Some k
-sort_still [] more n k e = absurd (cc)
-sort_still (d ∷ ds) more zero k e = e
-sort_still (d ∷ ds) more (suc n) k e = sort_still ds more n k e
-
 pub more_declared : (ds more : List Declaration) (k : Skeleton) → HasDeclaredVariables ds k → HasDeclaredVariables (ds ++ more) k
 more_declared ds more k h = record {
-  occurring = λ x i. sort_still ds more x.number x.sort (h.occurring x i);
-  mapped = λ t x i j. sort_still ds more x.number x.sort (h.mapped t x i j);
+  occurring = λ x i. still_declared ds more x.number x.sort (h.occurring x i);
+  mapped = λ t x i j. still_declared ds more x.number x.sort (h.mapped t x i j);
 }
 
 -- ---- lists that grow
@@ -109,7 +106,7 @@ module _ (ds : List Declaration) where
         (n : ℕ) (st : SkeletonStrand) → item_at new.strands n ≡ Some st → (x : Variable) → IsIn x (variables_of_trace (skeleton_trace st)) → IsOne x
     behind strand e of_new n st at x i =
         ⊎_elim (λ was. old_strand n st was x i) (λ p. of_new x (subst (λ (d : SkeletonStrand). IsIn x (variables_of_trace (skeleton_trace d))) (sym p.1) i))
-        (item-behind old.strands strand n st (ap (λ (ss : List SkeletonStrand). item_at ss n) (sym e) ∙ at))
+        (item_of_push old.strands strand n st (ap (λ (ss : List SkeletonStrand). item_at ss n) (sym e) ∙ at))
 
   pub listener_declared : (t : Term) (old new : Skeleton) → AddsListener t old new → ((x : Variable) → IsIn x (variables_of t) → IsOne x) → HasDeclaredVariables ds old → HasDeclaredVariables ds new
   listener_declared t old new adds of_t h =
@@ -148,8 +145,8 @@ module _ (ds : List Declaration) where
     each_term z i y j = by_test (has_variable (variables_of_prefix x.role x.before) z) refl
       where
         by_test : (b : Bool) → has_variable (variables_of_prefix x.role x.before) z ≡ b → IsOne y
-        by_test true e = of_old z (has-in (variables_of_prefix x.role x.before) z e) y j
-        by_test false e = of_new z i (λ m. let f : has_variable (variables_of_prefix x.role x.before) z ≡ true = in-has (variables_of_prefix x.role x.before) z m in absurd (cc)) y j
+        by_test true e = of_old z (variable_in (variables_of_prefix x.role x.before) z e) y j
+        by_test false e = of_new z i (λ m. let f : has_variable (variables_of_prefix x.role x.before) z ≡ true = in_has_variable (variables_of_prefix x.role x.before) z m in absurd (cc)) y j
 
     each_strand : (n : ℕ) (st : SkeletonStrand) → (n ≡ s) ⊎ (n ≢ s) → item_at new.strands n ≡ Some st → (y : Variable) → IsIn y (variables_of_trace (skeleton_trace st)) → IsOne y
     each_strand n st (inl is_s) at y i =

@@ -1,5 +1,5 @@
 -- Lists that are gathered so that each item stands once, and the order in which a report lists assumptions.
-use Rattle.std.proofs.Common.{◌≡◌, List, [], ◌∷◌, ◌++◌, Bool, true, false, if◌then◌else◌, refl, sym, ap, ◌∙◌, subst, ◌⊎◌, inl, inr, ⊎_elim, append_assoc}
+use Rattle.std.proofs.Common.{◌≡◌, List, [], ◌∷◌, ◌++◌, Bool, true, false, if◌then◌else◌, refl, sym, ap, ◌∙◌, subst, ◌⊎◌, ⊎_elim, append_assoc}
 use Rattle.std.specs.Cmp.{both_ways as same_by}
 use Rattle.std.specs.List.{filter}
 use Rattle.std.proofs.lemmas.Bool.{both_ways, false_from_ne_true}
@@ -8,20 +8,16 @@ use Rattle.std.proofs.lemmas.List.Elements.{filter-append}
 use Rattle.cp_lists.specs.Lists.{IsIn, here, there}
 use Rattle.cp_model.specs.Skeleton.{Assumptions, Skeleton}
 use Rattle.cp_model.specs.Given.{has_atom, atoms_onto, has_unique, uniques_onto, given_non, given_penetrator_non, given_uniques, with_given, listed}
-use Rattle.cp_lists.proofs.Members.{in_append, in_append_left, in_append_right, into_filter, from_filter}
+use Rattle.cp_lists.proofs.Members.{in_append, in_append_left, in_append_right, into_filter, from_filter, not_in_none, only_item, head_or_behind}
 use Rattle.cp_model.proofs.Gathered.{IsGathering, onto-append, onto-keeps, onto-takes, onto-only, atoms, uniques}
 use Rattle.cp_skel.specs.Given.{IsEachOnce, AddsOnce, HasEachOnce}
-use Rattle.cp_skel.proofs.Once.{once-append, none-in, only, adds-none, adds-known, adds-one, adds-then}
+use Rattle.cp_skel.proofs.Once.{once-append, adds-none, adds-known, adds-one, adds-then}
 
 -- ---- what is kept of a list
 
 filter-all : {A : Type 0} (p : A → Bool) (xs : List A) → ((v : A) → IsIn v xs → p v ≡ true) → filter p xs ≡ xs
 filter-all p [] h = refl
 filter-all p (x ∷ xs) h = ap (λ b. if b then x ∷ filter p xs else filter p xs) (h x here) ∙ ap (λ ys. x ∷ ys) (filter-all p xs (λ v i. h v (there i)))
-
-pub first-or-later : {A : Type 0} (y x : A) (xs : List A) → IsIn y (x ∷ xs) → (y ≡ x) ⊎ IsIn y xs
-first-or-later y x xs here = inl refl
-first-or-later y x xs (there i) = inr i
 
 -- ---- gathering
 
@@ -36,7 +32,7 @@ module _ {A : Type 0} {has : List A → A → Bool} {onto : List A → List A �
 
   apart-next : (before xs : List A) (x : A) → (IsIn x xs → ⊥) → ((v : A) → IsIn v (x ∷ xs) → IsIn v before → ⊥) → (v : A) → IsIn v xs → IsIn v (before ++ x ∷ []) → ⊥
   apart-next before xs x first apart v i j =
-      ⊎_elim (λ k. apart v (there i) k) (λ k. first (subst (λ y. IsIn y xs) (only v x k) i)) (in_append before (x ∷ []) j)
+      ⊎_elim (λ k. apart v (there i) k) (λ k. first (subst (λ y. IsIn y xs) (only_item k) i)) (in_append before (x ∷ []) j)
 
   pub onto-new : (before xs : List A) → IsEachOnce xs → ((v : A) → IsIn v xs → IsIn v before → ⊥) → onto before xs ≡ before ++ xs
   onto-new before [] once apart = g.ends before ∙ sym (append-nil before)
@@ -47,7 +43,7 @@ module _ {A : Type 0} {has : List A → A → Bool} {onto : List A → List A �
   step-once : (before : List A) (x : A) (b : Bool) → has before x ≡ b → IsEachOnce before → IsEachOnce (if b then before else before ++ x ∷ [])
   step-once before x true e once = once
   step-once before x false e once =
-      once-append before (x ∷ []) once ((λ i. none-in i), tt) (λ v i j. both_ways (has before x) e (g.finds before x (subst (λ y. IsIn y before) (only v x j) i)))
+      once-append before (x ∷ []) once ((λ i. not_in_none i), tt) (λ v i j. both_ways (has before x) e (g.finds before x (subst (λ y. IsIn y before) (only_item j) i)))
 
   pub once-onto : (before xs : List A) → IsEachOnce before → IsEachOnce (onto before xs)
   once-onto before [] once = subst IsEachOnce (sym (g.ends before)) once
@@ -59,12 +55,12 @@ module _ {A : Type 0} {has : List A → A → Bool} {onto : List A → List A �
   pub put-known : (xs ys : List A) (v : A) (r : Bool) → ys ≡ xs → (r ≡ true → IsIn v ys) → r ≡ true → xs ≡ onto xs (v ∷ [])
   put-known xs ys v r e test h =
       let i : IsIn v xs = subst (IsIn v) e (test h) in
-      sym (onto-known xs (v ∷ []) (λ w j. subst (λ y. IsIn y xs) (sym (only w v j)) i))
+      sym (onto-known xs (v ∷ []) (λ w j. subst (λ y. IsIn y xs) (sym (only_item j)) i))
 
   pub put-new : (xs ys new : List A) (v : A) (r : Bool) → ys ≡ xs → (IsIn v ys → r ≡ true) → r ≡ false → new ≡ xs ++ v ∷ [] → new ≡ onto xs (v ∷ [])
   put-new xs ys new v r e test h is =
       let never : IsIn v xs → ⊥ = λ i. both_ways r h (test (subst (IsIn v) (sym e) i)) in
-      is ∙ sym (onto-new xs (v ∷ []) ((λ i. none-in i), tt) (λ w i j. never (subst (λ y. IsIn y xs) (only w v i) j)))
+      is ∙ sym (onto-new xs (v ∷ []) ((λ i. not_in_none i), tt) (λ w i j. never (subst (λ y. IsIn y xs) (only_item i) j)))
 
   pub put-behind : (old more pushed : List A) (v : A) → (IsIn v old → ⊥) → (IsIn v more → ⊥) → pushed ≡ more ++ v ∷ [] → old ++ pushed ≡ onto (old ++ more) (v ∷ [])
   put-behind old more pushed v first later is =
@@ -81,11 +77,11 @@ module _ {A : Type 0} {has : List A → A → Bool} {onto : List A → List A �
   adds-step old x false e = adds-one x old (λ i. both_ways (has old x) e (g.finds old x i))
 
   pub adds-onto : (old xs : List A) → AddsOnce (λ y. IsIn y xs) old (onto old xs)
-  adds-onto old [] = subst (AddsOnce (λ y. IsIn y []) old) (sym (g.ends old)) (adds-none (λ y. IsIn y []) old (λ y i. absurd (none-in i)))
+  adds-onto old [] = subst (AddsOnce (λ y. IsIn y []) old) (sym (g.ends old)) (adds-none (λ y. IsIn y []) old (λ y i. absurd (not_in_none i)))
   adds-onto old (x ∷ xs) =
       let step = if has old x then old else old ++ x ∷ [] in
       subst (AddsOnce (λ y. IsIn y (x ∷ xs)) old) (sym (g.goes old x xs))
-      (adds-then (λ y. y ≡ x) (λ y. IsIn y xs) (λ y. IsIn y (x ∷ xs)) old step (onto step xs) (λ y e. subst (λ z. IsIn z (x ∷ xs)) (sym e) here) (λ y i. there i) (λ y i. first-or-later y x xs i)
+      (adds-then (λ y. y ≡ x) (λ y. IsIn y xs) (λ y. IsIn y (x ∷ xs)) old step (onto step xs) (λ y e. subst (λ z. IsIn z (x ∷ xs)) (sym e) here) (λ y i. there i) (λ y i. head_or_behind i)
       (adds-step old x (has old x) refl) (adds-onto step xs))
 
   -- ---- gathered once and then kept in part, or kept in part at once
@@ -119,7 +115,7 @@ module _ {A : Type 0} {has : List A → A → Bool} {onto : List A → List A �
 
   listed-in : (stated old : List A) (v : A) → IsIn v (onto [] (filter (has old) stated ++ old)) → IsIn v old
   listed-in stated old v i =
-      ⊎_elim (λ j. absurd (none-in j))
+      ⊎_elim (λ j. absurd (not_in_none j))
       (λ j. ⊎_elim (λ k. g.found old v (from_filter (has old) stated k).1) (λ k. k) (in_append (filter (has old) stated) old j))
       (onto-only g [] (filter (has old) stated ++ old) v i)
 
@@ -155,7 +151,7 @@ module _ {A : Type 0} {has : List A → A → Bool} {onto : List A → List A �
   listed-loaded own given once =
       let old = onto own given in
       ap (λ ys. onto [] (ys ++ old)) (filter-all (has old) (own ++ given) (λ v i. g.finds old v (⊎_elim (onto-keeps g own given v) (onto-takes g own given v) (in_append own given i))))
-      ∙ onto-append g [] (own ++ given) old ∙ ap (λ b. onto b old) (onto-append g [] own given ∙ ap (λ b. onto b given) (onto-new [] own once (λ v i j. none-in j)))
+      ∙ onto-append g [] (own ++ given) old ∙ ap (λ b. onto b old) (onto-append g [] own given ∙ ap (λ b. onto b given) (onto-new [] own once (λ v i j. not_in_none j)))
       ∙ onto-known old old (λ v i. i)
 
   -- A loop over what is stated keeps the items that are among the old ones.

@@ -12,14 +12,9 @@ use Rattle.cp_strand.specs.View.{event_view}
 use Rattle.cp_strand.specs.declared.protocol.Event.{Event as ProgramEvent}
 use Rattle.cp_skel.specs.Events.{Occurrence, is_role_strand, occurrences_on, occurrences_from, events_of}
 use Rattle.cp_lists.proofs.Members.{in_cases, in_append, in_append_left, in_append_right}
+use Rattle.cp_lists.proofs.Items.{drop_of_item}
 
 -- ---- the loops that list them
-
--- The event at a place is the first of those from there on.
-next_item : {A : Type 0} (es : List A) (i : ℕ) (e : A) → item_at es i ≡ Some e → drop i es ≡ e ∷ drop (suc i) es
-next_item [] i e h = absurd (cc)
-next_item (x ∷ es) zero e h = let same : x ≡ e = cc in ap (λ y. y ∷ es) same
-next_item (x ∷ es) (suc i) e h = next_item es i e h
 
 some_within : {A : Type 0} (es : List A) (i : ℕ) → i < length es → item_at es i ≡ None → ⊥
 some_within [] i h e = absurd (omega arith)
@@ -37,7 +32,7 @@ event_added s i r es found e old new whole at is n all =
     let here : item_at es i ≡ Some (event_view e) = sym at ∙ ap (option_map event_view) is in
     rw add-one
     (moved old new (occurrences_on s i r (drop i es)) (occurrences_on s (suc i) r (drop (suc i) es)) whole
-    (record { node = node_at s i; event = event_view e; by_role = r }) n (ap (occurrences_on s i r) (next_item es i (event_view e) here)) all)
+    (record { node = node_at s i; event = event_view e; by_role = r }) n (ap (occurrences_on s i r) (drop_of_item es i (event_view e) here)) all)
 
 pub event_there : (i n : ℕ) (es : List (Event Term)) (found : Option ProgramEvent) → option_map event_view found ≡ item_at es i → i < n → n ≡ length es →
     ((e : ProgramEvent) → found ≡ Some e → ⊥) → ⊥

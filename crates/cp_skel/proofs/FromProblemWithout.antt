@@ -6,8 +6,8 @@ use Rattle.cp_model.specs.Skeleton.{SkeletonStrand, Skeleton, Before}
 use Rattle.cp_model.specs.declared.node.OrderPair.{OrderPair}
 use Rattle.cp_model.specs.Stated.{HasOwnAssumptions}
 use Rattle.cp_lists.proofs.Items.{item_below, item_there}
-use Rattle.cp_skel.specs.Deleting.{renumbered, unique_renumbered, pair_renumbered, as_it_is, IsOriginOn, IsPairOn, IsForgottenNon, IsForgottenPenetratorNon, ForgetsAssumptions, KeepsFromProblem, KeepsOrderOfOthers}
-use Rattle.cp_skel.proofs.Numbering.{restored_renumbered, item_without}
+use Rattle.cp_skel.specs.Deletion.{renumbered, unique_renumbered, pair_renumbered, as_it_is, IsOriginOn, IsPairOn, IsForgottenNon, IsForgottenPenetratorNon, ForgetsAssumptions, KeepsFromProblem, KeepsOrderOfOthers}
+use Rattle.cp_skel.proofs.NumbersWithout.{restored_renumbered, item_without}
 use Rattle.cp_skel.proofs.PairsWithout.{in_left, was_left}
 
 -- the number of which this one was made

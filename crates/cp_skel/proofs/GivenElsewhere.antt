@@ -5,11 +5,11 @@ use Rattle.cp_lists.specs.Lists.{item_at, IsIn}
 use Rattle.cp_model.specs.Term.{AtomTerm, Substitution}
 use Rattle.cp_model.specs.Strand.{Role}
 use Rattle.cp_model.specs.Skeleton.{SkeletonStrand, instance}
-use Rattle.cp_lists.proofs.Members.{in_append, in_append_left}
+use Rattle.cp_lists.proofs.Members.{in_append, in_append_left, none_in_empty}
+use Rattle.cp_lists.proofs.Items.{item_still, item_last, item_of_push, map_of_read}
 use Rattle.cp_skel.specs.Given.{IsGivenFrom, AddsOnce}
-use Rattle.cp_strand.proofs.Items.{item-there}
 use Rattle.cp_skel.specs.Kinds.{IsInFirstAlone}
-use Rattle.cp_skel.specs.Deleting.{LeavesOut, all_left, is_gone, is_left, GivesFrom, IsGivenAt, IsGivenElsewhere, IsForgotten}
+use Rattle.cp_skel.specs.Deletion.{LeavesOut, all_left, is_gone, is_left, GivesFrom, IsGivenAt, IsGivenElsewhere, IsForgotten}
 
 -- What an instance gives is added to what was given.
 pub adds_given : (stated : Role → List AtomTerm) (strand : SkeletonStrand) (role : Role) (height : ℕ) (terms : Substitution) (xs old more : List AtomTerm) →
@@ -37,28 +37,10 @@ adds_given stated strand role height terms xs old more is same a v = (
         (subst (λ q. IsGivenFrom (stated q) q g.height g.terms v) r g.given)) in
         a.all v (subst (λ ys. IsGivenFrom ys role height terms v) (sym same) h)
 
-item_behind : {A : Type 0} (xs : List A) (x y : A) (n : ℕ) → item_at (xs ++ x ∷ []) n ≡ Some y → (item_at xs n ≡ Some y) ⊎ ((n ≡ length xs) × (x ≡ y))
-item_behind [] x y zero e = inr (refl, cc)
-item_behind [] x y (suc n) e = absurd (cc)
-item_behind (z ∷ xs) x y zero e = inl e
-item_behind (z ∷ xs) x y (suc n) e = elim (item_behind xs x y n e) as (λ _. (item_at (z ∷ xs) (suc n) ≡ Some y) ⊎ ((suc n ≡ length (z ∷ xs)) × (x ≡ y))) [
-  | inl h ↦ inl h
-  | inr h ↦ inr (ap suc h.0, h.1)
-]
-
-item_still : {A : Type 0} (xs : List A) (x y : A) (n : ℕ) → item_at xs n ≡ Some y → item_at (xs ++ x ∷ []) n ≡ Some y
-item_still [] x y n e = absurd (cc)
-item_still (z ∷ xs) x y zero e = e
-item_still (z ∷ xs) x y (suc n) e = item_still xs x y n e
-
-item_last : {A : Type 0} (xs : List A) (x : A) → item_at (xs ++ x ∷ []) (length xs) ≡ Some x
-item_last [] x = refl
-item_last (z ∷ xs) x = item_last xs x
-
 module _ (stated : Role → List AtomTerm) (d : ℕ) (v : AtomTerm) where
   -- What is given elsewhere, where a strand stands behind.
   elsewhere_behind : (xs : List SkeletonStrand) (x : SkeletonStrand) → IsGivenElsewhere stated (xs ++ x ∷ []) d v → IsGivenElsewhere stated xs d v ⊎ ((length xs ≢ d) × GivesFrom stated x v)
-  elsewhere_behind xs x g = elim (item_behind xs x g.gives.strand g.number g.gives.there_is) as (λ _. IsGivenElsewhere stated xs d v ⊎ ((length xs ≢ d) × GivesFrom stated x v)) [
+  elsewhere_behind xs x g = elim (item_of_push xs x g.number g.gives.strand g.gives.there_is) as (λ _. IsGivenElsewhere stated xs d v ⊎ ((length xs ≢ d) × GivesFrom stated x v)) [
     | inl h ↦ inl (record { number = g.number; other = g.other; gives = record { strand = g.gives.strand; there_is = h; gives = g.gives.gives } })
     | inr h ↦ inr (subst (λ n. n ≢ d) h.0 g.other, subst (λ s. GivesFrom stated s v) (sym h.1) g.gives.gives)
   ]
@@ -67,7 +49,7 @@ module _ (stated : Role → List AtomTerm) (d : ℕ) (v : AtomTerm) where
   elsewhere_still xs x g = record {
     number = g.number;
     other = g.other;
-    gives = record { strand = g.gives.strand; there_is = item_still xs x g.gives.strand g.number g.gives.there_is; gives = g.gives.gives };
+    gives = record { strand = g.gives.strand; there_is = item_still xs (x ∷ []) g.number g.gives.strand g.gives.there_is; gives = g.gives.gives };
   }
 
   elsewhere_last : (xs : List SkeletonStrand) (x : SkeletonStrand) → length xs ≢ d → GivesFrom stated x v → IsGivenElsewhere stated (xs ++ x ∷ []) d v
@@ -137,10 +119,7 @@ module _ {A : Type 0} (view : A → SkeletonStrand) (stated : Role → List Atom
 -- Nothing is given by no strands.
 pub none_elsewhere : (stated : Role → List AtomTerm) (d : ℕ) (given : List AtomTerm) → given ≡ [] → (v : AtomTerm) → IsIn v given ↔ IsGivenElsewhere stated [] d v
 none_elsewhere stated d given e v =
-    (λ h. absurd (in_none v (subst (IsIn v) e h)), λ g. let p : None ≡ Some g.gives.strand = g.gives.there_is in absurd (cc))
-  where
-    in_none : (v : AtomTerm) → IsIn v [] → ⊥
-    in_none v h = elim h [ ]
+    (λ h. absurd (none_in_empty e h), λ g. let p : None ≡ Some g.gives.strand = g.gives.there_is in absurd (cc))
 
 -- An atom that is in the list of what strand number d gives alone is forgotten with it.
 pub forgotten_alone : {A : Type 0} (view : A → SkeletonStrand) (stated : Role → List AtomTerm) (d : ℕ) (xs : List A) (x : A) (base more gave elsewhere else own : List AtomTerm) →
@@ -162,7 +141,7 @@ forgotten_alone view stated d xs x base more gave elsewhere else own l e none g 
 )
   where
     here : item_at (map view xs) d ≡ Some (view x)
-    here = item-there view xs d x l e
+    here = map_of_read view xs d x l e
 
     of_given : (v : AtomTerm) → IsIn v more ↔ (IsIn v [] ⊎ GivesFrom stated (view x) v)
     of_given v = subst (λ ys. IsIn v (ys ++ more) ↔ (IsIn v ys ⊎ GivesFrom stated (view x) v)) none (given v)

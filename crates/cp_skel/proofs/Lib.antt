@@ -1,7 +1,7 @@
 pub mod FromProblemWithout
 mod GivenElsewhere
-mod Leaving
-pub mod Numbering
+mod ListsWithout
+pub mod NumbersWithout
 pub mod OrderWithout
 pub mod PairsWithout
 pub mod SkeletonWithout
@@ -20,7 +20,7 @@ pub mod StrandsGive
 pub mod DeclaredRoles
 pub mod UnderVariables
 pub mod DeclaredChanges
-pub mod Carrying
+pub mod CarriedHomomorphisms
 pub mod EventLists
 pub mod SoundSkeletons
 mod AddedPairs

@@ -2,7 +2,7 @@
 use Rattle.std.proofs.Common.{◌≡◌, List, [], ◌∷◌, ◌++◌, refl, sym, ap, ◌∙◌, subst, ◌⊎◌, inl, inr, append_assoc}
 use Rattle.std.proofs.lemmas.List.{append-nil}
 use Rattle.cp_lists.specs.Lists.{IsIn, here, there}
-use Rattle.cp_lists.proofs.Members.{in_append, in_append_left, in_append_right}
+use Rattle.cp_lists.proofs.Members.{in_append, in_append_left, in_append_right, not_in_none, only_item}
 use Rattle.cp_skel.specs.Given.{IsEachOnce, AddsOnce}
 
 either : {A B C : Type 0} → (A → C) → (B → C) → A ⊎ B → C
@@ -14,20 +14,13 @@ once-append [] ys p q apart = q
 once-append (x ∷ xs) ys p q apart =
     ((λ i. either p.0 (apart x here) (in_append xs ys i)), once-append xs ys p.1 q (λ z i. apart z (there i)))
 
-pub none-in : {A : Type 0} {x : A} → IsIn x [] → ⊥
-none-in p = elim p [ ]
-
-pub only : {A : Type 0} (x a : A) → IsIn x (a ∷ []) → x ≡ a
-only x a here = refl
-only x a (there p) = absurd (none-in p)
-
 -- Nothing is given, or all that is given is there.
 pub adds-none : {A : Type 0} (given : A → Type 0) (old : List A) → ((x : A) → given x → IsIn x old) → AddsOnce given old old
 adds-none given old h = record {
   more = [];
   behind = sym (append-nil old);
-  only_given = λ x i. absurd (none-in i);
-  only_missing = λ x i j. none-in i;
+  only_given = λ x i. absurd (not_in_none i);
+  only_missing = λ x i j. not_in_none i;
   once = tt;
   all = h;
 }
@@ -39,9 +32,9 @@ pub adds-one : {A : Type 0} (a : A) (old : List A) → (IsIn a old → ⊥) → 
 adds-one a old h = record {
   more = a ∷ [];
   behind = refl;
-  only_given = λ x i. only x a i;
-  only_missing = λ x i j. h (subst (λ y. IsIn y old) (only x a i) j);
-  once = ((λ i. none-in i), tt);
+  only_given = λ x i. only_item i;
+  only_missing = λ x i j. h (subst (λ y. IsIn y old) (only_item i) j);
+  once = ((λ i. not_in_none i), tt);
   all = λ x e. in_append_right old (subst (λ y. IsIn y (a ∷ [])) (sym e) here);
 }
 

@@ -16,10 +16,10 @@ use Rattle.cp_lists.proofs.Reached.{steps_append}
 use Rattle.cp_model.proofs.LawOrder.{before_leads, leads_before}
 use Rattle.cp_order.specs.Closed.{KeepsOrder}
 use Rattle.cp_skel.specs.Ordered.{IsOrdered, ordered_by}
-use Rattle.cp_skel.specs.Deleting.{node_renumbered, renumbered, pair_renumbered, IsPairOn, KeepsOrderOfOthers}
-use Rattle.cp_skel.specs.Bridging.{bridge, bridges, IsWithoutStrand}
-use Rattle.cp_skel.proofs.Numbering.{node_restored, node_again, renumbered_apart, event_without, event_kept}
-use Rattle.cp_model.proofs.Reaching.{after_leads}
+use Rattle.cp_skel.specs.Deletion.{node_renumbered, renumbered, pair_renumbered, IsPairOn, KeepsOrderOfOthers}
+use Rattle.cp_skel.specs.Bridges.{bridge, bridges, IsWithoutStrand}
+use Rattle.cp_skel.proofs.NumbersWithout.{node_restored, node_again, renumbered_apart, event_without, event_kept}
+use Rattle.cp_model.proofs.BoundedSearch.{after_leads}
 use Rattle.cp_skel.proofs.OrderKept.{kept_ordered, kept_before}
 use Rattle.cp_skel.proofs.PairsWithout.{in_left, was_left, in_bridges, of_bridges, IsBridge, WasLeft, through_says, says_through}
 

@@ -5,8 +5,8 @@ use Rattle.std.proofs.lemmas.Bool.Decides.{nat_tests}
 use Rattle.cp_lists.specs.Lists.{IsIn, here, there}
 use Rattle.cp_model.specs.declared.node.OrderPair.{OrderPair}
 use Rattle.cp_lists.proofs.Members.{in_append, in_append_left, in_append_right}
-use Rattle.cp_skel.specs.Deleting.{LeavesOut, all_left, is_gone, is_left}
-use Rattle.cp_skel.specs.Bridging.{is_through, bridge, bridge_if, bridges_from, bridges}
+use Rattle.cp_skel.specs.Deletion.{LeavesOut, all_left, is_gone, is_left}
+use Rattle.cp_skel.specs.Bridges.{is_through, bridge, bridge_if, bridges_from, bridges}
 
 -- ---- what is left of a list
 

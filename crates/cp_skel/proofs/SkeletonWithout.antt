@@ -7,8 +7,8 @@ use Rattle.cp_model.specs.Strand.{Role, Protocol, Applies, AppliesAt}
 use Rattle.cp_model.specs.Bundle.{node_at}
 use Rattle.cp_model.specs.Skeleton.{instance, UniqueAt, Skeleton, IsOrigin, GivesAssumptions, IsSkeleton, term_event_at}
 use Rattle.cp_skel.specs.Ordered.{IsOrdered}
-use Rattle.cp_skel.specs.Deleting.{renumbered, node_renumbered, unique_renumbered, as_it_is, IsOriginOn, IsForgottenNon, IsForgottenPenetratorNon, IsGivenElsewhere, ForgetsAssumptions}
-use Rattle.cp_skel.proofs.Numbering.{restored, restored_renumbered, renumbered_restored, restored_other, item_without, event_kept}
+use Rattle.cp_skel.specs.Deletion.{renumbered, node_renumbered, unique_renumbered, as_it_is, IsOriginOn, IsForgottenNon, IsForgottenPenetratorNon, IsGivenElsewhere, ForgetsAssumptions}
+use Rattle.cp_skel.proofs.NumbersWithout.{restored, restored_renumbered, renumbered_restored, restored_other, item_without, event_kept}
 use Rattle.cp_skel.proofs.PairsWithout.{in_left, was_left}
 
 module _ (protocol : Protocol) (d : ℕ) (old new : Skeleton) (was : IsSkeleton protocol old) (strands : new.strands ≡ remove old.strands d) (kept : ForgetsAssumptions d old new.assumptions) where

@@ -9,18 +9,20 @@ use Rattle.cp_model.specs.Skeleton.{SkeletonStrand, instance, listener, UniqueAt
 use Rattle.cp_model.specs.declared.node.Node.{Node}
 use Rattle.cp_model.specs.declared.node.OrderPair.{OrderPair}
 use Rattle.cp_model.specs.Given.{listed}
-use Rattle.cp_skel.specs.Changing.{AddsListener, AddsStrand, CanExtend, Extends, IsClosedPrefix}
+use Rattle.cp_model.proofs.LawPrefixes.{in_front_of_trace}
+use Rattle.cp_skel.specs.Extensions.{AddsListener, AddsStrand, CanExtend, Extends, IsClosedPrefix}
 use Rattle.cp_order.specs.Closed.{KeepsOrder}
 use Rattle.cp_strand.specs.Data.{StrandData}
 use Rattle.cp_skel.specs.Data.{SkeletonData, skeleton_of}
 use Rattle.cp_skel.specs.View.{skeleton_view}
 use Rattle.cp_term.specs.Table.{Declared}
-use Rattle.cp_skel.specs.Deleting.{ForgetsAssumptions, KeepsFromProblem, KeepsOrderOfOthers}
+use Rattle.cp_skel.specs.Deletion.{ForgetsAssumptions, KeepsFromProblem, KeepsOrderOfOthers}
 use Rattle.cp_skel.specs.Ordered.{IsOrdered, ordered_by}
 use Rattle.cp_skel.specs.DeclaredPrefixes.{HasDeclaredPrefixes}
-use Rattle.cp_skel.specs.Sound.{DeclaresItsVariables, IsSound}
-use Rattle.cp_skel.proofs.DeclaredRoles.{in-trace, declared_prefixes}
-use Rattle.cp_skel.proofs.Carrying.{sound_on, listener_says_more, strand_says_more, extended_says_more, extension_fits, reordered_says_more, before_too, before_wider, ordered_is_skeleton}
+use Rattle.cp_skel.specs.Sound.{IsSound}
+use Rattle.cp_strand.specs.Declares.{DeclaresItsVariables}
+use Rattle.cp_skel.proofs.DeclaredRoles.{declared_prefixes}
+use Rattle.cp_skel.proofs.CarriedHomomorphisms.{sound_on, listener_says_more, strand_says_more, extended_says_more, extension_fits, reordered_says_more, before_too, before_wider, ordered_is_skeleton}
 use Rattle.cp_skel.proofs.FromProblemWithout.{in_range_without, assumed_without, ordered_without}
 use Rattle.cp_skel.proofs.Grown.{Grows, pairs-stay, origin-stays, cycles-stay-out}
 use Rattle.cp_skel.proofs.EachOnce.{listed-non, listed-penetrator-non, listed-unique}
@@ -46,7 +48,7 @@ pub sound_prefixes : (k : Skeleton) → IsSound k → HasDeclaredPrefixes k
 sound_prefixes k s = declared_prefixes s.protocol k s.declared s.skeleton
 
 pub sound_longer : (k : Skeleton) (s : ℕ) (role : Role) (before height : ℕ) (terms : Substitution) → IsSound k → item_at k.strands s ≡ Some (instance role before terms) → IsClosedPrefix role height
-sound_longer k s role before height terms is at x i = is.declared role (is.skeleton.of_role s role before terms at) x (in-trace height role.trace x i)
+sound_longer k s role before height terms is at x i = is.declared role (is.skeleton.of_role s role before terms at) x (in_front_of_trace height role.trace x i)
 
 pub listener_sound : (t : Term) (old new : Skeleton) → IsSound old → AddsListener t old new → IsSound new
 listener_sound t old new s a = sound_on old new (listener_says_more t old new a) s.protocol s.declared (listener-stays-skeleton s.protocol t old new s.skeleton a) s

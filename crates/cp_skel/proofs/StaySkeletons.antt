@@ -1,5 +1,5 @@
 -- Skeletons over a protocol stay so, with a strand more and with a longer strand.
-use Rattle.std.proofs.Common.{◌≡◌, ◌≢◌, ℕ, zero, suc, ◌<◌, ◌≤◌, List, [], ◌∷◌, ◌++◌, length, refl, sym, ap, ◌∙◌, subst, ◌⊎◌, inl, inr, arith}
+use Rattle.std.proofs.Common.{◌≡◌, ◌≢◌, ℕ, ◌<◌, ◌≤◌, List, [], ◌∷◌, ◌++◌, length, refl, sym, ap, ◌∙◌, subst, ◌⊎◌, inl, inr, arith}
 use Rattle.std.specs.Prelude.{Option, Some, None}
 use Rattle.cp_lists.specs.Lists.{item_at, IsIn}
 use Rattle.cp_model.specs.Term.{Term, Substitution, apply_to, apply_to_atom}
@@ -8,12 +8,12 @@ use Rattle.cp_model.specs.Bundle.{node_at}
 use Rattle.cp_model.specs.declared.node.Node.{Node}
 use Rattle.cp_model.specs.Skeleton.{SkeletonStrand, instance, listener, skeleton_trace, skeleton_trace_or_none, term_event_at, UniqueAt, Skeleton, IsOrigin, GivesAssumptions, IsSkeleton}
 use Rattle.cp_lists.proofs.Members.{in_append, in_append_left}
-use Rattle.cp_lists.proofs.Items.{item_of_take, take_of_item, item_of_map, map_of_item}
+use Rattle.cp_lists.proofs.Items.{item_of_take, take_of_item, item_of_map, map_of_item, item_of_push, item_still, item_last}
 use Rattle.cp_model.proofs.LawPrefixes.{in_trace}
 use Rattle.cp_model.proofs.LawTerms.{carried_under}
 use Rattle.cp_model.proofs.LawAgreement.{agree_event}
 use Rattle.cp_skel.specs.Given.{IsGivenUnique, AddsOnce, AddsGiven}
-use Rattle.cp_skel.specs.Changing.{AddsListener, AddsStrand, CanExtend, Extends}
+use Rattle.cp_skel.specs.Extensions.{AddsListener, AddsStrand, CanExtend, Extends}
 use Rattle.cp_skel.proofs.Grown.{Grows, pairs-stay, origin-stays, cycles-stay-out}
 
 -- ---- what each strand must be
@@ -85,25 +85,6 @@ module _ (protocol : Protocol) (old new : Skeleton) (is : IsSkeleton protocol ol
 
 -- ---- a strand more
 
-pub item-behind : {A : Type 0} (xs : List A) (y : A) (i : ℕ) (z : A) → item_at (xs ++ y ∷ []) i ≡ Some z → (item_at xs i ≡ Some z) ⊎ ((i ≡ length xs) × (y ≡ z))
-item-behind [] y zero z e = inr (refl, cc)
-item-behind [] y (suc i) z e = absurd (cc)
-item-behind (x ∷ xs) y zero z e = inl e
-item-behind (x ∷ xs) y (suc i) z e = next (item-behind xs y i z e)
-  where
-    next : (item_at xs i ≡ Some z) ⊎ ((i ≡ length xs) × (y ≡ z)) → (item_at xs i ≡ Some z) ⊎ ((suc i ≡ suc (length xs)) × (y ≡ z))
-    next (inl f) = inl f
-    next (inr p) = inr (ap suc p.0, p.1)
-
-item-first : {A : Type 0} (xs ys : List A) (i : ℕ) (z : A) → item_at xs i ≡ Some z → item_at (xs ++ ys) i ≡ Some z
-item-first [] ys i z e = absurd (cc)
-item-first (x ∷ xs) ys zero z e = e
-item-first (x ∷ xs) ys (suc i) z e = item-first xs ys i z e
-
-pub item-last : {A : Type 0} (xs : List A) (y : A) → item_at (xs ++ y ∷ []) (length xs) ≡ Some y
-item-last [] y = refl
-item-last (x ∷ xs) y = item-last xs y
-
 -- An event of a strand that stays, or whose events stay.
 event-stays : (o p : Option SkeletonStrand) (i : ℕ) (e : Event Term) → ((k : SkeletonStrand) → o ≡ Some k → item_at (skeleton_trace k) i ≡ Some e → item_at (skeleton_trace_or_none p) i ≡ Some e) →
     item_at (skeleton_trace_or_none o) i ≡ Some e → item_at (skeleton_trace_or_none p) i ≡ Some e
@@ -112,7 +93,7 @@ event-stays (Some k) p i e h ev = h k refl ev
 
 module _ (old new : Skeleton) (strand : SkeletonStrand) (behind : new.strands ≡ old.strands ++ strand ∷ []) (pairs : new.pairs ≡ old.pairs) where
   pub stays : (s : ℕ) (k : SkeletonStrand) → item_at old.strands s ≡ Some k → item_at new.strands s ≡ Some k
-  stays s k e = ap (λ ss. item_at ss s) behind ∙ item-first old.strands (strand ∷ []) s k e
+  stays s k e = ap (λ ss. item_at ss s) behind ∙ item_still old.strands (strand ∷ []) s k e
 
   pub appended-grows : Grows old new
   appended-grows = record {
@@ -122,11 +103,11 @@ module _ (old new : Skeleton) (strand : SkeletonStrand) (behind : new.strands �
   }
 
   pub appended-last : item_at new.strands (length old.strands) ≡ Some strand
-  appended-last = ap (λ ss. item_at ss (length old.strands)) behind ∙ item-last old.strands strand
+  appended-last = ap (λ ss. item_at ss (length old.strands)) behind ∙ item_last old.strands strand
 
   pub appended-each : (P : ℕ → SkeletonStrand → Type 0) → ((s : ℕ) (k : SkeletonStrand) → item_at old.strands s ≡ Some k → P s k) → P (length old.strands) strand →
       (s : ℕ) (k : SkeletonStrand) → item_at new.strands s ≡ Some k → P s k
-  appended-each P before last s k e = pick (item-behind old.strands strand s k (ap (λ ss. item_at ss s) (sym behind) ∙ e))
+  appended-each P before last s k e = pick (item_of_push old.strands strand s k (ap (λ ss. item_at ss s) (sym behind) ∙ e))
     where
       pick : (item_at old.strands s ≡ Some k) ⊎ ((s ≡ length old.strands) × (strand ≡ k)) → P s k
       pick (inl at) = before s k at

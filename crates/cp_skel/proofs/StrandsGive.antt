@@ -2,6 +2,7 @@
 use Rattle.std.proofs.Common.{◌≡◌, ℕ, suc, ◌+◌, ◌<◌, ◌≤◌, nat_lt, List, [], ◌∷◌, ◌++◌, length, get_or, drop, map, refl, sym, ap, ◌∙◌, add-one, arith, Bool, true, false, Option, Some, None, if◌then◌else◌}
 use Rattle.std.proofs.lemmas.Bool.Decides.{nat_tests}
 use Rattle.std.proofs.lemmas.List.{append-nil}
+use Rattle.cp_lists.proofs.Members.{drop_read}
 use Rattle.cp_model.specs.Term.{AtomTerm, atom_term, variables_of_atom, Substitution, apply_to_atom}
 use Rattle.cp_model.specs.Strand.{Role, OriginatesInTerms, variables_of_prefix}
 use Rattle.cp_model.specs.Bundle.{node_at}
@@ -13,7 +14,6 @@ use Rattle.cp_model.proofs.SameTests.{origin_found, finds_origin}
 use Rattle.cp_skel.specs.Given.{with_given_from}
 use Rattle.cp_strand.specs.View.{strand_view}
 use Rattle.cp_strand.specs.Data.{InstanceData, StrandData}
-use Rattle.cp_strand.proofs.Items.{item-drop}
 use Rattle.cp_model.proofs.Gathered.{onto-append, atoms, uniques}
 
 -- ---- where the atoms of roles originate
@@ -49,7 +49,7 @@ module _ (k : InstanceData) where
     whole : (b : Bool) → b ≡ has_variables (variables_of_prefix role height) (variables_of_atom v) → atoms_onto us (applying role height terms (drop n vs))
         ≡ atoms_onto us (if b then apply_to_atom terms v ∷ applying role height terms (drop (n + 1) vs) else applying role height terms (drop (n + 1) vs))
     whole b e =
-        ap (λ ls. atoms_onto us (applying role height terms ls)) (item-drop vs n v lt is)
+        ap (λ ls. atoms_onto us (applying role height terms ls)) (drop_read vs n v lt is)
         ∙ ap (λ c. atoms_onto us (if c then apply_to_atom terms v ∷ applying role height terms (drop (n + 1) vs) else applying role height terms (drop (n + 1) vs))) (sym e)
 
     pub atom-applies : true ≡ has_variables (variables_of_prefix role height) (variables_of_atom v) → ws ≡ atoms_onto us (apply_to_atom terms v ∷ [])
@@ -71,7 +71,7 @@ module _ (k : InstanceData) where
     given-here : (o : Option ℕ) → origin_in role.trace (atom_term v) ≡ o → uniques_onto us (unique_if_below height s (apply_to_atom terms v) o ++ rest) ≡ all
     given-here o e =
         ap (λ p. uniques_onto us (unique_if_below height s (apply_to_atom terms v) p ++ rest)) (sym e)
-        ∙ sym (ap (λ ls. uniques_onto us (applying_uniques role height terms s ls)) (item-drop vs n v lt is)) ∙ h
+        ∙ sym (ap (λ ls. uniques_onto us (applying_uniques role height terms s ls)) (drop_read vs n v lt is)) ∙ h
 
     pub none-originates : ((i : ℕ) → OriginatesInTerms role.trace (atom_term v) i → ⊥) → uniques_onto us (applying_uniques role height terms s (drop (n + 1) vs)) ≡ all
     none-originates none = given-here None (no-place role v none)
@@ -116,4 +116,4 @@ module _ (ks : List StrandData) (n : ℕ) (own new all : Assumptions) where
   strand-gives k lt is g h =
       let rest = map strand_view (drop (n + 1) ks) in
       ap (λ m. with_given_from m rest new) (add-one n) ∙ ap (with_given_from (suc n) rest) g ∙ sym (given-step n (strand_view k) rest own)
-      ∙ sym (ap (λ ls. with_given_from n (map strand_view ls) own) (item-drop ks n k lt is)) ∙ h
+      ∙ sym (ap (λ ls. with_given_from n (map strand_view ls) own) (drop_read ks n k lt is)) ∙ h

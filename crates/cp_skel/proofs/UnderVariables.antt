@@ -5,7 +5,7 @@ use Rattle.cp_model.specs.Term.{name_sort, skey_sort, akey_sort, text_sort, datu
 use Rattle.cp_model.specs.Strand.{Event, send, recv, payload, event_map, Role, prefix_of, variables_of_trace, Applies, AppliesAt}
 use Rattle.cp_model.specs.Skeleton.{SkeletonStrand, skeleton_trace, UniqueAt}
 use Rattle.cp_model.specs.Problem.{variables_of_strands, variables_of_atoms, variables_of_uniques}
-use Rattle.cp_lists.proofs.Members.{in_append, in_append_left, in_append_right}
+use Rattle.cp_lists.proofs.Members.{in_append, in_append_left, in_append_right, only_item}
 use Rattle.cp_lists.proofs.Items.{take_of_item}
 use Rattle.cp_model.proofs.LawPrefixes.{in_trace as in_events}
 
@@ -53,13 +53,9 @@ module _ (P : Variable → Type 0) (s : Substitution) where
       ⊎_elim (λ j. of_event e (λ x m. h x (in_append_left (variables_of_trace es) m)) y j) (λ j. of_trace es (λ x m. h x (in_append_right (variables_of (payload e)) m)) y j)
       (in_append (variables_of (payload (event_map (apply_to s) e))) (variables_of_trace (map (event_map (apply_to s)) es)) i)
 
-one_of : {x y : Variable} → IsIn x (y ∷ []) → x ≡ y
-one_of here = refl
-one_of (there i) = elim i [ ]
-
 one_of_two : {x y z : Variable} → IsIn x (y ∷ z ∷ []) → (x ≡ y) ⊎ (x ≡ z)
 one_of_two here = inl refl
-one_of_two (there i) = inr (one_of i)
+one_of_two (there i) = inr (only_item i)
 
 -- The variables of what a substitution gives a variable of a term occur in the term under it.
 module _ (s : Substitution) (x y : Variable) (given : IsIn y (variables_of_atom (apply_to_atom s (atom_of_variable x)))) where
@@ -67,7 +63,7 @@ module _ (s : Substitution) (x y : Variable) (given : IsIn y (variables_of_atom 
   given_at z e = subst (λ (w : Variable). IsIn y (variables_of_atom (apply_to_atom s (atom_of_variable w)))) e given
 
   only_one : (z : Variable) → IsIn x (z ∷ []) → IsIn y (variables_of_atom (apply_to_atom s (atom_of_variable z)))
-  only_one z i = given_at z (one_of i)
+  only_one z i = given_at z (only_item i)
 
   in_symmetric : (k : SymmetricTerm) → IsIn x (variables_of_symmetric k) → IsIn y (variables_of_symmetric (apply_to_symmetric s k))
   in_symmetric (skey_variable n) i = only_one (record { sort = skey_sort; number = n }) i

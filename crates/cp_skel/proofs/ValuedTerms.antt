@@ -9,10 +9,10 @@ use Rattle.cp_model.specs.Problem.{declared_sort, IsDeclared}
 use Rattle.cp_model.specs.Homomorphism.{substitution_by}
 use Rattle.cp_model.proofs.LawPrefixes.{variables_of_higher}
 use Rattle.cp_model.specs.Same.{has_variable}
-use Rattle.cp_strand.specs.Occurring.{declared_variables, prefix_variables, is_added, added_variables, AreTermsFor, terms_of}
+use Rattle.cp_model.proofs.SameTests.{in_has_variable}
+use Rattle.cp_strand.specs.PrefixVariables.{declared_variables, prefix_variables, is_added, added_variables, AreTermsFor, terms_of}
 use Rattle.cp_strand.specs.Valued.{term_or, valued}
-use Rattle.cp_skel.specs.Changing.{IsClosedPrefix}
-use Rattle.cp_skel.proofs.GivenParts.{in-has}
+use Rattle.cp_skel.specs.Extensions.{IsClosedPrefix}
 use Rattle.cp_skel.proofs.Placed.{placed, stays}
 
 true-or-false : (b : Bool) → (b ≡ true) ⊎ (b ≡ false)
@@ -156,4 +156,4 @@ pub keeps-terms : (role : Role) (before height : ℕ) (old vs : List Term) → b
     (substitution_by (valued (is_added (variables_of_prefix role before) (variables_of_prefix role height)) old 0 role.variables vs))
 keeps-terms role before height old vs le closed x i =
     kept-term (is_added (variables_of_prefix role before) (variables_of_prefix role height)) old role.variables vs x (closed x (variables_of_higher role before height le x i))
-    (not-added (has_variable (variables_of_prefix role height) x) (has_variable (variables_of_prefix role before) x) (in-has (variables_of_prefix role before) x i))
+    (not-added (has_variable (variables_of_prefix role height) x) (has_variable (variables_of_prefix role before) x) (in_has_variable (variables_of_prefix role before) x i))

@@ -3,8 +3,8 @@ use Rattle.std.specs.Prelude.{List}
 use Rattle.cp_model.specs.Term.{AtomTerm}
 use Rattle.cp_lists.specs.Lists.{IsIn}
 use Rattle.cp_model.specs.Strand.{Role}
-use Rattle.cp_skel.specs.declared.forgetting.Kind.{Kind}
-use Rattle.cp_skel.specs.declared.forgetting.Kind.TheVariants.{NonOriginating, PenetratorNonOriginating}
+use Rattle.cp_skel.specs.declared.assumptions_left.Kind.{Kind}
+use Rattle.cp_skel.specs.declared.assumptions_left.Kind.TheVariants.{NonOriginating, PenetratorNonOriginating}
 
 -- What a role states of a kind.
 abbrev pub stated_as : Kind → Role → List AtomTerm

@@ -4,12 +4,12 @@ pub mod Parts
 pub mod Sound
 pub mod Trees
 pub mod Given
-pub mod Changing
+pub mod Extensions
 pub mod DeclaredPrefixes
-pub mod Joining
+pub mod JoinedAssumptions
 pub mod Ordered
-pub mod Keeping
-pub mod Deleting
-pub mod Bridging
+pub mod KeptByChanges
+pub mod Deletion
+pub mod Bridges
 pub mod Kinds
 pub mod Events

@@ -1,16 +1,11 @@
 -- What every skeleton of the program keeps.
 use Rattle.std.specs.Prelude.{ℕ, ◌<◌, length}
 use Rattle.cp_lists.specs.Lists.{IsIn}
-use Rattle.cp_model.specs.Term.{Variable}
-use Rattle.cp_model.specs.Strand.{Role, Protocol, variables_of_trace}
+use Rattle.cp_model.specs.Strand.{Role, Protocol}
 use Rattle.cp_model.specs.Skeleton.{Skeleton, Before, IsSkeleton}
 use Rattle.cp_model.specs.declared.node.OrderPair.{OrderPair}
 use Rattle.cp_model.specs.Stated.{HasOwnAssumptions}
-use Rattle.cp_model.specs.Problem.{IsDeclared}
-
--- The role declares the variables of its events.
-abbrev pub DeclaresItsVariables : Role → Type 0
-DeclaresItsVariables role = (x : Variable) → IsIn x (variables_of_trace role.trace) → IsDeclared role.variables x
+use Rattle.cp_strand.specs.Declares.{DeclaresItsVariables}
 
 -- It is a skeleton over some protocol, whose roles declare their variables: its heights are ones of its roles, its pairs
 -- go from a transmission to a reception of another strand, its order has no cycle, each recorded origin is a transmission

@@ -1,6 +1,6 @@
 // What skeletons assume.
 ghost use Rattle.std.specs.Prelude.{◌≡◌, IfOk, OnOk, OnErr};
-ghost use Rattle.cp_skel.specs.Joining.{joined};
+ghost use Rattle.cp_skel.specs.JoinedAssumptions.{joined};
 
 use cp_model::Node;
 use cp_strand::{Atom, Same, copy_atoms};

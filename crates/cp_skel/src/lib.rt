@@ -1,35 +1,34 @@
 //! Skeletons and derivation trees as the program keeps them. Contracts see them as plain data.
 #![tactic(auto)]
 
-mod adding;
+mod assumption_lists;
 mod assumptions;
-mod bridging;
+mod assumptions_left;
+mod bridges;
 mod changes_laws;
-mod changing;
-mod collecting;
-mod copying;
-mod declaring;
-mod deleting;
+mod copies;
+mod deletion;
 mod events;
-mod forgetting;
+mod extensions;
 mod from_problem;
 mod gathered;
-mod giving;
+mod given_assumptions;
 mod laws;
-mod listing;
-mod ordering;
-mod originating;
-mod renumbering;
+mod new_numbers;
+mod node_order;
+mod origins;
+mod report_order;
+mod role_assumptions;
 mod skeleton;
 mod tree;
+mod variable_table;
 mod variables_laws;
 
-pub use adding::add_given;
+pub use assumption_lists::{add_atom, add_atoms, add_unique};
 pub use assumptions::{Assumptions, UniqueAt};
 pub use changes_laws::{
     changes_keep_homomorphisms, changes_keep_what_is_stated, extensions_fit, order_keeps_skeletons,
 };
-pub use collecting::{add_atom, add_atoms, add_unique};
 pub use cp_order::{Leading, Order, SortedPairs};
 pub use cp_strand::{
     Atom, Declaration, Event, Instance, Protocol, Role, Strand, StrandShape, all_occur, applied,
@@ -37,13 +36,14 @@ pub use cp_strand::{
 };
 pub use events::Occurrence;
 pub use from_problem::FromProblem;
-pub use giving::{has_unique, missing};
+pub use given_assumptions::add_given;
 pub use laws::{
     deleting_keeps_skeletons, extending_keeps_skeletons, given_behind_own_is_listed,
     listed_assumptions_are_the_same, listener_keeps_skeletons, skeletons_have_declared_prefixes,
     strand_keeps_skeletons, test_of_variables, variables_of_prefixes,
 };
-pub use listing::listed;
+pub use report_order::listed;
+pub use role_assumptions::{has_unique, missing};
 pub use skeleton::{Node, OrderPair, Skeleton};
 pub use tree::{Limits, Mark, Operation, Outcome, Test, Tree, TreeNode};
 pub use variables_laws::changes_keep_declared_variables;

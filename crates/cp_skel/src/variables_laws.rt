@@ -5,8 +5,9 @@ ghost use Rattle.cp_model.specs.Term.{Variable, Term, variables_of};
 ghost use Rattle.cp_model.specs.Strand.{Declaration, Role};
 ghost use Rattle.cp_model.specs.Skeleton.{Skeleton};
 ghost use Rattle.cp_model.specs.declared.node.OrderPair.{OrderPair};
-ghost use Rattle.cp_model.specs.Problem.{IsDeclared, HasDeclaredVariables};
-ghost use Rattle.cp_skel.specs.Changing.{AddsListener, IsClosedPrefix, AddsStrand, Extends};
+ghost use Rattle.cp_model.specs.Problem.{IsDeclared};
+ghost use Rattle.cp_model.specs.PointOfView.{HasDeclaredVariables};
+ghost use Rattle.cp_skel.specs.Extensions.{AddsListener, IsClosedPrefix, AddsStrand, Extends};
 ghost use Rattle.cp_skel.specs.Ordered.{ordered_by};
 
 /// A skeleton all of whose variables are declared stays one when a listener is added on a term of declared variables; when

@@ -1,5 +1,5 @@
 -- A history of all nodes is a bundle: the links by look-up, the numbering from the oldest event to the newest.
-use Rattle.std.proofs.Common.{◌++◌, ◌≡◌, ℕ, zero, suc, ◌<◌, List, [], ◌∷◌, length, map, Option, Some, None, refl, sym, ap, ◌∙◌, subst, ◌⊎◌, inl, inr}
+use Rattle.std.proofs.Common.{◌++◌, ◌≡◌, ℕ, ◌<◌, List, [], ◌∷◌, length, map, Option, Some, None, refl, sym, ap, ◌∙◌, subst, ◌⊎◌, inl, inr}
 use Rattle.cp_lists.specs.Lists.{item_at, IsIn, there, one_step, more_steps}
 use Rattle.cp_model.specs.Message.{Message}
 use Rattle.cp_model.specs.Term.{value_of}
@@ -7,7 +7,7 @@ use Rattle.cp_model.specs.Strand.{Event, send, recv, event_map, Protocol, prefix
 use Rattle.cp_model.specs.Bundle.{node_at, trace_or_none, event_at, IsListing, AreOfProtocol, Bundle, BundleStep, along_strand, along_link, Precedes, IsBundle}
 use Rattle.cp_model.specs.declared.node.Node.{Node}
 use Rattle.cp_model.specs.Skeleton.{SkeletonStrand, instance, listener, skeleton_trace, skeleton_trace_or_none, IsNodeOf, Skeleton}
-use Rattle.cp_lists.proofs.Items.{item_below, place_of, map_of_item, item_of_map, item_still, item_of_push}
+use Rattle.cp_lists.proofs.Items.{item_below, place_of, map_of_item, item_of_map, item_still, item_of_push, at_place}
 use Rattle.cp_model.proofs.LawEvents.{trace_after}
 use Rattle.cp_lists.proofs.Members.{head_or_behind, at_head}
 use Rattle.cp_soundness.proofs.SameNodes.{same_node_or_not}
@@ -170,7 +170,7 @@ module _ (k : Skeleton) (ns : List Node) (all : (n : Node) → IsNodeOf k.strand
         let r = each_happened n e h in
         let p = place_of (listed_oldest st.entries r.listed) in
         let q = map_of_item (λ (x : Entry). x.node) (oldest_first st.entries) p.0 _ p.1 in
-        at_place the_bundle.order p.0 (q ∙ ap Some r.same);
+        at_place the_bundle.order p.0 n (q ∙ ap Some r.same);
     only = λ n h.
         let p = place_of h in
         let r = item_of_map (λ (x : Entry). x.node) (oldest_first st.entries) p.0 _ p.1 in
@@ -181,11 +181,6 @@ module _ (k : Skeleton) (ns : List Node) (all : (n : Node) → IsNodeOf k.strand
         let b = item_of_map (λ (x : Entry). x.node) (oldest_first st.entries) j _ q in
         one_place k st.entries st.chain i j a.1 b.1 (a.2 ∙ sym b.2);
   }
-    where
-      at_place : {A : Type 0} (xs : List A) (i : ℕ) {x : A} → item_at xs i ≡ Some x → IsIn x xs
-      at_place [] i h = absurd (cc)
-      at_place (y ∷ xs) zero {x} h = let q : x ≡ y = cc in at_head q
-      at_place (y ∷ xs) (suc i) h = there (at_place xs i h)
 
   rises : (x y : Node) (i j : ℕ) → BundleStep the_bundle x y → item_at the_bundle.order i ≡ Some x → item_at the_bundle.order j ≡ Some y → i < j
   rises x y i j s p q =

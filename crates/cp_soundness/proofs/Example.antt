@@ -1,13 +1,14 @@
 -- The example meets the premises of the law.
 use Rattle.std.proofs.Common.{◌≡◌, ℕ, zero, suc, ◌+◌, ◌<◌, Some, refl, sym, ap, ◌∙◌, subst, le_refl, lt_trans, lt_irrefl, arith}
 use Rattle.cp_lists.specs.Lists.{item_at, IsIn, here, one_step, more_steps}
-use Rattle.cp_model.specs.Term.{AtomTerm, text_variable, Term, atom_term, IsCarriedByTerm, itself_term, in_left_term, in_plaintext_term, Substitution, unchanged}
+use Rattle.cp_model.specs.Term.{AtomTerm, text_variable, Term, atom_term, IsCarriedByTerm, itself_term, in_left_term, in_plaintext_term, Substitution}
+use Rattle.cp_model.specs.Identity.{unchanged}
 use Rattle.cp_model.specs.Strand.{send, recv, Role, IsHeight}
 use Rattle.cp_model.specs.Bundle.{node_at}
 use Rattle.cp_model.specs.declared.node.Node.{Node}
 use Rattle.cp_model.specs.Skeleton.{SkeletonStrand, instance, skeleton_trace, skeleton_trace_or_none, term_event_at, UniqueAt, OrderStep, along_strand_of, along_pair, Before, IsOrderPair, GivesAssumptions, IsSkeleton}
 use Rattle.cp_model.specs.Derivable.{DerivableAt, sent_before}
-use Rattle.cp_model.specs.Realising.{OriginatesAtTerm, KeepsAssumptions, AllDerivable}
+use Rattle.cp_model.specs.Realisation.{OriginatesAtTerm, KeepsAssumptions, AllDerivable}
 use Rattle.cp_model.specs.Example.{example_role, example_protocol}
 use Rattle.cp_lists.proofs.Members.{only_item}
 use Rattle.cp_model.proofs.StrandParts.{same_instance}

@@ -8,7 +8,7 @@ use Rattle.cp_model.specs.Bundle.{node_at, trace_or_none, OriginatesAt, KeepsNon
 use Rattle.cp_model.specs.declared.node.Node.{Node}
 use Rattle.cp_model.specs.Skeleton.{SkeletonStrand, instance, listener, skeleton_trace, skeleton_trace_or_none, UniqueAt, Skeleton, IsSkeleton}
 use Rattle.cp_model.specs.Derivable.{IsSecret}
-use Rattle.cp_model.specs.Realising.{OriginatesAtTerm, KeepsAssumptions}
+use Rattle.cp_model.specs.Realisation.{OriginatesAtTerm, KeepsAssumptions}
 use Rattle.cp_model.proofs.SingleValues.{same_atom}
 use Rattle.cp_model.proofs.LawTerms.{atom_after}
 use Rattle.cp_model.proofs.SingleTraces.{origin_of_value, origin_of_term}

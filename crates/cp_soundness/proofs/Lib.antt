@@ -3,9 +3,9 @@ pub mod Sorted
 pub mod Histories
 pub mod States
 pub mod Strands
-pub mod Deriving
-pub mod Weaving
-pub mod Placing
+pub mod Derivations
+pub mod WovenNodes
+pub mod PlacedNodes
 pub mod Kept
 pub mod Bundles
 pub mod Realised

@@ -7,19 +7,19 @@ use Rattle.cp_model.specs.Strand.{Event, send, recv, Role, Protocol, event_map}
 use Rattle.cp_model.specs.Bundle.{node_at, trace_or_none, KeepsUnique, Precedes}
 use Rattle.cp_model.specs.declared.node.Node.{Node}
 use Rattle.cp_model.specs.Skeleton.{SkeletonStrand, instance, listener, skeleton_trace, skeleton_trace_or_none, term_event_at, IsNodeOf, UniqueAt, Skeleton, OrderStep, along_strand_of, along_pair, Before, IsSkeleton}
-use Rattle.cp_model.specs.Realising.{AllDerivable, KeepsAssumptions}
+use Rattle.cp_model.specs.Realisation.{AllDerivable, KeepsAssumptions}
 use Rattle.cp_model.specs.Standing.{image_of, StandsOnRegular, StandsIn, IsRealised}
 use Rattle.cp_lists.proofs.Items.{item_before}
 use Rattle.cp_lists.proofs.Reached.{steps_append}
-use Rattle.cp_model.proofs.LawStandings.{strand_of_event}
+use Rattle.cp_model.proofs.LawStandings.{strand_of_event, event_on}
 use Rattle.cp_model.proofs.SingleBundle.{own_number, own_numbers_distinct}
 use Rattle.cp_soundness.proofs.SameNodes.{same_node}
 use Rattle.cp_soundness.proofs.Sorted.{IsUp, IsPair, step_cases, nodes_in_order}
 use Rattle.cp_soundness.proofs.Histories.{Entry, Leads, AtOrBefore, HasHappened}
 use Rattle.cp_soundness.proofs.States.{own_values, own_standing, home, State}
-use Rattle.cp_soundness.proofs.Deriving.{event_on, image_event}
-use Rattle.cp_soundness.proofs.Weaving.{image_at, step_on}
-use Rattle.cp_soundness.proofs.Placing.{all_placed}
+use Rattle.cp_soundness.proofs.Derivations.{image_event}
+use Rattle.cp_soundness.proofs.WovenNodes.{image_at, step_on}
+use Rattle.cp_soundness.proofs.PlacedNodes.{all_placed}
 use Rattle.cp_soundness.proofs.Kept.{regular_of, keeps_non, keeps_penetrator_non, keeps_unique, of_protocol}
 use Rattle.cp_soundness.proofs.Bundles.{the_bundle, precedes, happened_before, is_bundle}
 

@@ -7,7 +7,8 @@ use Rattle.cp_model.specs.Bundle.{node_at}
 use Rattle.cp_model.specs.declared.node.Node.{Node}
 use Rattle.cp_model.specs.Skeleton.{SkeletonStrand, skeleton_trace, skeleton_trace_or_none, term_event_at, IsNodeOf, Skeleton, OrderStep, along_strand_of, along_pair, Before}
 use Rattle.cp_model.specs.declared.node.OrderPair.{OrderPair}
-use Rattle.cp_lists.proofs.Members.{in_append, in_append_left, in_append_right, head_or_behind, at_head}
+use Rattle.cp_model.proofs.LawStandings.{strand_with_event}
+use Rattle.cp_lists.proofs.Members.{in_append, in_append_left, in_append_right, head_or_behind, at_head, not_in_none}
 use Rattle.cp_lists.proofs.Reached.{steps_append}
 use Rattle.cp_soundness.proofs.SameNodes.{same_number_or_not, same_node, same_node_or_not}
 
@@ -255,10 +256,7 @@ node_or_not None = inr (λ r. let q : None ≡ Some r.0 = r.1 in absurd (cc))
 node_or_not (Some e) = inl (e, refl)
 
 pair_or_not : (ps : List OrderPair) (a b : Node) → OrNot (IsPair ps a b)
-pair_or_not [] a b = inr (λ r. no_pair r.1)
-  where
-    no_pair : {p : OrderPair} → IsIn p [] → ⊥
-    no_pair h = elim h [ ]
+pair_or_not [] a b = inr (λ r. not_in_none r.1)
 pair_or_not (p ∷ ps) a b = of (both_or_not (same_node_or_not p.earlier a) (same_node_or_not p.later b)) (pair_or_not ps a b)
   where
     neither : ((p.earlier ≡ a) × (p.later ≡ b) → ⊥) → (IsPair ps a b → ⊥) → (q : OrderPair) → (q ≡ p) ⊎ IsIn q ps → q.earlier ≡ a → q.later ≡ b → ⊥
@@ -282,10 +280,6 @@ step_or_not k a b =
     of (inl h) = inl (step h)
     of (inr n) = inr (λ s. n (step_cases k s))
 
-strand_of_event : (o : Option SkeletonStrand) (i : ℕ) (e : Event Term) → item_at (skeleton_trace_or_none o) i ≡ Some e → (s : SkeletonStrand) × (o ≡ Some s) × (item_at (skeleton_trace s) i ≡ Some e)
-strand_of_event None i e h = absurd (cc)
-strand_of_event (Some s) i e h = (s, refl, h)
-
 -- The nodes of a skeleton without cycles in order.
 pub record NodesInOrder (k : Skeleton) : Type 0 where
   pub items : List Node
@@ -299,7 +293,7 @@ nodes_in_order k acyclic =
     record {
       items = s.items;
       each = λ n h.
-          let r = strand_of_event (item_at k.strands n.strand) n.index h.0 h.1 in
+          let r = strand_with_event (item_at k.strands n.strand) n.index h.0 h.1 in
           let q : zero + n.strand ≡ n.strand = omega arith in
           s.each n (subst (λ m. IsIn (node_at m n.index) (nodes_of 0 k.strands)) q (node_of 0 k.strands n.strand n.index r.1 r.2));
       only = λ n h.

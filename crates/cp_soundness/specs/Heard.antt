@@ -1,6 +1,7 @@
 -- An example: a skeleton with a reception that meets the premises of the law.
 use Rattle.std.specs.Prelude.{[], ◌∷◌}
-use Rattle.cp_model.specs.Term.{text_variable, name_variable, Term, atom_term, pair_term, enc_term, unchanged}
+use Rattle.cp_model.specs.Term.{text_variable, name_variable, Term, atom_term, pair_term, enc_term}
+use Rattle.cp_model.specs.Identity.{unchanged}
 use Rattle.cp_model.specs.Bundle.{node_at}
 use Rattle.cp_model.specs.Skeleton.{instance, listener, Skeleton}
 use Rattle.cp_model.specs.declared.node.OrderPair.{OrderPair}

@@ -1,7 +1,7 @@
 //! The law that a skeleton all of whose receptions are derivable is realised, and an example that meets its premises.
 #![tactic(auto)]
 
-ghost use Rattle.cp_model.specs.Realising.{AllDerivable, KeepsAssumptions};
+ghost use Rattle.cp_model.specs.Realisation.{AllDerivable, KeepsAssumptions};
 ghost use Rattle.cp_model.specs.Example.{example_protocol};
 ghost use Rattle.cp_model.specs.Skeleton.{Skeleton, IsSkeleton};
 ghost use Rattle.cp_model.specs.Standing.{IsRealised};

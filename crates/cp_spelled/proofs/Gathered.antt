@@ -4,17 +4,14 @@ use Rattle.std.specs.Prelude.{Some}
 use Rattle.std.proofs.lemmas.List.{append_assoc, append-nil}
 use Rattle.cp_lists.specs.Lists.{item_at, IsIn, here, there}
 use Rattle.cp_lists.proofs.Members.{in_pushed, of_each}
+use Rattle.cp_lists.proofs.Appended.{length_pushed, none_in_both}
 use Rattle.cp_base.specs.declared.place.Place.{Place}
 use Rattle.cp_model.specs.Term.{Variable}
 use Rattle.cp_model.specs.Same.{same_sort}
 use Rattle.cp_model.proofs.SameTests.{sort_is}
 use Rattle.cp_report.specs.Misfits.{misfit_unless}
 use Rattle.cp_report.specs.Spelled.{Local, LocalAt, keeps_sort, has_local, locals_onto, clash_misfits, place_of_local, variables_of_locals}
-use Rattle.cp_variables.proofs.Clashing.{added, clash-added}
-
-pub none-both : {A : Type 0} (xs ys : List A) → xs ++ ys ≡ [] → (xs ≡ []) × (ys ≡ [])
-none-both [] ys e = (refl, e)
-none-both (x ∷ xs) ys e = absurd (cc)
+use Rattle.cp_variables.proofs.GatheredLocals.{added, clash-added}
 
 pub holds : (b : Bool) (at : Place) → misfit_unless b at ≡ [] → b ≡ true
 holds true at e = refl
@@ -83,7 +80,7 @@ found-all (k ∷ ks) ls l e m =
     (λ i. found-all ks (added ls k.local) l later i) m
   where
     parts : (misfit_unless (keeps_sort ls k.local) k.at ≡ []) × (clash_misfits (ls ++ k.local ∷ []) ks ≡ [])
-    parts = none-both (misfit_unless (keeps_sort ls k.local) k.at) (clash_misfits (ls ++ k.local ∷ []) ks) e
+    parts = none_in_both (misfit_unless (keeps_sort ls k.local) k.at) (clash_misfits (ls ++ k.local ∷ []) ks) e
 
     later : clash_misfits (added ls k.local) ks ≡ []
     later = sym (clash-added ls k.local ks) ∙ parts.1
@@ -127,10 +124,6 @@ pub record IsOfLocal (count : ℕ) (ls bs : List Local) (x : Variable) : Type 0 
   pub listed : IsIn local bs
   pub is : x ≡ record { sort = local.sort; number = count + place_of_local ls local.number }
 
-length-last : (front : List Local) (l : Local) → length (front ++ l ∷ []) ≡ suc (length front)
-length-last [] l = refl
-length-last (a ∷ front) l = ap suc (length-last front l)
-
 of-local : (count : ℕ) (ls front bs : List Local) (n : ℕ) (x : Variable) → ls ≡ front ++ bs → AreApart front bs → n ≡ count + length front → IsIn x (variables_of_locals n bs) → IsOfLocal count ls bs x
 of-local count ls front [] n x e h g m = elim m [ ]
 of-local count ls front (b ∷ bs) n x e h g m =
@@ -141,7 +134,7 @@ of-local count ls front (b ∷ bs) n x e h g m =
     number = g ∙ ap (λ p. count + p) (sym (ap (λ ks. place_of_local ks b.number) e ∙ place-first front b bs h.0))
 
     next : suc n ≡ count + length (front ++ b ∷ [])
-    next = let last = length-last front b in omega (arith, g, last)
+    next = let last = length_pushed front b in omega (arith, g, last)
 
     behind : IsOfLocal count ls bs x → IsOfLocal count ls (b ∷ bs) x
     behind one = record { local = one.local; listed = there one.listed; is = one.is }

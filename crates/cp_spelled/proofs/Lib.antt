@@ -1,4 +1,4 @@
-pub mod Judging
+pub mod JudgedLists
 pub mod Scoped
 pub mod Meanings
 pub mod Mapped

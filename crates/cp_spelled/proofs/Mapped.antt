@@ -14,7 +14,7 @@ use Rattle.cp_sexpr.specs.declared.form.Form as program
 use Rattle.cp_language.specs.Terms.{variable_named}
 use Rattle.cp_language.specs.Roles.{list_items}
 use Rattle.cp_language.specs.Problems.{is_known, name_in_front, second_form}
-use Rattle.cp_scope.proofs.Naming.{AreSameNames, names-swap}
+use Rattle.cp_scope.proofs.DeclaredIdentifiers.{AreSameNames, names-swap}
 use Rattle.cp_report.specs.Misfits.{stands_before, list_misfits, entries_misfits, symbol_misfits}
 use Rattle.cp_report.specs.Spelled.{Scope, value_misfits}
 use Rattle.cp_report.specs.Skeletons.{identifier_of, maplet_misfits, maplets_misfits, term_or_tag, value_mapped}

@@ -4,6 +4,7 @@ use Rattle.std.specs.Prelude.{Option, Some, None, codes}
 use Rattle.std.proofs.lemmas.List.{append_assoc, append-nil}
 use Rattle.cp_lists.specs.Lists.{IsIn, here}
 use Rattle.cp_lists.proofs.Members.{in_append, in_append_left, in_append_right, only_item}
+use Rattle.cp_lists.proofs.Appended.{none_in_both}
 use Rattle.cp_base.specs.declared.place.Place.{Place}
 use Rattle.cp_model.specs.Term.{Sort, text_sort, datum_sort, name_sort, skey_sort, akey_sort, Variable, symmetric_term, skey_variable, ltk_term, asymmetric_term, akey_variable, pubk_term, KeyTerm, Term, tag_term, enc_term, inverse_term, variables_of, variables_of_key}
 use Rattle.cp_model.specs.Strand.{Declaration}
@@ -18,7 +19,7 @@ use Rattle.cp_language.specs.Terms.{TermSort, variable_named, sort_of_variable, 
 use Rattle.cp_report.specs.Misfits.{misfit, misfit_unless, unless_misfit, lacking, all_misfits, symbol_misfits, any_number_misfits}
 use Rattle.cp_report.specs.Spelled as report
 use Rattle.cp_report.specs.Spelled.{Local, LocalAt, Scope, sort_or_none, names_sort, local_with, local_by, local_of, local_at, is_local, variable_of_local, place_of_local, variable_in, sort_in, sort_of_head, known_or, key_misfits, local_misfits, is_of_sort, variable_misfits, variables_misfits, name_misfits, last_key_misfits, applied_misfits, term_misfits, each_term_misfits, term_in, terms_in, locals_in, locals_in_each}
-use Rattle.cp_spelled.proofs.Gathered.{none-both, holds}
+use Rattle.cp_spelled.proofs.Gathered.{holds}
 
 -- The variables of a label, and the locals of a pattern.
 module _ (ds : List Declaration) (ls : List Local) where
@@ -95,7 +96,7 @@ module _ (ds : List Declaration) (ls : List Local) where
   local-stated at none e = absurd (cc)
   local-stated at (more f none) e = absurd (some_behind (symbol_misfits names_sort f) at e)
   local-stated at (more (symbol p w) (more (number q n) none)) e =
-      let one = known_sort (sort_or_none (sort_word w)) q p n (none-both (misfit_unless (names_sort w) p) [] e).0 in record { local = one.0; is = one.1; inside = refl }
+      let one = known_sort (sort_or_none (sort_word w)) q p n (none_in_both (misfit_unless (names_sort w) p) [] e).0 in record { local = one.0; is = one.1; inside = refl }
   local-stated at (more (symbol p w) (more (symbol q n) none)) e = absurd (some_behind (misfit_unless (names_sort w) p) q e)
   local-stated at (more (symbol p w) (more (string q n) none)) e = absurd (some_behind (misfit_unless (names_sort w) p) q e)
   local-stated at (more (symbol p w) (more (list q n) none)) e = absurd (some_behind (misfit_unless (names_sort w) p) q e)
@@ -103,7 +104,7 @@ module _ (ds : List Declaration) (ls : List Local) where
   local-stated at (more (number p w) (more g none)) e = absurd (cc)
   local-stated at (more (list p w) (more g none)) e = absurd (cc)
   local-stated at (more f (more g (more h hs))) e =
-      absurd (some_behind (any_number_misfits g) (place_of h) (none-both (symbol_misfits names_sort f) (any_number_misfits g ++ misfit (place_of h)) e).1)
+      absurd (some_behind (any_number_misfits g) (place_of h) (none_in_both (symbol_misfits names_sort f) (any_number_misfits g ++ misfit (place_of h)) e).1)
 
   -- ---- variables
 
@@ -178,7 +179,7 @@ module _ (ds : List Declaration) (ls : List Local) where
 
   variables-one : (r : Sort) (at : Place) (fs : Forms) → variables_misfits scope (r ∷ []) at (items_of fs) ≡ [] → IsOne r fs
   variables-one r at none e = absurd (cc)
-  variables-one r at (more f none) e = record { form = f; is = refl; fits = (none-both (variable_misfits scope r f) [] e).0 }
+  variables-one r at (more f none) e = record { form = f; is = refl; fits = (none_in_both (variable_misfits scope r f) [] e).0 }
   variables-one r at (more f (more g gs)) e = absurd (some_behind (variable_misfits scope r f) (place_of g) e)
 
   record AreTwo (r q : Sort) (fs : Forms) : Type 0 where
@@ -191,7 +192,7 @@ module _ (ds : List Declaration) (ls : List Local) where
   variables-two : (r q : Sort) (at : Place) (fs : Forms) → variables_misfits scope (r ∷ q ∷ []) at (items_of fs) ≡ [] → AreTwo r q fs
   variables-two r q at none e = absurd (cc)
   variables-two r q at (more f fs) e =
-      let parts = none-both (variable_misfits scope r f) (variables_misfits scope (q ∷ []) at (items_of fs)) e in
+      let parts = none_in_both (variable_misfits scope r f) (variables_misfits scope (q ∷ []) at (items_of fs)) e in
       let rest = variables-one q at fs parts.1 in
       record { first = f; second = rest.form; is = ap (more f) rest.is; first_fits = parts.0; second_fits = rest.fits }
 
@@ -214,11 +215,11 @@ module _ (ds : List Declaration) (ls : List Local) where
         key = λ private. ap (λ (gs : Forms). key_of_name private (string p t ∷ items_of gs) (tag_term t ∷ terms_in scope gs)) one.is;
         inside = ap locals_in_each one.is;
       }
-  name-one at (more (symbol p t) none) e = record { purpose = None; form = symbol p t; fits = (none-both (variable_misfits scope name_sort (symbol p t)) [] e).0; key = λ private. refl; inside = refl }
+  name-one at (more (symbol p t) none) e = record { purpose = None; form = symbol p t; fits = (none_in_both (variable_misfits scope name_sort (symbol p t)) [] e).0; key = λ private. refl; inside = refl }
   name-one at (more (symbol p t) (more g gs)) e = absurd (some_behind (variable_misfits scope name_sort (symbol p t)) (place_of g) e)
-  name-one at (more (number p n) none) e = record { purpose = None; form = number p n; fits = (none-both (variable_misfits scope name_sort (number p n)) [] e).0; key = λ private. refl; inside = refl }
+  name-one at (more (number p n) none) e = record { purpose = None; form = number p n; fits = (none_in_both (variable_misfits scope name_sort (number p n)) [] e).0; key = λ private. refl; inside = refl }
   name-one at (more (number p n) (more g gs)) e = absurd (some_behind (variable_misfits scope name_sort (number p n)) (place_of g) e)
-  name-one at (more (list p hs) none) e = record { purpose = None; form = list p hs; fits = (none-both (variable_misfits scope name_sort (list p hs)) [] e).0; key = λ private. refl; inside = refl }
+  name-one at (more (list p hs) none) e = record { purpose = None; form = list p hs; fits = (none_in_both (variable_misfits scope name_sort (list p hs)) [] e).0; key = λ private. refl; inside = refl }
   name-one at (more (list p hs) (more g gs)) e = absurd (some_behind (variable_misfits scope name_sort (list p hs)) (place_of g) e)
 
   -- ---- keys
@@ -278,8 +279,8 @@ module _ (ds : List Declaration) (ls : List Local) where
 
   last-key : (f : Form) (fs : Forms) → all_misfits (each_term_misfits scope (more f fs)) ≡ [] → last_key_misfits scope (last_form (items_of (more f fs))) ≡ []
       → (k : KeyTerm) × (last_of (terms_in scope (more f fs)) ≡ key_as_term k)
-  last-key f none e g = term-key f (none-both (term_misfits scope f) [] e).0 g
-  last-key f (more h hs) e g = last-key h hs (none-both (term_misfits scope f) (all_misfits (each_term_misfits scope (more h hs))) e).1 g
+  last-key f none e g = term-key f (none_in_both (term_misfits scope f) [] e).0 g
+  last-key f (more h hs) e g = last-key h hs (none_in_both (term_misfits scope f) (all_misfits (each_term_misfits scope (more h hs))) e).1 g
 
   -- ---- variables of terms that are put together
 
@@ -336,16 +337,16 @@ module _ (ds : List Declaration) (ls : List Local) where
   applied-agrees : (at : Place) (h : TermHead) (fs : Forms) → applied_misfits scope at h (items_of fs) (each_term_misfits scope fs) ≡ []
       → (all_misfits (each_term_misfits scope fs) ≡ [] → Agree (locals_in_each fs) (variables_all (terms_in scope fs))) → Agree (locals_in_each fs) (variables_of (applied h (items_of fs) (terms_in scope fs)))
   applied-agrees at cat fs e each =
-      let parts = none-both (lacking 2 at (items_of fs) ++ all_misfits (each_term_misfits scope fs)) (report.spread_misfits (last_form (items_of fs))) e in
-      subst (Agree (locals_in_each fs)) (sym (paired-variables (terms_in scope fs))) (each (none-both (lacking 2 at (items_of fs)) (all_misfits (each_term_misfits scope fs)) parts.0).1)
+      let parts = none_in_both (lacking 2 at (items_of fs) ++ all_misfits (each_term_misfits scope fs)) (report.spread_misfits (last_form (items_of fs))) e in
+      subst (Agree (locals_in_each fs)) (sym (paired-variables (terms_in scope fs))) (each (none_in_both (lacking 2 at (items_of fs)) (all_misfits (each_term_misfits scope fs)) parts.0).1)
   applied-agrees at encrypt none e each = absurd (cc)
   applied-agrees at encrypt (more f fs) e each =
       let spread = report.spread_misfits (last_form (front_of (items_of (more f fs)))) in
       let items = all_misfits (each_term_misfits scope (more f fs)) in
       let lack = lacking 2 at (items_of (more f fs)) in
-      let parts = none-both (lack ++ items ++ spread) (last_key_misfits scope (last_form (items_of (more f fs)))) e in
-      let inner = none-both (lack ++ items) spread parts.0 in
-      let fit = (none-both lack items inner.0).1 in
+      let parts = none_in_both (lack ++ items ++ spread) (last_key_misfits scope (last_form (items_of (more f fs)))) e in
+      let inner = none_in_both (lack ++ items) spread parts.0 in
+      let fit = (none_in_both lack items inner.0).1 in
       let key = last-key f fs fit parts.1 in
       subst (Agree (locals_in_each (more f fs))) (sym (encrypted-variables (terms_in scope (more f fs)) key.0 key.1)) (each fit)
   applied-agrees at long_term_key fs e each =
@@ -405,5 +406,5 @@ module _ (ds : List Declaration) (ls : List Local) where
     pub each-agrees : (fs : Forms) → all_misfits (each_term_misfits scope fs) ≡ [] → Agree (locals_in_each fs) (variables_all (terms_in scope fs))
     each-agrees none e = agree-none
     each-agrees (more f fs) e =
-        let parts = none-both (term_misfits scope f) (all_misfits (each_term_misfits scope fs)) e in
+        let parts = none_in_both (term_misfits scope f) (all_misfits (each_term_misfits scope fs)) e in
         agree-both (locals_in f) (locals_in_each fs) (variables_of (term_in scope f)) (variables_all (terms_in scope fs)) (term-agrees f parts.0) (each-agrees fs parts.1)

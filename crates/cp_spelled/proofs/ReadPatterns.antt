@@ -3,6 +3,7 @@ use Rattle.std.proofs.Common.{◌≡◌, inl, inr, ℕ, zero, suc, ◌+◌, ◌<
 use Rattle.std.specs.Prelude.{Option, Some, None, codes}
 use Rattle.cp_lists.specs.Lists.{item_at, IsIn, here, there}
 use Rattle.cp_lists.proofs.Members.{head_or_behind}
+use Rattle.cp_lists.proofs.Appended.{none_in_both}
 use Rattle.cp_model.specs.Term.{Sort, Variable, Term, variables_of}
 use Rattle.cp_model.specs.Strand.{Declaration}
 use Rattle.cp_model.specs.Pattern.{IsEncryption, IsPattern}
@@ -15,7 +16,7 @@ use Rattle.cp_report.specs.Misfits.{misfit_unless}
 use Rattle.cp_report.specs.Heads.{has_head}
 use Rattle.cp_report.specs.Spelled.{Local, Scope, term_misfits, clash_misfits, locals_in, locals_onto, place_of_local, term_in, terms_in, pattern_scope, pattern_misfits, pattern_of, variables_of_locals}
 use Rattle.cp_term.specs.Patterns.{variable_with, pattern_by}
-use Rattle.cp_spelled.proofs.Gathered.{none-both, holds, each-found, each-stands}
+use Rattle.cp_spelled.proofs.Gathered.{holds, each-found, each-stands}
 use Rattle.cp_spelled.proofs.Patterned.{IsOf, named, stated, Agree, term-agrees}
 
 -- ---- the sorts of declared variables
@@ -76,10 +77,10 @@ module _ (ds : List Declaration) (f : Form) (fits : pattern_misfits ds f ≡ [])
   term = term_in (pattern_scope ds f) f
 
   parts : (misfit_unless (has_head (codes "enc" ∷ []) f) (place_of f) ++ term_misfits (pattern_scope ds f) f ≡ []) × (clash_misfits [] (locals_in f) ≡ [])
-  parts = none-both (misfit_unless (has_head (codes "enc" ∷ []) f) (place_of f) ++ term_misfits (pattern_scope ds f) f) (clash_misfits [] (locals_in f)) fits
+  parts = none_in_both (misfit_unless (has_head (codes "enc" ∷ []) f) (place_of f) ++ term_misfits (pattern_scope ds f) f) (clash_misfits [] (locals_in f)) fits
 
   front : (misfit_unless (has_head (codes "enc" ∷ []) f) (place_of f) ≡ []) × (term_misfits (pattern_scope ds f) f ≡ [])
-  front = none-both (misfit_unless (has_head (codes "enc" ∷ []) f) (place_of f)) (term_misfits (pattern_scope ds f) f) parts.0
+  front = none_in_both (misfit_unless (has_head (codes "enc" ∷ []) f) (place_of f)) (term_misfits (pattern_scope ds f) f) parts.0
 
   agree : Agree ds (locals_onto [] (locals_in f)) (locals_in f) (variables_of term)
   agree = term-agrees ds (locals_onto [] (locals_in f)) f front.1

@@ -6,12 +6,12 @@ use Rattle.cp_model.specs.Term.{Term}
 use Rattle.cp_model.specs.Strand.{Event}
 use Rattle.cp_model.specs.Skeleton.{SkeletonStrand, term_event_at, IsNodeOf, Skeleton, Before, IsOrderPair}
 use Rattle.cp_model.specs.declared.node.OrderPair.{OrderPair}
-use Rattle.cp_model.specs.Order.{reaches}
+use Rattle.cp_model.specs.OrderTests.{reaches}
 use Rattle.cp_model.proofs.LawOrder.{leads_before}
 use Rattle.cp_sexpr.specs.Syntax.{Form}
 use Rattle.cp_language.specs.Faults.{place_of}
 use Rattle.cp_language.specs.Problems.{is_known, on_one_strand, is_transmission, is_reception, between_strands, pair_of, pairs_in}
-use Rattle.cp_language.proofs.Reaching.{reaches_all}
+use Rattle.cp_language.proofs.BoundedSearch.{reaches_all}
 use Rattle.cp_report.specs.Misfits.{misfit_unless, list_misfits, entries_misfits, lacking}
 use Rattle.cp_report.specs.Heads.{entries_of, entries_or_none, optional_misfits}
 use Rattle.cp_report.specs.Skeletons.{node_misfits, has_pair, is_further_pair, pair_stated, pair_misfits, pairs_misfits, precedes_misfits, is_in_order}

@@ -2,7 +2,7 @@
 use Rattle.std.proofs.Common.{◌≡◌, List, length, Bool, true, false, not, ◌&&◌, refl}
 use Rattle.std.specs.Prelude.{Some}
 use Rattle.cp_model.specs.Skeleton.{SkeletonStrand, term_event_at}
-use Rattle.cp_model.specs.Order.{reaches}
+use Rattle.cp_model.specs.OrderTests.{reaches}
 use Rattle.cp_model.specs.declared.node.OrderPair.{OrderPair}
 use Rattle.cp_language.specs.Problems.{on_one_strand, is_transmission, is_reception}
 use Rattle.cp_report.specs.Skeletons.{has_pair, is_further_pair}

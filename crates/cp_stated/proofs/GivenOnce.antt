@@ -27,8 +27,8 @@ use Rattle.cp_report.proofs.PrintedUniques.{all_uniques}
 use Rattle.cp_variables.specs.FirstMisfit.{first_onto, merged, onto_none}
 use Rattle.cp_forms.proofs.FirstOf.{first_onto-append}
 use Rattle.cp_variables.proofs.Firsts.{merged-unless}
-use Rattle.cp_stated.specs.Assuming.{assumptions_misfits, uniques_item_misfits}
-use Rattle.cp_stated.specs.Mapping.{map_misfits_to, values_by, from_problem_to}
+use Rattle.cp_stated.specs.AssumptionEntries.{assumptions_misfits, uniques_item_misfits}
+use Rattle.cp_stated.specs.ProblemMap.{map_misfits_to, values_by, from_problem_to}
 use Rattle.cp_stated.proofs.FittingValues.{given_atoms, given_there}
 
 pub atoms-once : (vs ws : List AtomTerm) → has_atoms vs (atoms_onto [] ws) ≡ has_atoms vs ws

@@ -4,9 +4,9 @@ pub mod FittingOrder
 pub mod FittingValues
 pub mod FittingMap
 pub mod SoundStated
-pub mod Gathering
+pub mod FormLists
 pub mod Unless
-pub mod Numbering
+pub mod NumberedLists
 pub mod GivenOnce
 pub mod Further
 pub mod Results

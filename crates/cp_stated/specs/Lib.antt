@@ -1,2 +1,2 @@
-pub mod Assuming
-pub mod Mapping
+pub mod AssumptionEntries
+pub mod ProblemMap

@@ -7,10 +7,10 @@ ghost use Rattle.cp_load.specs.Drafts.{draft_view};
 ghost use Rattle.cp_report.specs.Skeletons.{scope_of, problem_variables, strands_of_label, around_strands_misfits};
 ghost use Rattle.cp_variables.specs.FirstMisfit.{first_onto};
 ghost use Rattle.cp_spelled.specs.Views.{scope_view};
-ghost use Rattle.cp_stated.specs.Assuming.{no_assumptions};
+ghost use Rattle.cp_stated.specs.AssumptionEntries.{no_assumptions};
 
-use crate::mapping::{Ends, map_misfits};
 use crate::order::order_misfits;
+use crate::problem_map::{Ends, map_misfits};
 use crate::uniques::all_uniques_misfits;
 use crate::values::values_misfits;
 use cp_base::Place;

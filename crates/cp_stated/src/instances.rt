@@ -13,7 +13,7 @@ ghost use Rattle.cp_variables.specs.FirstMisfit.{first_onto};
 ghost use Rattle.cp_spelled.specs.Views.{scope_view};
 
 use crate::heads::is_strand;
-use crate::making::number_of;
+use crate::stated_strands::number_of;
 use cp_base::Place;
 use cp_forms::{items_behind, place_of, symbol_or_empty};
 use cp_roles::role_named;

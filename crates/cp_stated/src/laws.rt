@@ -6,7 +6,8 @@ ghost use Rattle.cp_model.specs.Strand.{Role};
 ghost use Rattle.cp_model.specs.Skeleton.{IsSkeleton};
 ghost use Rattle.cp_sexpr.specs.Syntax.{Form};
 ghost use Rattle.cp_language.specs.Problems.{Problem};
-ghost use Rattle.cp_skel.specs.Sound.{DeclaresItsVariables, IsSound};
+ghost use Rattle.cp_skel.specs.Sound.{IsSound};
+ghost use Rattle.cp_strand.specs.Declares.{DeclaresItsVariables};
 ghost use Rattle.cp_report.specs.Skeletons.{strands_misfits, around_strands_misfits, skeleton_stated};
 
 /// Where the items of a label form that state its skeleton fit, this is a skeleton over the protocol of the problem; and

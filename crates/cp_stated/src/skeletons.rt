@@ -1,21 +1,18 @@
 // The skeleton that a label form states.
 ghost use Rattle.std.specs.Prelude.{◌≡◌, [], map, IfOk};
 ghost use Rattle.cp_base.specs.declared.place.Place.{Place};
-ghost use Rattle.cp_lists.specs.Lists.{IsIn};
-ghost use Rattle.cp_model.specs.Strand.{Role};
 ghost use Rattle.cp_sexpr.specs.View.{view};
 ghost use Rattle.cp_strand.specs.View.{declaration_view, strand_view};
-ghost use Rattle.cp_skel.specs.Sound.{DeclaresItsVariables};
 ghost use Rattle.cp_skel.specs.Trees.{variables_view};
 ghost use Rattle.cp_skel.specs.View.{skeleton_view};
 ghost use Rattle.cp_load.specs.Drafts.{draft_view};
 ghost use Rattle.cp_report.specs.Skeletons.{declarations_of_label, scope_of, assumptions_under, problem_variables, strands_of_label, from_problem_by, strands_misfits, around_strands_misfits, skeleton_stated};
 ghost use Rattle.cp_spelled.specs.Views.{scope_view};
-ghost use Rattle.cp_stated.specs.Mapping.{from_problem_to};
+ghost use Rattle.cp_stated.specs.ProblemMap.{from_problem_to};
 
 use crate::images::{images_among, pairs_in_order};
-use crate::mapping::{strands_mapped, values_of_map};
 use crate::order::pairs_under;
+use crate::problem_map::{strands_mapped, values_of_map};
 use crate::uniques::uniques_under;
 use crate::values::atoms_under;
 use cp_load::{Draft, table_of};
@@ -70,7 +67,6 @@ pub fn skeleton_stated(
     strands: Vec<Strand>,
     items: &[Form],
 ) -> Result<Skeleton, AllocError>
-    requires declared { (role : Role) → IsIn role (draft_view problem.now).protocol.roles → DeclaresItsVariables role }
     requires names { map declaration_view names.now ≡ problem_variables (draft_view problem.now) }
     requires scope { scope_view scope ≡ scope_of (map view items.now) }
     requires strands { map strand_view strands.items ≡ strands_of_label (draft_view problem.now) (map view items.now) }
@@ -94,6 +90,7 @@ pub fn skeleton_stated(
         to_strands,
         values,
     )?;
+    problem.protocol.is_sound();
     let variables = table_of(alloc, scope.variables.as_slice())?;
     Ok(Skeleton::new(
         variables,

@@ -17,7 +17,7 @@ ghost use Rattle.cp_report.specs.Spelled.{atom_misfits};
 ghost use Rattle.cp_report.specs.Skeletons.{scope_of, term_or_tag, node_misfits, carries_value, may_be_origin, unique_of, second_place, unique_misfits, uniques_misfits, has_uniques, uniques_under};
 ghost use Rattle.cp_variables.specs.FirstMisfit.{first_onto};
 ghost use Rattle.cp_spelled.specs.Views.{scope_view};
-ghost use Rattle.cp_stated.specs.Assuming.{may_be_origin_on, uniques_item_misfits};
+ghost use Rattle.cp_stated.specs.AssumptionEntries.{may_be_origin_on, uniques_item_misfits};
 
 use crate::heads::{item_with, place_or};
 use crate::nodes::{node_or_first, one_node_misfits};

@@ -8,7 +8,7 @@ ghost use Rattle.cp_report.specs.Spelled.{atom_in};
 ghost use Rattle.cp_report.specs.Skeletons.{scope_of, has_atoms, atoms_misfits, values_misfits, atoms_under};
 ghost use Rattle.cp_variables.specs.FirstMisfit.{first_onto};
 ghost use Rattle.cp_spelled.specs.Views.{scope_view};
-ghost use Rattle.cp_stated.specs.Assuming.{atom_entry_misfits};
+ghost use Rattle.cp_stated.specs.AssumptionEntries.{atom_entry_misfits};
 
 use crate::heads::{item_with, place_or};
 use cp_base::Place;

@@ -1,13 +1,13 @@
 -- The first event that carries a term: its origin, if it is a transmission.
-use Rattle.std.proofs.Common.{◌≡◌, ℕ, ◌+◌, ◌<◌, ◌≤◌, List, length, get_or, map, sym, ap, ◌∙◌, subst, arith, ◌⊎◌, inl, inr}
+use Rattle.std.proofs.Common.{◌≡◌, ℕ, ◌+◌, ◌<◌, ◌≤◌, List, length, get_or, map, ap, ◌∙◌, subst, arith, ◌⊎◌, inl, inr}
 use Rattle.std.specs.Prelude.{Some}
+use Rattle.std.proofs.lemmas.List.{length-map}
 use Rattle.cp_lists.specs.Lists.{item_at}
 use Rattle.cp_model.specs.Term.{Term, IsCarriedByTerm}
 use Rattle.cp_model.specs.Strand.{Event, send, recv, payload, OriginatesInTerms}
-use Rattle.cp_lists.proofs.Items.{item_below}
+use Rattle.cp_lists.proofs.Items.{item_below, map_of_read, same_item}
 use Rattle.cp_strand.specs.View.{event_view}
 use Rattle.cp_strand.specs.declared.protocol.Event as program
-use Rattle.cp_strand.proofs.Items.{item-there, map-length}
 
 -- None of the first i events carries the term.
 abbrev pub IsNowhereBefore : List (Event Term) → Term → ℕ → Type 0
@@ -16,12 +16,9 @@ IsNowhereBefore es v i = (j : ℕ) (e : Event Term) → j < i → item_at es j �
 compare : (i j : ℕ) → (i < j) ⊎ ((i ≡ j) ⊎ (j < i))
 compare i j = grind arith
 
-same-item : (es : List (Event Term)) (i j : ℕ) (d e : Event Term) → i ≡ j → item_at es i ≡ Some d → item_at es j ≡ Some e → d ≡ e
-same-item es i j d e h p q = let r : Some d ≡ Some e = sym p ∙ ap (item_at es) h ∙ q in cc
-
 module _ (es : List program.Event) (v : Term) (i : ℕ) (e : program.Event) (lt : i < length es) (is : e ≡ get_or es i e) (before : IsNowhereBefore (map event_view es) v i) where
   at : item_at (map event_view es) i ≡ Some (event_view e)
-  at = item-there event_view es i e lt is
+  at = map_of_read event_view es i e lt is
 
   pub origin-sent : (m : Term) → event_view e ≡ send m → IsCarriedByTerm v (payload (event_view e)) → OriginatesInTerms (map event_view es) v i
   origin-sent m s c = record {
@@ -34,7 +31,7 @@ module _ (es : List program.Event) (v : Term) (i : ℕ) (e : program.Event) (lt 
   not-received : (m : Term) → event_view e ≡ recv m → IsCarriedByTerm v (payload (event_view e)) → (k : ℕ) → OriginatesInTerms (map event_view es) v k → (k < i) ⊎ ((k ≡ i) ⊎ (i < k)) → ⊥
   not-received m r c k o (inl below) = before k (send o.sent) below o.transmission o.carried
   not-received m r c k o (inr (inl same)) =
-      let d : send o.sent ≡ event_view e = same-item (map event_view es) k i (send o.sent) (event_view e) same o.transmission at in
+      let d : send o.sent ≡ event_view e = same_item (map event_view es) k i (send o.sent) (event_view e) same o.transmission at in
       let f : send o.sent ≡ recv m = d ∙ r in
       absurd (cc)
   not-received m r c k o (inr (inr above)) = o.first i (event_view e) above at c
@@ -45,7 +42,7 @@ module _ (es : List program.Event) (v : Term) (i : ℕ) (e : program.Event) (lt 
   at-or-before : (IsCarriedByTerm v (payload (event_view e)) → ⊥) → (j : ℕ) (d : Event Term) → (j < i) ⊎ ((j ≡ i) ⊎ (i < j)) → j < i + 1 → item_at (map event_view es) j ≡ Some d → IsCarriedByTerm v (payload d) → ⊥
   at-or-before never j d (inl below) l h c = before j d below h c
   at-or-before never j d (inr (inl same)) l h c =
-      never (subst (λ w. IsCarriedByTerm v (payload w)) (same-item (map event_view es) j i d (event_view e) same h at) c)
+      never (subst (λ w. IsCarriedByTerm v (payload w)) (same_item (map event_view es) j i d (event_view e) same h at) c)
   at-or-before never j d (inr (inr above)) l h c = absurd (omega arith)
 
   pub origin-not-here : (IsCarriedByTerm v (payload (event_view e)) → ⊥) → IsNowhereBefore (map event_view es) v (i + 1)
@@ -54,7 +51,7 @@ module _ (es : List program.Event) (v : Term) (i : ℕ) (e : program.Event) (lt 
 pub origin-nowhere : (es : List program.Event) (v : Term) (i : ℕ) → length es ≤ i → IsNowhereBefore (map event_view es) v i → (k : ℕ) → OriginatesInTerms (map event_view es) v k → ⊥
 origin-nowhere es v i le before k o =
     let l : k < length (map event_view es) = item_below (map event_view es) k (send o.sent) o.transmission in
-    let n : length (map event_view es) ≡ length es = map-length event_view es in
+    let n : length (map event_view es) ≡ length es = length-map es event_view in
     before k (send o.sent) (omega arith) o.transmission o.carried
 
 pub origin-moved : (s t : List (Event Term)) (v w : Term) (i : ℕ) → s ≡ t → v ≡ w → OriginatesInTerms s v i → OriginatesInTerms t w i

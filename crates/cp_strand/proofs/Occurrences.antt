@@ -1,12 +1,12 @@
 -- Variables that occur in terms and events.
 use Rattle.std.proofs.Common.{◌≡◌, ℕ, ◌+◌, ◌<◌, List, [], ◌∷◌, ◌++◌, ◌||◌, ◌&&◌, ◌==◌, length, get_or, drop, map, Bool, true, false, refl, sym, ap, ◌∙◌}
+use Rattle.cp_lists.proofs.Members.{drop_read}
 use Rattle.cp_model.specs.Term.{Variable, KeyTerm, Term, pair_term, enc_term, variables_of, variables_of_key}
 use Rattle.cp_model.specs.Strand.{payload, variables_of_trace}
 use Rattle.cp_model.specs.Same.{same_sort, has_variable}
 use Rattle.cp_term.specs.Keys.{key_as_term}
 use Rattle.cp_strand.specs.View.{event_view}
 use Rattle.cp_strand.specs.declared.protocol.Event.{Event}
-use Rattle.cp_strand.proofs.Items.{item-drop}
 
 or_assoc : (a b c : Bool) → (a || (b || c)) ≡ ((a || b) || c)
 or_assoc true b c = refl
@@ -48,7 +48,7 @@ module _ (x : Variable) (whole term : Term) (h : has_variable (variables_of term
 module _ (x : Variable) (es : List Event) (k : ℕ) (e : Event) (lt : k < length es) (is : e ≡ get_or es k e) (all : Bool)
     (h : has_variable (variables_of_trace (map event_view (drop k es))) x ≡ all) where
   next : (has_variable (variables_of (payload (event_view e))) x || has_variable (variables_of_trace (map event_view (drop (k + 1) es))) x) ≡ all
-  next = sym (ap (λ us. has_variable (variables_of_trace (map event_view us)) x) (item-drop es k e lt is) ∙ has_variable-append (variables_of (payload (event_view e))) (variables_of_trace (map event_view (drop (k + 1) es))) x) ∙ h
+  next = sym (ap (λ us. has_variable (variables_of_trace (map event_view us)) x) (drop_read es k e lt is) ∙ has_variable-append (variables_of (payload (event_view e))) (variables_of_trace (map event_view (drop (k + 1) es))) x) ∙ h
 
   pub in_event : true ≡ has_variable (variables_of (payload (event_view e))) x → true ≡ all
   in_event f = ap (λ b. b || has_variable (variables_of_trace (map event_view (drop (k + 1) es))) x) f ∙ next

@@ -5,14 +5,10 @@ use Rattle.std.proofs.lemmas.List.{drop_all, take-map}
 use Rattle.cp_lists.specs.Lists.{item_at}
 use Rattle.cp_model.specs.Term.{Term, IsCarriedByTerm, Substitution, apply_to}
 use Rattle.cp_model.specs.Strand.{Event, send, recv, payload, event_map, OriginatesInTerms}
+use Rattle.cp_model.proofs.LawEvents.{payload_map}
 use Rattle.cp_lists.proofs.Items.{item_of_take, take_of_item, map_of_item}
 use Rattle.cp_term.proofs.CarriedTerms.{not_both}
-use Rattle.cp_strand.specs.Originating.{IsCarriedByOne, OriginatesUnder}
-
--- The payload of an event under a map.
-pub payload_of_map : (f : Term → Term) (e : Event Term) → payload (event_map f e) ≡ f (payload e)
-payload_of_map f (send m) = refl
-payload_of_map f (recv m) = refl
+use Rattle.cp_strand.specs.Origins.{IsCarriedByOne, OriginatesUnder}
 
 module _ {A : Type 0} (view : A → Event Term) (s : Substitution) (t : Term) where
   first_or_rest : (x : A) (xs : List A) → (IsCarriedByTerm t (apply_to s (payload (view x))) → ⊥) →
@@ -44,7 +40,7 @@ none_earlier s [] t i none j e l p h = absurd (cc)
 none_earlier s (x ∷ es) t zero none j e l p h = absurd (omega arith)
 none_earlier s (x ∷ es) t (suc i) none zero e l p h =
     let same : event_map (apply_to s) x ≡ e = cc in
-    none (inl (subst (IsCarriedByTerm t) (ap payload (sym same) ∙ payload_of_map (apply_to s) x) h))
+    none (inl (subst (IsCarriedByTerm t) (ap payload (sym same) ∙ payload_map (apply_to s) x) h))
 none_earlier s (x ∷ es) t (suc i) none (suc j) e l p h = none_earlier s es t i (λ one. none (inr one)) j e (omega arith) p h
 
 pub some_earlier : (s : Substitution) (es : List (Event Term)) (t : Term) (i : ℕ) →
@@ -54,7 +50,7 @@ some_earlier s [] t zero first h = h
 some_earlier s [] t (suc i) first h = h
 some_earlier s (x ∷ es) t zero first h = h
 some_earlier s (x ∷ es) t (suc i) first (inl h) =
-    first 0 (event_map (apply_to s) x) (omega arith) refl (subst (IsCarriedByTerm t) (sym (payload_of_map (apply_to s) x)) h)
+    first 0 (event_map (apply_to s) x) (omega arith) refl (subst (IsCarriedByTerm t) (sym (payload_map (apply_to s) x)) h)
 some_earlier s (x ∷ es) t (suc i) first (inr h) = some_earlier s es t i (λ j e l p. first (suc j) e (omega arith) p) h
 
 event_under : (s : Substitution) (es : List (Event Term)) (i : ℕ) (e : Event Term) → Some e ≡ item_at es i → item_at (map (event_map (apply_to s)) es) i ≡ Some (event_map (apply_to s) e)

@@ -3,12 +3,12 @@ use Rattle.std.proofs.Common.{◌≡◌, ℕ, zero, suc, ◌+◌, ◌<◌, ◌�
 use Rattle.std.specs.Prelude.{Option}
 use Rattle.std.proofs.lemmas.List.{append-nil, drop_all}
 use Rattle.cp_lists.specs.Lists.{item_at}
+use Rattle.cp_lists.proofs.Members.{drop_read}
 use Rattle.cp_model.specs.Term.{Variable, Term}
 use Rattle.cp_model.specs.Strand as strand
 use Rattle.cp_strand.specs.View.{sort_view, declaration_view}
 use Rattle.cp_strand.specs.declared.protocol.Declaration.{Declaration}
 use Rattle.cp_strand.specs.Valued.{term_or, valued}
-use Rattle.cp_strand.proofs.Items.{item-drop}
 
 item-zero : {A : Type 0} (k : ℕ) (xs : List A) → item_at (drop k xs) 0 ≡ item_at xs k
 item-zero zero [] = refl
@@ -32,7 +32,7 @@ module _ (wanted : Variable → Bool) (old : List Term) (ds : List Declaration) 
   rest = map declaration_view (drop (n + 1) ds)
 
   opened : valued wanted old n (map declaration_view (drop n ds)) vs ≡ (if wanted x then term_or x (item_at vs 0) ∷ valued wanted old (suc n) rest (drop 1 vs) else term_or x (item_at old n) ∷ valued wanted old (suc n) rest vs)
-  opened = ap (λ es. valued wanted old n (map declaration_view es) vs) (item-drop ds n d lt is)
+  opened = ap (λ es. valued wanted old n (map declaration_view es) vs) (drop_read ds n d lt is)
 
   kept : wanted x ≡ false → valued wanted old n (map declaration_view (drop n ds)) vs ≡ term_or x (item_at old n) ∷ valued wanted old (n + 1) rest vs
   kept e = opened ∙ chosen (wanted x) false x (item_at vs 0) (item_at old n) (valued wanted old (suc n) rest (drop 1 vs)) (valued wanted old (suc n) rest vs) e

@@ -2,9 +2,9 @@ pub mod Data
 pub mod View
 pub mod Atoms
 pub mod Bodies
+pub mod Declares
 pub mod RoleParts
 pub mod Shapes
-pub mod Sorts
-pub mod Originating
-pub mod Occurring
+pub mod Origins
+pub mod PrefixVariables
 pub mod Valued

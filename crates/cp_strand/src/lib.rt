@@ -1,28 +1,28 @@
 //! Roles, protocols, and strands of skeletons as the program keeps them. Contracts see them as plain data.
 #![tactic(auto)]
 
-mod applying;
 mod atom;
-mod comparing;
-mod copying;
-mod occurring;
-mod originating;
+mod copies;
+mod events;
+mod instance_terms;
+mod prefix_variables;
 mod protocol;
 mod same;
 mod same_role;
 mod strand;
-mod substituting;
-mod valuing;
+mod term_origins;
+mod terms_under;
+mod values;
 
-pub use applying::{applied, applied_atom};
 pub use atom::{Atom, has_atom};
-pub use comparing::carries_under;
-pub use copying::{copy_atoms, copy_terms};
-pub use occurring::{all_occur, occurs, prefix_of};
-pub use originating::origin;
+pub use copies::{copy_atoms, copy_terms};
+pub use events::{applied, applied_atom};
+pub use instance_terms::instance_of;
+pub use prefix_variables::{all_occur, occurs, prefix_of};
 pub use protocol::{Declaration, Event, Protocol, Role};
 pub use same::{Same, has};
 pub use same_role::is_same_role;
 pub use strand::{Instance, Strand, StrandShape};
-pub use substituting::value_of_variable;
-pub use valuing::instance_of;
+pub use term_origins::origin;
+pub use terms_under::carries_under;
+pub use values::value_of_variable;

@@ -1,6 +1,7 @@
 // Declarations, events, roles and protocols.
 ghost use Rattle.std.specs.Prelude.{◌≡◌, ◌≤◌, map};
 ghost use Rattle.cp_model.specs.Strand.{payload};
+ghost use Rattle.cp_strand.specs.Declares.{DeclaresItsVariables, HasDeclaringRoles};
 ghost use Rattle.cp_strand.specs.View.{declaration_view, event_view};
 
 use crate::atom::Atom;
@@ -36,8 +37,8 @@ impl Event {
     }
 }
 
-/// A role: its name, its variables, its events, and its assumptions. Beside these it is kept whether it is small; contracts see
-/// nothing of that.
+/// A role: its name, its variables, its events, and its assumptions. It declares the variables of its events. Beside these it is
+/// kept whether it is small; contracts see nothing of that.
 #[derive(Drop)]
 pub struct Role {
     name: Text,
@@ -94,11 +95,16 @@ impl Model for Role {
     ghost use Rattle.cp_strand.specs.RoleParts.{role_of_parts};
 
     ghost view = { role_of_parts };
+
+    ghost use Rattle.cp_strand.specs.Declares.{DeclaresItsVariables};
+
+    ghost invariant = { λ r. DeclaresItsVariables (role_of_parts r) };
 }
 
 impl Role {
     /// The role with this name, these variables, whose numbers are their places, these events, and what it assumes of the
-    /// values that do not originate, that the penetrator does not originate, and that originate once.
+    /// values that do not originate, that the penetrator does not originate, and that originate once. It has to declare the
+    /// variables of its events.
     pub fn new(
         name: Text,
         variables: Vec<Declaration>,
@@ -107,6 +113,14 @@ impl Role {
         penetrator_non_originating: Vec<Atom>,
         uniquely_originating: Vec<Atom>,
     ) -> Role
+        requires { DeclaresItsVariables (record {
+          name = name;
+          variables = map declaration_view variables.items;
+          trace = map event_view trace.items;
+          non_originating = non_originating.items;
+          penetrator_non_originating = penetrator_non_originating.items;
+          uniquely_originating = uniquely_originating.items;
+        }) }
         ensures { result ≡ record {
           name = name;
           variables = map declaration_view variables.items;
@@ -126,6 +140,13 @@ impl Role {
             uniquely_originating,
             is_small,
         }
+    }
+
+    /// Every role declares the variables of its events.
+    pub fn is_sound(&self)
+        ensures { DeclaresItsVariables self.now }
+    {
+        let _ = &self.variables;
     }
 
     /// Whether the messages of its events have few parts together, so that strands may hold their events.
@@ -176,7 +197,7 @@ impl Role {
     }
 }
 
-/// A protocol: its name, and its roles, each of which the strands of skeletons share.
+/// A protocol: its name, and its roles, each of which the strands of skeletons share, and declares the variables of its events.
 #[derive(Drop)]
 pub struct Protocol {
     name: Text,
@@ -194,14 +215,26 @@ impl Model for Protocol {
     ghost use Rattle.std.specs.Prelude.{map};
 
     ghost view = { λ p. record { name = p.name; roles = map (λ r. r.value) p.roles.items } };
+
+    ghost use Rattle.cp_strand.specs.Declares.{HasDeclaringRoles};
+
+    ghost invariant = { λ p. HasDeclaringRoles (record { name = p.name; roles = map (λ r. r.value) p.roles.items }) };
 }
 
 impl Protocol {
-    /// The protocol with this name and these roles.
+    /// The protocol with this name and these roles, which have to declare the variables of their events.
     pub fn new(name: Text, roles: Vec<Rc<Role>>) -> Protocol
+        requires { HasDeclaringRoles (record { name = name; roles = map (λ r. r.value) roles.items }) }
         ensures { result ≡ record { name = name; roles = map (λ r. r.value) roles.items } }
     {
         Protocol { name, roles }
+    }
+
+    /// Each role of every protocol declares the variables of its events.
+    pub fn is_sound(&self)
+        ensures { HasDeclaringRoles self.now }
+    {
+        let _ = &self.roles;
     }
 
     /// Its name.

@@ -5,7 +5,7 @@ ghost use Rattle.cp_strand.specs.Data.{listener_data};
 ghost use Rattle.cp_strand.specs.Shapes.{strand_of_shape};
 ghost use Rattle.cp_strand.specs.View.{instance_as_data};
 
-use crate::applying::held_events;
+use crate::events::held_events;
 use crate::protocol::{Event, Role};
 use cp_term::Term;
 use std::alloc::{AllocError, Global};

@@ -8,12 +8,12 @@ use Rattle.cp_model.specs.Strand.{Role, variables_of_prefix}
 use Rattle.cp_model.specs.declared.node.Node.{Node}
 use Rattle.cp_model.specs.Skeleton.{SkeletonStrand, instance, listener, UniqueAt, Assumptions, FromProblem, Skeleton}
 use Rattle.cp_model.specs.Same.{has_variable}
-use Rattle.cp_strand.specs.Occurring.{prefix_variables, added_variables, terms_of}
-use Rattle.cp_skel.specs.Changing.{AddsListener, AddsStrand, Extends}
+use Rattle.cp_model.proofs.SameTests.{variable_in, in_has_variable}
+use Rattle.cp_model.proofs.LawPrefixes.{in_front_of_trace}
+use Rattle.cp_strand.specs.PrefixVariables.{prefix_variables, added_variables, terms_of}
+use Rattle.cp_skel.specs.Extensions.{AddsListener, AddsStrand, Extends}
 use Rattle.cp_skel.specs.Given.{IsGivenFrom, IsOriginFrom, AddsOnce, AddsGiven}
-use Rattle.cp_skel.specs.Sound.{DeclaresItsVariables}
-use Rattle.cp_skel.proofs.DeclaredRoles.{in-trace}
-use Rattle.cp_skel.proofs.GivenParts.{has-in, in-has}
+use Rattle.cp_strand.specs.Declares.{DeclaresItsVariables}
 use Rattle.cp_skel.proofs.PrefixVariables.{in-prefix, in-added}
 use Rattle.cp_skel.proofs.UnderVariables.{applies_at}
 use Rattle.cp_answers.specs.Fresh.{fresh_terms}
@@ -86,7 +86,7 @@ module _ (S I : List ℕ → Type 0) where
       behind k l (instance role height adds.terms) is adds.strands adds.from_problem (of_role, each) (grown_assumptions role height adds.terms of_role each (length k.strands) k.assumptions l.assumptions adds.assumptions is.assumptions)
     where
       each : (z : Variable) → IsIn z (variables_of_prefix role height) → IsSpelledAtom S (apply_to_atom adds.terms (atom_of_variable z))
-      each z i s j = absurd (new_has_none adds.terms (prefix_variables role height) n (prefix_variables role height) adds.gives z ((in-prefix role z height).1 (declares z (in-trace height role.trace z i), i)) s j)
+      each z i s j = absurd (new_has_none adds.terms (prefix_variables role height) n (prefix_variables role height) adds.gives z ((in-prefix role z height).1 (declares z (in_front_of_trace height role.trace z i), i)) s j)
 
   module _ (s height n : ℕ) (k l : Skeleton) (role : Role) (before : ℕ) (declares : DeclaresItsVariables role) (ext : Extends s height (fresh_terms n (added_variables role before height)) k l) (same_role : ext.role ≡ role) (same_before : ext.before ≡ before)
       (is : IsSpelledSkeleton S I k) where
@@ -103,13 +103,13 @@ module _ (S I : List ℕ → Type 0) where
     each_term z i = by_test (has_variable (variables_of_prefix ext.role ext.before) z) refl
       where
         by_test : (b : Bool) → has_variable (variables_of_prefix ext.role ext.before) z ≡ b → IsSpelledAtom S (apply_to_atom ext.terms (atom_of_variable z))
-        by_test true e = let m = has-in (variables_of_prefix ext.role ext.before) z e in subst (λ (v : AtomTerm). IsSpelledAtom S v) (ext.keeps z m) (was.1 z m)
+        by_test true e = let m = variable_in (variables_of_prefix ext.role ext.before) z e in subst (λ (v : AtomTerm). IsSpelledAtom S v) (ext.keeps z m) (was.1 z m)
         by_test false e = λ t j.
             absurd (new_has_none ext.terms (added_variables ext.role ext.before height) n (added_variables role before height) gives_new z
             ((in-added ext.role z ext.before height).1 (
-              declares_too z (in-trace height ext.role.trace z i),
+              declares_too z (in_front_of_trace height ext.role.trace z i),
               i,
-              λ m. let f : has_variable (variables_of_prefix ext.role ext.before) z ≡ true = in-has (variables_of_prefix ext.role ext.before) z m in absurd (cc),
+              λ m. let f : has_variable (variables_of_prefix ext.role ext.before) z ≡ true = in_has_variable (variables_of_prefix ext.role ext.before) z m in absurd (cc),
             )) t j)
 
     each_strand : (m : ℕ) (st : SkeletonStrand) → (m ≡ s) ⊎ (m ≢ s) → item_at l.strands m ≡ Some st → IsSpelledStrand S I st

@@ -10,17 +10,17 @@ use Rattle.cp_model.specs.Skeleton.{instance, Skeleton, IsSkeleton}
 use Rattle.cp_model.specs.Tree.{Operation, by_contraction, by_added_listener, Pattern}
 use Rattle.cp_term.specs.declared.path.Step.{Step}
 use Rattle.cp_completeness.specs.Normal.{skeleton_under}
-use Rattle.cp_strand.specs.Occurring.{prefix_variables, added_variables}
-use Rattle.cp_skel.specs.Sound.{DeclaresItsVariables}
-use Rattle.cp_skel.specs.Changing.{Extends}
+use Rattle.cp_strand.specs.PrefixVariables.{prefix_variables, added_variables}
+use Rattle.cp_strand.specs.Declares.{DeclaresItsVariables}
+use Rattle.cp_skel.specs.Extensions.{Extends}
 use Rattle.cp_skel.specs.Events.{Occurrence, events_of}
 use Rattle.cp_skel.proofs.EventLists.{listed_event}
 use Rattle.cp_normal.specs.Exact.{HasForms}
-use Rattle.cp_collapse.specs.Agreeing.{SaysTheSame}
-use Rattle.cp_match.specs.Unifying.{UnifiesMostGenerally}
+use Rattle.cp_collapse.specs.SameSkeletons.{SaysTheSame}
+use Rattle.cp_match.specs.Unifiers.{UnifiesMostGenerally}
 use Rattle.cp_answers.specs.Covering.{put_before}
 use Rattle.cp_answers.specs.Fresh.{fresh_terms}
-use Rattle.cp_settle.specs.Releasing.{Tried}
+use Rattle.cp_settle.specs.Releases.{Tried}
 use Rattle.cp_covering.specs.Children.{Child, child, declaration_onto, declarations_of}
 use Rattle.cp_covering.specs.Cohort.{Question, release_at, DisplacesAt, AddsAt, IsCohort}
 use Rattle.cp_covering.specs.Cohort as cohort

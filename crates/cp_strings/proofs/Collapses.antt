@@ -10,7 +10,7 @@ use Rattle.cp_model.proofs.Gathered.{atoms, uniques}
 use Rattle.cp_model.proofs.LawTerms.{atom_after, atom_composed}
 use Rattle.cp_unify.proofs.Free.{free}
 use Rattle.cp_collapse.specs.Partitions.{IsPartition, IdentifiesValues}
-use Rattle.cp_collapse.specs.Collapsing.{unique_in, assumptions_in, IsCollapsed, AreCollapsesBy, no_collapses, collapse_by}
+use Rattle.cp_collapse.specs.Collapses.{unique_in, assumptions_in, IsCollapsed, AreCollapsesBy, no_collapses, collapse_by}
 use Rattle.cp_collapse.proofs.AssumptionImages.{AreImages, AreAssumptionsIn, assumptions_are, gathered_images}
 use Rattle.cp_collapse.proofs.StrandsOfCollapses.{strand_comes}
 use Rattle.cp_collapse.proofs.VariablesOfCollapses.{value_composed}

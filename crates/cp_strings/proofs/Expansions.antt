@@ -7,23 +7,24 @@ use Rattle.cp_model.specs.Strand.{send, recv, payload, Declaration, Role, Protoc
 use Rattle.cp_model.specs.Bundle.{node_at}
 use Rattle.cp_model.specs.declared.node.Node.{Node}
 use Rattle.cp_model.specs.Skeleton.{Skeleton}
-use Rattle.cp_model.specs.Problem.{IsDeclared, HasDeclaredVariables}
+use Rattle.cp_model.specs.Problem.{IsDeclared}
+use Rattle.cp_model.specs.PointOfView.{HasDeclaredVariables}
 use Rattle.cp_model.specs.Tree.{Pattern}
 use Rattle.cp_term.specs.declared.path.Step.{Step}
-use Rattle.cp_skel.specs.Sound.{DeclaresItsVariables}
+use Rattle.cp_strand.specs.Declares.{DeclaresItsVariables}
 use Rattle.cp_skel.specs.Events.{Occurrence, events_of}
 use Rattle.cp_skel.proofs.EventLists.{listed_event}
 use Rattle.cp_covering.specs.Children.{Child}
 use Rattle.cp_covering.specs.Cohort.{Question, IsCohort}
-use Rattle.cp_covering.specs.Listing.{EachGives, terms_onto}
+use Rattle.cp_covering.specs.GatheredLists.{EachGives, terms_onto}
 use Rattle.cp_covering.specs.Way.{DeclaresMore}
 use Rattle.cp_covering.specs.Sound.{IsSoundChild}
 use Rattle.cp_covering.proofs.Listed.{given, those_have, of_terms_onto}
 use Rattle.cp_covering.proofs.Settled.{above_variables, event_declared}
 use Rattle.cp_covering.proofs.SoundChildren.{sound_child}
 use Rattle.cp_escape.specs.Escape.{GivesClosed, positions_of, whole_pattern, IsEscape}
-use Rattle.cp_escape.specs.Widening.{WidensBy}
-use Rattle.cp_expansion.specs.Testing.{IsTestOf}
+use Rattle.cp_escape.specs.WidenedPattern.{WidensBy}
+use Rattle.cp_expansion.specs.ChosenTest.{IsTestOf}
 use Rattle.cp_expansion.specs.Expansion.{IsWidening, asked_under, AreWidened, has_most, none_widens, one_widens, question_about, Expansion, IsExpansionOf}
 use Rattle.cp_tree.proofs.AskedOn.{first_listed, IsWellAsked, asked_on}
 use Rattle.cp_proper.specs.Spelled.{IsSpelledTerm, AreSpelledDeclarations, IsSpelledRole, IsSpelledSkeleton}

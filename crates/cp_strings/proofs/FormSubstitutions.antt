@@ -10,9 +10,9 @@ use Rattle.cp_model.specs.Skeleton.{SkeletonStrand, instance, listener, skeleton
 use Rattle.cp_model.specs.Problem.{variables_of_strands, variables_of_atoms, variables_of_uniques, variables_of_assumptions, variables_of_skeleton}
 use Rattle.cp_model.specs.Same.{has_variable}
 use Rattle.cp_model.proofs.LawTerms.{atom_composed}
+use Rattle.cp_model.proofs.SameTests.{variable_in, in_has_variable}
 use Rattle.cp_completeness.specs.Normal.{strand_under, unique_under, skeleton_under, with_pairs, variables_of_terms}
-use Rattle.cp_collapse.specs.Agreeing.{IsSameStrand, same_instance, same_listener, AreSameStrands, no_strands, same_strands, SaysTheSame}
-use Rattle.cp_skel.proofs.GivenParts.{has-in, in-has}
+use Rattle.cp_collapse.specs.SameSkeletons.{IsSameStrand, same_instance, same_listener, AreSameStrands, no_strands, same_strands, SaysTheSame}
 use Rattle.cp_skel.proofs.UnderVariables.{of_trace, strand_with, atom_with, unique_with}
 use Rattle.cp_normal.specs.BySubstitution.{all_variables, ComesBySubstitution}
 use Rattle.cp_normal.specs.Formed.{Formed, AreNormalForms}
@@ -96,9 +96,9 @@ module _ (S I : List ℕ → Type 0) where
         record { strands = h.strands; assumptions = h.assumptions; values = h.values; own = h.own }
 
     each_gives : (x : Variable) (b : Bool) → has_variable (all_variables k) x ≡ b → GivesAdmitted S c.substitution x
-    each_gives x true e s i = all_given c.substitution k before x (has-in (all_variables k) x e) s i
+    each_gives x true e s i = all_given c.substitution k before x (variable_in (all_variables k) x e) s i
     each_gives x false e s i =
-        let left : apply_to_atom c.substitution (atom_of_variable x) ≡ atom_of_variable x = c.stays_within.leaves x (λ m. let has : has_variable (all_variables k) x ≡ true = in-has (all_variables k) x m in absurd (cc)) in
+        let left : apply_to_atom c.substitution (atom_of_variable x) ≡ atom_of_variable x = c.stays_within.leaves x (λ m. let has : has_variable (all_variables k) x ≡ true = in_has_variable (all_variables k) x m in absurd (cc)) in
         absurd (variable_has_none x s (subst (λ (v : AtomTerm). IsIn s (strings_of_atom v)) left i))
 
     pub comes_gives : GivesStrings S c.substitution

@@ -8,7 +8,7 @@ use Rattle.cp_model.specs.Bundle.{node_at}
 use Rattle.cp_model.specs.declared.node.Node.{Node}
 use Rattle.cp_model.specs.Skeleton.{Skeleton}
 use Rattle.cp_completeness.specs.Normal.{skeleton_under}
-use Rattle.cp_normal.specs.Narrowing.{IsHeardAt, IsNarrowed, NarrowsTo, none, one, IsNormalFormOf}
+use Rattle.cp_normal.specs.NormalForms.{IsHeardAt, IsNarrowed, NarrowsTo, none, one, IsNormalFormOf}
 use Rattle.cp_normal.specs.Exact.{HasForms}
 use Rattle.cp_normal.specs.Formed.{Formed, AreNormalForms}
 use Rattle.cp_normal.proofs.FormsOf.{are_normal_forms}

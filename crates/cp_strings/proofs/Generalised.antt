@@ -5,10 +5,10 @@ use Rattle.cp_lists.specs.Lists.{IsIn, here, there}
 use Rattle.cp_model.specs.Term.{AtomTerm}
 use Rattle.cp_model.specs.declared.node.OrderPair.{OrderPair}
 use Rattle.cp_model.specs.Skeleton.{UniqueAt, Skeleton}
-use Rattle.cp_skel.specs.Deleting.{LeavesOut, unique_renumbered, as_it_is, IsOriginOn, IsForgottenNon, IsForgottenPenetratorNon}
+use Rattle.cp_skel.specs.Deletion.{LeavesOut, unique_renumbered, as_it_is, IsOriginOn, IsForgottenNon, IsForgottenPenetratorNon}
 use Rattle.cp_skel.proofs.PairsWithout.{was_left}
 use Rattle.cp_general.specs.Steps.{Deletes, Drops}
-use Rattle.cp_general.specs.Generalising.{StepsTo, deletes, drops, GeneralisesTo, last_step, next_step}
+use Rattle.cp_general.specs.Generalisation.{StepsTo, deletes, drops, GeneralisesTo, last_step, next_step}
 use Rattle.cp_proper.specs.Spelled.{IsSpelledAtom, AreSpelledAtoms, IsSpelledSkeleton}
 use Rattle.cp_strings.proofs.Under.{in_order_spelled}
 

@@ -6,9 +6,9 @@ use Rattle.cp_lists.proofs.Members.{not_in_none}
 use Rattle.cp_model.specs.Strand.{Declaration, Role, Protocol}
 use Rattle.cp_model.specs.Skeleton.{Skeleton, IsSkeleton}
 use Rattle.cp_model.specs.Derivable.{IsUnrealised}
-use Rattle.cp_model.specs.Problem.{HasDeclaredVariables, IsPointOfView}
+use Rattle.cp_model.specs.PointOfView.{HasDeclaredVariables, IsPointOfView}
 use Rattle.cp_model.specs.Tree.{Mark, Test, Label, Tree, Limits}
-use Rattle.cp_skel.specs.Sound.{DeclaresItsVariables}
+use Rattle.cp_strand.specs.Declares.{DeclaresItsVariables}
 use Rattle.cp_roots.specs.Roots.{Root, AreRoots}
 use Rattle.cp_roots.specs.Sound.{AreSound}
 use Rattle.cp_expansion.specs.Expansion.{Expansion, IsExpansionOf}

@@ -6,7 +6,7 @@ use Rattle.cp_model.specs.Message.{KeyPair, akey, pubk, Key, symmetric, asymmetr
 use Rattle.cp_model.specs.Term.{PairTerm, akey_variable, pubk_term, KeyTerm, symmetric_term, asymmetric_term, AtomTerm, text_variable, datum_variable, name_variable, key_term, Term, tag_term, atom_term, pair_term, enc_term, SymmetricTerm, skey_variable, ltk_term, Assignment, value_of_symmetric, value_of_half, value_of_key, value_of_atom, value_of, after, Substitution}
 use Rattle.cp_model.proofs.LawTerms.{atom_after, value_after}
 use Rattle.cp_collapse.specs.Directed.{IsMostGeneralFor}
-use Rattle.cp_match.specs.Unifying.{UnifiesMostGenerally}
+use Rattle.cp_match.specs.Unifiers.{UnifiesMostGenerally}
 use Rattle.cp_unify.proofs.Free.{free}
 use Rattle.cp_proper.specs.Strings.{strings_of_purpose, strings_of_pair, strings_of_key, strings_of}
 use Rattle.cp_proper.specs.Spelled.{IsSpelledTerm, IsSpelledAtom}

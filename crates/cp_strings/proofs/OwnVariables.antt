@@ -3,7 +3,7 @@ use Rattle.std.proofs.Common.{◌≡◌, ℕ, List, Some}
 use Rattle.cp_lists.specs.Lists.{item_at}
 use Rattle.cp_model.specs.Strand.{Declaration}
 use Rattle.cp_model.specs.Skeleton.{Skeleton}
-use Rattle.cp_model.specs.Problem.{IsPointOfView, HasDeclaredVariables}
+use Rattle.cp_model.specs.PointOfView.{IsPointOfView, HasDeclaredVariables}
 use Rattle.cp_roots.specs.Roots.{Root, AreRoots}
 use Rattle.cp_roots.proofs.VariablesOfRoots.{roots_declared}
 use Rattle.cp_tree.proofs.OwnVariables.{own_declared}

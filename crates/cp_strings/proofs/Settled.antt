@@ -8,13 +8,13 @@ use Rattle.cp_model.specs.Skeleton.{Skeleton}
 use Rattle.cp_model.specs.Tree.{Pattern}
 use Rattle.cp_term.specs.declared.path.Step.{Step}
 use Rattle.cp_completeness.specs.Normal.{skeleton_under}
-use Rattle.cp_collapse.specs.Agreeing.{SaysTheSame}
+use Rattle.cp_collapse.specs.SameSkeletons.{SaysTheSame}
 use Rattle.cp_guard.specs.Above.{encryptions_above}
 use Rattle.cp_normal.specs.Formed.{Formed, AreNormalForms}
-use Rattle.cp_match.specs.Unifying.{UnifiesMostGenerally}
+use Rattle.cp_match.specs.Unifiers.{UnifiesMostGenerally}
 use Rattle.cp_match.specs.Opened.{declared_as}
-use Rattle.cp_settle.specs.Releasing.{Release, Tried, IsFirstOutside}
-use Rattle.cp_settle.specs.Settling.{Choice, choices, pattern_in, branch_of, form_of, Stage, Settles}
+use Rattle.cp_settle.specs.Releases.{Release, Tried, IsFirstOutside}
+use Rattle.cp_settle.specs.Stages.{Choice, choices, pattern_in, branch_of, form_of, Stage, Settles}
 use Rattle.cp_covering.proofs.EachSettled.{settles_each}
 use Rattle.cp_covering.proofs.Settled.{above_has, of_choices}
 use Rattle.cp_proper.specs.Strings.{strings_of, strings_of_key}

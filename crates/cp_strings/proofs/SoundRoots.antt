@@ -2,16 +2,16 @@
 use Rattle.std.proofs.Common.{◌≡◌, ℕ, List, ◌++◌, map, refl, sym, ap, ◌∙◌}
 use Rattle.cp_model.specs.Strand.{Declaration, Protocol}
 use Rattle.cp_model.specs.Skeleton.{Skeleton, IsSkeleton}
-use Rattle.cp_model.specs.Problem.{IsPointOfView}
+use Rattle.cp_model.specs.PointOfView.{IsPointOfView}
 use Rattle.cp_model.specs.Tree.{by_collapse}
-use Rattle.cp_hom.specs.FirstPlaces.{firsts}
+use Rattle.cp_fingerprint.specs.FirstPlaces.{firsts}
 use Rattle.cp_collapse.specs.Partitions.{place_in}
-use Rattle.cp_collapse.specs.Collapsing.{IsCollapse, AreCollapsesBy, no_collapses, collapse_by}
+use Rattle.cp_collapse.specs.Collapses.{IsCollapse, AreCollapsesBy, no_collapses, collapse_by}
 use Rattle.cp_normal.specs.Exact.{HasForms}
 use Rattle.cp_normal.proofs.FormsOf.{are_normal_forms, lose_no_standing}
 use Rattle.cp_roots.specs.Roots.{Root, living, AreFormsOfCollapses, no_collapses as none_of_none, forms_of_one, AreRoots}
 use Rattle.cp_roots.specs.Sound.{AreSound}
-use Rattle.cp_roots.specs.Gathering.{AreNormalForms}
+use Rattle.cp_roots.specs.GatheredRoots.{AreNormalForms}
 use Rattle.cp_roots.proofs.Firsts.{firsts_of_places}
 use Rattle.cp_roots.proofs.EachCollapse.{AreOfEach}
 use Rattle.cp_roots.proofs.SoundRoots.{are_sound}

@@ -10,15 +10,14 @@ use Rattle.cp_model.specs.declared.node.OrderPair.{OrderPair}
 use Rattle.cp_model.specs.Skeleton.{SkeletonStrand, instance, listener, skeleton_trace, term_event_at, UniqueAt, Assumptions, FromProblem, Skeleton}
 use Rattle.cp_model.specs.Given.{listed}
 use Rattle.cp_model.proofs.LawTerms.{atom_composed}
-use Rattle.cp_model.proofs.LawStandings.{strand_of_event}
+use Rattle.cp_model.proofs.LawStandings.{strand_of_event, event_on}
 use Rattle.cp_model.proofs.LawPrefixes.{in_trace}
 use Rattle.cp_term.specs.declared.path.Step.{Step}
 use Rattle.cp_term.specs.declared.path.Step.TheVariants.{Left, Right, Plaintext}
 use Rattle.cp_term.specs.Positions.{term_at}
 use Rattle.cp_completeness.specs.Normal.{strand_under, unique_under, assumptions_under, skeleton_under, with_pairs}
-use Rattle.cp_completeness.proofs.Images.{event_on}
 use Rattle.cp_skel.proofs.EachOnce.{listed-non, listed-penetrator-non, listed-unique}
-use Rattle.cp_collapse.specs.Agreeing.{IsSameStrand, same_instance, same_listener, AreSameStrands, no_strands, same_strands, SaysTheSame}
+use Rattle.cp_collapse.specs.SameSkeletons.{IsSameStrand, same_instance, same_listener, AreSameStrands, no_strands, same_strands, SaysTheSame}
 use Rattle.cp_roots.specs.Roots.{in_report_order}
 use Rattle.cp_proper.specs.Strings.{strings_of_pair, strings_of_key, strings_of}
 use Rattle.cp_proper.specs.Spelled.{IsSpelledTerm, IsSpelledAtom, AreSpelledAtoms, IsSpelledStrand, AreSpelledAssumptions, IsSpelledSkeleton}

@@ -3,9 +3,9 @@ ghost use Rattle.std.specs.Prelude.{ℕ, List};
 ghost use Rattle.cp_lists.specs.Lists.{IsIn};
 ghost use Rattle.cp_model.specs.Strand.{Declaration, Role, Protocol};
 ghost use Rattle.cp_model.specs.Skeleton.{Skeleton, IsSkeleton};
-ghost use Rattle.cp_model.specs.Problem.{IsPointOfView};
+ghost use Rattle.cp_model.specs.PointOfView.{IsPointOfView};
 ghost use Rattle.cp_model.specs.Tree.{Label, Tree, Limits};
-ghost use Rattle.cp_skel.specs.Sound.{DeclaresItsVariables};
+ghost use Rattle.cp_strand.specs.Declares.{DeclaresItsVariables};
 ghost use Rattle.cp_tree.specs.Searched.{IsTreeOf};
 ghost use Rattle.cp_proper.specs.Spelled.{AreSpelledDeclarations, IsSpelledRole, IsSpelledSkeleton, IsSpelledLabel};
 

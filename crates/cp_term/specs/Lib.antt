@@ -9,6 +9,7 @@ pub mod Positions
 pub mod Preorder
 pub mod Shapes
 pub mod Size
+pub mod Sorts
 pub mod Spines
 pub mod Table
 pub mod Variables

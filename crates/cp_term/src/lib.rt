@@ -2,23 +2,23 @@
 #![tactic(auto)]
 
 mod laws;
-mod making;
+mod makers;
 mod path;
 mod pattern;
 mod position;
 mod same;
 mod shape;
-mod substituting;
+mod substitution;
 mod term;
 mod variable;
 
 pub use cp_base::Text;
 pub use laws::{carried_at_a_position, positions_are_those_found, test_of_equality};
-pub use making::{enc, invert, ltk, pair, pubk, tag, var};
+pub use makers::{enc, invert, ltk, pair, pubk, tag, var};
 pub use path::{Path, Step};
 pub use pattern::{Locals, Pattern};
 pub use position::{at, carries, depth, paths_of};
-pub use shape::Shape;
-pub use substituting::{Valuation, name_for, substituted};
+pub use shape::{Shape, is_of_sort};
+pub use substitution::{Valuation, name_for, substituted};
 pub use term::Term;
 pub use variable::{Sort, VarId, VarTable};

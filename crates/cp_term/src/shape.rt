@@ -1,5 +1,7 @@
-// What a term is made of.
+// What a term is made of, and of which sort it is.
+ghost use Rattle.std.specs.Prelude.{◌≡◌};
 ghost use Rattle.cp_term.specs.Shapes.{IsShapeOf};
+ghost use Rattle.cp_term.specs.Sorts.{is_of_sort};
 
 use crate::term::{Node, Term};
 use crate::variable::{Sort, VarId};
@@ -45,5 +47,17 @@ impl Term {
             Node::Pair(left, right) => Shape::Pair(left, right),
             Node::Encryption(body, key) => Shape::Encryption(body, key),
         }
+    }
+}
+
+/// Whether the term is of this sort of atoms.
+pub fn is_of_sort(term: &Term, sort: Sort) -> bool
+    ensures { result ≡ is_of_sort sort term.now }
+{
+    match term.shape() {
+        Shape::Variable(_, other) => other == sort,
+        Shape::Ltk(..) => sort == Sort::Skey,
+        Shape::Inverse(_) | Shape::Pubk(..) => sort == Sort::Akey,
+        Shape::Tag(_) | Shape::Pair(..) | Shape::Encryption(..) => false,
     }
 }

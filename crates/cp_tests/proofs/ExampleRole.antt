@@ -2,17 +2,16 @@
 use Rattle.std.proofs.Common.{◌≡◌, ℕ, List, length, refl, sym, ap, ◌∙◌, subst, arith}
 use Rattle.std.specs.Prelude.{take}
 use Rattle.cp_lists.specs.Lists.{item_at, IsIn, here, there}
+use Rattle.cp_lists.proofs.Items.{item_last}
 use Rattle.cp_model.specs.Term.{Variable, Term}
-use Rattle.cp_model.specs.Strand.{Role, variables_of_trace, IsHeight}
+use Rattle.cp_model.specs.Strand.{Event, Declaration, Role, variables_of_trace, IsHeight}
 use Rattle.cp_model.specs.Skeleton.{instance, Skeleton}
 use Rattle.cp_model.specs.Problem.{IsDeclared}
 use Rattle.std.specs.List.{filter}
 use Rattle.cp_model.specs.Same.{has_variable}
-use Rattle.cp_strand.specs.Occurring.{is_added, declared_variables, prefix_variables, added_variables, AreTermsFor}
-use Rattle.cp_skel.specs.Changing.{AddsStrand, CanExtend}
-use Rattle.cp_skel.specs.Sound.{DeclaresItsVariables}
+use Rattle.cp_strand.specs.PrefixVariables.{is_added, declared_variables, prefix_variables, added_variables, AreTermsFor}
+use Rattle.cp_skel.specs.Extensions.{AddsStrand, CanExtend}
 use Rattle.cp_tests.specs.Example.{example_variables, example_trace, IsExample, example_values, added_values}
-use Rattle.cp_skel.proofs.StaySkeletons.{item-last}
 
 pub example-height : (role : Role) → IsExample role → IsHeight role 1
 example-height role is = let n : length role.trace ≡ 3 = ap length is.trace in (omega arith, omega (arith, n))
@@ -40,10 +39,11 @@ closed-literally x (there (there (there (there (there (there here)))))) = refl
 closed-literally x (there (there (there (there (there (there (there here))))))) = refl
 closed-literally x (there (there (there (there (there (there (there (there p)))))))) = elim p [ ]
 
-pub example-declares : (role : Role) → IsExample role → DeclaresItsVariables role
-example-declares role is =
-    subst (λ es. (x : Variable) → IsIn x (variables_of_trace es) → IsDeclared role.variables x) (sym is.trace)
-    (subst (λ ds. (x : Variable) → IsIn x (variables_of_trace example_trace) → IsDeclared ds x) (sym is.variables) closed-literally)
+-- Over these variables these events are closed.
+pub example-closed : (ds : List Declaration) (es : List (Event Term)) → ds ≡ example_variables → es ≡ example_trace → (x : Variable) → IsIn x (variables_of_trace es) → IsDeclared ds x
+example-closed ds es variables trace =
+    subst (λ fs. (x : Variable) → IsIn x (variables_of_trace fs) → IsDeclared ds x) (sym trace)
+    (subst (λ cs. (x : Variable) → IsIn x (variables_of_trace example_trace) → IsDeclared cs x) (sym variables) closed-literally)
 
 pub example-extends : (role : Role) (values more : List Term) (old new : Skeleton) (s : ℕ) → IsExample role → AddsStrand role 1 values old new → more ≡ added_values → s ≡ length old.strands → CanExtend new s 3 more
 example-extends role values more old new s is adds e number =
@@ -52,7 +52,7 @@ example-extends role values more old new s is adds e number =
       role = role;
       before = 1;
       terms = adds.terms;
-      on_instance = ap (item_at new.strands) number ∙ ap (λ ss. item_at ss (length old.strands)) adds.strands ∙ item-last old.strands (instance role 1 adds.terms);
+      on_instance = ap (item_at new.strands) number ∙ ap (λ ss. item_at ss (length old.strands)) adds.strands ∙ item_last old.strands (instance role 1 adds.terms);
       higher = omega arith;
       reached = omega (arith, n);
       fitting = subst (AreTermsFor (added_variables role 1 3)) (sym e)

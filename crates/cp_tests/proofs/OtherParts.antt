@@ -1,21 +1,19 @@
 -- A skeleton is sound with a shorter way from its problem, and with its assumptions in another order, or twice.
-use Rattle.std.proofs.Common.{◌≡◌, ◌⊎◌, inl, inr, ⊎_elim, ℕ, zero, suc, List, [], ◌∷◌, ◌++◌, take, reverse, refl, sym, ap, ◌∙◌, subst}
-use Rattle.std.proofs.lemmas.List.{reverse-append}
+use Rattle.std.proofs.Common.{◌≡◌, ◌⊎◌, ⊎_elim, ℕ, zero, suc, List, [], ◌∷◌, ◌++◌, take, reverse, refl, sym, ap, ◌∙◌, subst}
 use Rattle.cp_lists.specs.Lists.{IsIn, here, there}
 use Rattle.cp_model.specs.declared.node.Node.{Node}
 use Rattle.cp_model.specs.Term.{AtomTerm}
 use Rattle.cp_model.specs.Strand.{Protocol}
 use Rattle.cp_model.specs.Skeleton.{UniqueAt, Skeleton, FromProblem, Assumptions, Before, IsSkeleton}
 use Rattle.cp_model.specs.declared.node.OrderPair.{OrderPair}
-use Rattle.cp_lists.proofs.Members.{in_append, in_append_right}
-use Rattle.cp_skel.specs.Joining.{joined}
-use Rattle.cp_skel.proofs.Once.{only}
+use Rattle.cp_lists.proofs.Members.{in_append, in_append_right, from_reverse}
+use Rattle.cp_skel.specs.JoinedAssumptions.{joined}
 use Rattle.cp_strand.specs.Data.{StrandData}
 use Rattle.cp_skel.specs.Data.{SkeletonData, skeleton_of}
 use Rattle.cp_skel.specs.Ordered.{ordered_by}
 use Rattle.cp_skel.specs.Sound.{IsSound}
 use Rattle.cp_skel.specs.View.{skeleton_view}
-use Rattle.cp_skel.proofs.Carrying.{before_too}
+use Rattle.cp_skel.proofs.CarriedHomomorphisms.{before_too}
 use Rattle.cp_skel.proofs.Grown.{Grows, pairs-stay, origin-stays, cycles-stay-out}
 use Rattle.cp_skel.proofs.SoundSkeletons.{parts_sound}
 use Rattle.cp_term.specs.Table.{Declared}
@@ -86,16 +84,9 @@ pub same_has : (old new : Assumptions) → new ≡ old → HasSame old new
 same_has old new e = subst (HasSame old) (sym e) (record { non = λ v i. i; penetrator_non = λ v i. i; unique = λ u i. i; no_others = λ u i. i })
 
 -- assumptions backwards, and then once more
-back_again : {A : Type 0} (x : A) (xs : List A) → IsIn x (reverse xs) → IsIn x xs
-back_again x [] i = i
-back_again x (y ∷ ys) i = by (in_append (reverse ys) (y ∷ []) (subst (IsIn x) (reverse-append (y ∷ []) ys) i)) (back_again x ys)
-  where
-    by : IsIn x (reverse ys) ⊎ IsIn x (y ∷ []) → (IsIn x (reverse ys) → IsIn x ys) → IsIn x (y ∷ ys)
-    by (inl j) back = there (back j)
-    by (inr j) back = subst (λ z. IsIn z (y ∷ ys)) (sym (only x y j)) here
 
 in_either_half : {A : Type 0} (x : A) (xs : List A) → IsIn x (reverse xs ++ xs) → IsIn x xs
-in_either_half x xs i = ⊎_elim (back_again x xs) (λ j. j) (in_append (reverse xs) xs i)
+in_either_half x xs i = ⊎_elim (from_reverse xs) (λ j. j) (in_append (reverse xs) xs i)
 
 abbrev mixed : Assumptions → Assumptions
 mixed a = record {

@@ -8,12 +8,24 @@ use Rattle.cp_model.specs.Same.{has_variable}
 use Rattle.cp_model.specs.Term.{Sort, Variable, KeyTerm, Term, enc_term, variables_of}
 use Rattle.cp_model.specs.Pattern.{IsPattern}
 use Rattle.cp_model.proofs.SameTests.{variable_in}
+use Rattle.cp_strand.specs.View.{sort_view}
 use Rattle.cp_term.specs.Patterns.{variable_with, locals_of, pattern_by}
+use Rattle.cp_term.specs.Variables.{variable_term}
+use Rattle.cp_term.specs.declared.variable.Sort as program
+use Rattle.cp_term.specs.declared.variable.Sort.TheVariants as sorts
 use Rattle.cp_guarding.specs.Within.{has_all_but}
 use Rattle.cp_guarding.proofs.AllWithin.{within_tested}
 use Rattle.cp_tests.specs.Patterns.{AreNumbersIn, HaveOneSort}
 
 -- ---- variables that are numbered one after the other
+
+-- A variable's own term has it alone.
+pub variable_alone : (sort : program.Sort) (n : ℕ) → variables_of (variable_term sort n) ≡ record { sort = sort_view sort; number = n } ∷ []
+variable_alone sorts.Text n = refl
+variable_alone sorts.Datum n = refl
+variable_alone sorts.Name n = refl
+variable_alone sorts.Skey n = refl
+variable_alone sorts.Akey n = refl
 
 pub record AreNumbered (xs : List Variable) (n : ℕ) : Type 0 where
   pub one_sort : HaveOneSort xs

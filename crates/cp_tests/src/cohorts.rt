@@ -1,5 +1,5 @@
 // Cohorts of tests, worked out by hand on skeletons that texts state.
-use crate::asking::{Asked, answered};
+use crate::questions::{Asked, answered};
 use crate::stated::NEEDHAM_SCHROEDER;
 use cp_term::{Path, Step};
 use std::alloc::Global;

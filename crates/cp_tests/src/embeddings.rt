@@ -1,7 +1,8 @@
 // Embeddings of small skeletons that texts state, worked out by hand.
 use crate::rebuilt::with_way_of;
 use crate::stated::skeleton_of;
-use cp_hom::{Fingerprint, Map, embed, isomorphic};
+use cp_fingerprint::{Fingerprint, first_of};
+use cp_hom::{Map, embed, isomorphic};
 use cp_model::Node;
 use cp_skel::Skeleton;
 use cp_term::Shape;
@@ -85,12 +86,24 @@ fn goes(alloc: Global, a: &Skeleton, b: &Skeleton, wanted: bool) -> Result<bool,
     Ok(embeds(alloc, a, b)? == wanted && (!wanted || may_embed(alloc, a, b)?))
 }
 
+/// Whether the fingerprints of the two leave it open that they are isomorphic, with one number for what their strands share.
+fn may_be_isomorphic(alloc: Global, a: &Skeleton, b: &Skeleton) -> Result<bool, AllocError> {
+    let first = Fingerprint::of(alloc, a)?;
+    let second = Fingerprint::of(alloc, b)?;
+    Ok(first.may_be_isomorphic(&second) && first.sharing() == second.sharing())
+}
+
+/// Whether the two are isomorphic as they should be, and may be where they are.
+fn are_alike(alloc: Global, a: &Skeleton, b: &Skeleton, wanted: bool) -> Result<bool, AllocError> {
+    Ok(isomorphic(alloc, a, b)? == wanted && (!wanted || may_be_isomorphic(alloc, a, b)?))
+}
+
 /// Whether the skeletons of a row embed in each other as they should, and are isomorphic where both do.
 fn is_answered(alloc: Global, row: &Row, a: &Skeleton, b: &Skeleton) -> Result<bool, AllocError> {
     Ok(
         goes(alloc, a, b, row.3)?
             && goes(alloc, b, a, row.4)?
-            && isomorphic(alloc, a, b)? == (row.3 && row.4),
+            && are_alike(alloc, a, b, row.3 && row.4)?,
     )
 }
 
@@ -134,4 +147,12 @@ fn where_a_strand_goes(rt: HostRuntime) -> Result<(), Fail> {
     let found = embed(alloc, &a, &b)?;
     assert!(rt; found.is_some_and(|map| is_found(&map)));
     Ok(())
+}
+
+// The first of equal places; how many there are, where none is the one that is sought.
+#[test]
+fn first_places(rt: HostRuntime) {
+    for (place, number) in [(4, 0), (7, 1), (5, 3)] {
+        assert_eq!(rt; first_of(&[4, 7, 4], place), number);
+    }
 }

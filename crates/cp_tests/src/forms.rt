@@ -20,6 +20,7 @@ fn first_faults(rt: HostRuntime) {
     ] {
         let mut found = FirstFault::new();
         found.note(held.place, held.code);
+        assert!(rt; found.stands_before(other.place, other.code) == (first == held));
         assert!(rt; found.first_with(other) == first);
     }
 }

@@ -4,9 +4,7 @@
 #![tactic(auto)]
 
 #[cfg(test)]
-mod asking;
-#[cfg(test)]
-mod changing;
+mod added_strands;
 #[cfg(test)]
 mod cohorts;
 #[cfg(test)]
@@ -18,7 +16,11 @@ mod embeddings;
 #[cfg(test)]
 mod forms;
 #[cfg(test)]
-mod generalising;
+mod generalisations;
+#[cfg(test)]
+mod interrupted;
+#[cfg(test)]
+mod matched;
 #[cfg(test)]
 mod messages;
 #[cfg(test)]
@@ -28,7 +30,9 @@ mod normal_forms;
 #[cfg(test)]
 mod orders;
 #[cfg(test)]
-mod printing;
+mod printed_shapes;
+#[cfg(test)]
+mod questions;
 #[cfg(test)]
 mod read_back;
 #[cfg(test)]
@@ -44,4 +48,4 @@ mod stated;
 #[cfg(test)]
 mod terms;
 #[cfg(test)]
-mod unifying;
+mod unifiers;

@@ -128,10 +128,10 @@ fn words(alloc: Global, words: &[&str]) -> Result<Vec<String>, AllocError> {
 
 /// How a run ended, and what it put on its two sinks.
 #[derive(Drop)]
-struct Ended {
-    status: Status,
-    out: MemSink,
-    errs: MemSink,
+pub(crate) struct Ended {
+    pub(crate) status: Status,
+    pub(crate) out: MemSink,
+    pub(crate) errs: MemSink,
 }
 
 const COMMAND: &[&str] = &["cpsa", "analyse", "--limit", "0"];
@@ -141,7 +141,7 @@ const SHAPES: &[&str] = &["cpsa", "shapes", "--limit", "3"];
 const UNREADABLE: &[&str] = &["cpsa", "analyse", "--limit", "x"];
 
 /// Runs these words over a source that fails at these calls, and a sink with so much room that fails at those.
-fn run_over(
+pub(crate) fn run_over(
     alloc: Global,
     line: &[&str],
     source: &mut MemSource,
@@ -195,7 +195,7 @@ const RUNS: &[Row] = &[
 ];
 
 // The line on the error stream.
-fn line_of(status: Status) -> &'static str {
+pub(crate) fn line_of(status: Status) -> &'static str {
     match status {
         Status::Usage => "usage: cpsa COMMAND [--limit N] [--bound N]\n",
         Status::ReadFault => "read fault\n",

@@ -6,7 +6,7 @@ ghost use Rattle.cp_term.specs.Variables.{variable_term};
 use crate::stated::chain;
 use cp_term::{
     Locals, Path, Pattern, Shape, Sort, Step, Term, VarId, VarTable, at, carries, depth, enc,
-    invert, ltk, pair, paths_of, pubk, tag, var,
+    invert, is_of_sort, ltk, pair, paths_of, pubk, tag, var,
 };
 use std::alloc::{AllocError, Global};
 use std::test::Fail;
@@ -118,6 +118,7 @@ fn keys(rt: HostRuntime) -> Result<(), Fail> {
     assert!(rt; matches!(inverse.shape(), Shape::Inverse(id) if id.number() == 0));
     let symmetric = variable(rt.alloc(), Sort::Skey)?;
     assert!(rt; inverts(rt.alloc(), &symmetric, &symmetric)?);
+    assert!(rt; is_of_sort(&inverse, Sort::Akey) && !is_of_sort(&symmetric, Sort::Akey));
     Ok(())
 }
 

@@ -4,14 +4,15 @@ use Rattle.cp_lists.specs.Lists.{item_at, IsIn, here, there}
 use Rattle.cp_model.specs.Term.{Variable}
 use Rattle.cp_model.specs.Strand.{Declaration, Role, Protocol}
 use Rattle.cp_model.specs.Skeleton.{Skeleton, IsSkeleton}
-use Rattle.cp_model.specs.Problem.{declared_sort, IsDeclared, HasDeclaredVariables}
-use Rattle.cp_skel.specs.Sound.{DeclaresItsVariables}
+use Rattle.cp_model.specs.Problem.{declared_sort, IsDeclared}
+use Rattle.cp_model.specs.PointOfView.{HasDeclaredVariables}
+use Rattle.cp_model.proofs.DeclaredVariables.{still_declared}
+use Rattle.cp_strand.specs.Declares.{DeclaresItsVariables}
 use Rattle.cp_guard.specs.Critical.{IsTest}
-use Rattle.cp_guard.specs.Guarding.{Guards}
+use Rattle.cp_guard.specs.Guards.{Guards}
 use Rattle.cp_covering.specs.Children.{Child}
 use Rattle.cp_covering.specs.Cohort.{Question, IsCohort}
 use Rattle.cp_covering.specs.Way.{DeclaresMore}
-use Rattle.cp_covering.proofs.Opening.{still_declared}
 use Rattle.cp_covering.proofs.SoundChildren.{sound_child}
 use Rattle.cp_escape.specs.Escape.{IsFirstWith, in_front, further}
 use Rattle.cp_escape.proofs.Widened.{guards_still}

@@ -6,13 +6,13 @@ use Rattle.cp_lists.proofs.Members.{only_item}
 use Rattle.cp_model.specs.Strand.{Declaration, Protocol}
 use Rattle.cp_model.specs.Skeleton.{Skeleton}
 use Rattle.cp_model.specs.Derivable.{IsUnrealised}
-use Rattle.cp_model.specs.Realising.{AllDerivable}
+use Rattle.cp_model.specs.Realisation.{AllDerivable}
 use Rattle.cp_model.specs.Homomorphism.{Embeds}
 use Rattle.cp_model.specs.Tree.{Mark, shape, dead, seen, instance_of, limit_steps, limit_strands, Label, Tree, Limits, expanded_count}
 use Rattle.cp_shapes.specs.Shapes.{IsLeast, IsInstanceWithin, IsShapeAt}
 use Rattle.cp_shapes.proofs.Instances.{same_item}
 use Rattle.cp_roots.specs.Roots.{Root}
-use Rattle.cp_general.specs.Generalising.{IsMostGeneral, GeneralisesTo}
+use Rattle.cp_general.specs.Generalisation.{IsMostGeneral, GeneralisesTo}
 use Rattle.cp_tree.specs.Candidates.{IsCandidate, skeletons_of, IsLabelAt}
 use Rattle.cp_tree.specs.Made.{Made, made_of_root, made_of_generalisation, Way, way_of, MayPointTo}
 use Rattle.cp_tree.specs.Searched.{mark_by, is_dead, is_seen, is_realised, is_generalised, above_bound, at_limit, is_tested, IsMarkedAmong, as_shape, as_instance, IsTreeFrom}

@@ -6,12 +6,13 @@ use Rattle.cp_lists.proofs.Members.{in_append}
 use Rattle.cp_model.specs.Term.{Variable, Term, variables_of}
 use Rattle.cp_model.specs.Strand.{Declaration, Role, Protocol}
 use Rattle.cp_model.specs.Skeleton.{Skeleton}
-use Rattle.cp_model.specs.Problem.{variables_of_skeleton, IsDeclared, HasDeclaredVariables}
+use Rattle.cp_model.specs.Problem.{variables_of_skeleton, IsDeclared}
+use Rattle.cp_model.specs.PointOfView.{HasDeclaredVariables}
 use Rattle.cp_model.specs.Tree.{Pattern, Test, Label, Tree, Limits}
 use Rattle.cp_completeness.specs.Normal.{variables_of_terms}
-use Rattle.cp_skel.specs.Sound.{DeclaresItsVariables}
+use Rattle.cp_strand.specs.Declares.{DeclaresItsVariables}
 use Rattle.cp_guard.specs.Critical.{used_variables}
-use Rattle.cp_guard.specs.Matching.{IsFreeIn}
+use Rattle.cp_guard.specs.Matches.{IsFreeIn}
 use Rattle.cp_roots.specs.Roots.{Root}
 use Rattle.cp_roots.specs.Sound.{AreSound}
 use Rattle.cp_covering.specs.Children.{Child}

@@ -13,13 +13,13 @@ use Rattle.cp_model.specs.Derivable.{IsOnInstance, DerivableAt, a_tag, an_atom, 
 use Rattle.cp_model.specs.Derivable as derivable
 use Rattle.cp_model.specs.Order.{LeadsTo, on_strand, over_pair}
 use Rattle.cp_model.proofs.LawOrder.{before_leads}
-use Rattle.cp_skel.specs.Deleting.{LeavesOut, all_left, is_gone, is_left, as_it_is}
+use Rattle.cp_skel.specs.Deletion.{LeavesOut, all_left, is_gone, is_left, as_it_is}
 use Rattle.cp_answers.specs.Example.{shared, locked, reception, sent_before}
 use Rattle.cp_answers.proofs.Heard.{no_instance, IsUnlocked}
 use Rattle.cp_roots.specs.Roots.{in_report_order}
 use Rattle.cp_general.specs.Fit.{IsFit}
 use Rattle.cp_general.specs.Steps.{Deletes, IsPairOfOrder, Drops}
-use Rattle.cp_general.specs.Generalising.{IsMostGeneral}
+use Rattle.cp_general.specs.Generalisation.{IsMostGeneral}
 
 -- ---- what cannot be derived where nothing is sent before
 

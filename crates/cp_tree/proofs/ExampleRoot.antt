@@ -3,10 +3,10 @@ use Rattle.std.proofs.Common.{◌≡◌, inl, ℕ, zero, suc, [], ◌∷◌, tru
 use Rattle.cp_lists.specs.Lists.{item_at}
 use Rattle.cp_lists.proofs.Members.{not_in_none}
 use Rattle.cp_model.specs.Skeleton.{IsSkeleton}
-use Rattle.cp_model.specs.Realising.{KeepsAssumptions}
+use Rattle.cp_model.specs.Realisation.{KeepsAssumptions}
 use Rattle.cp_model.specs.Homomorphism.{CarriesHomomorphism}
 use Rattle.cp_model.specs.Stated.{KeepsStated}
-use Rattle.cp_model.specs.Problem.{HasDeclaredVariables, IsPointOfView}
+use Rattle.cp_model.specs.PointOfView.{HasDeclaredVariables, IsPointOfView}
 use Rattle.cp_model.proofs.SingleMaps.{itself, own_carries}
 use Rattle.cp_model.proofs.StatedItself.{keeps_its_own}
 use Rattle.cp_answers.specs.Example.{locker, protocol, heard}

@@ -9,7 +9,7 @@ use Rattle.cp_model.specs.declared.node.Node.{Node}
 use Rattle.cp_model.specs.Skeleton.{SkeletonStrand, term_event_at, along_pair, Skeleton}
 use Rattle.cp_model.specs.Derivable.{DerivableAt, IsUnrealised}
 use Rattle.cp_model.specs.Derivable as derivable
-use Rattle.cp_model.specs.Realising.{AllDerivable}
+use Rattle.cp_model.specs.Realisation.{AllDerivable}
 use Rattle.cp_model.specs.Homomorphism.{Embeds}
 use Rattle.cp_model.specs.Tree.{Mark, shape, limit_steps, limit_strands, Label}
 use Rattle.cp_derive.specs.Unrealised.{IsUnrealisedAt, ListsUnrealised}
@@ -19,11 +19,11 @@ use Rattle.cp_answers.proofs.Heard.{no_instance, unlocked}
 use Rattle.cp_shapes.specs.Shapes.{EmbedsAt, IsShapeAt}
 use Rattle.cp_roots.specs.Roots.{in_report_order}
 use Rattle.cp_covering.specs.Children.{Child}
-use Rattle.cp_covering.specs.Listing.{nothing_given, none_left, left_out}
+use Rattle.cp_covering.specs.GatheredLists.{nothing_given, none_left, left_out}
 use Rattle.cp_covering.specs.Example.{asked, one_child}
 use Rattle.cp_covering.proofs.OneChild.{is_cohort}
 use Rattle.cp_escape.specs.Escape.{IsFirstWith, in_front, further, IsEscape}
-use Rattle.cp_expansion.specs.Testing.{IsTestOf, last_listener}
+use Rattle.cp_expansion.specs.ChosenTest.{IsTestOf, last_listener}
 use Rattle.cp_expansion.specs.Expansion.{IsWidening, Expansion, IsExpansionOf, none_widens}
 use Rattle.cp_tree.specs.Candidates.{IsCandidate, Candidate}
 use Rattle.cp_tree.specs.Made.{Made, made_of_root, made_of_child, Way, way_of, IsNew}

@@ -1,6 +1,6 @@
 -- What a skeleton generalises to does not generalise further.
 use Rattle.cp_model.specs.Skeleton.{Skeleton}
-use Rattle.cp_general.specs.Generalising.{IsMostGeneral, StepsTo, deletes, drops, GeneralisesTo, last_step, next_step}
+use Rattle.cp_general.specs.Generalisation.{IsMostGeneral, StepsTo, deletes, drops, GeneralisesTo, last_step, next_step}
 
 no_step_from : (k h : Skeleton) → IsMostGeneral k → StepsTo k h → ⊥
 no_step_from k h most (deletes {d = d} {h = g} taken fit first) = most.deletes_none d g taken fit

@@ -6,7 +6,7 @@ pub mod SoundLabels
 mod MarksSay
 pub mod MadeChildren
 mod TreeEdges
-mod PassingOn
+mod PassedStandings
 pub mod Placed
 mod ReachedLimits
 mod ExactLimits

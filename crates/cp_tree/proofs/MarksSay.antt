@@ -3,9 +3,9 @@ use Rattle.std.proofs.Common.{◌≡◌, ℕ, ◌<◌, ◌≤◌, List, [], ◌�
 use Rattle.cp_model.specs.Strand.{Protocol}
 use Rattle.cp_model.specs.Skeleton.{Skeleton}
 use Rattle.cp_model.specs.Derivable.{IsUnrealised}
-use Rattle.cp_model.specs.Realising.{AllDerivable}
+use Rattle.cp_model.specs.Realisation.{AllDerivable}
 use Rattle.cp_model.specs.Tree.{Mark, shape, dead, seen, instance_of, limit_steps, limit_strands, Label, Limits}
-use Rattle.cp_general.specs.Generalising.{IsMostGeneral}
+use Rattle.cp_general.specs.Generalisation.{IsMostGeneral}
 use Rattle.cp_shapes.specs.Shapes.{IsLeast, IsInstanceWithin, IsShapeAt, IsShapeOf}
 use Rattle.cp_tree.specs.Candidates.{Candidate, IsCandidate, AreCandidates, skeletons_of, IsLabelAt}
 use Rattle.cp_tree.specs.Made.{Made, Way, MayPointTo}

@@ -6,7 +6,7 @@ use Rattle.cp_model.specs.Strand.{Declaration, Protocol}
 use Rattle.cp_model.specs.Skeleton.{Skeleton}
 use Rattle.cp_model.specs.Tree.{Mark, Label, Tree, Limits}
 use Rattle.cp_roots.specs.Roots.{Root}
-use Rattle.cp_general.specs.Generalising.{IsMostGeneral, GeneralisesTo}
+use Rattle.cp_general.specs.Generalisation.{IsMostGeneral, GeneralisesTo}
 use Rattle.cp_general.proofs.SoundGeneralisations.{is_most_general}
 use Rattle.cp_tree.specs.Made.{Made, made_of_root, Way, way_of}
 use Rattle.cp_tree.specs.Searched.{IsMarkedAmong, IsTreeFrom}

@@ -8,12 +8,12 @@ use Rattle.cp_model.specs.Term.{Term}
 use Rattle.cp_model.specs.Tree.{Operation}
 use Rattle.cp_term.specs.declared.path.Step.{Step}
 use Rattle.cp_skel.specs.Events.{Occurrence}
-use Rattle.cp_normal.specs.Narrowing.{IsNormal}
+use Rattle.cp_normal.specs.NormalForms.{IsNormal}
 use Rattle.cp_normal.specs.Exact.{HasForms}
 use Rattle.cp_normal.specs.Formed.{Formed}
 use Rattle.cp_normal.proofs.FormsOf.{are_normal_forms}
-use Rattle.cp_settle.specs.Releasing.{Release, Tried}
-use Rattle.cp_settle.specs.Settling.{Choice, form_of, Stage, on_the_way, normal, Settles, released_inside, branching, normalising, settled, Branches, no_choices, never_matches, matches_by, EachSettles, no_forms, next_form}
+use Rattle.cp_settle.specs.Releases.{Release, Tried}
+use Rattle.cp_settle.specs.Stages.{Choice, form_of, Stage, on_the_way, normal, Settles, released_inside, branching, normalising, settled, Branches, no_choices, never_matches, matches_by, EachSettles, no_forms, next_form}
 use Rattle.cp_covering.specs.Children.{Child, child}
 use Rattle.cp_covering.specs.Cohort.{Question, Contracts, AreContracted, DisplacesAt, DisplacesEvent, DisplacesStrand, AddsAt, AddsEvent, Listens, AreListeners, IsCohort, is_before, is_displaced, is_added, of_listener, of_node, of_role, is_inside, is_critical, cyclic}
 use Rattle.cp_covering.specs.Cohort as cohort

@@ -15,10 +15,6 @@ front_or_behind [] ys i y at = inr (at_place ys i y at)
 front_or_behind (x ∷ xs) ys zero y at = inl at
 front_or_behind (x ∷ xs) ys (suc i) y at = front_or_behind xs ys i y at
 
-pub length_of_numbers : {A : Type 0} (n : ℕ) (xs : List A) → length (numbers_from n xs) ≡ length xs
-length_of_numbers n [] = refl
-length_of_numbers n (x ∷ xs) = ap suc (length_of_numbers (suc n) xs)
-
 pub numbers_append : {A : Type 0} (n m : ℕ) (xs ys : List A) → m ≡ n + length xs → numbers_from n (xs ++ ys) ≡ numbers_from n xs ++ numbers_from m ys
 numbers_append n m [] ys e = let same : n ≡ m = omega (arith, e) in ap (λ (a : ℕ). numbers_from a ys) same
 numbers_append n m (x ∷ xs) ys e = ap (λ (us : List ℕ). n ∷ us) (numbers_append (suc n) m xs ys (omega (arith, e)))

@@ -5,7 +5,8 @@ use Rattle.cp_lists.proofs.Members.{in_cases, not_in_none, only_item}
 use Rattle.cp_model.specs.Term.{Sort, text_sort, datum_sort, name_sort, skey_sort, akey_sort, Variable, atom_of_variable, Term, atom_term, variables_of}
 use Rattle.cp_model.specs.Strand.{Declaration}
 use Rattle.cp_model.specs.Skeleton.{Skeleton}
-use Rattle.cp_model.specs.Problem.{variable_terms, declared_sort, IsDeclared, IsPointOfView, HasDeclaredVariables}
+use Rattle.cp_model.specs.Problem.{variable_terms, declared_sort, IsDeclared}
+use Rattle.cp_model.specs.PointOfView.{IsPointOfView, HasDeclaredVariables}
 
 -- The term of a variable has no variable but that.
 own_variable : (s : Sort) (n : ℕ) (x : Variable) → IsIn x (variables_of (atom_term (atom_of_variable (record { sort = s; number = n })))) → x ≡ record { sort = s; number = n }

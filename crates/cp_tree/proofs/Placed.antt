@@ -6,11 +6,12 @@ use Rattle.cp_lists.proofs.Items.{at_place, map_of_item, item_of_map, item_still
 use Rattle.cp_model.specs.Strand.{Declaration, Protocol}
 use Rattle.cp_model.specs.Problem.{numbers_from}
 use Rattle.cp_model.specs.Tree.{Mark, Label, Tree, Limits, is_expanded}
+use Rattle.cp_model.proofs.Numbers.{numbers_length}
 use Rattle.cp_roots.specs.Roots.{Root}
 use Rattle.cp_tree.specs.Made.{Made, made_of_root, Way, way_of}
 use Rattle.cp_tree.specs.Searched.{AreSettled, all_settled, then_settled, IsMarkedAmong, children_of, IsTreeFrom}
 use Rattle.cp_tree.specs.Placed.{IsLabelOfRoot, RootsAreFirst}
-use Rattle.cp_tree.proofs.Numbered.{length_of_numbers, numbers_append, same_parts, number_there}
+use Rattle.cp_tree.proofs.Numbered.{numbers_append, same_parts, number_there}
 use Rattle.cp_tree.proofs.Settled.{IsOfMade, of_made, unexpanded, made_of}
 use Rattle.cp_tree.proofs.SoundLabels.{made, SettledHere, settled_here, of_made_here, parent_here, made_label}
 use Rattle.cp_tree.proofs.MadeChildren.{child_label}
@@ -39,7 +40,7 @@ module _ (protocol : Protocol) (limits : Limits) (ways : List Way) (marks : ℕ 
       → (q : ℕ) (x : Made) → item_at given q ≡ Some x → HasChild i (n + q) labels x
   has_child i before n made labels given all_settled e q x at = absurd (cc)
   has_child i before n made labels given (then_settled {m = m} {l = l} {made = ms} {labels = ls} {from_this = fs} {from_others = gs} b s) e q x at =
-      let parts = same_parts l.children (numbers_from n fs) (children_of ls) (numbers_from (n + length fs) gs) ((of_made protocol limits ways marks i before m l fs b).count ∙ sym (length_of_numbers n fs)) (e ∙ numbers_append n (n + length fs) fs gs refl) in
+      let parts = same_parts l.children (numbers_from n fs) (children_of ls) (numbers_from (n + length fs) gs) ((of_made protocol limits ways marks i before m l fs b).count ∙ sym (numbers_length n fs)) (e ∙ numbers_append n (n + length fs) fs gs refl) in
       let first : l.children ≡ numbers_from n fs = parts.0 in
       let rest : children_of ls ≡ numbers_from (n + length fs) gs = parts.1 in
       ⊎_elim

@@ -10,12 +10,13 @@ use Rattle.cp_model.specs.Skeleton.{Skeleton}
 use Rattle.cp_model.specs.Derivable.{IsUnrealised}
 use Rattle.cp_model.specs.Problem.{numbers_from}
 use Rattle.cp_model.specs.Tree.{Mark, dead, seen, limit_steps, limit_strands, Label, Limits, is_expanded, expanded_count}
+use Rattle.cp_model.proofs.Numbers.{numbers_length}
 use Rattle.cp_covering.specs.Children.{Child}
 use Rattle.cp_expansion.specs.Expansion.{Expansion, IsExpansionOf}
-use Rattle.cp_general.specs.Generalising.{GeneralisesTo}
+use Rattle.cp_general.specs.Generalisation.{GeneralisesTo}
 use Rattle.cp_tree.specs.Made.{Made, made_of_child, made_of_generalisation, Way}
 use Rattle.cp_tree.specs.Searched.{leaf, Becomes, is_dead, is_seen, is_realised, is_generalised, above_bound, at_limit, is_tested, AreSettled, all_settled, then_settled, children_of}
-use Rattle.cp_tree.proofs.Numbered.{item_behind, length_of_numbers, numbers_append, same_parts}
+use Rattle.cp_tree.proofs.Numbered.{item_behind, numbers_append, same_parts}
 
 module _ (protocol : Protocol) (limits : Limits) (ways : List Way) (marks : ℕ → Option Mark → Type 0) where
   -- ---- what becomes of one
@@ -119,7 +120,7 @@ module _ (protocol : Protocol) (limits : Limits) (ways : List Way) (marks : ℕ 
   settled_at i before n made labels given all_settled e place l at = absurd (cc)
   settled_at i before n made labels given (then_settled {m = m} {l = x} {made = ms} {labels = ls} {from_this = fs} {from_others = gs} b s) e zero l at =
       let same : x ≡ l = cc in
-      let parts = same_parts x.children (numbers_from n fs) (children_of ls) (numbers_from (n + length fs) gs) ((of_made i before m x fs b).count ∙ sym (length_of_numbers n fs)) (e ∙ numbers_append n (n + length fs) fs gs refl) in
+      let parts = same_parts x.children (numbers_from n fs) (children_of ls) (numbers_from (n + length fs) gs) ((of_made i before m x fs b).count ∙ sym (numbers_length n fs)) (e ∙ numbers_append n (n + length fs) fs gs refl) in
       let first : x.children ≡ numbers_from n fs = parts.0 in
       let none : n ≡ n + 0 = omega arith in
       let there_first : (q : ℕ) (y : Made) → item_at fs q ≡ Some y → item_at (fs ++ gs) (0 + q) ≡ Some y = (λ q y p. let z : 0 + q ≡ q = omega arith in ap (item_at (fs ++ gs)) z ∙ item_still fs gs q y p) in
@@ -137,7 +138,7 @@ module _ (protocol : Protocol) (limits : Limits) (ways : List Way) (marks : ℕ 
         behind = there_first;
       }
   settled_at i before n made labels given (then_settled {m = m} {l = x} {made = ms} {labels = ls} {from_this = fs} {from_others = gs} b s) e (suc place) l at =
-      let parts = same_parts x.children (numbers_from n fs) (children_of ls) (numbers_from (n + length fs) gs) ((of_made i before m x fs b).count ∙ sym (length_of_numbers n fs)) (e ∙ numbers_append n (n + length fs) fs gs refl) in
+      let parts = same_parts x.children (numbers_from n fs) (children_of ls) (numbers_from (n + length fs) gs) ((of_made i before m x fs b).count ∙ sym (numbers_length n fs)) (e ∙ numbers_append n (n + length fs) fs gs refl) in
       let rest : children_of ls ≡ numbers_from (n + length fs) gs = parts.1 in
       let r = settled_at (suc i) (before + is_expanded x.test) (n + length fs) ms ls gs s rest place l at in
       let later : (n + length fs) + r.offset ≡ n + (length fs + r.offset) = omega arith in

@@ -10,13 +10,13 @@ use Rattle.cp_model.specs.Skeleton.{Skeleton}
 use Rattle.cp_model.specs.Standing.{Standing}
 use Rattle.cp_model.specs.Homomorphism.{CarriesHomomorphism}
 use Rattle.cp_model.specs.Stated.{KeepsStated}
-use Rattle.cp_model.specs.Problem.{HasDeclaredVariables, IsPointOfView}
+use Rattle.cp_model.specs.PointOfView.{HasDeclaredVariables, IsPointOfView}
 use Rattle.cp_model.specs.Tree.{Pattern}
-use Rattle.cp_skel.specs.Sound.{DeclaresItsVariables}
-use Rattle.cp_normal.proofs.Keeping.{normal_keeps_assumptions}
+use Rattle.cp_strand.specs.Declares.{DeclaresItsVariables}
+use Rattle.cp_normal.proofs.FormSkeletons.{normal_keeps_assumptions}
 use Rattle.cp_guard.specs.Critical.{IsTest}
-use Rattle.cp_guard.specs.Guarding.{Guards}
-use Rattle.cp_answers.specs.LeavingOut.{GoesOn, LeavesNoneOut}
+use Rattle.cp_guard.specs.Guards.{Guards}
+use Rattle.cp_answers.specs.NoneLeftOut.{GoesOn, LeavesNoneOut}
 use Rattle.cp_answers.proofs.NoneLeftOut.{covering_leaves_none_out}
 use Rattle.cp_roots.specs.Roots.{in_report_order}
 use Rattle.cp_roots.proofs.InReportOrder.{skeleton_listed, assumptions_listed, carries_listed, stated_listed, stands_listed, apart_listed, declared_listed}
@@ -25,7 +25,7 @@ use Rattle.cp_covering.specs.Cohort.{Question, IsCohort}
 use Rattle.cp_covering.specs.Sound.{IsSoundChild}
 use Rattle.cp_covering.proofs.CohortCovers.{cohort_covers}
 use Rattle.cp_covering.proofs.SoundChildren.{sound_child}
-use Rattle.cp_covering.specs.Listing.{terms_onto}
+use Rattle.cp_covering.specs.GatheredLists.{terms_onto}
 use Rattle.cp_escape.specs.Escape.{IsEscape}
 use Rattle.cp_escape.proofs.EscapeGuards.{escape_guards}
 use Rattle.cp_expansion.specs.Expansion.{question_about, Expansion, IsExpansionOf}

@@ -2,8 +2,8 @@
 use Rattle.std.proofs.Common.{◌≡◌, ℕ, List, true, false}
 use Rattle.cp_model.specs.Strand.{Declaration, Protocol}
 use Rattle.cp_model.specs.Skeleton.{Skeleton, IsSkeleton}
-use Rattle.cp_model.specs.Problem.{IsPointOfView}
-use Rattle.cp_general.specs.Generalising.{GeneralisesTo}
+use Rattle.cp_model.specs.PointOfView.{IsPointOfView}
+use Rattle.cp_general.specs.Generalisation.{GeneralisesTo}
 use Rattle.cp_general.proofs.SoundGeneralisations.{embeds_back, keeps_assumptions, are_declared, IsSoundFrom, sound_from}
 use Rattle.cp_tree.specs.Made.{Made, made_of_generalisation}
 use Rattle.cp_tree.specs.Sound.{IsSoundMade, GeneralisesSoundly}

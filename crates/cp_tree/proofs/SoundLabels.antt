@@ -4,7 +4,7 @@ use Rattle.cp_lists.specs.Lists.{item_at, IsIn}
 use Rattle.cp_lists.proofs.Items.{item_of_map}
 use Rattle.cp_model.specs.Strand.{Declaration, Protocol}
 use Rattle.cp_model.specs.Skeleton.{Skeleton}
-use Rattle.cp_model.specs.Problem.{HasDeclaredVariables}
+use Rattle.cp_model.specs.PointOfView.{HasDeclaredVariables}
 use Rattle.cp_model.specs.Tree.{Label, Tree, Limits}
 use Rattle.cp_roots.specs.Roots.{Root}
 use Rattle.cp_roots.specs.Sound.{AreSound}

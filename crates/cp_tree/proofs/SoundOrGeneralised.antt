@@ -5,9 +5,9 @@ use Rattle.cp_model.specs.Bundle.{Bundle, IsBundle}
 use Rattle.cp_model.specs.Skeleton.{Skeleton, IsSkeleton}
 use Rattle.cp_model.specs.Standing.{Standing, StandsIn, StandsApart}
 use Rattle.cp_model.specs.Derivable.{IsUnrealised}
-use Rattle.cp_model.specs.Realising.{KeepsAssumptions, AllDerivable}
-use Rattle.cp_model.specs.Problem.{HasDeclaredVariables}
-use Rattle.cp_general.specs.Generalising.{IsMostGeneral, GeneralisesTo}
+use Rattle.cp_model.specs.Realisation.{KeepsAssumptions, AllDerivable}
+use Rattle.cp_model.specs.PointOfView.{HasDeclaredVariables}
+use Rattle.cp_general.specs.Generalisation.{IsMostGeneral, GeneralisesTo}
 use Rattle.cp_general.proofs.SoundGeneralisations.{is_fit, is_most_general, is_skeleton, keeps_assumptions, are_declared}
 use Rattle.cp_tree.specs.Made.{Made, made_of_generalisation}
 use Rattle.cp_tree.specs.Sound.{IsSoundMade, GeneralisesSoundly}

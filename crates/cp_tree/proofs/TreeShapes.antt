@@ -7,7 +7,7 @@ use Rattle.cp_model.specs.Skeleton.{Skeleton, IsSkeleton}
 use Rattle.cp_model.specs.Standing.{IsRealised}
 use Rattle.cp_model.specs.Stated.{KeepsStated}
 use Rattle.cp_model.specs.Homomorphism.{CarriesHomomorphism, Embeds}
-use Rattle.cp_model.specs.Problem.{HasDeclaredVariables}
+use Rattle.cp_model.specs.PointOfView.{HasDeclaredVariables}
 use Rattle.cp_model.specs.Tree.{shape, Label, Tree, Limits}
 use Rattle.cp_soundness.proofs.Realised.{realised}
 use Rattle.cp_shapes.specs.Shapes.{EmbedsAt}

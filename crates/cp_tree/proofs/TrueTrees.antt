@@ -4,16 +4,17 @@ use Rattle.cp_lists.specs.Lists.{item_at}
 use Rattle.cp_model.specs.Strand.{Declaration, Protocol}
 use Rattle.cp_model.specs.Skeleton.{Skeleton}
 use Rattle.cp_model.specs.Homomorphism.{IsCompleteList}
-use Rattle.cp_model.specs.Problem.{HasDeclaredVariables, numbers_from}
+use Rattle.cp_model.specs.Problem.{numbers_from}
+use Rattle.cp_model.specs.PointOfView.{HasDeclaredVariables}
 use Rattle.cp_model.specs.Tree.{Outcome, complete, limit_steps, limit_strands, Label, Tree, Limits, shapes_of, skeletons_left, IsTrueOf}
 use Rattle.cp_answers.specs.Lawful.{IsWithinLimits}
-use Rattle.cp_answers.proofs.Descending.{left_is_complete, shapes_are_complete}
+use Rattle.cp_answers.proofs.LabelDescents.{left_is_complete, shapes_are_complete}
 use Rattle.cp_roots.specs.Roots.{Root}
 use Rattle.cp_roots.specs.Sound.{AreSound}
 use Rattle.cp_tree.specs.Searched.{IsMarked, HasOutcome, some_at_step_limit, some_at_strand_limit, none_at_limit, IsTreeFrom}
 use Rattle.cp_tree.specs.Sound.{ExpandsSoundly, GeneralisesSoundly}
 use Rattle.cp_tree.specs.Edges.{edges}
-use Rattle.cp_tree.proofs.PassingOn.{is_lawful, roots_cover}
+use Rattle.cp_tree.proofs.PassedStandings.{is_lawful, roots_cover}
 use Rattle.cp_tree.proofs.ExactLimits.{exact_steps, exact_strands}
 use Rattle.cp_tree.proofs.TreeShapes.{none_embeds_in_another, are_skeletons, labels_from_problem, labels_keep_stated, shapes_realised}
 

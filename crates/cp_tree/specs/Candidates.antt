@@ -2,7 +2,7 @@
 use Rattle.std.specs.Prelude.{◌≡◌, ◌≢◌, ◌⊎◌, ℕ, suc, List, [], ◌∷◌, map, Some}
 use Rattle.cp_lists.specs.Lists.{item_at}
 use Rattle.cp_model.specs.Skeleton.{Skeleton}
-use Rattle.cp_model.specs.Realising.{AllDerivable}
+use Rattle.cp_model.specs.Realisation.{AllDerivable}
 use Rattle.cp_model.specs.Tree.{dead, seen, Label}
 
 -- No label was made from it. A realised label has its generalisation as a child where that is another skeleton, so that one

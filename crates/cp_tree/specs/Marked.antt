@@ -1,11 +1,11 @@
 -- What a label of a tree is, by its mark and by what was made from it.
 use Rattle.std.specs.Prelude.{◌≡◌, ℕ, List, [], ◌∷◌, map, true, Some}
 use Rattle.cp_lists.specs.Lists.{item_at}
-use Rattle.cp_model.specs.Realising.{AllDerivable}
+use Rattle.cp_model.specs.Realisation.{AllDerivable}
 use Rattle.cp_model.specs.Tree.{by_generalising, seen, Label}
 use Rattle.cp_shapes.specs.Shapes.{IsLeast, IsInstanceWithin}
 use Rattle.cp_roots.specs.Roots.{Root}
-use Rattle.cp_general.specs.Generalising.{IsMostGeneral, GeneralisesTo}
+use Rattle.cp_general.specs.Generalisation.{IsMostGeneral, GeneralisesTo}
 use Rattle.cp_tree.specs.Candidates.{IsCandidate}
 use Rattle.cp_tree.specs.Made.{way_of, MayPointTo}
 use Rattle.cp_tree.specs.Edges.{IsLeaf}

@@ -4,7 +4,7 @@ use Rattle.cp_lists.specs.Lists.{item_at}
 use Rattle.cp_model.specs.Strand.{Declaration}
 use Rattle.cp_model.specs.Tree.{by_generalising, Label}
 use Rattle.cp_roots.specs.Roots.{Root}
-use Rattle.cp_general.specs.Generalising.{GeneralisesTo}
+use Rattle.cp_general.specs.Generalisation.{GeneralisesTo}
 
 -- The label is that of the root of a problem of these variables: it was made from no other, as the root was.
 pub record IsLabelOfRoot (variables : List Declaration) (root : Root) (l : Label) : Type 0 where

@@ -5,14 +5,14 @@ use Rattle.cp_model.specs.Strand.{Declaration, Protocol}
 use Rattle.cp_model.specs.declared.node.Node.{Node}
 use Rattle.cp_model.specs.Skeleton.{Skeleton}
 use Rattle.cp_model.specs.Derivable.{IsUnrealised}
-use Rattle.cp_model.specs.Realising.{AllDerivable}
+use Rattle.cp_model.specs.Realisation.{AllDerivable}
 use Rattle.cp_model.specs.Problem.{numbers_from}
 use Rattle.cp_model.specs.Tree.{Mark, shape, dead, seen, instance_of, limit_steps, limit_strands, Outcome, complete, at_step_limit, at_strand_limit, Label, Tree, Limits, is_expanded}
 use Rattle.cp_derive.specs.Unrealised.{ListsUnrealised}
 use Rattle.cp_shapes.specs.Shapes.{IsLeast, IsShapeAt, IsShapeOf}
 use Rattle.cp_roots.specs.Roots.{Root, AreRoots}
 use Rattle.cp_expansion.specs.Expansion.{Expansion, IsExpansionOf}
-use Rattle.cp_general.specs.Generalising.{IsMostGeneral, GeneralisesTo}
+use Rattle.cp_general.specs.Generalisation.{IsMostGeneral, GeneralisesTo}
 use Rattle.cp_tree.specs.Candidates.{Candidate, AreCandidates, skeletons_of, IsLabelAt}
 use Rattle.cp_tree.specs.Made.{Made, made_of_root, made_of_child, made_of_generalisation, Way, way_of, MayPointTo, IsNew}
 

@@ -5,16 +5,16 @@ use Rattle.cp_model.specs.Strand.{Protocol}
 use Rattle.cp_model.specs.Bundle.{Bundle, IsBundle}
 use Rattle.cp_model.specs.Skeleton.{Skeleton, IsSkeleton}
 use Rattle.cp_model.specs.Derivable.{IsUnrealised}
-use Rattle.cp_model.specs.Realising.{KeepsAssumptions}
+use Rattle.cp_model.specs.Realisation.{KeepsAssumptions}
 use Rattle.cp_model.specs.Standing.{Standing, StandsIn, StandsApart}
 use Rattle.cp_model.specs.Homomorphism.{CarriesHomomorphism, Embeds}
-use Rattle.cp_model.specs.Problem.{HasDeclaredVariables}
+use Rattle.cp_model.specs.PointOfView.{HasDeclaredVariables}
 use Rattle.cp_model.specs.Stated.{KeepsStated}
-use Rattle.cp_answers.specs.LeavingOut.{LeavesNoneOut}
+use Rattle.cp_answers.specs.NoneLeftOut.{LeavesNoneOut}
 use Rattle.cp_roots.specs.Roots.{in_report_order}
 use Rattle.cp_covering.specs.Children.{Child}
 use Rattle.cp_expansion.specs.Expansion.{Expansion, IsExpansionOf}
-use Rattle.cp_general.specs.Generalising.{GeneralisesTo}
+use Rattle.cp_general.specs.Generalisation.{GeneralisesTo}
 use Rattle.cp_tree.specs.Made.{Made, made_of_child, made_of_generalisation}
 
 -- What is made is a skeleton over the protocol, carries a homomorphism from the problem k, and keeps what that states itself;

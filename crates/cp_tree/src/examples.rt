@@ -1,6 +1,6 @@
 // An example of a tree.
 ghost use Rattle.std.specs.Prelude.{[], ◌∷◌};
-ghost use Rattle.cp_model.specs.Problem.{IsPointOfView};
+ghost use Rattle.cp_model.specs.PointOfView.{IsPointOfView};
 ghost use Rattle.cp_model.specs.Tree.{IsTrueOf};
 ghost use Rattle.cp_answers.specs.Example.{locker, protocol, heard};
 ghost use Rattle.cp_roots.specs.Sound.{AreSound};

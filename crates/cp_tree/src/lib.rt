@@ -2,15 +2,15 @@
 #![tactic(auto)]
 
 mod examples;
-mod expanding;
-mod generalising;
+mod expansion_law;
+mod generalisation_law;
 mod laws;
 mod limits;
 mod marks;
 
 pub use examples::heard_encryption_has_a_tree;
-pub use expanding::expansions_are_sound;
-pub use generalising::generalised_labels_are_sound;
+pub use expansion_law::expansions_are_sound;
+pub use generalisation_law::generalised_labels_are_sound;
 pub use laws::{
     search_trees_are_lawful, search_trees_are_ordered, search_trees_are_true,
     search_trees_declare_their_variables, searches_keep_within_limits,

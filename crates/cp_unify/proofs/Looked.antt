@@ -15,7 +15,7 @@ use Rattle.cp_unify.specs.Matched.{bound_term}
 use Rattle.cp_unify.specs.Places.{IsBehind}
 use Rattle.cp_model.specs.Same.{same_atom, same_term}
 use Rattle.cp_term.proofs.SameTerms.{same_Decides, test_is}
-use Rattle.cp_unify.proofs.Occurring.{bound, other}
+use Rattle.cp_unify.proofs.VariablesUnder.{bound, other}
 
 -- A variable with a number is a term.
 pub record IsVariableTerm (n : ℕ) (v : Term) : Type 0 where

@@ -15,15 +15,15 @@ use Rattle.cp_term.proofs.SameTerms.{bytes_Decides, flag_Decides, purpose_Decide
 use Rattle.cp_unify.specs.Bindings.{Binding, sort_of, variable_of, put_term, as_substitution}
 use Rattle.cp_unify.specs.Beside.{Agrees, MatchesBeside, NeverMatchesBeside}
 use Rattle.cp_unify.specs.Matched.{is_listed, bound_term, is_same_sort, matched_local, matched_variable, matched_names, matched_symmetric, matched_pairs, matched_keys, matched_atoms, matched}
-use Rattle.cp_unify.specs.Matching.{is_number_of, numbered, ChangesOnly, BindsOnly, IsMatch, HasNoMatch}
-use Rattle.cp_unify.specs.Atoms.{IsAtom, atom_of}
+use Rattle.cp_unify.specs.Matches.{is_number_of, numbered, ChangesOnly, BindsOnly, IsMatch, HasNoMatch}
 use Rattle.cp_term.specs.Keys.{key_as_term, IsKey}
 use Rattle.cp_term.specs.Variables.{variable_term}
 use Rattle.cp_term.specs.declared.variable.Sort.{Sort as ProgramSort}
 use Rattle.cp_term.specs.declared.variable.Sort.TheVariants.{Text, Datum, Name, Skey, Akey}
+use Rattle.cp_term.specs.Sorts.{is_atom_of_sort, is_of_sort}
 use Rattle.cp_unify.proofs.Found.{swap}
 use Rattle.cp_unify.proofs.Members.{among_left, among_right}
-use Rattle.cp_unify.proofs.Occurring.{bound, other}
+use Rattle.cp_unify.proofs.VariablesUnder.{bound, other}
 
 -- The substitution changes only is_local.
 abbrev pub ChangesLocals : (ℕ → Bool) → Substitution → Type 0
@@ -337,33 +337,31 @@ pub record IsAsymmetric (t : Term) : Type 0 where
   pub half : PairTerm
   pub is_asymmetric : t ≡ key_as_term (asymmetric_term flag half)
 
-asymmetric_atom_term : (u : AtomTerm) → true ≡ is_same_sort (at_sort akey_sort 0) u → IsAsymmetric (atom_term u)
+asymmetric_atom_term : (u : AtomTerm) → true ≡ is_atom_of_sort Akey u → IsAsymmetric (atom_term u)
 asymmetric_atom_term (key_term (asymmetric_term f k)) e = record { flag = f; half = k; is_asymmetric = refl }
 asymmetric_atom_term (key_term (symmetric_term k)) e = absurd (let f : true ≡ false = e in cc)
 asymmetric_atom_term (text_variable n) e = absurd (let f : true ≡ false = e in cc)
 asymmetric_atom_term (datum_variable n) e = absurd (let f : true ≡ false = e in cc)
 asymmetric_atom_term (name_variable n) e = absurd (let f : true ≡ false = e in cc)
 
-pub asymmetric_of : (t : Term) (b : Bool) → b ≡ true → (b ≡ true → IsAtom t) → (IsAtom t → (n : ℕ) → b ≡ is_same_sort (at_sort akey_sort n) (atom_of t)) → IsAsymmetric t
-asymmetric_of t b yes_b is_atom sort =
-    let a : IsAtom t = is_atom yes_b in
-    let e : true ≡ is_same_sort (at_sort akey_sort 0) (atom_of t) = sym yes_b ∙ sort a 0 in
-    let e' : true ≡ is_same_sort (at_sort akey_sort 0) a.atom = e ∙ ap (λ (u : Term). is_same_sort (at_sort akey_sort 0) (atom_of u)) a.is_atom in
-    subst IsAsymmetric (sym a.is_atom) (asymmetric_atom_term a.atom e')
+pub asymmetric_of : (t : Term) (b : Bool) → b ≡ is_of_sort Akey t → b ≡ true → IsAsymmetric t
+asymmetric_of (atom_term u) b is h = asymmetric_atom_term u (sym h ∙ is)
+asymmetric_of (tag_term x) b is h = absurd (let f : true ≡ false = sym h ∙ is in cc)
+asymmetric_of (pair_term a c) b is h = absurd (let f : true ≡ false = sym h ∙ is in cc)
+asymmetric_of (enc_term a k) b is h = absurd (let f : true ≡ false = sym h ∙ is in cc)
 
-not_akey_atom : (u : AtomTerm) (m : ℕ) (is_local : ℕ → Bool) (r : List Binding) → false ≡ is_same_sort (at_sort akey_sort 0) u → None ≡ matched_atoms is_local (asymmetric_atom true (akey_variable m)) u r
+not_akey_atom : (u : AtomTerm) (m : ℕ) (is_local : ℕ → Bool) (r : List Binding) → false ≡ is_atom_of_sort Akey u → None ≡ matched_atoms is_local (asymmetric_atom true (akey_variable m)) u r
 not_akey_atom (key_term (asymmetric_term f k)) m is_local r e = absurd (let g : false ≡ true = e in cc)
 not_akey_atom (key_term (symmetric_term k)) m is_local r e = refl
 not_akey_atom (text_variable n) m is_local r e = refl
 not_akey_atom (datum_variable n) m is_local r e = refl
 not_akey_atom (name_variable n) m is_local r e = refl
 
-pub not_akey : (t : Term) (m : ℕ) (is_local : ℕ → Bool) (r : List Binding) (b : Bool) → b ≡ false → (IsAtom t → (n : ℕ) → b ≡ is_same_sort (at_sort akey_sort n) (atom_of t)) →
-    None ≡ matched is_local (atom_term (asymmetric_atom true (akey_variable m))) t r
-not_akey (tag_term x) m is_local r b e sort = refl
-not_akey (pair_term a c) m is_local r b e sort = refl
-not_akey (enc_term a k) m is_local r b e sort = refl
-not_akey (atom_term u) m is_local r b e sort = not_akey_atom u m is_local r (sym e ∙ sort (record { atom = u; is_atom = refl }) 0)
+pub not_akey : (t : Term) (m : ℕ) (is_local : ℕ → Bool) (r : List Binding) (b : Bool) → b ≡ is_of_sort Akey t → b ≡ false → None ≡ matched is_local (atom_term (asymmetric_atom true (akey_variable m))) t r
+not_akey (tag_term x) m is_local r b is h = refl
+not_akey (pair_term a c) m is_local r b is h = refl
+not_akey (enc_term a k) m is_local r b is h = refl
+not_akey (atom_term u) m is_local r b is h = not_akey_atom u m is_local r (sym h ∙ is)
 
 pub asymmetric_is_key : (t : Term) → IsAsymmetric t → IsKey t
 asymmetric_is_key t h = record { key = asymmetric_term h.flag h.half; is_key = h.is_asymmetric }

@@ -1,19 +1,20 @@
 -- The loop that mends one difference after the other.
 use Rattle.std.proofs.Common.{◌≡◌, ◌⊎◌, inl, inr, ◌<◌, ℕ, true, false, List, [], ◌∷◌, ◌++◌, refl, sym, ap, ◌∙◌, subst, arith}
 use Rattle.cp_lists.specs.Lists.{IsIn, here, there}
-use Rattle.cp_model.specs.Term.{Sort, text_sort, datum_sort, name_sort, skey_sort, akey_sort, Variable, skey_variable, ltk_term, akey_variable, pubk_term, symmetric_term, asymmetric_term, AtomTerm, text_variable, datum_variable, name_variable, key_term, Term, atom_of_variable, variables_of_atom, variables_of, Assignment, value_of, Substitution, apply_to_atom, apply_to, unchanged}
+use Rattle.cp_model.specs.Term.{Sort, text_sort, datum_sort, name_sort, skey_sort, akey_sort, Variable, skey_variable, ltk_term, akey_variable, pubk_term, symmetric_term, asymmetric_term, AtomTerm, text_variable, datum_variable, name_variable, key_term, Term, atom_of_variable, variables_of_atom, variables_of, Assignment, value_of, Substitution, apply_to_atom, apply_to}
+use Rattle.cp_model.specs.Identity.{unchanged}
 use Rattle.cp_model.proofs.LawTerms.{atom_unchanged, term_composed}
 use Rattle.cp_unify.specs.Bindings.{Binding, variable_of, Meets, put_term, as_substitution, variables_of_bindings}
 use Rattle.cp_unify.specs.Joined.{moved, joined}
 use Rattle.cp_unify.specs.Unifiers.{IsBefore, AreLaterToEarlier, AreAmong}
 use Rattle.cp_unify.specs.Solved.{IsSolved, SolvesBeside}
-use Rattle.cp_unify.proofs.Deciding.{is_variable, is_variable_tells, occurs, occurs_tells, count, fewer}
+use Rattle.cp_unify.proofs.VariableTests.{is_variable, is_variable_tells, occurs, occurs_tells, count, fewer}
 use Rattle.cp_unify.proofs.Found.{Narrows, IsDifference, found}
 use Rattle.cp_unify.specs.Differences.{difference_of}
 use Rattle.cp_unify.specs.declared.difference.Difference.TheVariants.{Same, Clash, Bind}
 use Rattle.cp_lists.proofs.Members.{in_cases, not_in_none, only_item, in_append_left, in_append_right, in_append}
 use Rattle.cp_unify.proofs.Members.{among_append, among_left, among_right}
-use Rattle.cp_unify.proofs.Occurring.{Leaves, leaves_variables_of, leaves_atom, bound, other, leaves_other, leaves_absent, given_atom, given_term}
+use Rattle.cp_unify.proofs.VariablesUnder.{Leaves, leaves_variables_of, leaves_atom, bound, other, leaves_other, leaves_absent, given_atom, given_term}
 use Rattle.cp_unify.proofs.SolvedBindings.{variable_kept, meets_joined, joined_meets, AlwaysMet, always_met_joined, idempotent_term}
 use Rattle.cp_unify.proofs.Substituted.{as_joined, value_met}
 

@@ -1,6 +1,7 @@
 -- Bindings of variables to terms, and the substitution that they are.
 use Rattle.std.specs.Prelude.{◌≡◌, ℕ, List, [], ◌∷◌, ◌++◌, ◌==◌, if◌then◌else◌}
-use Rattle.cp_model.specs.Term.{Sort, text_sort, datum_sort, name_sort, skey_sort, akey_sort, Variable, KeyTerm, symmetric_term, asymmetric_term, AtomTerm, text_variable, datum_variable, name_variable, key_term, atom_of_variable, variables_of_atom, Assignment, value_of_atom, Substitution, unchanged}
+use Rattle.cp_model.specs.Term.{Sort, text_sort, datum_sort, name_sort, skey_sort, akey_sort, Variable, KeyTerm, symmetric_term, asymmetric_term, AtomTerm, text_variable, datum_variable, name_variable, key_term, atom_of_variable, variables_of_atom, Assignment, value_of_atom, Substitution}
+use Rattle.cp_model.specs.Identity.{unchanged}
 
 -- A variable, by its number, and the term that it is bound to. The variable has the sort of the term.
 pub record Binding : Type 0 where

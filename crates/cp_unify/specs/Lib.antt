@@ -4,7 +4,7 @@ pub mod Bindings
 pub mod Differences
 pub mod Joined
 pub mod Matched
-pub mod Matching
+pub mod Matches
 pub mod Places
 pub mod Sides
 pub mod Solved

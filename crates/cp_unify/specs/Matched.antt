@@ -6,7 +6,7 @@ use Rattle.std.specs.Option.{option_eq}
 use Rattle.cp_model.specs.Term.{SymmetricTerm, skey_variable, ltk_term, PairTerm, akey_variable, pubk_term, KeyTerm, symmetric_term, asymmetric_term, AtomTerm, text_variable, datum_variable, name_variable, key_term, Term, tag_term, atom_term, pair_term, enc_term, atom_of_variable, flag_of}
 use Rattle.cp_model.specs.Same.{same_bool, same_atom, same_term}
 use Rattle.cp_unify.specs.Bindings.{Binding, variable_of}
-use Rattle.cp_unify.specs.Matching.{is_number_of}
+use Rattle.cp_unify.specs.Matches.{is_number_of}
 
 -- The test whether a number is listed; where there is no list, each is.
 abbrev pub is_listed : Option (List ℕ) → ℕ → Bool

@@ -8,9 +8,9 @@ ghost use Rattle.cp_unify.specs.Beside.{MatchesBeside, NeverMatchesBeside};
 ghost use Rattle.cp_unify.specs.Matched.{is_listed, matched, matched_names};
 
 use crate::difference::is_same_purpose;
-use crate::matcher::{is_bound_to, is_of_sort, is_variable};
+use crate::matcher::{is_bound_to, is_variable};
 use crate::subst::Subst;
-use cp_term::{Shape, Sort, Term, VarId};
+use cp_term::{Shape, Sort, Term, VarId, is_of_sort};
 
 /// Whether a variable of this sort is bound to the term; none where it is not bound and has the term's sort.
 fn known_variable(variable: VarId, sort: Sort, term: &Term, given: &Subst) -> Option<bool>

@@ -1,21 +1,21 @@
 //! Unification of terms, and substitutions.
 #![tactic(auto)]
 
-mod applying;
 mod binding;
-mod composing;
+mod composition;
 mod difference;
 mod known;
 mod matcher;
 mod places;
 mod sides;
 mod subst;
-mod unifying;
+mod terms_under;
+mod unification;
 
-pub use applying::apply;
 pub use binding::Binding;
-pub use composing::compose;
+pub use composition::compose;
 pub use known::known_match;
 pub use matcher::{matching, matching_beside};
 pub use subst::Subst;
-pub use unifying::unify;
+pub use terms_under::apply;
+pub use unification::unify;

@@ -1,5 +1,5 @@
 // Matching: values of local variables that make a pattern a term.
-ghost use Rattle.std.specs.Prelude.{◌≡◌, ◌↔◌, ◌==◌, ℕ, [], true, IsTrue, IfSome, IfNone, IfOk};
+ghost use Rattle.std.specs.Prelude.{◌≡◌, ◌↔◌, ◌==◌, [], true, IsTrue, IfSome, IfNone, IfOk};
 ghost use Rattle.std.specs.Option.{option_map};
 ghost use Rattle.cp_model.specs.Term.{AtomTerm, atom_term, ltk_term, pubk_term, symmetric_term, asymmetric_term, tag_term, variables_of};
 ghost use Rattle.cp_term.specs.Keys.{key_as_term};
@@ -8,15 +8,15 @@ ghost use Rattle.cp_term.specs.Variables.{variable_term};
 ghost use Rattle.cp_unify.specs.Atoms.{IsAtom, atom_of};
 ghost use Rattle.cp_unify.specs.Differences.{akey_atom};
 ghost use Rattle.cp_unify.specs.Beside.{MatchesBeside, NeverMatchesBeside};
-ghost use Rattle.cp_unify.specs.Matched.{is_listed, bound_term, is_same_sort, matched, matched_names};
-ghost use Rattle.cp_unify.specs.Matching.{numbered, IsMatch, HasNoMatch};
+ghost use Rattle.cp_unify.specs.Matched.{is_listed, bound_term, matched, matched_names};
+ghost use Rattle.cp_unify.specs.Matches.{numbered, IsMatch, HasNoMatch};
 ghost use Rattle.cp_term.specs.Spines.{HasTail};
 
 use crate::binding::Binding;
 use crate::difference::is_same_purpose;
 use crate::sides::{Sides, beside};
 use crate::subst::Subst;
-use cp_term::{Shape, Sort, Term, VarId, invert, var};
+use cp_term::{Shape, Sort, Term, VarId, invert, is_of_sort, var};
 use std::alloc::{AllocError, Global};
 
 /// Whether a variable is one of the locals; where there is no list, each is.
@@ -26,20 +26,6 @@ fn is_local(locals: Option<&[VarId]>, variable: VarId) -> bool
     match locals {
         Some(locals) => locals.contains(&variable),
         None => true,
-    }
-}
-
-/// Whether a term has this sort.
-pub(crate) fn is_of_sort(term: &Term, sort: Sort) -> bool
-    ensures atom { IsTrue result → IsAtom term.now }
-    ensures sort { IsAtom term.now → (n : ℕ)
-        → result ≡ is_same_sort (atom_of (variable_term sort n)) (atom_of term.now) }
-{
-    match term.shape() {
-        Shape::Variable(_, other) => other == sort,
-        Shape::Inverse(_) | Shape::Pubk(..) => sort == Sort::Akey,
-        Shape::Ltk(..) => sort == Sort::Skey,
-        _ => false,
     }
 }
 

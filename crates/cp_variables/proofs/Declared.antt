@@ -11,7 +11,7 @@ use Rattle.cp_sexpr.specs.View.{view}
 use Rattle.cp_sexpr.specs.declared.form.Form as program
 use Rattle.cp_language.specs.Words.{is_one_of}
 use Rattle.cp_language.specs.Names.{identifiers_in}
-use Rattle.cp_scope.proofs.Naming.{AreSameNames, names-swap, identifiers_in-append}
+use Rattle.cp_scope.proofs.DeclaredIdentifiers.{AreSameNames, names-swap, identifiers_in-append}
 use Rattle.cp_report.specs.Misfits.{stands_before, list_misfits, entries_misfits, symbol_misfits}
 use Rattle.cp_report.specs.Spelled.{names_sort}
 use Rattle.cp_report.specs.Skeletons.{vars_misfits, declaration_of, identifier_of}

@@ -2,6 +2,6 @@ pub mod Firsts
 pub mod InOrder
 pub mod Headed
 pub mod Tabled
-pub mod Clashing
+pub mod GatheredLocals
 pub mod Stated
 pub mod Declared

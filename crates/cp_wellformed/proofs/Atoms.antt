@@ -1,15 +1,14 @@
 -- The lists of assumptions of a problem: their values are declared, and hold all that the strands' roles give.
 use Rattle.std.proofs.Common.{◌≡◌, ℕ, zero, suc, List, [], ◌∷◌, ◌++◌, Bool, true, false, Some, refl, sym, ap, subst, if◌then◌else◌, ⊎_elim}
-use Rattle.std.proofs.lemmas.Bool.{and_parts, and_from}
 use Rattle.cp_lists.specs.Lists.{item_at, IsIn, here, there}
-use Rattle.cp_model.specs.Term.{Variable, AtomTerm, variables_of_atom, Substitution, apply_to_atom}
+use Rattle.cp_model.specs.Term.{AtomTerm, variables_of_atom, Substitution, apply_to_atom}
 use Rattle.cp_model.specs.Strand.{Declaration, Role, Applies, variables_of_prefix}
 use Rattle.cp_model.specs.Skeleton.{SkeletonStrand, instance, listener}
 use Rattle.cp_lists.proofs.Members.{in_append, in_append_left, in_append_right}
-use Rattle.cp_model.specs.Same.{has_variable, has_variables}
+use Rattle.cp_model.specs.Same.{has_variables}
 use Rattle.cp_model.specs.Given.{atoms_onto, applying, given_non, given_penetrator_non}
 use Rattle.cp_model.proofs.Gathered.{onto-only, atoms}
-use Rattle.cp_model.proofs.SameTests.{variable_in, in_has_variable}
+use Rattle.cp_model.proofs.SameTests.{variables_there, there_variables}
 use Rattle.cp_wellformed.proofs.Values.{AtomsDeclared, and_these}
 use Rattle.cp_wellformed.proofs.Instances.{TakesToDeclared, atom_taken}
 use Rattle.cp_wellformed.proofs.Strands.{AreSoundStrands}
@@ -20,15 +19,6 @@ pub onto_declared : (ds : List Declaration) (before vs : List AtomTerm) → Atom
 onto_declared ds before vs h k = λ w p. ⊎_elim (h w) (k w) (onto-only atoms before vs w p)
 
 -- ---- the values that roles give
-
-pub variables_there : (xs ys : List Variable) → has_variables xs ys ≡ true → (x : Variable) → IsIn x ys → IsIn x xs
-variables_there xs [] e x p = elim p [ ]
-variables_there xs (y ∷ ys) e x here = variable_in xs y (and_parts (has_variable xs y) (has_variables xs ys) e).0
-variables_there xs (y ∷ ys) e x (there p) = variables_there xs ys (and_parts (has_variable xs y) (has_variables xs ys) e).1 x p
-
-pub there_variables : (xs ys : List Variable) → ((x : Variable) → IsIn x ys → IsIn x xs) → has_variables xs ys ≡ true
-there_variables xs [] h = refl
-there_variables xs (y ∷ ys) h = and_from (has_variable xs y) (has_variables xs ys) (in_has_variable xs y (h y here)) (there_variables xs ys (λ x p. h x (there p)))
 
 module _ (role : Role) (height : ℕ) (terms : Substitution) where
   applying_one : (full : List Declaration) (b : Bool) (v : AtomTerm) (vs : List AtomTerm) → TakesToDeclared terms full (variables_of_prefix role height) →

@@ -3,12 +3,12 @@
 use Rattle.std.proofs.Common.{◌≡◌, ℕ, List, [], ◌∷◌, ◌++◌, Option, Some, None, if◌then◌else◌}
 use Rattle.cp_base.specs.declared.place.Place.{Place}
 use Rattle.cp_lists.specs.Lists.{IsIn, here, there}
+use Rattle.cp_lists.proofs.Appended.{none_before, none_behind}
 use Rattle.cp_model.specs.Strand.{Role}
 use Rattle.cp_sexpr.specs.Syntax.{Form}
 use Rattle.cp_language.specs.Words.{ItemHead, role_item, non_item, penetrator_non_item, unique_item, strand_item, listener_item, precedes_item, comment_item, item_out_of_profile, no_item, item_head}
 use Rattle.cp_language.specs.Faults.{place_of}
 use Rattle.cp_language.specs.Roles.{Headed, headed, item_faults, headed_item_faults, role_faults, item_or_none, items_behind, role_of, is_role_item, protocol_item_faults, role_name_onto, roles_faults, roles_in}
-use Rattle.cp_wellformed.proofs.Terms.{none_before, none_behind}
 
 module _ (Given : List Form → Type 0) (P : List (List ℕ) → List Role → Type 0) (none : (before : List (List ℕ)) → P before [])
     (one : (before : List (List ℕ)) (at : Place) (fs : List Form) (rs : List Role) → Given fs → role_faults before at fs ≡ [] → P ((role_of fs).name ∷ before) rs → P before (role_of fs ∷ rs)) where

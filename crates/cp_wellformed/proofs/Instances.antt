@@ -9,7 +9,8 @@ use Rattle.cp_model.specs.Term.{Sort, text_sort, datum_sort, name_sort, skey_sor
 use Rattle.cp_model.specs.Strand.{Event, send, recv, payload, event_map, Declaration, Role, variables_of_trace, variables_of_prefix}
 use Rattle.cp_model.specs.Homomorphism.{text_in, datum_in, name_in, skey_in, akey_in, substitution_by}
 use Rattle.cp_model.specs.Problem.{declared_sort, IsDeclared}
-use Rattle.cp_lists.proofs.Members.{in_append_left, in_append_right}
+use Rattle.cp_lists.proofs.Members.{in_append_left, in_append_right, only_item}
+use Rattle.cp_lists.proofs.Appended.{none_before, none_behind}
 use Rattle.cp_sexpr.specs.Syntax.{Form, symbol, string, number, list, none, more}
 use Rattle.cp_language.specs.Words.{is_one_of}
 use Rattle.cp_model.specs.Same.{has_variable}
@@ -17,8 +18,9 @@ use Rattle.cp_language.specs.Faults.{fault, fault_unless, place_of}
 use Rattle.cp_language.specs.Terms.{variable_named, is_sort, sort_of, sort_faults, term_faults, term_of}
 use Rattle.cp_language.specs.Problems.{is_known, role_variable_faults, mapped_faults, maplet_faults, mapped_identifier, maplets_faults, term_mapped, Instantiated, is_fresh, term_or_fresh, instantiated, instance_of_role}
 use Rattle.cp_model.proofs.SameTests.{in_has_variable}
+use Rattle.cp_model.proofs.DeclaredVariables.{still_declared}
 use Rattle.cp_language.proofs.ValidTests.{one_of}
-use Rattle.cp_wellformed.proofs.Terms.{none_before, none_behind, none_of_four, holds, AreDeclared, none_declared, both_declared, IsOfSort, variable_of_sort, variable_declared, term_variables_declared, term_of_sort}
+use Rattle.cp_wellformed.proofs.Terms.{none_of_four, holds, AreDeclared, none_declared, both_declared, IsOfSort, variable_of_sort, variable_declared, term_variables_declared, term_of_sort}
 use Rattle.cp_wellformed.proofs.Names.{named_itself}
 use Rattle.cp_wellformed.proofs.Roles.{IsSoundRole, prefix_declared}
 
@@ -103,13 +105,8 @@ taken_declared ds ts x h = subst (λ (t : Term). AreDeclared ds (variables_of t)
 
 -- ---- declarations go on
 
-declared_in_more : (ds others : List Declaration) (i : ℕ) (s : Sort) → declared_sort (item_at ds i) ≡ Some s → declared_sort (item_at (ds ++ others) i) ≡ Some s
-declared_in_more [] others i s e = absurd (cc)
-declared_in_more (d ∷ ds) others zero s e = e
-declared_in_more (d ∷ ds) others (suc i) s e = declared_in_more ds others i s e
-
 pub more_declared : (ds others : List Declaration) (xs : List Variable) → AreDeclared ds xs → AreDeclared (ds ++ others) xs
-more_declared ds others xs h x p = declared_in_more ds others x.number x.sort (h x p)
+more_declared ds others xs h x p = still_declared ds others x.number x.sort (h x p)
 
 next_declared : (ds : List Declaration) (d : Declaration) (others : List Declaration) → declared_sort (item_at (ds ++ (d ∷ others)) (length ds)) ≡ Some d.sort
 next_declared [] d others = refl
@@ -194,15 +191,11 @@ has_terms prefix ds maplets full front others next n (c ∷ rest) e l mapped (su
 abbrev IsMappedTo : Variable → List Declaration → Term → Type 0
 IsMappedTo x ds u = IsOfSort x.sort u × AreDeclared ds (variables_of u)
 
-only_text : (t s : List ℕ) → IsIn t (s ∷ []) → t ≡ s
-only_text t s here = refl
-only_text t s (there p) = elim p [ ]
-
 this_maplet : (role : Role) (height : ℕ) (ds : List Declaration) (before : List (List ℕ)) (p : Place) (s : List ℕ) (f : Form) →
     mapped_faults role height ds before (symbol p s) (Some f) ≡ [] → term_faults ds f ≡ [] →
     (x : Variable) (t : List ℕ) → variable_named role.variables t ≡ Some x → is_one_of t (s ∷ []) ≡ true → IsMappedTo x ds (term_of ds f)
 this_maplet role height ds before p s f e faultless x t named is =
-    let same : t ≡ s = only_text t s (one_of t (s ∷ []) is) in
+    let same : t ≡ s = only_item (one_of t (s ∷ []) is) in
     let known = subst (λ (u : List ℕ). variable_named role.variables u ≡ Some x) same named in
     let a = none_behind (if is_one_of s before then fault p DuplicateVar else []) (role_variable_faults role height ds p (Some f) (variable_named role.variables s)) e in
     let b = subst (λ (o : Option Variable). role_variable_faults role height ds p (Some f) o ≡ []) known a in

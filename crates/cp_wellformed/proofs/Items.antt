@@ -1,9 +1,9 @@
 -- Faults of the items of a role or a problem, by their heads.
 use Rattle.std.proofs.Common.{◌≡◌, List, [], ◌∷◌, ◌++◌, Bool, true, false, refl, ap, ◌∙◌, if◌then◌else◌}
+use Rattle.cp_lists.proofs.Appended.{none_before, none_behind}
 use Rattle.cp_base.specs.declared.place.Refusal.{Refusal}
 use Rattle.cp_sexpr.specs.Syntax.{Form}
 use Rattle.cp_language.specs.Roles.{unless_faulty, each_faults}
-use Rattle.cp_wellformed.proofs.Terms.{none_before, none_behind}
 
 -- no fault in both lists
 pub each_faultless : (faults : Form → List Refusal) (xs ys : List Form) → each_faults faults xs ≡ [] → each_faults faults ys ≡ [] → each_faults faults (xs ++ ys) ≡ []

@@ -9,7 +9,7 @@ pub mod Strands
 pub mod Bodies
 pub mod Atoms
 pub mod Uniques
-pub mod Leading
+pub mod NoCycle
 pub mod Problems
 pub mod Example
 pub mod OwnNames

@@ -7,7 +7,8 @@ use Rattle.cp_model.specs.Term.{AtomTerm, variables_of, Substitution, apply_to_a
 use Rattle.cp_model.specs.Strand.{Declaration, Role, Protocol, prefix_of, variables_of_trace}
 use Rattle.cp_model.specs.Bundle.{node_at}
 use Rattle.cp_model.specs.Skeleton.{SkeletonStrand, instance, listener, skeleton_trace, Assumptions, Skeleton, GivesAssumptions, IsSkeleton}
-use Rattle.cp_model.specs.Problem.{variables_of_strands, variables_of_atoms, variables_of_uniques, variables_of_assumptions, variables_of_skeleton, AssumesNoMore, IsPointOfView}
+use Rattle.cp_model.specs.Problem.{variables_of_strands, variables_of_atoms, variables_of_uniques, variables_of_assumptions, variables_of_skeleton}
+use Rattle.cp_model.specs.PointOfView.{AssumesNoMore, IsPointOfView}
 use Rattle.cp_model.specs.Stated.{HasOwnAssumptions}
 use Rattle.cp_sexpr.specs.Syntax.{Form, Forms}
 use Rattle.cp_language.specs.Words.{TopHead, protocol_form, problem_form, free_form, top_out_of_profile, no_top, top_head}
@@ -17,7 +18,7 @@ use Rattle.cp_language.specs.Roles.{Headed, headed, text_of_symbol, vars_faults,
 use Rattle.cp_model.specs.Given.{given_non, given_penetrator_non, given_uniques, with_given}
 use Rattle.cp_language.specs.Problems.{protocol_named, role_named, Stage, body_faults, has_strand, before_items, roles_of, protocol_name_faults, problem_strands, problem_faults, own_uniques, own_assumptions, own_skeleton, Problem, protocol_or_none, problem_with, problem_of}
 use Rattle.cp_language.specs.Input.{protocol_names, top_faults, headed_top_faults, protocols_onto, protocols_behind, faults_from, faults_of, Entry, problem_by, stated_problem, entries_from, input_of}
-use Rattle.cp_wellformed.proofs.Terms.{none_before, none_behind, none_of_four, AreDeclared, none_declared, both_declared}
+use Rattle.cp_wellformed.proofs.Terms.{none_of_four, AreDeclared, none_declared, both_declared}
 use Rattle.cp_wellformed.specs.Role.{IsWellFormedRole}
 use Rattle.cp_wellformed.proofs.Names.{AreDistinct, variables_distinct, named_itself}
 use Rattle.cp_wellformed.proofs.OwnNames.{HaveOwnNames, role_found, declared_named}
@@ -27,10 +28,11 @@ use Rattle.cp_wellformed.proofs.Strands.{IsSoundStrand, AreSoundStrands, protoco
 use Rattle.cp_wellformed.proofs.Bodies.{SaysBody, says_body}
 use Rattle.cp_wellformed.proofs.Values.{AtomsDeclared, atoms_declared, stated_declared}
 use Rattle.cp_lists.proofs.Items.{at_place}
+use Rattle.cp_lists.proofs.Appended.{none_before, none_behind}
 use Rattle.cp_model.proofs.Gathered.{onto-keeps, onto-takes, onto-only, atoms, uniques as gathered_uniques}
 use Rattle.cp_wellformed.proofs.Atoms.{onto_declared, given_declared, given_there, non_given, penetrator_non_given}
 use Rattle.cp_wellformed.proofs.Uniques as uniques
-use Rattle.cp_wellformed.proofs.Leading.{no_cycle, are_pairs}
+use Rattle.cp_wellformed.proofs.NoCycle.{no_cycle, are_pairs}
 
 -- ---- the variables of strands
 

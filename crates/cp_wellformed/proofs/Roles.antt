@@ -1,21 +1,23 @@
 -- The roles of a protocol without faults: their variables are declared once, and their events and assumptions are over
 -- them; their unique values originate in their traces.
-use Rattle.std.proofs.Common.{◌≡◌, ℕ, zero, suc, List, [], ◌∷◌, ◌++◌, take, Bool, true, false, Option, Some, None, refl, sym, subst, if◌then◌else◌, codes, ⊎_elim}
+use Rattle.std.proofs.Common.{◌≡◌, ℕ, List, [], ◌∷◌, Bool, true, false, Option, Some, None, refl, sym, subst, if◌then◌else◌}
 use Rattle.cp_base.specs.declared.place.Place.{Place}
-use Rattle.cp_base.specs.declared.place.Code.TheVariants.{BadShape, DuplicateProtocol, DuplicateRole}
+use Rattle.cp_base.specs.declared.place.Refusal.{Refusal}
+use Rattle.cp_base.specs.declared.place.Code.TheVariants.{DuplicateProtocol, DuplicateRole}
 use Rattle.cp_lists.specs.Lists.{IsIn, here, there}
-use Rattle.cp_model.specs.Term.{Variable, Term, variables_of}
+use Rattle.cp_model.specs.Term.{Term, variables_of}
 use Rattle.cp_model.specs.Strand.{Event, send, recv, payload, Declaration, Role, variables_of_trace, variables_of_prefix}
-use Rattle.cp_lists.proofs.Members.{in_append, in_append_left, in_append_right}
+use Rattle.cp_model.proofs.LawPrefixes.{in_front_of_trace}
+use Rattle.cp_lists.proofs.Appended.{none_before, none_behind}
 use Rattle.cp_sexpr.specs.Syntax.{Form}
-use Rattle.cp_language.specs.Words.{EventHead, sending, receiving, event_out_of_profile, no_event, event_head, ItemHead, role_item, non_item, penetrator_non_item, unique_item, strand_item, listener_item, precedes_item, comment_item, item_out_of_profile, no_item, item_head}
+use Rattle.cp_language.specs.Words.{event_head, ItemHead, role_item, non_item, penetrator_non_item, unique_item, strand_item, listener_item, precedes_item, comment_item, item_out_of_profile, no_item, item_head}
 use Rattle.cp_language.specs.Faults.{fault, place_of}
-use Rattle.cp_language.specs.Terms.{lacks, term_faults, atom_faults}
-use Rattle.cp_language.specs.Roles.{Headed, headed, items_behind, vars_faults, declarations_of, message_faults, event_head_faults, headed_event_faults, event_faults, events_faults, trace_faults, message_of, is_sending, event_of, events_in, events_of, role_unique_faults, each_faults, role_item_faults, headed_item_faults, item_faults, name_faults_at, role_faults, item_or_none, forms_under, is_non_item, is_penetrator_non_item, is_unique_item, role_of, roles_faults, algebra_faults, protocol_faults, roles_in, protocol_of}
-use Rattle.cp_wellformed.proofs.Terms.{none_before, none_behind, none_of_three, none_of_four, AreDeclared, none_declared, both_declared, term_variables_declared}
+use Rattle.cp_language.specs.Terms.{term_faults, atom_faults, term_of}
+use Rattle.cp_language.specs.Roles.{Headed, headed, items_behind, vars_faults, declarations_of, trace_faults, where_faultless, message_of, is_sending, event_of, events_in, events_of, role_unique_faults, each_faults, role_item_faults, headed_item_faults, item_faults, name_faults_at, role_faults, item_or_none, forms_under, is_non_item, is_penetrator_non_item, is_unique_item, is_role_item, role_of, roles_faults, algebra_faults, protocol_faults, roles_in, protocol_of}
+use Rattle.cp_wellformed.proofs.Terms.{none_of_three, none_of_four, AreDeclared, none_declared, both_declared, term_variables_declared}
 use Rattle.cp_wellformed.proofs.Items.{under_one}
 use Rattle.cp_wellformed.proofs.Values.{AtomsDeclared, stated_declared, Originate, uniques_originate}
-use Rattle.cp_wellformed.proofs.Names.{AreDistinct, inside_fixed, variables_distinct}
+use Rattle.cp_wellformed.proofs.Names.{AreDistinct, variables_distinct}
 use Rattle.cp_wellformed.proofs.EachRole.{of_roles}
 use Rattle.cp_wellformed.proofs.OwnNames.{HaveOwnNames, roles_named}
 
@@ -32,48 +34,62 @@ AreSoundRoles rs = (r : Role) → IsIn r rs → IsSoundRole r
 
 -- ---- events
 
-message_declared : (ds : List Declaration) (at : Place) (fs : List Form) → message_faults ds at fs ≡ [] → AreDeclared ds (variables_of (message_of ds fs))
-message_declared ds at [] e = absurd (cc)
-message_declared ds at (f ∷ []) e = term_variables_declared ds f e
-message_declared ds at (f ∷ g ∷ []) e = absurd (cc)
-message_declared ds at (f ∷ g ∷ h ∷ fs) e = let p = none_of_three (term_faults ds f) (term_faults ds g) (fault (place_of h) BadShape) e in let q = p.2 in absurd (cc)
+-- a term that is none where it has faults
+faultless_declared : (ds : List Declaration) (rs : List Refusal) (t : Term) → (rs ≡ [] → AreDeclared ds (variables_of t)) → AreDeclared ds (variables_of (where_faultless rs t))
+faultless_declared ds [] t h = h refl
+faultless_declared ds (r ∷ rs) t h = none_declared ds
+
+message_declared : (ds : List Declaration) (fs : List Form) → AreDeclared ds (variables_of (message_of ds fs))
+message_declared ds [] = none_declared ds
+message_declared ds (f ∷ fs) = faultless_declared ds (term_faults ds f) (term_of ds f) (term_variables_declared ds f)
 
 either_payload : (b : Bool) (t : Term) → payload (if b then send t else recv t) ≡ t
 either_payload true t = refl
 either_payload false t = refl
 
-message_of_event : (ds : List Declaration) (at : Place) (k : EventHead) (fs : List Form) → event_head_faults ds at k fs ≡ [] → AreDeclared ds (variables_of (message_of ds fs))
-message_of_event ds at sending fs e = message_declared ds at fs e
-message_of_event ds at receiving fs e = message_declared ds at fs e
-message_of_event ds at event_out_of_profile fs e = absurd (cc)
-message_of_event ds at no_event fs e = absurd (cc)
+event_declared : (ds : List Declaration) (o : Option Headed) → AreDeclared ds (variables_of (payload (event_of ds o)))
+event_declared ds None = none_declared ds
+event_declared ds (Some h) =
+    subst (λ (t : Term). AreDeclared ds (variables_of t)) (sym (either_payload (is_sending (event_head h.head)) (message_of ds h.items))) (message_declared ds h.items)
 
-event_declared : (ds : List Declaration) (at : Place) (o : Option Headed) → headed_event_faults ds at o ≡ [] → AreDeclared ds (variables_of (payload (event_of ds o)))
-event_declared ds at None e = absurd (cc)
-event_declared ds at (Some h) e =
-    subst (λ (t : Term). AreDeclared ds (variables_of t)) (sym (either_payload (is_sending (event_head h.head)) (message_of ds h.items))) (message_of_event ds at (event_head h.head) h.items e)
+events_declared : (ds : List Declaration) (fs : List Form) → AreDeclared ds (variables_of_trace (events_in ds fs))
+events_declared ds [] = none_declared ds
+events_declared ds (f ∷ fs) =
+    both_declared ds (variables_of (payload (event_of ds (headed f)))) (variables_of_trace (events_in ds fs)) (event_declared ds (headed f)) (events_declared ds fs)
 
-events_declared : (ds : List Declaration) (fs : List Form) → events_faults ds fs ≡ [] → AreDeclared ds (variables_of_trace (events_in ds fs))
-events_declared ds [] e = none_declared ds
-events_declared ds (f ∷ fs) e =
-    both_declared ds (variables_of (payload (event_of ds (headed f)))) (variables_of_trace (events_in ds fs))
-    (event_declared ds (place_of f) (headed f) (none_before (event_faults ds f) (events_faults ds fs) e))
-    (events_declared ds fs (none_behind (event_faults ds f) (events_faults ds fs) e))
+-- The variables of the events of a trace are declared, whatever faults there are; and so are those of a role, and of roles.
+pub trace_declared : (ds : List Declaration) (f : Form) → AreDeclared ds (variables_of_trace (events_of ds f))
+trace_declared ds f = events_declared ds (items_behind (headed f))
 
-trace_declared : (ds : List Declaration) (f : Form) → trace_faults ds f ≡ [] → AreDeclared ds (variables_of_trace (events_of ds f))
-trace_declared ds f e =
-    let p = inside_fixed (codes "trace") (place_of f) (λ at es. lacks 1 at es ++ events_faults ds es) (headed f) e in
-    events_declared ds (items_behind (headed f)) (none_behind (lacks 1 (place_of f) (items_behind (headed f))) (events_faults ds (items_behind (headed f))) p)
+pub role_declares : (fs : List Form) → AreDeclared (role_of fs).variables (variables_of_trace (role_of fs).trace)
+role_declares (name ∷ vars ∷ trace ∷ items) = trace_declared (declarations_of vars) trace
+role_declares (name ∷ vars ∷ []) = none_declared []
+role_declares (name ∷ []) = none_declared []
+role_declares [] = none_declared []
 
--- What occurs in a prefix occurs in the trace.
-pub in_trace : (n : ℕ) (es : List (Event Term)) (x : Variable) → IsIn x (variables_of_trace (take n es)) → IsIn x (variables_of_trace es)
-in_trace zero es x p = elim p [ ]
-in_trace (suc n) [] x p = elim p [ ]
-in_trace (suc n) (e ∷ es) x p =
-    ⊎_elim (λ q. in_append_left (variables_of_trace es) q) (λ q. in_append_right (variables_of (payload e)) (in_trace n es x q)) (in_append (variables_of (payload e)) (variables_of_trace (take n es)) p)
+-- All of these roles declare the variables of their events.
+abbrev pub AllDeclare : List Role → Type 0
+AllDeclare rs = (r : Role) → IsIn r rs → AreDeclared r.variables (variables_of_trace r.trace)
+
+first_declares : (r : Role) (rs : List Role) → AreDeclared r.variables (variables_of_trace r.trace) → AllDeclare rs → AllDeclare (r ∷ rs)
+first_declares r rs h hs s here = h
+first_declares r rs h hs s (there p) = hs s p
+
+with_role_declare : (b : Bool) (r : Role) (rs : List Role) → AreDeclared r.variables (variables_of_trace r.trace) → AllDeclare rs → AllDeclare (if b then r ∷ rs else rs)
+with_role_declare true r rs h hs = first_declares r rs h hs
+with_role_declare false r rs h hs = hs
+
+pub roles_declare : (fs : List Form) → AllDeclare (roles_in fs)
+roles_declare [] = λ r p. elim p [ ]
+roles_declare (f ∷ fs) = with_role_declare (is_role_item (item_or_none (headed f))) (role_of (items_behind (headed f))) (roles_in fs) (role_declares (items_behind (headed f))) (roles_declare fs)
+
+pub protocol_declares : (fs : List Form) → AllDeclare (protocol_of fs).roles
+protocol_declares (name ∷ algebra ∷ items) = roles_declare items
+protocol_declares (name ∷ []) = λ r p. elim p [ ]
+protocol_declares [] = λ r p. elim p [ ]
 
 pub prefix_declared : (r : Role) (height : ℕ) → IsSoundRole r → AreDeclared r.variables (variables_of_prefix r height)
-prefix_declared r height h x p = h.declared x (in_trace height r.trace x p)
+prefix_declared r height h x p = h.declared x (in_front_of_trace height r.trace x p)
 
 -- ---- items
 
@@ -128,7 +144,7 @@ role_body_sound before at (name ∷ vars ∷ trace ∷ items) e =
     let h = says_items ds (events_of ds trace) items p.3 in
     record {
       distinct = variables_distinct vars p.1;
-      declared = trace_declared ds trace p.2;
+      declared = role_declares (name ∷ vars ∷ trace ∷ items);
       non = stated_declared ds (forms_under is_non_item items) h.non;
       penetrator_non = stated_declared ds (forms_under is_penetrator_non_item items) h.penetrator_non;
       unique = uniques_originate ds (events_of ds trace) (forms_under is_unique_item items) h.unique;

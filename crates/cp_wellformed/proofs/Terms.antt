@@ -10,6 +10,7 @@ use Rattle.cp_model.specs.Term.{Sort, text_sort, datum_sort, name_sort, skey_sor
 use Rattle.cp_model.specs.Strand.{Declaration}
 use Rattle.cp_model.specs.Problem.{declared_sort, IsDeclared}
 use Rattle.cp_lists.proofs.Members.{in_append}
+use Rattle.cp_lists.proofs.Appended.{none_before, none_behind}
 use Rattle.cp_sexpr.specs.Syntax.{Form, symbol, string, number, list, Forms, none, more}
 use Rattle.cp_model.specs.Same.{same_text}
 use Rattle.cp_language.specs.Words.{TermHead, cat, encrypt, long_term_key, public_key, private_key, inverse_key, operation_out_of_profile, no_operation, term_head}
@@ -19,15 +20,7 @@ use Rattle.cp_model.proofs.SameTests.{sort_is}
 
 -- ---- no fault in two lists of faults is none in each
 
-pub none_before : {A : Type 0} (xs ys : List A) → xs ++ ys ≡ [] → xs ≡ []
-none_before [] ys e = refl
-none_before (x ∷ xs) ys e = absurd (cc)
-
-pub none_behind : {A : Type 0} (xs ys : List A) → xs ++ ys ≡ [] → ys ≡ []
-none_behind [] ys e = e
-none_behind (x ∷ xs) ys e = absurd (cc)
-
--- the same of three lists and of four
+-- as of two lists
 pub none_of_three : {A : Type 0} (xs ys zs : List A) → xs ++ ys ++ zs ≡ [] → (xs ≡ []) × (ys ≡ []) × (zs ≡ [])
 none_of_three [] [] zs e = (refl, refl, e)
 none_of_three [] (y ∷ ys) zs e = absurd (cc)

@@ -3,6 +3,7 @@
 use Rattle.std.proofs.Common.{◌≡◌, ℕ, List, [], ◌∷◌, true, Option, Some, None, refl, sym, ap, ◌∙◌, subst}
 use Rattle.cp_base.specs.declared.place.Code.TheVariants.{NotAtom, RoleUniqNoOrigin}
 use Rattle.cp_lists.specs.Lists.{IsIn, here, there}
+use Rattle.cp_lists.proofs.Appended.{none_before, none_behind}
 use Rattle.cp_model.specs.Term.{Sort, text_sort, datum_sort, name_sort, skey_sort, akey_sort, AtomTerm, Term, atom_term, variables_of, variables_of_atom}
 use Rattle.cp_model.specs.Strand.{Event, OriginatesInTerms, Declaration}
 use Rattle.cp_model.specs.Problem.{variables_of_atoms}
@@ -12,7 +13,7 @@ use Rattle.cp_language.specs.Faults.{fault_unless, place_of}
 use Rattle.cp_language.specs.Terms.{TermSort, of_atoms, of_all, sort_of, is_atom, term_faults, atom_faults, term_of, as_atom}
 use Rattle.cp_language.specs.Roles.{is_somewhere, role_unique_faults, each_faults, atoms_in}
 use Rattle.cp_model.proofs.SameTests.{origin_found}
-use Rattle.cp_wellformed.proofs.Terms.{none_before, none_behind, holds, AreDeclared, none_declared, both_declared, IsOfSort, IsSound, term_is_sound}
+use Rattle.cp_wellformed.proofs.Terms.{holds, AreDeclared, none_declared, both_declared, IsOfSort, IsSound, term_is_sound}
 use Rattle.cp_wellformed.proofs.Items.{unless_parts}
 
 -- All of these values have declared variables.

@@ -2,15 +2,18 @@
 //! these protocols are well formed. They hold for all of the language.
 #![tactic(auto)]
 
-ghost use Rattle.std.specs.Prelude.{◌≡◌, ◌<◌, ℕ, [], Some};
+ghost use Rattle.std.specs.Prelude.{◌≡◌, ◌<◌, ℕ, List, [], Some};
 ghost use Rattle.cp_language.specs.Input.{Entry, faults_of, input_of};
 ghost use Rattle.cp_language.specs.Problems.{Problem, role_named};
+ghost use Rattle.cp_language.specs.Roles.{role_of, protocol_of};
 ghost use Rattle.cp_language.specs.Terms.{variable_named};
 ghost use Rattle.cp_lists.specs.Lists.{item_at, IsIn};
-ghost use Rattle.cp_model.specs.Problem.{IsPointOfView};
+ghost use Rattle.cp_model.specs.Problem.{IsDeclared};
+ghost use Rattle.cp_model.specs.PointOfView.{IsPointOfView};
 ghost use Rattle.cp_model.specs.Skeleton.{IsSkeleton};
-ghost use Rattle.cp_model.specs.Strand.{Declaration, Role};
-ghost use Rattle.cp_sexpr.specs.Syntax.{Forms};
+ghost use Rattle.cp_model.specs.Strand.{Declaration, Role, variables_of_trace};
+ghost use Rattle.cp_model.specs.Term.{Variable};
+ghost use Rattle.cp_sexpr.specs.Syntax.{Form, Forms};
 ghost use Rattle.cp_wellformed.specs.Example.{example_input};
 ghost use Rattle.cp_wellformed.specs.Role.{IsWellFormedRole};
 
@@ -27,6 +30,13 @@ pub fn problems_of_input_are_skeletons()
 #[tactic(auto, using(crate::proofs::Problems::roles_are_well_formed))]
 pub fn roles_of_input_are_well_formed()
     ensures { (fs : Forms) (e : Entry) (p : Problem) (r : Role) → faults_of fs ≡ [] → IsIn e (input_of fs) → e.problem ≡ Some p → IsIn r p.protocol.roles → IsWellFormedRole r }
+{}
+
+/// The law that each role that forms state declares the variables of its events, whatever faults the forms have: the message of
+/// an event with faults is none.
+pub fn roles_declare_their_variables()
+    ensures role { (items : List Form) (x : Variable) → IsIn x (variables_of_trace (role_of items).trace) → IsDeclared (role_of items).variables x }
+    ensures protocol { (items : List Form) (r : Role) → IsIn r (protocol_of items).roles → (x : Variable) → IsIn x (variables_of_trace r.trace) → IsDeclared r.variables x }
 {}
 
 /// The law that a name in well-formed input is of one thing: a role's name of one role of its protocol, and an identifier

@@ -14,7 +14,7 @@ use Rattle.cp_words.specs.declared.command.CommandName.TheVariants.{Analyse, Sha
 use Rattle.cp_words.proofs.Options.{Named, limit_named, bound_named, rule_named}
 use Rattle.cp_words.proofs.Steps.{Reads, Adds, reads_both, rows_with}
 use Rattle.cp_words.proofs.Spelled.{IsSpelled, setting_by, name_is, spelled_first}
-use Rattle.cp_words.proofs.Reading.{adds_front, parsed_by, none_alone, limit_alone, bound_alone, limit_first, bound_first, first_fits, bound_fits, limit_fits}
+use Rattle.cp_words.proofs.ParsedWords.{adds_front, parsed_by, none_alone, limit_alone, bound_alone, limit_first, bound_first, first_fits, bound_fits, limit_fits}
 
 limits_are : (a b : ℕ) (l : Limits) → limits_of a b ≡ Some l → (a ≡ l.steps) × (b ≡ l.strands)
 limits_are a b l e = go (nat_le a 100000 && (nat_le 1 b && nat_le b 32)) e

@@ -1,11 +1,11 @@
 pub mod Refused
-pub mod Cutting
+pub mod CutWords
 pub mod Numerals
 pub mod Described
-pub mod Entering
+pub mod WordsBeforeOptions
 pub mod Options
 pub mod Steps
 pub mod Spelled
-pub mod Reading
+pub mod ParsedWords
 pub mod Commands
-pub mod Failing
+pub mod Failures

@@ -7,7 +7,7 @@ use Rattle.clap.specs.Walk.{Held, Step, Walk, after_step, option, plain_word, se
 use Rattle.clap.proofs.OnLiterals.{clap_on_literals}
 use Rattle.cp_words.specs.Description.{limit_rule, bound_rule}
 use Rattle.cp_words.specs.declared.command.CommandName.{CommandName}
-use Rattle.cp_words.proofs.Entering.{options, rules}
+use Rattle.cp_words.proofs.WordsBeforeOptions.{options, rules}
 
 -- ---- a word that begins with no hyphen, where an option waits for its value
 

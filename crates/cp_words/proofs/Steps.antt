@@ -8,7 +8,7 @@ use Rattle.clap.specs.Walk.{Held, Walk, settled_rows, used, walk_from, walked}
 use Rattle.clap.proofs.OnLiterals.{clap_on_literals}
 use Rattle.clap.proofs.WalkLemmas.{both}
 use Rattle.cp_words.specs.declared.command.CommandName.{CommandName}
-use Rattle.cp_words.proofs.Entering.{options, rules}
+use Rattle.cp_words.proofs.WordsBeforeOptions.{options, rules}
 use Rattle.cp_words.proofs.Options.{Named, limit_named, bound_named, rule_named, name_word, has_value, is_used, name_walked, name_passes, value_walked, value_turn, attached_walked, attached_passes}
 
 -- the rows once what is pending is used

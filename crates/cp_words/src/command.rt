@@ -6,7 +6,7 @@ ghost use Rattle.cp_words.specs.declared.error.WordsError.TheVariants.{Usage};
 
 use crate::WordsError;
 use crate::accepted::is_command;
-use crate::parsing::parse;
+use crate::parser::parse;
 use cp_skel::Limits;
 use std::alloc::Global;
 

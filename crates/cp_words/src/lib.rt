@@ -4,7 +4,7 @@
 mod accepted;
 mod command;
 mod error;
-mod parsing;
+mod parser;
 
 pub use command::{Command, CommandName, read_command};
 pub use error::WordsError;

@@ -1,26 +1,25 @@
 -- The problems of an input that was loaded meet what the search asks of them.
-use Rattle.std.proofs.Common.{◌≡◌, ℕ, zero, suc, ◌<◌, List, [], ◌∷◌, length, get_or, map, Option, Some, refl, sym, ap, ◌∙◌, arith, Ok}
+use Rattle.std.proofs.Common.{◌≡◌, ℕ, zero, suc, ◌<◌, List, [], ◌∷◌, length, get_or, map, Option, Some, sym, ap, ◌∙◌, arith, Ok}
 use Rattle.std.specs.Prelude.{option_map}
+use Rattle.std.proofs.lemmas.List.{length-map}
 use Rattle.cp_lists.specs.Lists.{IsIn, here, there}
-use Rattle.cp_model.specs.Problem.{IsPointOfView}
-use Rattle.cp_model.specs.Strand.{Role}
+use Rattle.cp_model.specs.PointOfView.{IsPointOfView}
 use Rattle.cp_sexpr.specs.Syntax as syntax
 use Rattle.cp_sexpr.specs.View.{view, views}
 use Rattle.cp_sexpr.specs.declared.form.Form as form
-use Rattle.cp_language.specs.Input.{Entry, faults_of, input_of, IsInput}
+use Rattle.cp_language.specs.Input.{Entry, faults_of, input_of}
+use Rattle.cp_language.specs.StatedInput.{IsInput}
 use Rattle.cp_language.specs.Problems.{Problem}
 use Rattle.cp_load.specs.Inputs.{problem_view, entries_view, entries_of}
 use Rattle.cp_load.specs.declared.input.Problem.{Problem as ProgramProblem}
 use Rattle.cp_load.specs.declared.input.Input.{Input}
 use Rattle.cp_wellformed.proofs.Problems as wellformed
-use Rattle.cp_skel.specs.Sound.{DeclaresItsVariables}
 use Rattle.cp_roots.specs.Over.{IsOver}
 
--- A problem is a point-of-view skeleton over its protocol, whose roles declare the variables of their events.
+-- A problem is a point-of-view skeleton over its protocol.
 pub record IsSearchable (p : Problem) : Type 0 where
   pub over : IsOver p.protocol p.skeleton
   pub own : IsPointOfView p.variables p.skeleton
-  pub roles : (role : Role) → IsIn role p.protocol.roles → DeclaresItsVariables role
 
 -- the problem at a place is that of an entry
 entry_at : (fs : List syntax.Form) (ps : List (Option ProgramProblem)) (i : ℕ) (o : Option ProgramProblem) (p : ProgramProblem) → length ps ≡ length fs → i < length ps → o ≡ get_or ps i o → o ≡ Some p
@@ -36,17 +35,12 @@ of_entry : (fs : syntax.Forms) (e : Entry) (p : Problem) → faults_of fs ≡ []
 of_entry fs e p none listed is = record {
   over = record { of_role = (wellformed.are_skeletons fs e p none listed is).of_role };
   own = wellformed.map_to_themselves fs e p none listed is;
-  roles = λ r i. (wellformed.roles_are_well_formed fs e p r none listed is i).trace;
 }
-
-mapped-length : (fs : List form.Form) → length (map view fs) ≡ length fs
-mapped-length [] = refl
-mapped-length (f ∷ fs) = ap suc (mapped-length fs)
 
 -- The problem at a place of an input that was loaded.
 pub problem_at : (input : Input) (fs : List form.Form) (ps : List (Option ProgramProblem)) (i : ℕ) (o : Option ProgramProblem) (p : ProgramProblem) → IsInput (views fs) (Ok (entries_of input)) → input.forms.now ≡ fs → length input.problems.items ≡ length fs
     → ps ≡ input.problems.items → i < length ps → o ≡ get_or ps i o → o ≡ Some p → IsSearchable (problem_view p)
 problem_at input fs ps i o p loaded same counted problems lt is some =
-    let counts : length input.problems.items ≡ length (map view input.forms.now) = counted ∙ ap length (sym same) ∙ sym (mapped-length input.forms.now) in
+    let counts : length input.problems.items ≡ length (map view input.forms.now) = counted ∙ ap length (sym same) ∙ sym (length-map input.forms.now view) in
     let found = entry_at (map view input.forms.now) input.problems.items i o p counts (rw problems at lt) (rw problems at is) some in
     of_entry (views fs) found.0 (problem_view p) loaded.0 (rw loaded.1 at found.1) found.2

@@ -17,20 +17,20 @@
 // Of a report that `cpsa analyse` printed it is the same text, but for names that a label gives anew.
 #![tactic(auto)]
 
-mod checking;
-mod comparing;
+mod comparison;
+mod found_trees;
 mod operations;
-mod printing;
-mod reading;
-mod searching;
+mod report_check;
+mod report_text;
+mod reprint;
 mod stopped;
 mod strands;
 mod terms;
 mod verdict;
 
-use checking::verdict_on;
 use cp_base::Status;
-use printing::printed_again;
+use report_check::verdict_on;
+use reprint::printed_again;
 use std::alloc::Global;
 use std::io::Write;
 use std::process::ExitCode;

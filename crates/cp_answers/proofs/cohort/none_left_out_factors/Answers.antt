@@ -1,5 +1,5 @@
 use Rattle.cp_answers.proofs.NoneLeftOut.{empty_where_it_stands_nowhere}
-use Rattle.cp_answers.proofs.Factoring.{left_out_factors}
+use Rattle.cp_answers.proofs.FactorsThroughMaps.{left_out_factors}
 use Rattle.cp_answers.proofs.cohort.none_left_out_factors.Goals as goal
 
 pub returns-clause-covers : goal.returns-clause-covers

@@ -1,4 +1,4 @@
-use Rattle.cp_answers.proofs.Descending.{left_is_complete, shapes_are_complete}
+use Rattle.cp_answers.proofs.LabelDescents.{left_is_complete, shapes_are_complete}
 use Rattle.cp_answers.proofs.trees.lawful_trees_are_complete.Goals as goal
 
 pub returns-clause-left : goal.returns-clause-left

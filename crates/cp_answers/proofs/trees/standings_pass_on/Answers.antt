@@ -1,6 +1,6 @@
-use Rattle.cp_completeness.proofs.Losing.{covered}
-use Rattle.cp_answers.proofs.Descending.{passes_on_to_embedding}
-use Rattle.cp_answers.proofs.Factoring.{left_out_factors}
+use Rattle.cp_completeness.proofs.NoStandingLost.{covered}
+use Rattle.cp_answers.proofs.LabelDescents.{passes_on_to_embedding}
+use Rattle.cp_answers.proofs.FactorsThroughMaps.{left_out_factors}
 use Rattle.cp_answers.proofs.trees.standings_pass_on.Goals as goal
 
 pub returns-clause-none_left_out : goal.returns-clause-none_left_out

@@ -1,13 +1,11 @@
 use Rattle.std.proofs.Common.{List, subst}
-use Rattle.cp_lists.specs.Lists.{IsIn}
 use Rattle.cp_lists.proofs.Items.{item_of_read}
-use Rattle.cp_lists.proofs.Members.{item_is_in, into_map}
 use Rattle.cp_model.specs.Problem.{numbers_from}
 use Rattle.cp_model.specs.Strand.{Role}
-use Rattle.cp_covering.specs.Listing.{EachGives}
+use Rattle.cp_covering.specs.GatheredLists.{EachGives}
 use Rattle.cp_covering.specs.Cohort.{AddsEvent}
 use Rattle.cp_cohort.specs.Views.{question_view}
-use Rattle.cp_cohort.proofs.Putting.{gives_all, puts_other, puts_first, puts_next, puts_last}
+use Rattle.cp_cohort.proofs.ChildLists.{gives_all, puts_other, puts_first, puts_next, puts_last}
 use Rattle.cp_cohort.proofs.added.add.Goals as goal
 
 pub loop-role-init : goal.loop-role-init
@@ -16,8 +14,6 @@ loop-role-init c = puts_first (λ role. EachGives (AddsEvent (question_view c.ar
 pub add_role-requires : goal.add_role-requires
 add_role-requires c = record {
   test = c.requires.test;
-  declared = c.requires.roles c.role-item.result.value
-      (subst (λ (rs : List Role). IsIn c.role-item.result.value rs) c.roles-all.ensures (into_map (λ r. r.value) (item_is_in c.roles-all.result.now c.loop-role.role-index c.role-item.result c.loop-role-test.true c.role-item.is)));
 }
 
 pub loop-role-preserved : goal.loop-role-preserved

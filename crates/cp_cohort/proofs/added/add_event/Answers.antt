@@ -5,8 +5,8 @@ use Rattle.cp_skel.specs.View.{skeleton_view}
 use Rattle.cp_strand.specs.View.{strand_view}
 use Rattle.cp_covering.specs.Cohort.{is_reception}
 use Rattle.cp_cohort.specs.Views.{question_view}
-use Rattle.cp_cohort.proofs.Putting.{puts_nothing, puts_other, length_of}
-use Rattle.cp_cohort.proofs.Letting.{added_pair_at, added_at}
+use Rattle.cp_cohort.proofs.ChildLists.{puts_nothing, puts_other, length_of}
+use Rattle.cp_cohort.proofs.GrownReleases.{added_pair_at, added_at}
 use Rattle.cp_cohort.proofs.added.add_event.Goals.{In_ok-grown}
 use Rattle.cp_cohort.proofs.added.add_event.Goals as goal
 
@@ -18,7 +18,7 @@ pub returns-then-not-is_sent : goal.returns-then-not-is_sent
 returns-then-not-is_sent c = puts_nothing c.args.children.now.items (is_reception (c.is_sent.ensures.received c.if-not-is_sent.true).1)
 
 pub with_strand-requires : goal.with_strand-requires
-with_strand-requires c = record { declared = c.requires.declared; height = (omega arith, omega (arith, c.requires.reached)) }
+with_strand-requires c = record { height = (omega arith, omega (arith, c.requires.reached)) }
 
 pub release-requires : goal.release-requires
 release-requires c =

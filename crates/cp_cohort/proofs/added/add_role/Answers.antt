@@ -4,7 +4,7 @@ use Rattle.cp_model.specs.Strand.{Role}
 use Rattle.cp_strand.specs.View.{event_view}
 use Rattle.cp_covering.specs.Cohort.{AddsEvent}
 use Rattle.cp_cohort.specs.Views.{question_view}
-use Rattle.cp_cohort.proofs.Putting.{puts_first, puts_next, puts_last, number_there, numbers_past, length_of}
+use Rattle.cp_cohort.proofs.ChildLists.{puts_first, puts_next, puts_last, number_there, numbers_past, length_of}
 use Rattle.cp_cohort.proofs.added.add_role.Goals as goal
 
 pub loop-index-init : goal.loop-index-init
@@ -14,7 +14,7 @@ pub add_event-requires : goal.add_event-requires
 add_event-requires c =
     let same : length c.trace-events.result.now ≡ length c.args.role.now.value.trace =
     length_of event_view c.trace-events.result.now c.args.role.now.value.trace (c.trace-events.ensures ∙ ap (λ (r : Role). r.trace) c.deref.ensures) in
-    record { test = c.requires.test; declared = c.requires.declared; reached = omega (arith, same, c.loop-index-test.true) }
+    record { test = c.requires.test; reached = omega (arith, same, c.loop-index-test.true) }
 
 pub loop-index-preserved : goal.loop-index-preserved
 loop-index-preserved c =

@@ -1,6 +1,6 @@
 use Rattle.std.proofs.Common.{take}
 use Rattle.cp_model.specs.Problem.{numbers_from}
-use Rattle.cp_covering.specs.Listing.{EachGives}
+use Rattle.cp_covering.specs.GatheredLists.{EachGives}
 use Rattle.cp_covering.specs.Cohort.{AddsEvent}
 use Rattle.cp_cohort.specs.Views.{question_view, PutsChildren}
 use Rattle.cp_cohort.proofs.added.add_role.Given as goal

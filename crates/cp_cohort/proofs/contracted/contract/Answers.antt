@@ -1,10 +1,10 @@
 use Rattle.std.proofs.Common.{◌≡◌, map, ap, ◌∙◌}
 use Rattle.cp_lists.proofs.Items.{item_of_read}
 use Rattle.cp_skel.specs.Events.{occurrence_view, events_of}
-use Rattle.cp_cohort.specs.Growing.{ContractsEvent}
+use Rattle.cp_cohort.specs.Children.{ContractsEvent}
 use Rattle.cp_cohort.specs.Views.{question_view}
-use Rattle.cp_cohort.proofs.Putting.{puts_other, puts_first, puts_next, puts_last}
-use Rattle.cp_cohort.proofs.Contracting.{all_contracted}
+use Rattle.cp_cohort.proofs.ChildLists.{puts_other, puts_first, puts_next, puts_last}
+use Rattle.cp_cohort.proofs.ContractedChildren.{all_contracted}
 use Rattle.cp_cohort.proofs.contracted.contract.Goals as goal
 
 pub loop-occurrence-init : goal.loop-occurrence-init

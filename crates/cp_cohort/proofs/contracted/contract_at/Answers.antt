@@ -1,18 +1,18 @@
 use Rattle.std.proofs.Common.{◌↔◌, IsTrue, Some, ap, ◌∙◌}
 use Rattle.std.proofs.lemmas.Result.{on_ok_weaker}
 use Rattle.cp_model.proofs.CarriedParts.{not_both}
-use Rattle.cp_model.specs.Term.{unchanged}
+use Rattle.cp_model.specs.Identity.{unchanged}
 use Rattle.cp_model.specs.Strand.{payload}
 use Rattle.cp_guard.specs.Inside.{IsInside}
-use Rattle.cp_match.specs.Unifying.{UnifiesMostGenerally, NeverEqual}
+use Rattle.cp_match.specs.Unifiers.{UnifiesMostGenerally, NeverEqual}
 use Rattle.cp_skel.specs.Events.{occurrence_view}
 use Rattle.cp_skel.specs.Trees.{variables_view}
 use Rattle.cp_skel.specs.View.{skeleton_view}
 use Rattle.cp_unify.specs.Bindings.{as_substitution}
 use Rattle.cp_covering.specs.Cohort.{is_inside, is_critical, never_equal}
 use Rattle.cp_cohort.specs.Views.{question_view}
-use Rattle.cp_cohort.proofs.Putting.{puts_nothing, puts_other}
-use Rattle.cp_cohort.proofs.Contracting.{contracted_by, at_start, read_at}
+use Rattle.cp_cohort.proofs.ChildLists.{puts_nothing, puts_other}
+use Rattle.cp_cohort.proofs.ContractedChildren.{contracted_by, at_start, read_at}
 use Rattle.cp_cohort.proofs.contracted.contract_at.Goals as goal
 
 pub returns-then-branch : goal.returns-then-branch

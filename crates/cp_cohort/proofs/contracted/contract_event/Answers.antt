@@ -9,11 +9,11 @@ use Rattle.cp_skel.specs.Events.{occurrence_view}
 use Rattle.cp_term.specs.declared.path.Step.{Step}
 use Rattle.cp_term.specs.Positions.{positions_where}
 use Rattle.cp_covering.specs.Cohort.{Contracts}
-use Rattle.cp_cohort.specs.Growing.{not_before}
+use Rattle.cp_cohort.specs.Children.{not_before}
 use Rattle.cp_cohort.specs.Views.{question_view}
-use Rattle.cp_cohort.proofs.Putting.{puts_nothing, puts_other, puts_first, puts_next, puts_last}
+use Rattle.cp_cohort.proofs.ChildLists.{puts_nothing, puts_other, puts_first, puts_next, puts_last}
 use Rattle.cp_cohort.proofs.Positions.{listed_position}
-use Rattle.cp_cohort.proofs.Contracting.{event_contracted}
+use Rattle.cp_cohort.proofs.ContractedChildren.{event_contracted}
 use Rattle.cp_cohort.proofs.contracted.contract_event.Goals as goal
 
 pub returns-then-not-is_sent_before : goal.returns-then-not-is_sent_before

@@ -1,6 +1,6 @@
 use Rattle.std.proofs.Common.{take}
 use Rattle.cp_skel.specs.Events.{occurrence_view}
-use Rattle.cp_covering.specs.Listing.{EachGives}
+use Rattle.cp_covering.specs.GatheredLists.{EachGives}
 use Rattle.cp_covering.specs.Cohort.{Contracts}
 use Rattle.cp_cohort.specs.Views.{question_view, PutsChildren}
 use Rattle.cp_cohort.proofs.contracted.contract_event.Given as goal

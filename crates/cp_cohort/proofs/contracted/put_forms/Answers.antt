@@ -1,6 +1,6 @@
 use Rattle.std.proofs.lemmas.Result.{on_ok_weaker}
 use Rattle.cp_cohort.specs.Views.{made_view}
-use Rattle.cp_cohort.proofs.Contracting.{forms_put}
+use Rattle.cp_cohort.proofs.ContractedChildren.{forms_put}
 use Rattle.cp_cohort.proofs.contracted.put_forms.Goals as goal
 
 pub returns : goal.returns

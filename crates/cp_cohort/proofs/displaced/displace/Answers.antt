@@ -6,7 +6,7 @@ use Rattle.cp_model.specs.Skeleton.{SkeletonStrand}
 use Rattle.cp_strand.specs.View.{strand_view}
 use Rattle.cp_covering.specs.Cohort.{DisplacesStrand}
 use Rattle.cp_cohort.specs.Views.{question_view}
-use Rattle.cp_cohort.proofs.Putting.{puts_first, puts_next, puts_last, number_there, numbers_past, length_of}
+use Rattle.cp_cohort.proofs.ChildLists.{puts_first, puts_next, puts_last, number_there, numbers_past, length_of}
 use Rattle.cp_cohort.proofs.displaced.displace.Goals as goal
 
 pub loop-number-init : goal.loop-number-init

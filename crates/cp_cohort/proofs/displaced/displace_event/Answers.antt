@@ -9,8 +9,8 @@ use Rattle.cp_skel.specs.Trees.{variables_view}
 use Rattle.cp_skel.specs.View.{skeleton_view}
 use Rattle.cp_covering.specs.Cohort.{is_reception, is_before}
 use Rattle.cp_cohort.specs.Views.{question_view}
-use Rattle.cp_cohort.proofs.Putting.{puts_nothing, puts_other}
-use Rattle.cp_cohort.proofs.Letting.{grown_pair, displaced_each}
+use Rattle.cp_cohort.proofs.ChildLists.{puts_nothing, puts_other}
+use Rattle.cp_cohort.proofs.GrownReleases.{grown_pair, displaced_each}
 use Rattle.cp_cohort.proofs.displaced.displace_event.Goals as goal
 
 pub is_sent-requires : goal.is_sent-requires

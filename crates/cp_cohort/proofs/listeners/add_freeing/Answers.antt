@@ -1,9 +1,9 @@
 use Rattle.std.proofs.Common.{ap, ◌∙◌, ◌∷◌, []}
 use Rattle.std.proofs.lemmas.Result.{on_ok_weaker}
 use Rattle.cp_model.specs.Term.{Term}
-use Rattle.cp_covering.specs.Listing.{terms_onto}
+use Rattle.cp_covering.specs.GatheredLists.{terms_onto}
 use Rattle.cp_cohort.specs.Views.{question_view}
-use Rattle.cp_cohort.proofs.Hearing.{no_encryption, freed_by_body, freed_by_key, freed_by_nothing, asked_at}
+use Rattle.cp_cohort.proofs.ListenerChildren.{no_encryption, freed_by_body, freed_by_key, freed_by_nothing, asked_at}
 use Rattle.cp_cohort.proofs.listeners.add_freeing.Goals as goal
 
 pub returns-in_default : goal.returns-in_default

@@ -1,6 +1,6 @@
 use Rattle.cp_lists.proofs.Items.{item_of_read}
 use Rattle.cp_cohort.specs.Views.{question_view}
-use Rattle.cp_cohort.proofs.Hearing.{heard_first, heard_next, heard_last}
+use Rattle.cp_cohort.proofs.ListenerChildren.{heard_first, heard_next, heard_last}
 use Rattle.cp_cohort.proofs.listeners.heard.Goals as goal
 
 pub loop-pattern-init : goal.loop-pattern-init

@@ -1,6 +1,6 @@
 use Rattle.std.proofs.Common.{take}
 use Rattle.cp_cohort.specs.Views.{question_view}
-use Rattle.cp_cohort.proofs.Hearing.{IsHeardSoFar}
+use Rattle.cp_cohort.proofs.ListenerChildren.{IsHeardSoFar}
 use Rattle.cp_cohort.proofs.listeners.heard.Given as goal
 
 abbrev pub invariant-loop-pattern : goal.invariant-loop-pattern

@@ -1,8 +1,8 @@
 use Rattle.cp_lists.proofs.Items.{item_of_read}
 use Rattle.cp_covering.specs.Cohort.{Listens}
 use Rattle.cp_cohort.specs.Views.{question_view}
-use Rattle.cp_cohort.proofs.Putting.{puts_other, puts_first, puts_next, puts_last}
-use Rattle.cp_cohort.proofs.Hearing.{are_listeners}
+use Rattle.cp_cohort.proofs.ChildLists.{puts_other, puts_first, puts_next, puts_last}
+use Rattle.cp_cohort.proofs.ListenerChildren.{are_listeners}
 use Rattle.cp_cohort.proofs.listeners.listen.Goals as goal
 
 pub loop-term-init : goal.loop-term-init

@@ -1,5 +1,5 @@
 use Rattle.std.proofs.Common.{take}
-use Rattle.cp_covering.specs.Listing.{EachGives}
+use Rattle.cp_covering.specs.GatheredLists.{EachGives}
 use Rattle.cp_covering.specs.Cohort.{Listens}
 use Rattle.cp_cohort.specs.Views.{question_view, PutsChildren}
 use Rattle.cp_cohort.proofs.listeners.listen.Given as goal

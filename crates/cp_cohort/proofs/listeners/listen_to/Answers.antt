@@ -1,14 +1,14 @@
 use Rattle.std.proofs.Common.{◌≡◌, length, ap, ◌∙◌, subst}
 use Rattle.std.proofs.lemmas.Result.{on_ok_weaker}
 use Rattle.cp_skel.specs.Data.{SkeletonData}
-use Rattle.cp_skel.specs.Changing.{AddsListener}
+use Rattle.cp_skel.specs.Extensions.{AddsListener}
 use Rattle.cp_skel.specs.Sound.{IsSound}
 use Rattle.cp_skel.specs.Trees.{variables_view}
 use Rattle.cp_skel.specs.View.{skeleton_view}
 use Rattle.cp_cohort.specs.Views.{question_view}
-use Rattle.cp_cohort.proofs.Putting.{puts_other}
-use Rattle.cp_cohort.proofs.Letting.{put_there}
-use Rattle.cp_cohort.proofs.Listening.{may_be_put, never_refused, listened_at, listener_added}
+use Rattle.cp_cohort.proofs.ChildLists.{puts_other}
+use Rattle.cp_cohort.proofs.GrownReleases.{put_there}
+use Rattle.cp_cohort.proofs.AddedListener.{may_be_put, never_refused, listened_at, listener_added}
 use Rattle.cp_cohort.proofs.listeners.listen_to.Goals as goal
 
 pub add_order-requires : goal.add_order-requires

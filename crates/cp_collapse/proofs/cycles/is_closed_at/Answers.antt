@@ -1,6 +1,6 @@
 use Rattle.std.proofs.Common.{sym, subst}
-use Rattle.cp_order.specs.Leading.{Target}
-use Rattle.cp_collapse.specs.Having.{Has}
+use Rattle.cp_order.specs.LeadingNodes.{Target}
+use Rattle.cp_collapse.specs.Property.{Has}
 use Rattle.cp_collapse.specs.Cycles.{LeadsOn}
 use Rattle.cp_collapse.proofs.cycles.is_closed_at.Goals as goal
 

@@ -1,6 +1,6 @@
 use Rattle.std.proofs.lemmas.List.{get_or_default}
 use Rattle.cp_collapse.specs.Cycles.{IsClosedAt}
-use Rattle.cp_collapse.proofs.Having.{item_found, item_passed, no_item}
+use Rattle.cp_collapse.proofs.ItemsWithProperty.{item_found, item_passed, no_item}
 use Rattle.cp_collapse.proofs.cycles.some_closes.Goals as goal
 
 pub returns-then-branch : goal.returns-then-branch

@@ -1,6 +1,6 @@
 use Rattle.std.proofs.Common.{drop}
 use Rattle.cp_collapse.specs.Cycles.{IsClosedAt}
-use Rattle.cp_collapse.specs.Having.{Has}
+use Rattle.cp_collapse.specs.Property.{Has}
 use Rattle.cp_collapse.proofs.cycles.some_closes.Given as goal
 
 abbrev pub invariant-loop-pair : goal.invariant-loop-pair

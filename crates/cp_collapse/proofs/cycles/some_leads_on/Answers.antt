@@ -1,6 +1,6 @@
 use Rattle.std.proofs.lemmas.List.{get_or_default}
 use Rattle.cp_collapse.specs.Cycles.{LeadsOn}
-use Rattle.cp_collapse.proofs.Having.{item_found, item_passed, no_item}
+use Rattle.cp_collapse.proofs.ItemsWithProperty.{item_found, item_passed, no_item}
 use Rattle.cp_collapse.proofs.cycles.some_leads_on.Goals as goal
 
 pub returns-then-leads_on : goal.returns-then-leads_on

@@ -1,5 +1,5 @@
 use Rattle.std.proofs.Common.{drop}
-use Rattle.cp_collapse.specs.Having.{Has}
+use Rattle.cp_collapse.specs.Property.{Has}
 use Rattle.cp_collapse.specs.Cycles.{LeadsOn}
 use Rattle.cp_collapse.proofs.cycles.some_leads_on.Given as goal
 

@@ -1,6 +1,6 @@
 use Rattle.std.proofs.Common.{◌≡◌}
 use Rattle.std.proofs.lemmas.List.{get_or_default}
-use Rattle.cp_collapse.proofs.Having.{item_found, item_passed, no_item}
+use Rattle.cp_collapse.proofs.ItemsWithProperty.{item_found, item_passed, no_item}
 use Rattle.cp_collapse.proofs.images.is_listed_pair.Goals as goal
 
 pub returns-then-is_same_pair : goal.returns-then-is_same_pair

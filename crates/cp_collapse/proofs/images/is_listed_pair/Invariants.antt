@@ -1,5 +1,5 @@
 use Rattle.std.proofs.Common.{drop, ◌≡◌}
-use Rattle.cp_collapse.specs.Having.{Has}
+use Rattle.cp_collapse.specs.Property.{Has}
 use Rattle.cp_collapse.proofs.images.is_listed_pair.Given as goal
 
 abbrev pub invariant-loop-other : goal.invariant-loop-other

@@ -1,6 +1,6 @@
 use Rattle.std.proofs.Common.{inl, ◌≡◌, subst}
-use Rattle.cp_collapse.specs.Having.{Has}
-use Rattle.cp_collapse.proofs.Putting.{listed_stays}
+use Rattle.cp_collapse.specs.Property.{Has}
+use Rattle.cp_collapse.proofs.ImagesOnce.{listed_stays}
 use Rattle.cp_collapse.proofs.images.put_pair.Goals as goal
 
 pub returns-then-is_listed_pair : goal.returns-then-is_listed_pair

@@ -1,7 +1,7 @@
 use Rattle.std.proofs.Common.{◌≤◌}
 use Rattle.std.proofs.lemmas.List.{get_or_default}
-use Rattle.cp_collapse.specs.Collapsing.{LiesOnOne}
-use Rattle.cp_collapse.proofs.Having.{item_found, item_passed, no_item}
+use Rattle.cp_collapse.specs.Collapses.{LiesOnOne}
+use Rattle.cp_collapse.proofs.ItemsWithProperty.{item_found, item_passed, no_item}
 use Rattle.cp_collapse.proofs.images.some_lies_backward.Goals as goal
 
 pub returns-then-lies_backward : goal.returns-then-lies_backward

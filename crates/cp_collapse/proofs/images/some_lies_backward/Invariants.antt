@@ -1,6 +1,6 @@
 use Rattle.std.proofs.Common.{drop, ◌≤◌}
-use Rattle.cp_collapse.specs.Collapsing.{LiesOnOne}
-use Rattle.cp_collapse.specs.Having.{Has}
+use Rattle.cp_collapse.specs.Collapses.{LiesOnOne}
+use Rattle.cp_collapse.specs.Property.{Has}
 use Rattle.cp_collapse.proofs.images.some_lies_backward.Given as goal
 
 abbrev pub invariant-loop-pair : goal.invariant-loop-pair

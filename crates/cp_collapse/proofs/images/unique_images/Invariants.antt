@@ -1,7 +1,7 @@
 use Rattle.std.proofs.Common.{◌≡◌, [], map, drop}
 use Rattle.cp_model.specs.Given.{uniques_onto}
 use Rattle.cp_unify.specs.Bindings.{as_substitution}
-use Rattle.cp_collapse.specs.Collapsing.{unique_in}
+use Rattle.cp_collapse.specs.Collapses.{unique_in}
 use Rattle.cp_collapse.proofs.images.unique_images.Given as goal
 
 abbrev pub invariant-loop-unique : goal.invariant-loop-unique

@@ -1,4 +1,4 @@
-use Rattle.cp_completeness.proofs.Losing.{branches_lose_none}
+use Rattle.cp_completeness.proofs.NoStandingLost.{branches_lose_none}
 use Rattle.cp_completeness.proofs.steps.branches_lose_no_standing.Goals as goal
 
 pub returns : goal.returns

@@ -1,4 +1,4 @@
-use Rattle.cp_completeness.proofs.Losing.{none_carried, none_with_two_origins, none_with_lost_origin, none_not_originating, none_with_cycle}
+use Rattle.cp_completeness.proofs.NoStandingLost.{none_carried, none_with_two_origins, none_with_lost_origin, none_not_originating, none_with_cycle}
 use Rattle.cp_completeness.proofs.steps.no_results_where_it_stands_nowhere.Goals as goal
 
 pub returns-clause-carried : goal.returns-clause-carried

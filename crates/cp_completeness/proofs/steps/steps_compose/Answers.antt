@@ -1,4 +1,4 @@
-use Rattle.cp_completeness.proofs.Losing.{itself_alone, among_more, through_each, covered}
+use Rattle.cp_completeness.proofs.NoStandingLost.{itself_alone, among_more, through_each, covered}
 use Rattle.cp_completeness.proofs.steps.steps_compose.Goals as goal
 
 pub returns-clause-itself : goal.returns-clause-itself

@@ -1,5 +1,5 @@
 use Rattle.std.proofs.Common.{◌≡◌, drop}
-use Rattle.cp_covering.specs.Listing.{has_term}
+use Rattle.cp_covering.specs.GatheredLists.{has_term}
 use Rattle.cp_covering.proofs.once.has_term.Given as goal
 
 abbrev pub invariant-loop-other : goal.invariant-loop-other

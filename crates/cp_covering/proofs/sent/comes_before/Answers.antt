@@ -1,7 +1,7 @@
 use Rattle.std.proofs.Common.{◌↔◌, subst}
 use Rattle.std.specs.Prelude.{IsTrue}
 use Rattle.cp_model.specs.Order.{LeadsTo}
-use Rattle.cp_order.specs.Leading.{Target}
+use Rattle.cp_order.specs.LeadingNodes.{Target}
 use Rattle.cp_skel.specs.View.{skeleton_view}
 use Rattle.cp_skel.proofs.OrderKept.{asked_before}
 use Rattle.cp_skel.proofs.SameNode.{tested_apart}

@@ -8,7 +8,7 @@ use Rattle.cp_derive.specs.Before.{ArePlacesBefore, transmissions_of, given_by}
 use Rattle.cp_derive.specs.Given.{Given, IsDerivable}
 use Rattle.cp_derive.specs.Transmissions.{Transmission, transmission_view}
 use Rattle.cp_derive.proofs.GivenAtNode.{ordered_of, derivable_at_node, given_from}
-use Rattle.cp_derive.proofs.Placing.{ok_then}
+use Rattle.cp_derive.proofs.TransmissionPlaces.{ok_then}
 use Rattle.cp_derive.proofs.at_node.known.Goals as goal
 
 pub returns : goal.returns

@@ -1,6 +1,6 @@
 use Rattle.std.proofs.Common.{◌++◌, ◌∷◌, [], map, ap, ◌∙◌}
 use Rattle.cp_derive.specs.Transmissions.{transmission_view}
-use Rattle.cp_derive.proofs.Placing.{message_moved, message_skipped}
+use Rattle.cp_derive.proofs.TransmissionPlaces.{message_moved, message_skipped}
 use Rattle.cp_derive.proofs.before.messages_at.Goals as goal
 use Rattle.cp_derive.proofs.before.messages_at.Goals.{in-Some+in_ok-message+in_ok-push, in_default}
 

@@ -4,10 +4,10 @@ use Rattle.cp_term.proofs.CarriedTerms.{not_both}
 use Rattle.cp_lists.proofs.Items.{map_of_read}
 use Rattle.cp_lists.specs.Lists.{item_at}
 use Rattle.cp_model.specs.Order.{LeadsTo}
-use Rattle.cp_order.specs.Leading.{Target}
+use Rattle.cp_order.specs.LeadingNodes.{Target}
 use Rattle.cp_skel.proofs.SameNode.{tested_apart, tested_same}
 use Rattle.cp_derive.specs.Transmissions.{transmission_view}
-use Rattle.cp_derive.proofs.Placing.{ArePlacesBelow, placed, not_placed, all_placed}
+use Rattle.cp_derive.proofs.TransmissionPlaces.{ArePlacesBelow, placed, not_placed, all_placed}
 use Rattle.cp_derive.proofs.before.places_before.Goals as goal
 use Rattle.cp_derive.proofs.before.places_before.Goals.{then-has+then-ne+in_ok-push, else-has, else-has-via-then-has+else-ne, else-has-via-else-has}
 

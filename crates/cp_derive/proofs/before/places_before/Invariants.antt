@@ -1,6 +1,6 @@
 use Rattle.std.proofs.Common.{map}
 use Rattle.cp_derive.specs.Transmissions.{transmission_view}
-use Rattle.cp_derive.proofs.Placing.{ArePlacesBelow}
+use Rattle.cp_derive.proofs.TransmissionPlaces.{ArePlacesBelow}
 use Rattle.cp_derive.proofs.before.places_before.Given as goal
 
 abbrev pub invariant-loop-place : goal.invariant-loop-place

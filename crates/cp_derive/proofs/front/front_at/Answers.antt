@@ -9,8 +9,8 @@ use Rattle.cp_derive.specs.Places.{AreSamePlaces}
 use Rattle.cp_derive.specs.Transmissions.{transmission_view}
 use Rattle.cp_derive.specs.declared.front.Front.{Front}
 use Rattle.cp_derive.proofs.GivenAtNode.{derivable_at_node, given_from}
-use Rattle.cp_derive.proofs.Growing.{same_before}
-use Rattle.cp_derive.proofs.Placing.{ok_both}
+use Rattle.cp_derive.proofs.GrownKnowledge.{same_before}
+use Rattle.cp_derive.proofs.TransmissionPlaces.{ok_both}
 use Rattle.cp_derive.proofs.front.front_at.Goals as goal
 
 pub returns-clause-at_node : goal.returns-clause-at_node

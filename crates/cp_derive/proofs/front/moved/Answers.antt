@@ -3,7 +3,7 @@ use Rattle.std.proofs.lemmas.Bool.Decides.{Decides-eqb}
 use Rattle.std.proofs.lemmas.Slice.Eq.{strip_prefix_is}
 use Rattle.cp_derive.specs.Before.{messages_at}
 use Rattle.cp_derive.specs.Transmissions.{transmission_view}
-use Rattle.cp_derive.proofs.Placing.{known_on}
+use Rattle.cp_derive.proofs.TransmissionPlaces.{known_on}
 use Rattle.cp_derive.proofs.front.moved.Goals as goal
 
 pub returns-in-Some-clause-known : goal.returns-in-Some-clause-known

@@ -1,9 +1,9 @@
 use Rattle.std.proofs.Common.{◌≡◌, List, sym, subst, ap₂}
 use Rattle.cp_model.specs.Term.{Term}
-use Rattle.cp_derive.specs.Building.{Builds, IsClosed}
+use Rattle.cp_derive.specs.Buildable.{Builds, IsClosed}
 use Rattle.cp_derive.specs.Given.{Given, IsDerivable}
 use Rattle.cp_derive.proofs.Built.{built_derivable, derivable_built}
-use Rattle.cp_derive.proofs.Extending.{closed}
+use Rattle.cp_derive.proofs.OpenedPieces.{closed}
 use Rattle.cp_derive.proofs.knowledge.buildable.Goals as goal
 
 pub returns : goal.returns

@@ -1,6 +1,6 @@
 use Rattle.std.proofs.Common.{[], ◌∙◌, ap, sym}
 use Rattle.cp_derive.specs.Places.{are_marked, unmarked_behind}
-use Rattle.cp_derive.proofs.Growing.{same_places}
+use Rattle.cp_derive.proofs.GrownKnowledge.{same_places}
 use Rattle.cp_derive.proofs.marks.places_behind.Goals as goal
 
 pub returns : goal.returns

@@ -1,7 +1,7 @@
 use Rattle.std.proofs.Common.{◌++◌, ◌∷◌, [], map, ap, ◌∙◌}
 use Rattle.std.proofs.lemmas.List.{map-append}
 use Rattle.cp_derive.specs.Transmissions.{transmission_view}
-use Rattle.cp_derive.proofs.Sending.{transmission_added, reception_passed}
+use Rattle.cp_derive.proofs.ListedTransmissions.{transmission_added, reception_passed}
 use Rattle.cp_derive.proofs.transmission.transmissions.Goals as goal
 use Rattle.cp_derive.proofs.transmission.transmissions.Goals.{in-Send+in_ok-message+in_ok-push, in_default}
 

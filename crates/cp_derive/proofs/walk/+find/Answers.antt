@@ -1,7 +1,7 @@
 use Rattle.std.proofs.Common.{◌≡◌, ◌∙◌, ◌++◌, ◌∷◌, [], ap, sym, subst, take, arith}
 use Rattle.cp_term.proofs.CarriedTerms.{not_both}
 use Rattle.cp_term.specs.declared.path.Step.TheVariants.{Right}
-use Rattle.cp_derive.specs.Walking.{LeadsOn}
+use Rattle.cp_derive.specs.Walk.{LeadsOn}
 use Rattle.cp_term.proofs.Behind.{first_kept, turned}
 use Rattle.cp_derive.proofs.Walks.{found_here, found_left, go_right, pair_derivable, found_some, found_none, plain_form}
 use Rattle.cp_derive.proofs.walk.+find.Goals as goal

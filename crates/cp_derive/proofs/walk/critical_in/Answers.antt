@@ -1,5 +1,5 @@
 use Rattle.cp_derive.proofs.Walks.{first_underivable, first_place, first_listed, leads_from_start, found_some}
-use Rattle.cp_derive.specs.Walking.{LeadsToFirst}
+use Rattle.cp_derive.specs.Walk.{LeadsToFirst}
 use Rattle.cp_derive.proofs.walk.critical_in.Goals as goal
 use Rattle.cp_derive.proofs.walk.critical_in.Goals.{In-Some}
 

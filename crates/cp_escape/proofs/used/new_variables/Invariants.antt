@@ -2,7 +2,7 @@ use Rattle.std.proofs.Common.{◌≡◌, ◌++◌, drop}
 use Rattle.cp_guard.specs.Critical.{used_variables}
 use Rattle.cp_skel.specs.Trees.{variables_view}
 use Rattle.cp_skel.specs.View.{skeleton_view}
-use Rattle.cp_escape.specs.Using.{is_new_in, variables_where, numbers}
+use Rattle.cp_escape.specs.UsedVariables.{is_new_in, variables_where, numbers}
 use Rattle.cp_escape.proofs.used.new_variables.Given as goal
 
 abbrev pub invariant-loop-number : goal.invariant-loop-number

@@ -10,7 +10,7 @@ use Rattle.cp_expansion.specs.Views.{last_question}
 use Rattle.cp_expansion.proofs.WidenedOnce.{widened_by_most, widened_no_more, widened_once_more}
 use Rattle.cp_lists.proofs.Items.{map_of_read}
 use Rattle.cp_guard.specs.Critical.{IsTest}
-use Rattle.cp_guard.specs.Guarding.{Guards}
+use Rattle.cp_guard.specs.Guards.{Guards}
 use Rattle.cp_expansion.specs.Widened.{IsGiven}
 use Rattle.cp_expansion.specs.declared.expansion.Expansion.{Expansion}
 use Rattle.cp_expansion.proofs.OnceMore.{place_below, given_child, IsNext, grown_skeleton, grown_declared, child_declared, table_behind, next_question, if_widened, if_same}
@@ -83,15 +83,12 @@ widened-requires t c =
     let longer : length c.push.new.self.items ≡ length c.args.patterns.items + 1 = ap length n.pushed ∙ length-append c.args.patterns.items (p ∷ []) in (
       omega (arith, few, longer, c.decreases),
       (
-        c.requires.roles,
+        subst (λ s. IsSkeleton c.args.protocol.now s) same c.requires.skeleton,
         (
-          subst (λ s. IsSkeleton c.args.protocol.now s) same c.requires.skeleton,
+          grown_declared k c.in_ok-grown.grown c.args.patterns.items c.push.new.self.items cs place p c.index.result.now n c.requires.declared,
           (
-            grown_declared k c.in_ok-grown.grown c.args.patterns.items c.push.new.self.items cs place p c.index.result.now n c.requires.declared,
-            (
-              subst (λ s. IsTest s c.args.test.now.node c.args.test.now.term) same c.requires.test,
-              subst (λ s. Guards c.push.new.self.items s c.args.test.now.node c.args.test.now.term) same (subst (λ ps. Guards ps (skeleton_view k) c.args.test.now.node c.args.test.now.term) (sym n.pushed) guards),
-            ),
+            subst (λ s. IsTest s c.args.test.now.node c.args.test.now.term) same c.requires.test,
+            subst (λ s. Guards c.push.new.self.items s c.args.test.now.node c.args.test.now.term) same (subst (λ ps. Guards ps (skeleton_view k) c.args.test.now.node c.args.test.now.term) (sym n.pushed) guards),
           ),
         ),
       ),

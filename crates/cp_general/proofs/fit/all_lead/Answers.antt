@@ -2,7 +2,7 @@ use Rattle.std.proofs.Common.{refl}
 use Rattle.cp_model.specs.declared.node.OrderPair.{OrderPair}
 use Rattle.cp_model.specs.Order.{LeadsTo}
 use Rattle.cp_lists.proofs.Members.{item_in}
-use Rattle.cp_general.proofs.Fitting.{not_both, copy_next, all_have, no_pair}
+use Rattle.cp_general.proofs.FitTests.{not_both, copy_next, all_have, no_pair}
 use Rattle.cp_general.proofs.fit.all_lead.Goals as goal
 
 pub returns-then-not-branch : goal.returns-then-not-branch

@@ -1,7 +1,7 @@
 use Rattle.std.proofs.Common.{drop}
 use Rattle.cp_model.specs.declared.node.OrderPair.{OrderPair}
 use Rattle.cp_model.specs.Order.{LeadsTo}
-use Rattle.cp_general.proofs.Fitting.{HasOrLeft}
+use Rattle.cp_general.proofs.FitTests.{HasOrLeft}
 use Rattle.cp_general.proofs.fit.all_lead.Given as goal
 
 abbrev pub invariant-loop-pair : goal.invariant-loop-pair

@@ -1,6 +1,6 @@
 use Rattle.std.proofs.lemmas.Result.{IfOk-weaker}
 use Rattle.cp_skel.specs.View.{skeleton_view}
-use Rattle.cp_general.proofs.Fitting.{fit_if, unfit_if}
+use Rattle.cp_general.proofs.FitTests.{fit_if, unfit_if}
 use Rattle.cp_general.proofs.fit.is_fit.Goals as goal
 
 pub returns-then-not-branch : goal.returns-then-not-branch

@@ -6,8 +6,8 @@ use Rattle.cp_model.specs.declared.node.OrderPair.{OrderPair}
 use Rattle.cp_skel.specs.View.{skeleton_view}
 use Rattle.cp_skel.specs.Events.{occurrence_view}
 use Rattle.cp_skel.proofs.SoundSkeletons.{sound_ordered}
-use Rattle.cp_normal.specs.Normalising.{IsAddedPair}
-use Rattle.cp_general.proofs.Fitting.{contradictory, settled_if, unsettled_if, normal_if}
+use Rattle.cp_normal.specs.Findings.{IsAddedPair}
+use Rattle.cp_general.proofs.FitTests.{contradictory, settled_if, unsettled_if, normal_if}
 use Rattle.cp_general.proofs.fit.is_normal.Goals as goal
 
 pub returns-in-None : goal.returns-in-None

@@ -1,5 +1,5 @@
 use Rattle.cp_skel.specs.View.{skeleton_view}
-use Rattle.cp_general.proofs.Fitting.{realised_if}
+use Rattle.cp_general.proofs.FitTests.{realised_if}
 use Rattle.cp_general.proofs.fit.is_realised.Goals as goal
 
 pub returns : goal.returns

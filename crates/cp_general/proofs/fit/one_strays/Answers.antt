@@ -1,6 +1,6 @@
 use Rattle.cp_skel.specs.View.{skeleton_view}
-use Rattle.cp_collapse.proofs.Having.{item_found, item_passed, no_item}
-use Rattle.cp_normal.specs.Straying.{Strays}
+use Rattle.cp_collapse.proofs.ItemsWithProperty.{item_found, item_passed, no_item}
+use Rattle.cp_normal.specs.StrayValues.{Strays}
 use Rattle.cp_general.proofs.fit.one_strays.Goals as goal
 
 pub returns-then-strays : goal.returns-then-strays

@@ -1,8 +1,8 @@
 use Rattle.cp_skel.specs.View.{skeleton_view}
 use Rattle.cp_skel.specs.Events.{occurrence_view}
-use Rattle.cp_collapse.specs.Having.{Has}
-use Rattle.cp_collapse.proofs.Having.{item_found, item_passed, no_item}
-use Rattle.cp_normal.specs.Straying.{Strays}
+use Rattle.cp_collapse.specs.Property.{Has}
+use Rattle.cp_collapse.proofs.ItemsWithProperty.{item_found, item_passed, no_item}
+use Rattle.cp_normal.specs.StrayValues.{Strays}
 use Rattle.cp_normal.proofs.Strayed.{event_listed}
 use Rattle.cp_general.proofs.fit.some_strays.Goals as goal
 

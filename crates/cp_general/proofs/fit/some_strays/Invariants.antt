@@ -1,7 +1,7 @@
 use Rattle.std.proofs.Common.{drop}
 use Rattle.cp_skel.specs.View.{skeleton_view}
-use Rattle.cp_collapse.specs.Having.{Has}
-use Rattle.cp_normal.specs.Straying.{Strays}
+use Rattle.cp_collapse.specs.Property.{Has}
+use Rattle.cp_normal.specs.StrayValues.{Strays}
 use Rattle.cp_general.proofs.fit.some_strays.Given as goal
 
 abbrev pub invariant-loop-occurrence : goal.invariant-loop-occurrence

@@ -2,7 +2,7 @@ use Rattle.std.proofs.Common.{◌∙◌, ap}
 use Rattle.cp_model.specs.Term.{atom_term}
 use Rattle.cp_skel.specs.View.{skeleton_view}
 use Rattle.cp_skel.specs.Events.{occurrence_view}
-use Rattle.cp_general.proofs.Fitting.{strays_not_by_role, strays_not_there, strays_if}
+use Rattle.cp_general.proofs.FitTests.{strays_not_by_role, strays_not_there, strays_if}
 use Rattle.cp_general.proofs.fit.strays.Goals as goal
 
 pub returns-then-not-occurrence : goal.returns-then-not-occurrence

@@ -1,5 +1,5 @@
 use Rattle.std.proofs.Common.{◌≡◌, ◌++◌, drop}
-use Rattle.cp_general.specs.Listing.{pairs_from}
+use Rattle.cp_general.specs.ListedPairs.{pairs_from}
 use Rattle.cp_general.proofs.pairs.add_pairs_from.Given as goal
 
 abbrev pub invariant-loop-to : goal.invariant-loop-to

@@ -1,5 +1,5 @@
 use Rattle.std.proofs.Common.{◌≡◌, ◌++◌, drop}
-use Rattle.cp_general.specs.Listing.{pairs_between}
+use Rattle.cp_general.specs.ListedPairs.{pairs_between}
 use Rattle.cp_general.proofs.pairs.pairs_between.Given as goal
 
 abbrev pub invariant-loop-from : goal.invariant-loop-from

@@ -2,7 +2,7 @@ use Rattle.std.proofs.Common.{◌∙◌, ap}
 use Rattle.std.proofs.lemmas.Result.{IfOk-weaker}
 use Rattle.cp_skel.specs.View.{skeleton_view}
 use Rattle.cp_skel.proofs.SoundSkeletons.{sound_ordered}
-use Rattle.cp_general.specs.Listing.{is_transmission, is_reception, nodes_where}
+use Rattle.cp_general.specs.ListedPairs.{is_transmission, is_reception, nodes_where}
 use Rattle.cp_general.proofs.Listed.{lists_gathered}
 use Rattle.cp_general.proofs.pairs.pairs_of_order.Goals as goal
 

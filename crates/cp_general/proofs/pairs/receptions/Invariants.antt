@@ -1,5 +1,5 @@
 use Rattle.std.proofs.Common.{◌≡◌, ◌++◌, drop}
-use Rattle.cp_general.specs.Listing.{is_reception, nodes_where}
+use Rattle.cp_general.specs.ListedPairs.{is_reception, nodes_where}
 use Rattle.cp_general.proofs.pairs.receptions.Given as goal
 
 abbrev pub invariant-loop-occurrence : goal.invariant-loop-occurrence

@@ -1,5 +1,5 @@
 use Rattle.std.proofs.Common.{◌≡◌, ◌++◌, drop}
-use Rattle.cp_general.specs.Listing.{is_transmission, nodes_where}
+use Rattle.cp_general.specs.ListedPairs.{is_transmission, nodes_where}
 use Rattle.cp_general.proofs.pairs.transmissions.Given as goal
 
 abbrev pub invariant-loop-occurrence : goal.invariant-loop-occurrence

@@ -4,7 +4,7 @@ use Rattle.cp_model.specs.Strand.{variables_of_trace}
 use Rattle.cp_model.specs.Term.{enc_term, variables_of, variables_of_key}
 use Rattle.cp_strand.specs.View.{event_view}
 use Rattle.cp_guarding.specs.Within.{has_all_but, has_numbered}
-use Rattle.cp_match.proofs.Agreeing.{numbers}
+use Rattle.cp_match.proofs.AgreedBindings.{numbers}
 use Rattle.cp_guarding.proofs.Patterns.{may_guard, no_local_in_key, all_used}
 use Rattle.cp_guarding.proofs.pattern.may_guard.Goals as goal
 

@@ -5,9 +5,9 @@ use Rattle.cp_skel.proofs.EventLists.{listed_event}
 use Rattle.cp_model.proofs.CarriedParts.{not_both}
 use Rattle.cp_strand.specs.View.{event_view}
 use Rattle.cp_unify.specs.Bindings.{as_substitution}
-use Rattle.cp_model.specs.Term.{unchanged}
+use Rattle.cp_model.specs.Identity.{unchanged}
 use Rattle.cp_match.specs.Outside.{IsFirstPositionOutside}
-use Rattle.cp_guarding.proofs.Sending.{not_alone}
+use Rattle.cp_guarding.proofs.TransmissionsBefore.{not_alone}
 use Rattle.cp_guarding.proofs.sent.is_guarded_at.Goals as goal
 
 pub before-requires-clause-first : goal.before-requires-clause-first

@@ -5,7 +5,7 @@ use Rattle.cp_guarding.specs.Sent.{IsGuardedAt}
 use Rattle.cp_guarding.proofs.Each.{each_next, each_last, not_each}
 use Rattle.cp_model.proofs.CarriedParts.{not_both}
 use Rattle.cp_skel.specs.View.{skeleton_view}
-use Rattle.cp_guarding.proofs.Sending.{nothing_before, listed_one, guarded_by_each, guarded_listed}
+use Rattle.cp_guarding.proofs.TransmissionsBefore.{nothing_before, listed_one, guarded_by_each, guarded_listed}
 use Rattle.cp_guarding.proofs.sent.send_inside_alone.Goals as goal
 
 pub returns-then-not-branch : goal.returns-then-not-branch

@@ -4,7 +4,7 @@ use Rattle.cp_model.specs.Strand.{variables_of_trace}
 use Rattle.cp_model.specs.Term.{variables_of}
 use Rattle.cp_model.specs.Problem.{variables_of_atoms}
 use Rattle.cp_strand.specs.View.{event_view}
-use Rattle.cp_guarding.proofs.Using.{put_next, put_last}
+use Rattle.cp_guarding.proofs.VariablesOfLists.{put_next, put_last}
 use Rattle.cp_guarding.proofs.used.add_atoms.Goals as goal
 
 pub loop-atom-preserved : goal.loop-atom-preserved

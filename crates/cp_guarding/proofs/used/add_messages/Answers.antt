@@ -5,7 +5,7 @@ use Rattle.cp_model.specs.Term.{variables_of}
 use Rattle.cp_guarding.specs.Within.{variables_of_occurrences}
 use Rattle.cp_skel.specs.Events.{occurrence_view}
 use Rattle.cp_strand.specs.View.{event_view}
-use Rattle.cp_guarding.proofs.Using.{put_next, put_last}
+use Rattle.cp_guarding.proofs.VariablesOfLists.{put_next, put_last}
 use Rattle.cp_guarding.proofs.used.add_messages.Goals as goal
 
 pub loop-occurrence-preserved : goal.loop-occurrence-preserved

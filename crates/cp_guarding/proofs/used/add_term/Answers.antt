@@ -2,7 +2,7 @@ use Rattle.std.proofs.Common.{map, ap, ◌∙◌, ◌++◌}
 use Rattle.cp_model.specs.Strand.{variables_of_trace}
 use Rattle.cp_model.specs.Term.{variables_of}
 use Rattle.cp_strand.specs.View.{event_view}
-use Rattle.cp_guarding.proofs.Using.{sent_behind}
+use Rattle.cp_guarding.proofs.VariablesOfLists.{sent_behind}
 use Rattle.cp_guarding.proofs.used.add_term.Goals as goal
 
 pub returns : goal.returns

@@ -3,7 +3,7 @@ use Rattle.cp_lists.proofs.Members.{drop_read}
 use Rattle.cp_model.specs.Strand.{variables_of_trace}
 use Rattle.cp_completeness.specs.Normal.{variables_of_terms}
 use Rattle.cp_strand.specs.View.{event_view}
-use Rattle.cp_guarding.proofs.Using.{put_next, put_last}
+use Rattle.cp_guarding.proofs.VariablesOfLists.{put_next, put_last}
 use Rattle.cp_guarding.proofs.used.add_terms.Goals as goal
 
 pub loop-term-preserved : goal.loop-term-preserved

@@ -4,7 +4,7 @@ use Rattle.cp_model.specs.Strand.{variables_of_trace}
 use Rattle.cp_model.specs.Term.{variables_of, atom_term}
 use Rattle.cp_model.specs.Problem.{variables_of_uniques}
 use Rattle.cp_strand.specs.View.{event_view}
-use Rattle.cp_guarding.proofs.Using.{put_next, put_last}
+use Rattle.cp_guarding.proofs.VariablesOfLists.{put_next, put_last}
 use Rattle.cp_guarding.proofs.used.add_uniques.Goals as goal
 
 pub loop-unique-preserved : goal.loop-unique-preserved

@@ -6,7 +6,7 @@ use Rattle.cp_skel.specs.Events.{occurrence_view}
 use Rattle.cp_skel.specs.View.{skeleton_view}
 use Rattle.cp_strand.specs.View.{event_view}
 use Rattle.cp_guarding.specs.Within.{variables_of_occurrences}
-use Rattle.cp_guarding.proofs.Using.{of_events, all_gathered}
+use Rattle.cp_guarding.proofs.VariablesOfLists.{of_events, all_gathered}
 use Rattle.cp_guarding.proofs.used.used_in.Goals as goal
 
 pub returns : goal.returns

@@ -1,6 +1,6 @@
 use Rattle.std.proofs.Common.{◌≡◌, ◌<◌, ℕ, arith, subst}
 use Rattle.cp_skel.specs.View.{skeleton_view}
-use Rattle.cp_hom.specs.Taking.{count_of, AddsFirst}
+use Rattle.cp_hom.specs.Counterparts.{count_of, AddsFirst}
 use Rattle.cp_hom.proofs.Itemised.{first_none, first_next}
 use Rattle.cp_hom.proofs.items.add_items.Goals as goal
 

@@ -1,5 +1,5 @@
 use Rattle.cp_skel.specs.View.{skeleton_view}
-use Rattle.cp_hom.specs.Taking.{AddsFirst}
+use Rattle.cp_hom.specs.Counterparts.{AddsFirst}
 use Rattle.cp_hom.proofs.items.add_items.Given as goal
 
 abbrev pub invariant-loop-index : goal.invariant-loop-index

@@ -1,6 +1,6 @@
 use Rattle.std.proofs.Common.{List, subst}
 use Rattle.cp_skel.specs.View.{skeleton_view}
-use Rattle.cp_hom.specs.Taking.{AddsAll}
+use Rattle.cp_hom.specs.Counterparts.{AddsAll}
 use Rattle.cp_hom.specs.declared.items.Kind.TheVariants.{Strands}
 use Rattle.cp_hom.specs.declared.items.Item.{Item}
 use Rattle.cp_hom.proofs.Itemised.{all_behind, all_of_them}

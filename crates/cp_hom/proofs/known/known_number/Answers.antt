@@ -1,5 +1,5 @@
 use Rattle.std.proofs.Common.{◌≡◌, Some}
-use Rattle.cp_hom.specs.Following.{image_in}
+use Rattle.cp_hom.specs.PartialMaps.{image_in}
 use Rattle.cp_hom.proofs.Beforehand.{number_known}
 use Rattle.cp_hom.proofs.known.known_number.Goals as goal
 

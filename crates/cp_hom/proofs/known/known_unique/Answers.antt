@@ -1,7 +1,7 @@
 use Rattle.std.proofs.Common.{◌≡◌, Some, true, sym, ap, ◌∙◌, subst}
 use Rattle.cp_model.specs.Term.{atom_term}
 use Rattle.cp_model.specs.declared.node.Node.{Node}
-use Rattle.cp_hom.specs.Following.{IsKnown}
+use Rattle.cp_hom.specs.PartialMaps.{IsKnown}
 use Rattle.cp_hom.proofs.Beforehand.{unique_known}
 use Rattle.cp_hom.proofs.known.known_unique.Goals as goal
 

@@ -1,6 +1,6 @@
 use Rattle.std.proofs.Common.{◌≤◌}
 use Rattle.cp_skel.specs.View.{skeleton_view}
-use Rattle.cp_hom.specs.Following.{partial_view}
+use Rattle.cp_hom.specs.PartialMaps.{partial_view}
 use Rattle.cp_hom.specs.Choices.{ArePassed}
 use Rattle.cp_hom.proofs.known.next_choice.Given as goal
 

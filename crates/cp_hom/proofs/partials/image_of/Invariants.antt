@@ -1,5 +1,5 @@
 use Rattle.std.proofs.Common.{◌≡◌, drop}
-use Rattle.cp_hom.specs.Following.{image_in}
+use Rattle.cp_hom.specs.PartialMaps.{image_in}
 use Rattle.cp_hom.proofs.partials.image_of.Given as goal
 
 abbrev pub invariant-loop-placement : goal.invariant-loop-placement

@@ -1,6 +1,6 @@
 use Rattle.std.proofs.Common.{◌≡◌, ℕ, drop}
 use Rattle.cp_model.specs.Homomorphism.{strand_in, number_or}
-use Rattle.cp_hom.specs.Following.{image_in}
+use Rattle.cp_hom.specs.PartialMaps.{image_in}
 use Rattle.cp_hom.proofs.partials.images.Given as goal
 
 -- the list has the images of the placements from this number on

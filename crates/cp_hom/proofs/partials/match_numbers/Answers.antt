@@ -1,6 +1,6 @@
 use Rattle.std.proofs.Common.{◌≡◌, List, sym, subst}
 use Rattle.std.specs.Prelude.{Some, None}
-use Rattle.cp_hom.specs.Following.{partial_view, image_in, IsExtended}
+use Rattle.cp_hom.specs.PartialMaps.{partial_view, image_in, IsExtended}
 use Rattle.cp_hom.specs.declared.partials.Placement.{Placement}
 use Rattle.cp_hom.proofs.Images.{number_there, number_elsewhere, number_placed}
 use Rattle.cp_hom.proofs.partials.match_numbers.Goals as goal

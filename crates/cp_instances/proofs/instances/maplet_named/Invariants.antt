@@ -1,6 +1,6 @@
 use Rattle.std.proofs.Common.{◌≡◌, drop, map}
 use Rattle.cp_sexpr.specs.View.{view}
-use Rattle.cp_instances.specs.Instantiating.{maplet_named}
+use Rattle.cp_instances.specs.InstanceTerms.{maplet_named}
 use Rattle.cp_instances.proofs.instances.maplet_named.Given as goal
 
 abbrev pub invariant-loop-maplet : goal.invariant-loop-maplet

@@ -1,7 +1,7 @@
 use Rattle.std.proofs.Common.{map}
 use Rattle.cp_sexpr.specs.View.{view}
 use Rattle.cp_strand.specs.View.{declaration_view}
-use Rattle.cp_instances.proofs.Mapping.{mapped-some, mapped-none}
+use Rattle.cp_instances.proofs.MapletTerms.{mapped-some, mapped-none}
 use Rattle.cp_instances.proofs.instances.term_mapped.Goals as goal
 
 pub returns-in_ok-right_term-in-Some : goal.returns-in_ok-right_term-in-Some

@@ -18,4 +18,4 @@ loop-item-preserved c =
 
 pub item_faults-requires : goal.item_faults-requires
 item_faults-requires c =
-    first-item c.args.items.now c.loop-item.item-index c.item-item.result c.loop-item-test.true c.item-item.is c.loop-item.before.items _ c.in_ok-acyclic.acyclic c.loop-item.invariant.1 c.in_ok-acyclic.ensures
+    first-item c.args.items.now c.loop-item.item-index c.item-item.result c.loop-item-test.true c.item-item.is c.loop-item.before.items _ c.in_ok-acyclic_count.acyclic_count c.loop-item.invariant.1 c.in_ok-acyclic_count.ensures

@@ -1,4 +1,4 @@
-use Rattle.cp_match.proofs.LawMatching.{matching_stays}
+use Rattle.cp_match.proofs.LawMatches.{matching_stays}
 use Rattle.cp_match.proofs.laws.matching_stays.Goals as goal
 
 pub returns : goal.returns

@@ -1,4 +1,4 @@
-use Rattle.cp_match.proofs.LawMatching.{unifier_matches}
+use Rattle.cp_match.proofs.LawMatches.{unifier_matches}
 use Rattle.cp_match.proofs.laws.unifiers_match.Goals as goal
 
 pub returns : goal.returns

@@ -1,6 +1,6 @@
 use Rattle.cp_model.specs.RunView.{event_view}
 use Rattle.cp_model.proofs.CarriedParts.{not_both}
-use Rattle.cp_model.proofs.FirstCarrying.{none_next, none_at_all}
+use Rattle.cp_model.proofs.FirstCarriers.{none_next, none_at_all}
 use Rattle.std.proofs.Common.{sym, subst}
 use Rattle.cp_model.specs.Message.{IsCarriedBy}
 use Rattle.cp_model.proofs.origin.first_carrying.Goals as goal

@@ -1,6 +1,6 @@
 use Rattle.std.proofs.Common.{map}
 use Rattle.cp_model.specs.RunView.{event_view}
-use Rattle.cp_model.specs.Carrying.{NoneCarriesBefore}
+use Rattle.cp_model.specs.FirstCarriers.{NoneCarriesBefore}
 use Rattle.cp_model.proofs.origin.first_carrying.Given as goal
 
 abbrev pub invariant-loop-place : goal.invariant-loop-place

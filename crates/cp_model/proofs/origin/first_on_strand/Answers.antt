@@ -1,9 +1,9 @@
 use Rattle.std.proofs.Common.{◌≡◌, Some, None, map, subst}
 use Rattle.cp_lists.specs.Lists.{item_at}
 use Rattle.cp_model.specs.RunView.{event_view, trace_view}
-use Rattle.cp_model.specs.Carrying.{IsFirstCarrying}
+use Rattle.cp_model.specs.FirstCarriers.{IsFirstCarrying}
 use Rattle.cp_lists.proofs.Items.{map_of_read}
-use Rattle.cp_model.proofs.FirstCarrying.{not_none}
+use Rattle.cp_model.proofs.FirstCarriers.{not_none}
 use Rattle.cp_model.proofs.origin.first_on_strand.Goals as goal
 
 pub returns-in-None : goal.returns-in-None

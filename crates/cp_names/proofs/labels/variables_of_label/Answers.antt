@@ -6,7 +6,7 @@ use Rattle.cp_scope.specs.Terms.{variable_view}
 use Rattle.cp_strand.specs.View.{declaration_view}
 use Rattle.cp_skel.specs.Trees.{variables_view, label_view}
 use Rattle.cp_names.specs.Marks.{marked, label_names_by}
-use Rattle.cp_names.proofs.Marking.{marks_mean}
+use Rattle.cp_names.proofs.MarkMeanings.{marks_mean}
 use Rattle.cp_names.proofs.NamesByMarks.{label_named}
 use Rattle.cp_names.proofs.labels.variables_of_label.Goals as goal
 

@@ -2,8 +2,8 @@ use Rattle.std.proofs.Common.{◌≡◌, map}
 use Rattle.std.proofs.lemmas.Result.{on_ok_weaker}
 use Rattle.cp_skel.specs.Events.{occurrence_view}
 use Rattle.cp_normal.specs.FormView.{form_view}
-use Rattle.cp_normal.specs.Hearing.{heard_before}
-use Rattle.cp_normal.proofs.Following.{branches_place}
+use Rattle.cp_normal.specs.HeardAtoms.{heard_before}
+use Rattle.cp_normal.proofs.NarrowingRounds.{branches_place}
 use Rattle.cp_normal.proofs.Heard.{heard_listed, heard_if_listed, listed_if_heard}
 use Rattle.cp_normal.proofs.candidates.put_branches.Goals as goal
 

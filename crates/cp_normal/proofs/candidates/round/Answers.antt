@@ -1,13 +1,10 @@
 use Rattle.std.proofs.Common.{sym, ◌∙◌}
 use Rattle.std.proofs.lemmas.List.{nil_from_length}
-use Rattle.cp_normal.proofs.Following.{at_first, next_part, all_done, next_is_in}
+use Rattle.cp_normal.proofs.NarrowingRounds.{at_first, next_part, all_done}
 use Rattle.cp_normal.proofs.candidates.round.Goals as goal
 
 pub loop-candidate-init : goal.loop-candidate-init
 loop-candidate-init c = at_first _ _ c.in_ok-next.ensures.items
-
-pub advance-requires : goal.advance-requires
-advance-requires c = c.requires c.in-Some.candidate (next_is_in c.args.candidates.items _ _ _ _ c.in-Some.candidate c.reverse.ensures.items c.loop-candidate.invariant c.in-Some.ensures.items)
 
 pub loop-candidate-preserved : goal.loop-candidate-preserved
 loop-candidate-preserved c = next_part _ _ _ _ _ c.in-Some.candidate c.loop-candidate.invariant c.in-Some.ensures.items c.in_ok-advance.ensures

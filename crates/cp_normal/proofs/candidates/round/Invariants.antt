@@ -1,5 +1,5 @@
 use Rattle.std.proofs.Common.{length}
-use Rattle.cp_normal.proofs.Following.{IsPartWay}
+use Rattle.cp_normal.proofs.NarrowingRounds.{IsPartWay}
 use Rattle.cp_normal.proofs.candidates.round.Given as goal
 
 abbrev pub invariant-loop-candidate : goal.invariant-loop-candidate

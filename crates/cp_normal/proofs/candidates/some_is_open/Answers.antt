@@ -1,5 +1,5 @@
 use Rattle.cp_normal.specs.Candidates.{IsOpen}
-use Rattle.cp_collapse.proofs.Having.{item_found, item_passed, no_item}
+use Rattle.cp_collapse.proofs.ItemsWithProperty.{item_found, item_passed, no_item}
 use Rattle.cp_normal.proofs.candidates.some_is_open.Goals as goal
 
 pub returns-then-is_open : goal.returns-then-is_open

@@ -1,6 +1,6 @@
 use Rattle.std.proofs.Common.{drop}
 use Rattle.cp_normal.specs.Candidates.{IsOpen}
-use Rattle.cp_collapse.specs.Having.{Has}
+use Rattle.cp_collapse.specs.Property.{Has}
 use Rattle.cp_normal.proofs.candidates.some_is_open.Given as goal
 
 abbrev pub invariant-loop-candidate : goal.invariant-loop-candidate

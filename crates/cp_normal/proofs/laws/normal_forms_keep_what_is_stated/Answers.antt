@@ -1,4 +1,4 @@
-use Rattle.cp_normal.proofs.Keeping.{form_is_skeleton, form_of_itself, normal_keeps_assumptions}
+use Rattle.cp_normal.proofs.FormSkeletons.{form_is_skeleton, form_of_itself, normal_keeps_assumptions}
 use Rattle.cp_normal.proofs.Homomorphic.{form_carries}
 use Rattle.cp_normal.proofs.StatedForms.{form_keeps}
 use Rattle.cp_normal.proofs.NarrowedUnder.{narrows_under}

@@ -1,5 +1,5 @@
 use Rattle.cp_normal.specs.Events.{IsElsewhere}
-use Rattle.cp_collapse.proofs.Having.{item_found, item_passed, no_item}
+use Rattle.cp_collapse.proofs.ItemsWithProperty.{item_found, item_passed, no_item}
 use Rattle.cp_normal.proofs.origins.has_another_origin.Goals as goal
 
 pub returns-then-is_elsewhere : goal.returns-then-is_elsewhere

@@ -1,6 +1,6 @@
-use Rattle.cp_collapse.specs.Having.{Has}
+use Rattle.cp_collapse.specs.Property.{Has}
 use Rattle.cp_normal.specs.Events.{IsElsewhere}
-use Rattle.cp_collapse.proofs.Having.{item_found, item_passed, no_item}
+use Rattle.cp_collapse.proofs.ItemsWithProperty.{item_found, item_passed, no_item}
 use Rattle.cp_normal.proofs.origins.some_has_two_origins.Goals as goal
 
 pub returns-then-has_another_origin : goal.returns-then-has_another_origin

@@ -1,5 +1,5 @@
 use Rattle.std.proofs.Common.{drop}
-use Rattle.cp_collapse.specs.Having.{Has}
+use Rattle.cp_collapse.specs.Property.{Has}
 use Rattle.cp_normal.specs.Events.{IsElsewhere}
 use Rattle.cp_normal.proofs.origins.some_has_two_origins.Given as goal
 

@@ -3,7 +3,7 @@ use Rattle.std.proofs.lemmas.Iterator.{cases_from_any, YieldsList-from_slice}
 use Rattle.cp_skel.specs.declared.events.Occurrence.{Occurrence}
 use Rattle.cp_skel.specs.Events.{occurrence_view}
 use Rattle.cp_normal.specs.Events.{IsCarriedBefore}
-use Rattle.cp_normal.proofs.Having.{some_has}
+use Rattle.cp_normal.proofs.AnyItem.{some_has}
 use Rattle.cp_normal.proofs.origins.some_is_carried_before.Goals as goal
 
 pub returns : goal.returns

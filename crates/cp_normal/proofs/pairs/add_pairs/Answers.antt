@@ -1,7 +1,7 @@
 use Rattle.cp_skel.specs.Events.{occurrence_view}
-use Rattle.cp_collapse.specs.Having.{Has}
+use Rattle.cp_collapse.specs.Property.{Has}
 use Rattle.cp_normal.specs.Events.{IsPairBetween}
-use Rattle.cp_normal.proofs.Gathering.{step, end}
+use Rattle.cp_normal.proofs.ListLoops.{step, end}
 use Rattle.cp_normal.proofs.pairs.add_pairs.Goals as goal
 
 pub loop-occurrence-preserved : goal.loop-occurrence-preserved

@@ -1,7 +1,7 @@
 use Rattle.cp_skel.specs.Events.{occurrence_view}
-use Rattle.cp_collapse.specs.Having.{Has}
+use Rattle.cp_collapse.specs.Property.{Has}
 use Rattle.cp_normal.specs.Events.{IsPairBetween}
-use Rattle.cp_normal.proofs.Gathering.{IsGathering}
+use Rattle.cp_normal.proofs.ListLoops.{IsGathering}
 use Rattle.cp_normal.proofs.pairs.add_pairs.Given as goal
 
 abbrev pub invariant-loop-occurrence : goal.invariant-loop-occurrence

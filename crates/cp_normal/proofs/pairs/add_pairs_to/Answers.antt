@@ -3,7 +3,7 @@ use Rattle.std.specs.Prelude.{IfSome, IfNone}
 use Rattle.cp_model.specs.declared.node.OrderPair.{OrderPair}
 use Rattle.cp_skel.specs.Events.{occurrence_view}
 use Rattle.cp_normal.specs.Events.{IsPairBetween}
-use Rattle.cp_normal.proofs.Gathering.{step, end, puts_one, puts_none}
+use Rattle.cp_normal.proofs.ListLoops.{step, end, puts_one, puts_none}
 use Rattle.cp_normal.proofs.pairs.add_pairs_to.Goals as goal
 use Rattle.cp_normal.proofs.pairs.add_pairs_to.Goals.{in-Some+in_ok-push, in_default}
 

@@ -1,6 +1,6 @@
 use Rattle.cp_skel.specs.Events.{occurrence_view}
 use Rattle.cp_normal.specs.Events.{IsPairBetween}
-use Rattle.cp_normal.proofs.Gathering.{IsGathering}
+use Rattle.cp_normal.proofs.ListLoops.{IsGathering}
 use Rattle.cp_normal.proofs.pairs.add_pairs_to.Given as goal
 
 abbrev pub invariant-loop-unique : goal.invariant-loop-unique

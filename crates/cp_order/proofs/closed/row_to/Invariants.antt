@@ -1,8 +1,8 @@
 use Rattle.std.proofs.Common.{◌≡◌, ◌||◌, drop}
 use Rattle.cp_model.specs.declared.node.Node.{Node}
-use Rattle.cp_model.specs.Order.{any_pair}
+use Rattle.cp_model.specs.OrderTests.{any_pair}
 use Rattle.cp_order.specs.Composed.{is_between}
-use Rattle.cp_order.specs.Leading.{tops_of, is_below}
+use Rattle.cp_order.specs.LeadingNodes.{tops_of, is_below}
 use Rattle.cp_order.proofs.closed.row_to.Given as goal
 
 abbrev pub invariant-loop-pair : goal.invariant-loop-pair

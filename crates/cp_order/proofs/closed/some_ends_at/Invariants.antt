@@ -1,5 +1,5 @@
 use Rattle.std.proofs.Common.{◌≡◌, drop}
-use Rattle.cp_model.specs.Order.{any_pair}
+use Rattle.cp_model.specs.OrderTests.{any_pair}
 use Rattle.cp_order.specs.Rows.{ends_at}
 use Rattle.cp_order.proofs.closed.some_ends_at.Given as goal
 

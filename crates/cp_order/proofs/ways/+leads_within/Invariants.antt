@@ -1,5 +1,5 @@
 use Rattle.std.proofs.Common.{◌≡◌, ◌-◌, ◌&&◌, drop}
-use Rattle.cp_model.specs.Order.{at_or_after, any_pair, reaches}
+use Rattle.cp_model.specs.OrderTests.{at_or_after, any_pair, reaches}
 use Rattle.cp_order.proofs.ways.+leads_within.Given as goal
 
 abbrev pub decreases-leads_within : goal.decreases-leads_within

@@ -1,5 +1,5 @@
 use Rattle.std.proofs.Common.{◌≡◌, drop}
-use Rattle.cp_model.specs.Order.{any_pair}
+use Rattle.cp_model.specs.OrderTests.{any_pair}
 use Rattle.cp_order.specs.Composed.{is_between}
 use Rattle.cp_order.proofs.ways.some_is_between.Given as goal
 

@@ -2,7 +2,7 @@ use Rattle.std.proofs.Common.{map}
 use Rattle.cp_language.specs.ShapesText.{chosen_from}
 use Rattle.cp_skel.specs.Trees.{label_view}
 use Rattle.cp_print.specs.Chosen.{chosen_by}
-use Rattle.cp_print.specs.Writing.{Leaves}
+use Rattle.cp_print.specs.WrittenForms.{Leaves}
 use Rattle.cp_print.proofs.Entries.{labels_left}
 use Rattle.cp_print.proofs.report.put_labels.Given as goal
 

@@ -5,7 +5,7 @@ use Rattle.cp_sexpr.specs.View.{view}
 use Rattle.cp_sexpr.proofs.Spelled.{OnErr-from}
 use Rattle.cp_skel.specs.Trees.{tree_view}
 use Rattle.cp_print.specs.Chosen.{chosen_by}
-use Rattle.cp_print.specs.Writing.{entry_forms, trees_behind}
+use Rattle.cp_print.specs.WrittenForms.{entry_forms, trees_behind}
 use Rattle.cp_print.proofs.Writings.{leaves_all, leaves_more, leaves_front}
 use Rattle.cp_print.proofs.Entries.{entries_left, entry_next, all_written}
 use Rattle.cp_print.proofs.report.put_report.Goals as goal

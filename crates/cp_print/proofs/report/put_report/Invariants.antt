@@ -4,7 +4,7 @@ use Rattle.cp_load.specs.Inputs.{entries_of, entries_view}
 use Rattle.cp_sexpr.specs.View.{view}
 use Rattle.cp_skel.specs.Trees.{tree_view}
 use Rattle.cp_print.specs.Chosen.{chosen_by}
-use Rattle.cp_print.specs.Writing.{Leaves}
+use Rattle.cp_print.specs.WrittenForms.{Leaves}
 use Rattle.cp_print.proofs.report.put_report.Given as goal
 
 abbrev pub invariant-loop-number : goal.invariant-loop-number

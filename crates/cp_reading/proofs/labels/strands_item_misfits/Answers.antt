@@ -12,7 +12,7 @@ use Rattle.cp_variables.specs.FirstMisfit.{first_onto, merged}
 use Rattle.cp_spelled.specs.Views.{scope_view}
 use Rattle.cp_forms.proofs.FirstOf.{first_onto-merged}
 use Rattle.cp_variables.proofs.Firsts.{in_order}
-use Rattle.cp_items.proofs.Fitting.{fitting-found}
+use Rattle.cp_items.proofs.FitItems.{fitting-found}
 use Rattle.cp_reading.proofs.labels.strands_item_misfits.Goals as goal
 
 -- what was met inside

@@ -3,7 +3,7 @@ use Rattle.std.specs.Prelude.{is_none}
 use Rattle.cp_sexpr.specs.View.{view}
 use Rattle.cp_report.specs.Heads.{lines_of_label, order_misfits}
 use Rattle.cp_variables.specs.FirstMisfit.{first_onto}
-use Rattle.cp_items.proofs.Fitting.{fitting-found}
+use Rattle.cp_items.proofs.FitItems.{fitting-found}
 use Rattle.cp_reading.proofs.order.are_in_order.Goals as goal
 
 pub returns : goal.returns

@@ -1,7 +1,7 @@
 use Rattle.std.specs.Prelude.{[], ◌∷◌, codes}
 use Rattle.cp_language.specs.Words.{is_one_of}
 use Rattle.cp_report.specs.Misfits.{symbol_misfits}
-use Rattle.cp_reading.specs.Counting.{count_kinds}
+use Rattle.cp_reading.specs.Counts.{count_kinds}
 use Rattle.cp_variables.proofs.InOrder.{entry-taken}
 use Rattle.cp_reading.proofs.status.limit_counts_misfits.Goals as goal
 

@@ -3,8 +3,8 @@ use Rattle.cp_sexpr.specs.View.{view}
 use Rattle.cp_report.specs.Misfits.{entries_misfits}
 use Rattle.cp_report.specs.ReadBack.{behind_outcome}
 use Rattle.cp_variables.specs.FirstMisfit.{first_onto}
-use Rattle.cp_reading.specs.Counting.{count_kinds, status_entries_misfits}
-use Rattle.cp_items.proofs.Fitting.{first-read, first-refused}
+use Rattle.cp_reading.specs.Counts.{count_kinds, status_entries_misfits}
+use Rattle.cp_items.proofs.FitItems.{first-read, first-refused}
 use Rattle.cp_reading.proofs.Counted.{outcome-fits, outcome-unknown}
 use Rattle.cp_reading.proofs.status.status_entries_misfits.Goals as goal
 

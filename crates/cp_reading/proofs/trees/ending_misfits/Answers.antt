@@ -5,7 +5,7 @@ use Rattle.cp_report.specs.ReadBack.{places_of}
 use Rattle.cp_variables.specs.FirstMisfit.{first_onto}
 use Rattle.cp_report.specs.Misfits.{stands_before}
 use Rattle.cp_forms.proofs.FirstOf.{first_then}
-use Rattle.cp_reading.specs.Counting.{status_form_misfits, ending_form_misfits}
+use Rattle.cp_reading.specs.Counts.{status_form_misfits, ending_form_misfits}
 use Rattle.cp_reading.proofs.trees.ending_misfits.Goals as goal
 
 pub returns : goal.returns

@@ -1,7 +1,7 @@
 use Rattle.std.proofs.Common.{[], sym, ap, ◌∙◌, option_map}
 use Rattle.std.proofs.lemmas.List.{drop_all}
 use Rattle.cp_roles.specs.Above.{protocols_view}
-use Rattle.cp_roles.proofs.Standing.{last_named, named-turned}
+use Rattle.cp_roles.proofs.ProtocolNames.{last_named, named-turned}
 use Rattle.cp_roles.proofs.protocols.protocol_named.Goals as goal
 
 pub returns : goal.returns

@@ -1,6 +1,6 @@
 use Rattle.std.proofs.Common.{◌≡◌, drop, None, option_map}
 use Rattle.cp_roles.specs.Above.{protocols_view}
-use Rattle.cp_roles.proofs.Standing.{last_named}
+use Rattle.cp_roles.proofs.ProtocolNames.{last_named}
 use Rattle.cp_roles.proofs.protocols.protocol_named.Given as goal
 
 abbrev pub invariant-loop-protocol : goal.invariant-loop-protocol

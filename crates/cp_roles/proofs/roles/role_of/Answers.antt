@@ -1,7 +1,10 @@
 use Rattle.std.proofs.Common.{map, ap, ◌∙◌}
 use Rattle.std.proofs.lemmas.Result.{IfOk-weaker}
 use Rattle.cp_strand.specs.View.{declaration_view, event_view}
+use Rattle.cp_sexpr.specs.View.{view}
+use Rattle.cp_language.specs.Roles.{events_of}
 use Rattle.cp_forms.specs.FirstFault.{first_onto}
+use Rattle.cp_roles.proofs.DeclaredEvents.{events_read}
 use Rattle.cp_roles.specs.Named.{role_names}
 use Rattle.cp_roles.proofs.RoleNames.{few_items, role-read}
 use Rattle.cp_roles.proofs.roles.role_of.Goals as goal
@@ -10,6 +13,11 @@ pub returns-in_default-clause-faults : goal.returns-in_default-clause-faults
 returns-in_default-clause-faults c =
     let same = c.note.ensures ∙ ap (first_onto c.args.first.now) (few_items (role_names c.args.before.now) c.args.place c.args.items.now c.in_default.len_below) in
     IfOk-weaker c.no_role.result _ _ (λ r h. same) c.no_role.ensures
+
+pub new-requires : goal.new-requires
+new-requires c =
+    events_read (map declaration_view c.in_ok-variables.variables.items) (map event_view c.in_ok-trace.trace.items) (view c.trace-item.result)
+    (c.in_ok-trace.ensures ∙ ap (λ ds. events_of (map declaration_view ds) (view c.trace-item.result)) c.deref-2.ensures.value)
 
 pub returns-clause-faults : goal.returns-clause-faults
 returns-clause-faults c =

@@ -1,5 +1,5 @@
 use Rattle.std.proofs.Common.{◌≡◌, ◌++◌, drop, map}
-use Rattle.cp_hom.specs.FirstPlaces.{first_of}
+use Rattle.cp_fingerprint.specs.FirstPlaces.{first_of}
 use Rattle.cp_roots.proofs.partition.partition_of.Given as goal
 
 abbrev pub invariant-loop-place : goal.invariant-loop-place

@@ -3,7 +3,7 @@ use Rattle.cp_sexpr.specs.View.{view}
 use Rattle.cp_language.specs.Names.{identifiers_in}
 use Rattle.cp_strand.specs.View.{declaration_view}
 use Rattle.cp_forms.specs.Heads.{sort_word_view}
-use Rattle.cp_scope.proofs.Naming.{declaration-read, declaration-declared}
+use Rattle.cp_scope.proofs.DeclaredIdentifiers.{declaration-read, declaration-declared}
 use Rattle.cp_scope.proofs.declarations.declaration.Goals as goal
 
 pub returns-clause-faults : goal.returns-clause-faults

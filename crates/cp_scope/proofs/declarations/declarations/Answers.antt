@@ -1,6 +1,6 @@
 use Rattle.std.proofs.Common.{map}
 use Rattle.cp_strand.specs.View.{declaration_view}
-use Rattle.cp_scope.proofs.Naming.{declarations-taken, all-declared-taken}
+use Rattle.cp_scope.proofs.DeclaredIdentifiers.{declarations-taken, all-declared-taken}
 use Rattle.cp_scope.proofs.declarations.declarations.Goals as goal
 
 pub loop-item-preserved : goal.loop-item-preserved

@@ -9,7 +9,7 @@ use Rattle.cp_strand.specs.View.{sort_view, declaration_view}
 use Rattle.cp_strand.specs.declared.protocol.Declaration as program
 use Rattle.cp_forms.specs.FirstFault.{first_onto}
 use Rattle.cp_forms.specs.Heads.{sort_word_view}
-use Rattle.cp_scope.proofs.Naming.{identifiers-taken, declared-taken}
+use Rattle.cp_scope.proofs.DeclaredIdentifiers.{identifiers-taken, declared-taken}
 use Rattle.cp_scope.proofs.declarations.declare.Goals as goal
 
 pushed : (old new : List program.Declaration) (d : program.Declaration) (t : List ℕ) (s : Sort) → new ≡ old ++ d ∷ [] → d.identifier ≡ t → sort_view d.sort ≡ s

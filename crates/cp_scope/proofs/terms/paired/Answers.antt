@@ -1,4 +1,4 @@
-use Rattle.cp_scope.proofs.Pairing.{paired-step}
+use Rattle.cp_scope.proofs.PairedTerms.{paired-step}
 use Rattle.cp_scope.proofs.terms.paired.Goals as goal
 
 pub loop-left-preserved : goal.loop-left-preserved

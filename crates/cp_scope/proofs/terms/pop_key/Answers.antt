@@ -1,7 +1,7 @@
 use Rattle.std.proofs.Common.{sym, ap, ◌∙◌}
 use Rattle.std.proofs.lemmas.Result.{IfOk-weaker}
 use Rattle.cp_language.specs.Terms.{all_but_last, last_of, as_key, key_as_term}
-use Rattle.cp_scope.proofs.Pairing.{all_but_last-append, last_of-append}
+use Rattle.cp_scope.proofs.PairedTerms.{all_but_last-append, last_of-append}
 use Rattle.cp_scope.proofs.terms.pop_key.Goals as goal
 
 pub returns-in-Some : goal.returns-in-Some

@@ -3,8 +3,8 @@ use Rattle.std.specs.Prelude.{Option, Some}
 use Rattle.std.proofs.lemmas.Result.{IfOk-weaker}
 use Rattle.cp_skel.specs.View.{skeleton_view}
 use Rattle.cp_term.proofs.CarriedTerms.{not_both}
-use Rattle.cp_search.specs.Finding.{FindsLeast}
-use Rattle.cp_search.specs.Making.{AreReaching, MayBeSeenIn}
+use Rattle.cp_search.specs.LeastNumber.{FindsLeast}
+use Rattle.cp_search.specs.MadeLabels.{AreReaching, MayBeSeenIn}
 use Rattle.cp_search.proofs.AllowedCopies.{fingerprints_of, seen_nowhere, seen_in_any, seen_in_others, seen_in_first, seen_at_end}
 use Rattle.cp_search.proofs.copies.copied_label.Goals.{In-Some}
 use Rattle.cp_search.proofs.copies.copied_label.Goals as goal

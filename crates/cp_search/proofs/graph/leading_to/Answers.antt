@@ -1,5 +1,5 @@
 use Rattle.std.proofs.Common.{◌≡◌, length, arith}
-use Rattle.cp_search.proofs.Spreading.{target_alone, spread_on, all_leading}
+use Rattle.cp_search.proofs.SpreadFlags.{target_alone, spread_on, all_leading}
 use Rattle.cp_search.proofs.graph.leading_to.Goals as goal
 
 pub loop-init : goal.loop-init

@@ -1,5 +1,5 @@
 use Rattle.cp_search.specs.Graph.{unflagged}
-use Rattle.cp_search.proofs.Spreading.{AreLeading}
+use Rattle.cp_search.proofs.SpreadFlags.{AreLeading}
 use Rattle.cp_search.proofs.graph.leading_to.Given as goal
 
 abbrev pub invariant-loop : goal.invariant-loop

@@ -1,5 +1,5 @@
 use Rattle.std.proofs.Common.{◌≡◌, ◌<◌, ◌≤◌, ◌-◌, ℕ, suc, Some, ap, ◌∙◌, arith}
-use Rattle.cp_search.proofs.Spreading.{read_item, not_flagged, are_flags, edge_is_closed, edge_is_new}
+use Rattle.cp_search.proofs.SpreadFlags.{read_item, not_flagged, are_flags, edge_is_closed, edge_is_new}
 use Rattle.cp_search.proofs.graph.spread.Goals as goal
 
 -- The place of the edge that is looked at is one below those that were.

@@ -1,5 +1,5 @@
 use Rattle.std.proofs.Common.{take}
-use Rattle.cp_search.proofs.Spreading.{IsSpread}
+use Rattle.cp_search.proofs.SpreadFlags.{IsSpread}
 use Rattle.cp_search.proofs.graph.spread.Given as goal
 
 abbrev pub invariant-loop-place : goal.invariant-loop-place

@@ -1,8 +1,8 @@
 use Rattle.std.proofs.Common.{◌≡◌, ℕ, length, ◌++◌, ◌∷◌, [], ◌∙◌, sym, ap, if◌then◌else◌, subst, arith}
 use Rattle.std.specs.Prelude.{nat_eq, ◌≤◌, Option, Some, IfSome}
 use Rattle.cp_search.specs.Graph.{AddsEdge}
-use Rattle.cp_search.specs.Sharing.{with_sharing}
-use Rattle.cp_search.proofs.Sharing.{with_one_more}
+use Rattle.cp_search.specs.LabelsByNumber.{with_sharing}
+use Rattle.cp_search.proofs.LabelsByNumber.{with_one_more}
 use Rattle.cp_search.proofs.WayEdges.{edges_more, parents_within}
 use Rattle.cp_search.proofs.labels.put_behind.Goals as goal
 

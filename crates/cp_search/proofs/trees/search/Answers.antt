@@ -2,7 +2,7 @@ use Rattle.std.proofs.Common.{◌≡◌, ◌↔◌, ℕ, List, Some, IfOk, map}
 use Rattle.cp_lists.specs.Lists.{item_at}
 use Rattle.cp_model.specs.Strand.{Declaration}
 use Rattle.cp_model.specs.Skeleton.{Skeleton}
-use Rattle.cp_model.specs.Problem.{HasDeclaredVariables}
+use Rattle.cp_model.specs.PointOfView.{HasDeclaredVariables}
 use Rattle.cp_model.specs.Bundle.{Bundle, IsBundle}
 use Rattle.cp_model.specs.Standing.{Standing, StandsIn, StandsApart}
 use Rattle.cp_model.specs.Tree.{dead, at_step_limit, at_strand_limit, Label, Tree, Limits, ReachedSteps, ReachedStrands, IsTrueOf}
@@ -20,13 +20,15 @@ use Rattle.cp_search.proofs.FoundTrees.{sound_roots, same_variables}
 use Rattle.cp_search.proofs.MadeTrees.{if_made}
 use Rattle.cp_search.proofs.trees.search.Goals as goal
 
-pub search_from-requires-clause-sound : goal.search_from-requires-clause-sound
-search_from-requires-clause-sound c =
+pub search_from-requires : goal.search_from-requires
+search_from-requires c =
     let k = skeleton_view c.args.problem.now in
     let variables = variables_view c.args.problem.now.variables in
     let roots = c.in_ok-roots.roots.items in
-    sound_roots c.args.protocol.now variables k roots (skeleton_over c.args.protocol.now k c.is_sound.ensures c.requires.over) c.requires.own c.in_ok-roots.ensures.sound (same_variables roots c.args.problem.now.variables c.in_ok-roots.ensures.variables)
-    (c.roots_have_declared_variables.ensures variables k (map root_view roots) (own_declared variables k c.requires.own) c.in_ok-roots.ensures.exact)
+    record {
+      sound = sound_roots c.args.protocol.now variables k roots (skeleton_over c.args.protocol.now k c.is_sound.ensures c.requires.over) c.requires.own c.in_ok-roots.ensures.sound (same_variables roots c.args.problem.now.variables c.in_ok-roots.ensures.variables)
+          (c.roots_have_declared_variables.ensures variables k (map root_view roots) (own_declared variables k c.requires.own) c.in_ok-roots.ensures.exact);
+    }
 
 -- ---- the tree that is made
 
@@ -58,7 +60,7 @@ each_tree c is law =
 pub returns-clause-true_tree : goal.returns-clause-true_tree
 returns-clause-true_tree c =
     each_tree c (IsTrueOf c.args.protocol.now (problem c) (limits c))
-    (λ t from. c.search_trees_are_true.ensures.truth c.args.protocol.now (variables c) (problem c) (limits c) (found_roots c) t c.requires.roles c.in_ok-roots.ensures.sound (declared c) (skeleton_over c.args.protocol.now (problem c) c.is_sound.ensures c.requires.over) c.requires.own from)
+    (λ t from. c.search_trees_are_true.ensures.truth c.args.protocol.now (variables c) (problem c) (limits c) (found_roots c) t c.is_sound-2.ensures c.in_ok-roots.ensures.sound (declared c) (skeleton_over c.args.protocol.now (problem c) c.is_sound.ensures c.requires.over) c.requires.own from)
 
 pub returns-clause-exact : goal.returns-clause-exact
 returns-clause-exact c = each_tree c (IsTreeOf c.args.protocol.now (problem c) (variables c) (limits c)) (λ t from. record { roots = found_roots c; are_roots = c.in_ok-roots.ensures.exact; from_roots = from })
@@ -66,18 +68,18 @@ returns-clause-exact c = each_tree c (IsTreeOf c.args.protocol.now (problem c) (
 pub returns-clause-variables : goal.returns-clause-variables
 returns-clause-variables c =
     each_tree c (λ (t : Tree). (i : ℕ) (l : Label) → item_at t.labels i ≡ Some l → DeclaresItsOwn (variables c) l)
-    (λ t from. c.search_trees_declare_their_variables.ensures c.args.protocol.now (variables c) (problem c) (limits c) (found_roots c) t c.requires.roles c.in_ok-roots.ensures.sound (declared c) c.requires.own from)
+    (λ t from. c.search_trees_declare_their_variables.ensures c.args.protocol.now (variables c) (problem c) (limits c) (found_roots c) t c.is_sound-2.ensures c.in_ok-roots.ensures.sound (declared c) c.requires.own from)
 
 pub returns-clause-lawful : goal.returns-clause-lawful
 returns-clause-lawful c =
     each_tree c (λ (t : Tree). IsLawful c.args.protocol.now (problem c) t.labels (edges t.labels))
-    (λ t from. c.search_trees_are_lawful.ensures.lawful c.args.protocol.now (variables c) (problem c) (limits c) (found_roots c) t c.requires.roles c.in_ok-roots.ensures.sound (declared c) c.requires.own from)
+    (λ t from. c.search_trees_are_lawful.ensures.lawful c.args.protocol.now (variables c) (problem c) (limits c) (found_roots c) t c.is_sound-2.ensures c.in_ok-roots.ensures.sound (declared c) c.requires.own from)
 
 pub returns-clause-dead_nowhere : goal.returns-clause-dead_nowhere
 returns-clause-dead_nowhere c =
     each_tree c
     (λ (t : Tree). (i : ℕ) (l : Label) → item_at t.labels i ≡ Some l → l.mark ≡ Some dead → (b : Bundle) (h : Standing) → IsBundle c.args.protocol.now b → StandsIn l.skeleton b h → StandsApart l.skeleton h → ⊥)
-    (λ t from. c.search_trees_are_lawful.ensures.dead_nowhere c.args.protocol.now (variables c) (problem c) (limits c) (found_roots c) t c.requires.roles c.in_ok-roots.ensures.sound (declared c) c.requires.own from)
+    (λ t from. c.search_trees_are_lawful.ensures.dead_nowhere c.args.protocol.now (variables c) (problem c) (limits c) (found_roots c) t c.is_sound-2.ensures c.in_ok-roots.ensures.sound (declared c) c.requires.own from)
 
 pub returns-clause-limits : goal.returns-clause-limits
 returns-clause-limits c =

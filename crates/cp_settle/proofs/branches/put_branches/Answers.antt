@@ -1,5 +1,5 @@
 use Rattle.cp_settle.specs.Views.{tried_view}
-use Rattle.cp_settle.proofs.Putting.{puts_none, next_encryption, all_encryptions}
+use Rattle.cp_settle.proofs.BranchLoops.{puts_none, next_encryption, all_encryptions}
 use Rattle.cp_settle.proofs.branches.put_branches.Goals as goal
 
 pub loop-encryption-init : goal.loop-encryption-init

@@ -1,5 +1,5 @@
 use Rattle.std.proofs.Common.{take}
-use Rattle.cp_settle.specs.Settling.{choices}
+use Rattle.cp_settle.specs.Stages.{choices}
 use Rattle.cp_settle.specs.Views.{tried_view}
 use Rattle.cp_settle.specs.Candidates.{PutsBranches}
 use Rattle.cp_settle.proofs.branches.put_branches.Given as goal

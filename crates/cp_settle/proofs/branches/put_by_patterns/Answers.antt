@@ -1,5 +1,5 @@
 use Rattle.cp_settle.specs.Views.{tried_view}
-use Rattle.cp_settle.proofs.Putting.{puts_none, next_pattern, all_patterns}
+use Rattle.cp_settle.proofs.BranchLoops.{puts_none, next_pattern, all_patterns}
 use Rattle.cp_settle.proofs.branches.put_by_patterns.Goals as goal
 
 pub loop-pattern-init : goal.loop-pattern-init

@@ -2,7 +2,7 @@ use Rattle.std.proofs.Common.{◌∙◌}
 use Rattle.std.specs.Prelude.{OnOk}
 use Rattle.std.proofs.lemmas.Result.{on_ok_weaker}
 use Rattle.cp_settle.specs.Views.{release_view}
-use Rattle.cp_settle.proofs.Branching.{PutsBoth, branches_put}
+use Rattle.cp_settle.proofs.OccurrenceBranches.{PutsBoth, branches_put}
 use Rattle.cp_settle.proofs.candidates.put_by_position.Goals.{After-put_branches}
 use Rattle.cp_settle.proofs.candidates.put_by_position.Goals as goal
 

@@ -2,7 +2,7 @@ use Rattle.std.proofs.Common.{rules, tests}
 use Rattle.std.proofs.lemmas.Iterator.{cases_from_any, YieldsList-from_slice}
 use Rattle.cp_settle.specs.Candidates.{IsOpen}
 use Rattle.cp_settle.specs.declared.candidates.Candidate.{Candidate}
-use Rattle.cp_normal.proofs.Having.{some_has}
+use Rattle.cp_normal.proofs.AnyItem.{some_has}
 use Rattle.cp_settle.proofs.candidates.some_is_open.Goals as goal
 
 pub returns : goal.returns

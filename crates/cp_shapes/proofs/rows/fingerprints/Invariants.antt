@@ -1,6 +1,6 @@
 use Rattle.std.proofs.Common.{◌≡◌, ◌++◌, drop, map}
 use Rattle.cp_skel.specs.View.{skeleton_view}
-use Rattle.cp_hom.specs.Fingerprints.{traits_of}
+use Rattle.cp_fingerprint.specs.Fingerprints.{traits_of}
 use Rattle.cp_shapes.proofs.rows.fingerprints.Given as goal
 
 abbrev pub invariant-loop-candidate : goal.invariant-loop-candidate

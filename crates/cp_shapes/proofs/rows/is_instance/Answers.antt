@@ -1,6 +1,6 @@
 use Rattle.cp_lists.proofs.Items.{map_of_read}
 use Rattle.cp_skel.specs.View.{skeleton_view}
-use Rattle.cp_shapes.proofs.Telling.{does_not_embed, embeds_here, comes_first, comes_later}
+use Rattle.cp_shapes.proofs.InstancesByEmbeddings.{does_not_embed, embeds_here, comes_first, comes_later}
 use Rattle.cp_shapes.proofs.rows.is_instance.Goals as goal
 
 pub returns-then-is_none : goal.returns-then-is_none

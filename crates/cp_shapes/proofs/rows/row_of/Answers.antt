@@ -1,6 +1,6 @@
 use Rattle.cp_skel.specs.View.{skeleton_view}
-use Rattle.cp_shapes.proofs.Rising.{row_without, row_with, whole_row}
-use Rattle.cp_shapes.proofs.Telling.{kept_apart, instance_below}
+use Rattle.cp_shapes.proofs.RisingRows.{row_without, row_with, whole_row}
+use Rattle.cp_shapes.proofs.InstancesByEmbeddings.{kept_apart, instance_below}
 use Rattle.cp_shapes.proofs.rows.row_of.Goals as goal
 
 pub loop-shape-preserved-then-not-may_embed : goal.loop-shape-preserved-then-not-may_embed

@@ -1,6 +1,6 @@
 use Rattle.std.proofs.Common.{map}
 use Rattle.cp_skel.specs.View.{skeleton_view}
-use Rattle.cp_shapes.proofs.Rising.{IsRowTo}
+use Rattle.cp_shapes.proofs.RisingRows.{IsRowTo}
 use Rattle.cp_shapes.proofs.rows.row_of.Given as goal
 
 abbrev pub invariant-loop-shape : goal.invariant-loop-shape

@@ -1,5 +1,5 @@
 use Rattle.cp_model.specs.Homomorphism.{CarriesHomomorphism}
-use Rattle.cp_skel.proofs.Carrying.{carries_on, kept_by_changes}
+use Rattle.cp_skel.proofs.CarriedHomomorphisms.{carries_on, kept_by_changes}
 use Rattle.cp_skel.proofs.changes_laws.changes_keep_homomorphisms.Goals as goal
 
 pub returns : goal.returns

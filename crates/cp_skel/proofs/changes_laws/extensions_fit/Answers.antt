@@ -1,4 +1,4 @@
-use Rattle.cp_skel.proofs.Carrying.{extension_fits}
+use Rattle.cp_skel.proofs.CarriedHomomorphisms.{extension_fits}
 use Rattle.cp_skel.proofs.SoundSkeletons.{sound_longer}
 use Rattle.cp_skel.proofs.changes_laws.extensions_fit.Goals as goal
 

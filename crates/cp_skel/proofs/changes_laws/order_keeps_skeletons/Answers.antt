@@ -1,4 +1,4 @@
-use Rattle.cp_skel.proofs.Carrying.{pair_stays_skeleton, reordered_stays_skeleton}
+use Rattle.cp_skel.proofs.CarriedHomomorphisms.{pair_stays_skeleton, reordered_stays_skeleton}
 use Rattle.cp_skel.proofs.changes_laws.order_keeps_skeletons.Goals as goal
 
 pub returns-clause-pair : goal.returns-clause-pair

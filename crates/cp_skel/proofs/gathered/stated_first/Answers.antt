@@ -1,7 +1,7 @@
 use Rattle.std.proofs.Common.{◌+◌, [], ◌∷◌, drop, ap, ◌∙◌}
 use Rattle.std.proofs.lemmas.Bool.{both_ways}
 use Rattle.std.proofs.lemmas.List.{drop_all}
-use Rattle.cp_strand.proofs.Items.{item-drop}
+use Rattle.cp_lists.proofs.Members.{drop_read}
 use Rattle.cp_skel.proofs.EachOnce.{kept-taken, kept-left, kept-end}
 use Rattle.cp_skel.proofs.gathered.stated_first.Goals as goal
 use Rattle.cp_skel.proofs.gathered.stated_first.Goals.{then-has+in_ok-again+in_ok-add_once, else-has}
@@ -13,7 +13,7 @@ loop-item-preserved g c =
     let stated = c.args.stated.now in
     let v = c.item-item.result in
     let onto = g.T.Gathered.onto in
-    let next = item-drop stated n v c.loop-item-test.true c.item-item.is in
+    let next = drop_read stated n v c.loop-item-test.true c.item-item.is in
     elim c.if-has.branch [
       | then-has+in_ok-again+in_ok-add_once w ↦
           kept-taken g.met.T.Gathered.gathers old (drop n stated) (drop (n + 1) stated) c.loop-item.listed.items c.if-has.listed.items _ v next c.loop-item.invariant

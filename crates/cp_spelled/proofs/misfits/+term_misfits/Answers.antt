@@ -8,7 +8,7 @@ use Rattle.cp_variables.specs.FirstMisfit.{first_onto}
 use Rattle.cp_spelled.specs.Own.{headed_misfits}
 use Rattle.cp_spelled.specs.Views.{scope_view}
 use Rattle.cp_forms.proofs.EachForm.{next_asked, all_asked}
-use Rattle.cp_spelled.proofs.Judging.{term-judged, headed-smaller}
+use Rattle.cp_spelled.proofs.JudgedLists.{term-judged, headed-smaller}
 use Rattle.cp_spelled.proofs.misfits.+term_misfits.Goals as goal
 
 pub term_misfits-requires : goal.term_misfits-requires

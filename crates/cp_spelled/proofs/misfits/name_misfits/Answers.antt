@@ -5,7 +5,7 @@ use Rattle.cp_sexpr.specs.View.{view}
 use Rattle.cp_report.specs.Spelled.{variables_misfits}
 use Rattle.cp_variables.specs.FirstMisfit.{first_onto}
 use Rattle.cp_spelled.specs.Views.{scope_view}
-use Rattle.cp_spelled.proofs.Judging.{name-behind}
+use Rattle.cp_spelled.proofs.JudgedLists.{name-behind}
 use Rattle.cp_spelled.proofs.misfits.name_misfits.Goals as goal
 
 pub returns : goal.returns

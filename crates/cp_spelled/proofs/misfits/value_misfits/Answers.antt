@@ -8,7 +8,7 @@ use Rattle.cp_spelled.specs.Own.{wanted_sort_misfits}
 use Rattle.cp_spelled.specs.Views.{scope_view}
 use Rattle.cp_report.specs.Misfits.{stands_before}
 use Rattle.cp_forms.proofs.FirstOf.{first_then}
-use Rattle.cp_spelled.proofs.Judging.{value-wanted}
+use Rattle.cp_spelled.proofs.JudgedLists.{value-wanted}
 use Rattle.cp_spelled.proofs.misfits.value_misfits.Goals as goal
 
 pub returns : goal.returns

@@ -8,7 +8,7 @@ use Rattle.cp_load.specs.Drafts.{draft_view}
 use Rattle.cp_report.specs.Heads.{item_with}
 use Rattle.cp_report.specs.Skeletons.{scope_of, strands_of_label, values_misfits, all_uniques_misfits}
 use Rattle.cp_spelled.specs.Views.{scope_view}
-use Rattle.cp_stated.specs.Assuming.{uniques_item_misfits}
+use Rattle.cp_stated.specs.AssumptionEntries.{uniques_item_misfits}
 use Rattle.cp_stated.proofs.GivenOnce.{values-once, all-uniques-once, three-parts, around-parts, way-same}
 use Rattle.cp_stated.proofs.Results.{when_ok}
 use Rattle.cp_stated.proofs.around.around_strands_misfits.Goals as goal

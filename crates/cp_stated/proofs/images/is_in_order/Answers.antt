@@ -1,6 +1,6 @@
 use Rattle.std.proofs.Common.{length, map, sym, ◌∙◌}
 use Rattle.cp_model.specs.Skeleton.{term_event_at}
-use Rattle.cp_model.specs.Order.{reaches}
+use Rattle.cp_model.specs.OrderTests.{reaches}
 use Rattle.cp_language.specs.Problems.{is_known, on_one_strand}
 use Rattle.cp_strand.specs.View.{strand_view}
 use Rattle.cp_load.proofs.Cycles.{order-searched}

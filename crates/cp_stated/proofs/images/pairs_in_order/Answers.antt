@@ -2,7 +2,7 @@ use Rattle.std.proofs.Common.{map}
 use Rattle.cp_model.specs.Stated.{pair_image}
 use Rattle.cp_strand.specs.View.{strand_view}
 use Rattle.cp_report.specs.Skeletons.{map_by, is_in_order}
-use Rattle.cp_stated.proofs.Gathering.{copy-taken, copy-left, kept-done}
+use Rattle.cp_stated.proofs.FormLists.{copy-taken, copy-left, kept-done}
 use Rattle.cp_stated.proofs.images.pairs_in_order.Goals as goal
 
 pub loop-pair-preserved-then-not-is_ordered : goal.loop-pair-preserved-then-not-is_ordered

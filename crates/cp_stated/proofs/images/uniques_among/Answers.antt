@@ -1,7 +1,7 @@
 use Rattle.cp_model.specs.Stated.{unique_image}
 use Rattle.cp_model.specs.Given.{has_unique}
 use Rattle.cp_report.specs.Skeletons.{map_by}
-use Rattle.cp_stated.proofs.Gathering.{kept-taken, kept-left, kept-done}
+use Rattle.cp_stated.proofs.FormLists.{kept-taken, kept-left, kept-done}
 use Rattle.cp_stated.proofs.images.uniques_among.Goals as goal
 
 pub loop-unique-preserved-then-not-has_unique : goal.loop-unique-preserved-then-not-has_unique

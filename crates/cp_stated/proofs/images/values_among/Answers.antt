@@ -1,7 +1,7 @@
 use Rattle.cp_model.specs.Term.{apply_to_atom}
 use Rattle.cp_model.specs.Homomorphism.{substitution_by}
 use Rattle.cp_model.specs.Given.{has_atom}
-use Rattle.cp_stated.proofs.Gathering.{kept-taken, kept-left, kept-done}
+use Rattle.cp_stated.proofs.FormLists.{kept-taken, kept-left, kept-done}
 use Rattle.cp_stated.proofs.images.values_among.Goals as goal
 
 pub loop-value-preserved-then-not-has_atom : goal.loop-value-preserved-then-not-has_atom

@@ -3,7 +3,7 @@ use Rattle.std.proofs.lemmas.List.{map_push}
 use Rattle.cp_model.specs.Strand.{Declaration, variables_of_trace}
 use Rattle.cp_model.specs.Same.{has_variable}
 use Rattle.cp_strand.specs.View.{sort_view, declaration_view, event_view}
-use Rattle.cp_stated.proofs.Numbering.{variable-wanted, variable-passed, variables-wanted}
+use Rattle.cp_stated.proofs.NumberedLists.{variable-wanted, variable-passed, variables-wanted}
 use Rattle.cp_stated.proofs.instances.declared_in_prefix.Goals as goal
 
 pub loop-number-preserved-then-not-occurs : goal.loop-number-preserved-then-not-occurs

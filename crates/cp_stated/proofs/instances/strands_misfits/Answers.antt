@@ -2,7 +2,7 @@ use Rattle.cp_roles.specs.Named.{shared_roles_view}
 use Rattle.cp_report.specs.Heads.{strand_heads}
 use Rattle.cp_report.specs.Skeletons.{strand_misfits}
 use Rattle.cp_spelled.specs.Views.{scope_view}
-use Rattle.cp_stated.proofs.Gathering.{headed-asked, headed-passed}
+use Rattle.cp_stated.proofs.FormLists.{headed-asked, headed-passed}
 use Rattle.cp_stated.proofs.instances.strands_misfits.Goals as goal
 
 pub loop-item-preserved-then-not-is_strand : goal.loop-item-preserved-then-not-is_strand

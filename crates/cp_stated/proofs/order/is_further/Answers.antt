@@ -1,7 +1,7 @@
 use Rattle.std.proofs.Common.{length, map, not, sym, ap, ◌∙◌}
 use Rattle.std.specs.Prelude.{nat_le}
 use Rattle.std.proofs.lemmas.Bool.{cond-false}
-use Rattle.cp_model.specs.Order.{reaches}
+use Rattle.cp_model.specs.OrderTests.{reaches}
 use Rattle.cp_language.specs.Problems.{on_one_strand}
 use Rattle.cp_strand.specs.View.{strand_view}
 use Rattle.cp_stated.proofs.Further.{no-transmission, no-reception, one-strand, stood-before, way-back}

@@ -12,7 +12,7 @@ use Rattle.cp_report.specs.Skeletons.{pair_misfits, pairs_misfits}
 use Rattle.cp_forms.proofs.FirstOf.{first_onto-merged}
 use Rattle.cp_variables.specs.FirstMisfit.{first_onto, merged}
 use Rattle.cp_variables.proofs.Firsts.{in_order}
-use Rattle.cp_stated.proofs.Gathering.{gathered-taken}
+use Rattle.cp_stated.proofs.FormLists.{gathered-taken}
 use Rattle.cp_stated.proofs.order.pairs_misfits.Goals as goal
 
 pub loop-form-init : goal.loop-form-init

@@ -1,6 +1,7 @@
 use Rattle.std.proofs.Common.{◌≡◌, map, refl, sym, ap, ◌∙◌, subst}
 use Rattle.cp_sexpr.specs.View.{view}
 use Rattle.cp_strand.specs.View.{declaration_view, strand_view}
+use Rattle.cp_strand.specs.Declares.{HasDeclaringRoles}
 use Rattle.cp_skel.specs.Data.{SkeletonData, skeleton_of}
 use Rattle.cp_skel.specs.Sound.{IsSound}
 use Rattle.cp_skel.specs.Trees.{variables_view}
@@ -9,7 +10,7 @@ use Rattle.cp_load.specs.Drafts.{draft_view}
 use Rattle.cp_report.specs.Spelled.{Scope}
 use Rattle.cp_report.specs.Skeletons.{scope_of, strands_mapped, skeleton_stated}
 use Rattle.cp_spelled.specs.Views.{scope_view}
-use Rattle.cp_stated.specs.Mapping.{values_by}
+use Rattle.cp_stated.specs.ProblemMap.{values_by}
 use Rattle.cp_stated.proofs.GivenOnce.{values-same, from-stated, parts_stated}
 use Rattle.cp_stated.proofs.SoundStated.{stated_sound}
 use Rattle.cp_stated.proofs.skeletons.skeleton_stated.Goals as goal
@@ -31,7 +32,7 @@ parts c =
 
 pub new-requires : goal.new-requires
 new-requires c =
-    subst IsSound (sym (parts c)) (stated_sound (draft_view c.args.problem.now) c.requires.others_fit.0 (map view c.args.items.now) c.requires.declared c.requires.strands_fit c.requires.others_fit.1)
+    subst IsSound (sym (parts c)) (stated_sound (draft_view c.args.problem.now) c.requires.others_fit.0 (map view c.args.items.now) (subst HasDeclaringRoles c.deref-3.ensures c.is_sound.ensures) c.requires.strands_fit c.requires.others_fit.1)
 
 pub returns-clause-skeleton : goal.returns-clause-skeleton
 returns-clause-skeleton c = ap skeleton_view c.new.ensures ∙ parts c.before

@@ -6,7 +6,7 @@ use Rattle.cp_report.specs.Skeletons.{unique_of, unique_misfits, uniques_misfits
 use Rattle.cp_variables.specs.FirstMisfit.{first_onto}
 use Rattle.cp_spelled.specs.Views.{scope_view}
 use Rattle.cp_variables.proofs.Declared.{each-made}
-use Rattle.cp_stated.proofs.Gathering.{gathered-taken}
+use Rattle.cp_stated.proofs.FormLists.{gathered-taken}
 use Rattle.cp_stated.proofs.uniques.uniques_misfits.Goals as goal
 
 pub loop-item-preserved : goal.loop-item-preserved

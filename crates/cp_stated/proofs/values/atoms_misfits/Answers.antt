@@ -6,8 +6,8 @@ use Rattle.cp_report.specs.Skeletons.{atoms_misfits}
 use Rattle.cp_variables.specs.FirstMisfit.{first_onto}
 use Rattle.cp_spelled.specs.Views.{scope_view}
 use Rattle.cp_variables.proofs.Declared.{each-made}
-use Rattle.cp_stated.specs.Assuming.{atom_entry_misfits}
-use Rattle.cp_stated.proofs.Gathering.{gathered-taken}
+use Rattle.cp_stated.specs.AssumptionEntries.{atom_entry_misfits}
+use Rattle.cp_stated.proofs.FormLists.{gathered-taken}
 use Rattle.cp_stated.proofs.values.atoms_misfits.Goals as goal
 
 pub loop-item-preserved : goal.loop-item-preserved

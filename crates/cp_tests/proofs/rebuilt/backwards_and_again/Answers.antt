@@ -1,5 +1,5 @@
 use Rattle.std.proofs.Common.{ap, ◌∙◌}
-use Rattle.cp_skel.specs.Joining.{joined}
+use Rattle.cp_skel.specs.JoinedAssumptions.{joined}
 use Rattle.cp_tests.proofs.OtherParts.{joined_has}
 use Rattle.cp_tests.proofs.rebuilt.backwards_and_again.Goals as goal
 

@@ -1,4 +1,4 @@
-use Rattle.cp_tree.proofs.PassingOn.{is_lawful, dead_nowhere}
+use Rattle.cp_tree.proofs.PassedStandings.{is_lawful, dead_nowhere}
 use Rattle.cp_tree.proofs.SoundExpansions.{expands_soundly}
 use Rattle.cp_tree.proofs.laws.search_trees_are_lawful.Goals as goal
 

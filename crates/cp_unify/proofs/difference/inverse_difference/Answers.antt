@@ -1,5 +1,5 @@
 use Rattle.std.proofs.lemmas.Result.{IfOk-weaker}
-use Rattle.cp_unify.proofs.Differing.{IsInverseBound, inverse_and_pubk}
+use Rattle.cp_unify.proofs.DifferenceSteps.{IsInverseBound, inverse_and_pubk}
 use Rattle.cp_unify.proofs.difference.inverse_difference.Goals as goal
 
 pub returns-in-Pubk : goal.returns-in-Pubk

@@ -1,5 +1,5 @@
 use Rattle.std.proofs.lemmas.Result.{IfOk-weaker}
-use Rattle.cp_unify.proofs.Differing.{IsInverseBound, pubk_and_inverse}
+use Rattle.cp_unify.proofs.DifferenceSteps.{IsInverseBound, pubk_and_inverse}
 use Rattle.cp_unify.proofs.difference.pubk_difference.Goals as goal
 
 pub returns-in-Inverse : goal.returns-in-Inverse

@@ -8,13 +8,13 @@ use Rattle.cp_unify.proofs.MatchedTerms.{asymmetric_of, not_akey, asymmetric_is_
 use Rattle.cp_unify.proofs.matcher.inverse_match.Goals as goal
 
 pub returns-then-not-is_of_sort : goal.returns-then-not-is_of_sort
-returns-then-not-is_of_sort c = not_akey c.args.term.now c.args.variable (is_listed (option_map (λ ns. ns.now) c.args.locals)) c.args.given _ c.if-not-is_of_sort.true c.is_of_sort.ensures.sort
+returns-then-not-is_of_sort c = not_akey c.args.term.now c.args.variable (is_listed (option_map (λ ns. ns.now) c.args.locals)) c.args.given _ c.is_of_sort.ensures c.if-not-is_of_sort.true
 
 pub invert-requires : goal.invert-requires
-invert-requires c = asymmetric_is_key _ (asymmetric_of _ _ c.if-not-is_of_sort.false c.is_of_sort.ensures.atom c.is_of_sort.ensures.sort)
+invert-requires c = asymmetric_is_key _ (asymmetric_of _ _ c.is_of_sort.ensures c.if-not-is_of_sort.false)
 
 pub returns : goal.returns
 returns c =
     IfOk-weaker c.variable_match.result (λ found. found ≡ matched (is_listed (option_map (λ ns. ns.now) c.args.locals)) (variable_term Akey c.args.variable) c.in_ok-inverse.inverse c.args.given) _
-    (λ found. inverse_matched _ _ c.args.variable (is_listed (option_map (λ ns. ns.now) c.args.locals)) c.args.given found (asymmetric_of _ _ c.if-not-is_of_sort.false c.is_of_sort.ensures.atom c.is_of_sort.ensures.sort) c.in_ok-inverse.ensures.plain)
+    (λ found. inverse_matched _ _ c.args.variable (is_listed (option_map (λ ns. ns.now) c.args.locals)) c.args.given found (asymmetric_of _ _ c.is_of_sort.ensures c.if-not-is_of_sort.false) c.in_ok-inverse.ensures.plain)
     c.variable_match.ensures

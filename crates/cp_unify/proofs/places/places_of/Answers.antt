@@ -1,5 +1,5 @@
 use Rattle.std.proofs.Common.{◌-◌, refl, ◌∙◌, arith}
-use Rattle.cp_unify.proofs.Beginning.{places_before, places_all}
+use Rattle.cp_unify.proofs.FirstPlaces.{places_before, places_all}
 use Rattle.cp_unify.proofs.places.places_of.Goals as goal
 
 pub loop-start-preserved : goal.loop-start-preserved

@@ -1,6 +1,6 @@
 use Rattle.std.proofs.Common.{refl, sym, arith}
 use Rattle.std.proofs.lemmas.Bool.{eqb-false}
-use Rattle.cp_unify.proofs.Beginning.{if_any, some_places, places_more}
+use Rattle.cp_unify.proofs.FirstPlaces.{if_any, some_places, places_more}
 use Rattle.cp_unify.proofs.places.places_with.Goals as goal
 
 pub returns : goal.returns

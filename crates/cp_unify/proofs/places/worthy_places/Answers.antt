@@ -1,6 +1,6 @@
 use Rattle.std.proofs.lemmas.Result.{IfOk-weaker}
 use Rattle.cp_unify.specs.Places.{ArePlaces}
-use Rattle.cp_unify.proofs.Beginning.{if_any}
+use Rattle.cp_unify.proofs.FirstPlaces.{if_any}
 use Rattle.cp_unify.proofs.places.worthy_places.Goals as goal
 
 pub returns : goal.returns

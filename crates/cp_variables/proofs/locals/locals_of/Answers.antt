@@ -1,7 +1,7 @@
 use Rattle.std.proofs.Common.{map}
 use Rattle.std.proofs.lemmas.List.{get_or_default}
 use Rattle.cp_variables.specs.LocalViews.{local_view}
-use Rattle.cp_variables.proofs.Clashing.{added-view, clash-taken, onto-taken}
+use Rattle.cp_variables.proofs.GatheredLocals.{added-view, clash-taken, onto-taken}
 use Rattle.cp_variables.proofs.locals.locals_of.Goals as goal
 
 pub loop-next-preserved : goal.loop-next-preserved

@@ -1,4 +1,4 @@
-use Rattle.cp_words.proofs.Cutting.{word_cut}
+use Rattle.cp_words.proofs.CutWords.{word_cut}
 use Rattle.cp_words.proofs.accepted.name_and_value.Goals as goal
 
 pub returns : goal.returns

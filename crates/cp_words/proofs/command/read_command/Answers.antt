@@ -1,7 +1,7 @@
 use Rattle.std.proofs.Common.{◌∙◌, map, string_bytes, sym}
 use Rattle.cp_words.specs.Settings.{command_view}
 use Rattle.cp_words.specs.CommandWords.{command_of}
-use Rattle.cp_words.proofs.Failing.{command_where_some, memory_where_some}
+use Rattle.cp_words.proofs.Failures.{command_where_some, memory_where_some}
 use Rattle.cp_words.proofs.command.read_command.Goals as goal
 
 pub returns-clause-command : goal.returns-clause-command

@@ -1,5 +1,5 @@
 use Rattle.std.proofs.Common.{◌++◌, ap, ◌∙◌}
-use Rattle.cp_derive.proofs.Extending.{opened_more}
+use Rattle.cp_derive.proofs.OpenedPieces.{opened_more}
 use Rattle.cp_derive.proofs.knowledge.Known.extended.Goals as goal
 
 pub invariant_of-result : goal.invariant_of-result

@@ -1,5 +1,5 @@
 use Rattle.std.proofs.Common.{[], false, refl, map, sym, ap, ◌∙◌}
-use Rattle.cp_order.specs.Leading.{tops_of}
+use Rattle.cp_order.specs.LeadingNodes.{tops_of}
 use Rattle.cp_order.specs.Rows.{rows_by, shown}
 use Rattle.cp_order.proofs.LookedUp.{asked_on_strand, asked_in_rows}
 use Rattle.cp_order.proofs.closed.ClosedPairs.leads_to.Goals as goal

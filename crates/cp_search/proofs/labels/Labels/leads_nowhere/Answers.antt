@@ -1,7 +1,7 @@
 use Rattle.std.proofs.Common.{◌<◌, ℕ, List, length, map, sym, subst}
 use Rattle.cp_lists.proofs.Items.{item_of_read}
 use Rattle.cp_tree.specs.Made.{IsEdge}
-use Rattle.cp_search.specs.Making.{made_way}
+use Rattle.cp_search.specs.MadeLabels.{made_way}
 use Rattle.cp_search.specs.declared.made.Made.{Made}
 use Rattle.cp_search.proofs.WayEdges.{none_there, no_edge_from}
 use Rattle.cp_search.proofs.labels.Labels.leads_nowhere.Goals as goal

@@ -1,11 +1,11 @@
 use Rattle.std.proofs.Common.{◌++◌, ◌∷◌, [], map, sym, ap, ◌∙◌, subst}
 use Rattle.cp_model.specs.Skeleton.{Skeleton}
-use Rattle.cp_skel.specs.Changing.{AddsStrand}
+use Rattle.cp_skel.specs.Extensions.{AddsStrand}
 use Rattle.cp_skel.specs.Parts.{skeleton_of_parts}
+use Rattle.cp_strand.specs.Declares.{DeclaresItsVariables}
 use Rattle.cp_strand.specs.View.{strand_view}
 use Rattle.cp_skel.specs.View.{skeleton_view}
-use Rattle.std.proofs.lemmas.List.{map_push}
-use Rattle.cp_strand.proofs.Items.{map-length}
+use Rattle.std.proofs.lemmas.List.{map_push, length-map}
 use Rattle.cp_skel.proofs.Changed.{strand-added}
 use Rattle.cp_skel.proofs.SoundSkeletons.{strand_sound}
 use Rattle.cp_skel.proofs.skeleton.Skeleton.add_strand.Goals as goal
@@ -26,10 +26,10 @@ adds c =
     (map strand_view c.push.new.self.items) [] c.len-number.result c.in_ok-instance.ensures.terms c.requires.values
     (ap (map strand_view) c.in_ok-push.ensures.items ∙ map_push strand_view strands.items c.in_ok-strand.strand
     ∙ ap (λ s. map strand_view strands.items ++ strand_view s ∷ []) c.in_ok-strand.ensures)
-    (c.len-number.ensures ∙ strands.ok.0 ∙ sym (map-length strand_view strands.items)) c.in_ok-more.ensures
+    (c.len-number.ensures ∙ strands.ok.0 ∙ sym (length-map strands.items strand_view)) c.in_ok-more.ensures
 
 pub invariant_of-self-2 : goal.invariant_of-self-2
-invariant_of-self-2 c = strand_sound c.args.role.now.value c.args.height c.args.values.now (before c) (behind c) c.requires.height c.requires.declared c.self.invariant (adds c)
+invariant_of-self-2 c = strand_sound c.args.role.now.value c.args.height c.args.values.now (before c) (behind c) c.requires.height (subst DeclaresItsVariables c.deref.ensures c.is_sound.ensures) c.self.invariant (adds c)
 
 pub returns-clause-changed : goal.returns-clause-changed
 returns-clause-changed c = subst (λ d. AddsStrand c.args.role.now.value c.args.height c.args.values.now (skeleton_view d) (behind c)) c.self.view_is (adds c)

@@ -2,13 +2,13 @@ use Rattle.std.proofs.Common.{◌≡◌, map, ap, sym, ◌∙◌, subst}
 use Rattle.std.specs.List.{remove}
 use Rattle.cp_lists.specs.Lists.{IsIn}
 use Rattle.cp_model.specs.Skeleton.{Skeleton}
-use Rattle.cp_skel.specs.Bridging.{IsWithoutStrand}
-use Rattle.cp_skel.specs.Deleting.{ForgetsAssumptions, KeepsOrderOfOthers}
+use Rattle.cp_skel.specs.Bridges.{IsWithoutStrand}
+use Rattle.cp_skel.specs.Deletion.{ForgetsAssumptions, KeepsOrderOfOthers}
 use Rattle.cp_skel.specs.Ordered.{IsOrdered}
 use Rattle.cp_skel.specs.Parts.{skeleton_of_parts}
 use Rattle.cp_strand.specs.View.{strand_view}
 use Rattle.cp_skel.specs.View.{skeleton_view}
-use Rattle.cp_skel.proofs.Numbering.{removed_map}
+use Rattle.cp_skel.proofs.NumbersWithout.{removed_map}
 use Rattle.cp_skel.proofs.OrderWithout.{keeps_order_anew, is_ordered_anew}
 use Rattle.cp_skel.proofs.SoundSkeletons.{sound_ordered, deleted_sound}
 use Rattle.cp_skel.proofs.skeleton.Skeleton.delete_strand.Goals as goal

@@ -1,7 +1,7 @@
 use Rattle.std.proofs.Common.{◌≡◌, ◌<◌, ◌≤◌, map, ap, sym, subst, ◌∙◌, arith}
 use Rattle.cp_model.specs.Homomorphism.{substitution_by}
 use Rattle.cp_strand.specs.View.{event_view}
-use Rattle.cp_strand.specs.Originating.{OriginatesUnder}
+use Rattle.cp_strand.specs.Origins.{OriginatesUnder}
 use Rattle.cp_strand.proofs.Origins.{instance_originates, instance_ends}
 use Rattle.cp_strand.proofs.strand.Instance.originates.Goals as goal
 

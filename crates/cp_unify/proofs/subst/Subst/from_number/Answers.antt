@@ -1,7 +1,7 @@
 use Rattle.std.proofs.Common.{sym, subst, ◌∙◌, arith}
 use Rattle.std.proofs.lemmas.Bool.{eqb-false}
 use Rattle.cp_unify.specs.Places.{ArePlaces, IsBehind}
-use Rattle.cp_unify.proofs.Beginning.{behind_all, behind_slice, some_places}
+use Rattle.cp_unify.proofs.FirstPlaces.{behind_all, behind_slice, some_places}
 use Rattle.cp_unify.proofs.subst.Subst.from_number.Goals as goal
 
 pub returns-then-is_empty : goal.returns-then-is_empty

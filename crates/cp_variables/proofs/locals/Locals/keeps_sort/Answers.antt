@@ -1,7 +1,7 @@
 use Rattle.std.proofs.Common.{map, ◌∙◌}
 use Rattle.cp_scope.specs.Terms.{variable_view}
 use Rattle.cp_variables.specs.LocalViews.{local_view}
-use Rattle.cp_variables.proofs.Clashing.{keeps-found, keeps-missing}
+use Rattle.cp_variables.proofs.GatheredLocals.{keeps-found, keeps-missing}
 use Rattle.cp_variables.proofs.locals.Locals.keeps_sort.Goals as goal
 
 pub returns-in-Some : goal.returns-in-Some

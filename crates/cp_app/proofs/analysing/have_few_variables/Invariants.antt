@@ -1,5 +1,0 @@
-use Rattle.cp_app.proofs.Trees.{HaveFewBefore}
-use Rattle.cp_app.proofs.analysing.have_few_variables.Given as goal
-
-abbrev pub invariant-loop-label : goal.invariant-loop-label
-invariant-loop-label l = HaveFewBefore l.labels l.label-index

@@ -1,0 +1,100 @@
+// The analysis of the problems of an input.
+ghost use Rattle.std.specs.Prelude.{◌≡◌, ◌<◌, ◌^◌, [], ◌∷◌, ◌++◌, length, map, option_map, IfOk, OnOk};
+ghost use Rattle.std.specs.List.{AllZip, filter_map};
+ghost use Rattle.cp_load.specs.Inputs.{problem_view};
+ghost use Rattle.cp_language.specs.Problems.{Problem as PlainProblem};
+ghost use Rattle.cp_lists.specs.Lists.{IsIn};
+ghost use Rattle.cp_model.specs.Tree.{Tree as PlainTree};
+ghost use Rattle.cp_skel.specs.Trees.{label_view, limits_view, outcome_view, tree_view};
+ghost use Rattle.cp_app.specs.Analysis.{HaveFewVariables, IsAnalysable, IsAnalysisOf};
+ghost use Rattle.cp_app.specs.Headline.{SaysOutcomes};
+ghost use Rattle.cp_app.specs.Steps.{is_complete, outcomes_status};
+
+use cp_legible::search_trees_can_be_stated;
+use cp_load::Problem;
+use cp_search::search;
+use cp_skel::{Limits, Outcome, Tree, TreeNode};
+use std::alloc::{AllocError, Global};
+
+// A label has fewer variables than a number can count, since its table can tell how many there are.
+fn has_few_variables(label: &TreeNode)
+    ensures { length (label_view label.now).variables < 2 ^ 64 }
+{
+    let _ = label.skeleton.variables().len();
+}
+
+// Each label has.
+fn have_few_variables(labels: &[TreeNode])
+    ensures { HaveFewVariables (map label_view labels.now) }
+{
+    for label in labels {
+        has_few_variables(label);
+    }
+}
+
+// The tree of a problem.
+fn tree_of(alloc: Global, problem: &Problem, limits: Limits) -> Result<Tree, AllocError>
+    requires analysable { IsAnalysable (problem_view problem.now) }
+    ensures { IfOk result (λ t. IsAnalysisOf (limits_view limits) (problem_view problem.now) (tree_view t)) }
+{
+    let tree = search(alloc, &problem.protocol, &problem.skeleton, limits)?;
+    have_few_variables(&tree.nodes);
+    problem.protocol.is_sound();
+    search_trees_can_be_stated();
+    Ok(tree)
+}
+
+// Puts the tree of a problem behind others.
+fn add_tree(
+    alloc: Global,
+    problem: &Problem,
+    limits: Limits,
+    trees: &mut Vec<Tree>,
+) -> Result<(), AllocError>
+    requires analysable { IsAnalysable (problem_view problem.now) }
+    ensures { OnOk result ((t : PlainTree) × IsAnalysisOf (limits_view limits) (problem_view problem.now) t × (map tree_view trees.new.items ≡ map tree_view trees.old.items ++ t ∷ [])) }
+{
+    let tree = tree_of(alloc, problem, limits)?;
+    trees.push(tree)?;
+    Ok(())
+}
+
+// The trees of the problems, in order.
+pub(crate) fn trees_of(
+    alloc: Global,
+    problems: &[Option<Problem>],
+    limits: Limits,
+) -> Result<Vec<Tree>, AllocError>
+    requires analysable { (p : PlainProblem) → IsIn p (filter_map (option_map problem_view) problems.now) → IsAnalysable p }
+    ensures { IfOk result (λ ts. AllZip (IsAnalysisOf (limits_view limits)) (filter_map (option_map problem_view) problems.now) (map tree_view ts.items)) }
+{
+    let mut trees = Vec::new(alloc);
+    for problem in problems {
+        if let Some(problem) = problem {
+            add_tree(alloc, problem, limits, &mut trees)?;
+        }
+    }
+    Ok(trees)
+}
+
+// Whether the outcome is complete.
+fn is_complete(outcome: Outcome) -> bool
+    ensures { result ≡ is_complete (outcome_view outcome) }
+{
+    match outcome {
+        Outcome::Complete => true,
+        Outcome::LimitSteps | Outcome::LimitStrands => false,
+    }
+}
+
+// Whether every outcome is complete.
+pub(crate) fn are_complete(trees: &[Tree]) -> bool
+    ensures { SaysOutcomes (outcomes_status result) (map tree_view trees.now) }
+{
+    for tree in trees {
+        if !is_complete(tree.outcome) {
+            return false;
+        }
+    }
+    true
+}

@@ -1,0 +1,254 @@
+// The top call.
+ghost use Rattle.std.specs.Prelude.{◌≡◌, ◌≢◌, ◌≤◌, ◌<◌, ◌++◌, ◌⊎◌, ◌↔◌, ℕ, List, [], length, map, string_bytes, true, None, Some, IfOk, IfErr, OnOk, OnErr};
+ghost use Rattle.cp_app.specs.Headline.{most_bytes, IsAccepted, IsAnalysed, text_by, WheneverGiven, HasReported, HasBrokenOff};
+ghost use Rattle.cp_app.specs.Endings.{IsRefusedFor, puts_nothing, status_line, HasRefused, WasTooLong, TookAtMost, HasLine};
+ghost use Rattle.cp_app.specs.Searched.{HasReportedSearch, HasBrokenOffSearch};
+ghost use Rattle.cp_app.specs.ReadBack.{HasReportedReadBack};
+ghost use Rattle.cp_app.specs.Steps.{IsCauseFor, HasStopped, IsWholeReport, outcomes_status, HasPut, HasEnded, HasExecuted};
+ghost use Rattle.cp_app.specs.declared.stopped.Stopped.TheVariants as stopped;
+ghost use Rattle.cp_base.specs.Outside.{Rose};
+ghost use Rattle.cp_base.specs.declared.place.Refusal.{Refusal as RefusalData};
+ghost use Rattle.cp_base.specs.declared.status.Status.TheVariants.{Usage, Refused, ReadFault, WriteFault, Memory, TooLong};
+ghost use Rattle.cp_sexpr.specs.Syntax.{Forms};
+ghost use Rattle.cp_load.specs.Inputs.{entries_of};
+ghost use Rattle.cp_skel.specs.Trees.{tree_view};
+ghost use Rattle.cp_words.specs.Command.{Command as CommandData};
+ghost use Rattle.cp_words.specs.CommandWords.{command_of};
+ghost use Rattle.cp_words.specs.Settings.{command_view};
+
+use crate::analysis::{are_complete, trees_of};
+use crate::input::read_all;
+use crate::output::{put_line, put_pieces};
+use crate::stopped::Stopped;
+use cp_base::{Failed, Sink, Source, Status};
+use cp_load::{Input, load};
+use cp_print::{print_pieces, print_shape_pieces};
+use cp_sexpr::read;
+use cp_skel::Tree;
+use cp_words::{Command, CommandName, WordsError, read_command};
+use std::alloc::{AllocError, Global};
+
+// What is printed of a report, where each of its top forms ends, and whether every outcome in the report is complete.
+#[derive(Drop)]
+struct Report {
+    text: Vec<u8>,
+    ends: Vec<usize>,
+    complete: bool,
+}
+
+// The status of a report that was put.
+fn outcomes_status(complete: bool) -> Status
+    ensures { result ≡ outcomes_status complete }
+{
+    if complete {
+        Status::Done
+    } else {
+        Status::Limit
+    }
+}
+
+// Appends what the command prints, and where each of its top forms ends.
+fn print_by(
+    alloc: Global,
+    name: CommandName,
+    input: &Input<'_>,
+    trees: &[Tree],
+    text: &mut Vec<u8>,
+    ends: &mut Vec<usize>,
+) -> Result<(), AllocError>
+    ensures { OnOk result (text.new.items ≡ text.old.items ++ text_by name (entries_of input.now) (map tree_view trees.now)) }
+{
+    match name {
+        CommandName::Analyse => print_pieces(alloc, input, trees, text, ends),
+        CommandName::Shapes => print_shape_pieces(alloc, input, trees, text, ends),
+    }
+}
+
+// The report of an input, or why there is none.
+fn report_of(alloc: Global, command: Command, input: &[u8]) -> Result<Report, Stopped>
+    requires short { length input.now ≤ most_bytes }
+    ensures report { IfOk result (λ report. IsWholeReport (command_view command) input.now report.text.items report.complete) }
+    ensures cause { IfErr result (IsCauseFor input.now) }
+{
+    let forms = read(alloc, input)?;
+    let loaded = load(alloc, &forms)?;
+    let trees = trees_of(alloc, &loaded.problems, command.limits)?;
+    let complete = are_complete(&trees);
+    let mut text = Vec::new(alloc);
+    let mut ends = Vec::new(alloc);
+    print_by(alloc, command.name, &loaded, &trees, &mut text, &mut ends)?;
+    Ok(Report {
+        text,
+        ends,
+        complete,
+    })
+}
+
+// The report of what the source holds, or why there is none.
+fn make_report<S: Source>(
+    alloc: Global,
+    command: Command,
+    source: &mut S,
+) -> Result<Report, Stopped>
+    ensures report { (input : List ℕ) → S.left source.old ≡ Some input
+        → IfOk result (λ report. IsWholeReport (command_view command) input report.text.items report.complete × (S.left source.new ≡ Some [])) }
+    ensures stopped { (input : List ℕ) → S.left source.old ≡ Some input
+        → IfErr result (HasStopped input (S.left source.new)) }
+    ensures read_fault { IfErr result (λ cause. cause ≡ stopped.ReadFault
+        → Rose (S.faults source.old) (S.faults source.new)) }
+{
+    let input = read_all(alloc, source)?;
+    report_of(alloc, command, &input)
+}
+
+// Puts a report, one top form a piece.
+fn put_report<O: Sink>(out: &mut O, report: &Report) -> Result<(), Failed>
+    ensures put { (before : List ℕ) → O.held out.old ≡ Some before
+        → HasPut before report.now.text.items (O.held out.new) result }
+    ensures failed { OnErr result (Rose (O.faults out.old) (O.faults out.new)) }
+{
+    put_pieces(out, &report.text, &report.ends)
+}
+
+// Puts what the command prints of the report of what the source holds.
+fn analyse<S: Source, O: Sink>(
+    alloc: Global,
+    command: Command,
+    source: &mut S,
+    out: &mut O,
+) -> Status
+    ensures ended { (input : List ℕ) → S.left source.old ≡ Some input
+        → HasEnded (command_view command) input (S.left source.new) (O.held out.old) (O.held out.new) result }
+    ensures not_usage { result ≢ Usage }
+    ensures read_fault { result ≡ ReadFault → Rose (S.faults source.old) (S.faults source.new) }
+    ensures write_fault { result ≡ WriteFault → Rose (O.faults out.old) (O.faults out.new) }
+    ensures nothing_put { puts_nothing result ≡ true → out.new ≡ out.old }
+{
+    match make_report(alloc, command, source) {
+        Ok(report) => match put_report(out, &report) {
+            Ok(()) => outcomes_status(report.complete),
+            Err(_) => Status::WriteFault,
+        },
+        Err(cause) => cause.status(),
+    }
+}
+
+// Executes the command that the words name.
+fn execute<S: Source, O: Sink>(
+    alloc: Global,
+    words: &[String],
+    source: &mut S,
+    out: &mut O,
+) -> Status
+    ensures executed { (input : List ℕ) → S.left source.old ≡ Some input
+        → HasExecuted (command_of (map string_bytes words.now)) input (S.left source.new) (O.held out.old) (O.held out.new) result }
+    ensures usage { (result ≡ Usage) ↔ (command_of (map string_bytes words.now) ≡ None) }
+    ensures usage_reads_nothing { result ≡ Usage → source.new ≡ source.old }
+    ensures read_fault { result ≡ ReadFault → Rose (S.faults source.old) (S.faults source.new) }
+    ensures write_fault { result ≡ WriteFault → Rose (O.faults out.old) (O.faults out.new) }
+    ensures nothing_put { puts_nothing result ≡ true → out.new ≡ out.old }
+{
+    match read_command(alloc, words) {
+        Ok(command) => analyse(alloc, command, source, out),
+        Err(WordsError::Usage) => Status::Usage,
+        Err(WordsError::Memory) => Status::Memory,
+    }
+}
+
+/// Runs the command that the words name, over a source, a sink for its output and a sink for errors.
+///
+/// The words are a name for the program and the command. The command `analyse [--limit N] [--bound N]` reads the source
+/// to its end, at most one byte more than 1,048,576, searches for the shapes of each problem within these limits, makes the
+/// whole text of the report, and only then puts it. The command `shapes`, with the same options, does
+/// the same, and leaves out of the text the labels that are not marked as shapes. The status says how that ended:
+///
+/// - `Done`: the whole text was put, and each outcome in the report is complete;
+/// - `Limit`: the whole text was put, and some outcome is a limit;
+/// - `Usage`: exactly where the words are no command, and nothing was read;
+/// - `TooLong`: exactly where the source held more than 1,048,576 bytes, if it does not fail before and memory lasts;
+/// - `Refused`: exactly where the input is not well formed, under the same condition; at the place of the first fault;
+/// - `ReadFault`, `WriteFault`: the source, or the sink for the output, failed;
+/// - `Memory`: a growth in memory was refused.
+///
+/// The report is over all of the input, which is well formed and was read to its end: the forms in order, and behind each
+/// problem its tree, whose labels have their variables. The tree is true of its problem: each label denotes a skeleton over
+/// the protocol, carries a homomorphism from the problem and keeps what the problem states itself; shapes are realised, and
+/// none embeds in another; where the tree is complete, whenever the problem stands in a bundle that standing factors through
+/// a shape, and at a limit through a shape or a label at a limit; and a limit is the outcome only where it was reached.
+/// Besides, each tree is one that the rules of the search make, label by label.
+///
+/// Whoever reads the forms of the report back gets these very trees, each label with its skeleton and its map from the problem, the
+/// same but for the names of variables, the places of forms, and the pairs that generate an order. So does who reads the text
+/// that `analyse` puts, where it can be read at all; and it can where its numbers have at most nine digits and at most 200 lists
+/// stand inside each other.
+///
+/// At `WriteFault` a front of such a text was put, which is shorter than it, and at the other statuses but `Done` and
+/// `Limit` nothing was. Each status but `Done` and `Limit` has a line on the sink for errors. What is said of the input and the output holds where the source tells what it had left and the sink what it
+/// holds.
+pub fn run<S: Source, O: Sink, E: Sink>(
+    alloc: Global,
+    words: &[String],
+    source: &mut S,
+    out: &mut O,
+    errs: &mut E,
+) -> Status
+    // Exactly the words that are no command are refused, and then nothing is read.
+    ensures usage { (result ≡ Usage) ↔ (command_of (map string_bytes words.now) ≡ None) }
+    ensures usage_reads_nothing { result ≡ Usage → source.new ≡ source.old }
+
+    // What was put is what the command prints of a report of the whole input, with trees that are true of its problems; at a
+    // write fault a front of it.
+    ensures reported { WheneverGiven (command_of (map string_bytes words.now)) (S.left source.old) (O.held out.old) (λ command input before. IsAnalysed result → HasReported command input before (S.left source.new) (O.held out.new) result) }
+    ensures broken_off { WheneverGiven (command_of (map string_bytes words.now)) (S.left source.old) (O.held out.old) (λ command input before. result ≡ WriteFault → HasBrokenOff command input before (S.left source.new) (O.held out.new)) }
+
+    // The same, and the trees of this report are exactly those of the search.
+    ensures searched { WheneverGiven (command_of (map string_bytes words.now)) (S.left source.old) (O.held out.old) (λ command input before. IsAnalysed result → HasReportedSearch command input before (S.left source.new) (O.held out.new) result) }
+    ensures searched_before_fault { WheneverGiven (command_of (map string_bytes words.now)) (S.left source.old) (O.held out.old) (λ command input before. result ≡ WriteFault → HasBrokenOffSearch command input before (S.left source.new) (O.held out.new)) }
+
+    // Whoever reads back the forms of the report, or what `analyse` put, gets the trees of the report.
+    ensures read_back { WheneverGiven (command_of (map string_bytes words.now)) (S.left source.old) (O.held out.old) (λ command input before. IsAnalysed result → HasReportedReadBack command input before (S.left source.new) (O.held out.new) result) }
+
+    // Only accepted input is analysed, and it is read to its end.
+    ensures accepted { (input : List ℕ) → S.left source.old ≡ Some input
+        → (IsAnalysed result ⊎ (result ≡ WriteFault))
+        → (S.left source.new ≡ Some []) × ((fs : Forms) × IsAccepted input fs) }
+
+    // Exactly the input that is not accepted is refused, for its first fault.
+    ensures refused { (r : RefusalData) (input : List ℕ) → result ≡ Refused r
+        → S.left source.old ≡ Some input → HasRefused input (S.left source.new) r }
+    ensures only_refused { (command : CommandData) (r : RefusalData) (input : List ℕ)
+        → command_of (map string_bytes words.now) ≡ Some command
+        → S.left source.old ≡ Some input → length input ≤ most_bytes → IsRefusedFor input r
+        → (result ≡ Refused r) ⊎ ((result ≡ ReadFault) ⊎ (result ≡ Memory)) }
+
+    // Exactly the input of more than the most bytes is too long.
+    ensures too_long { (input : List ℕ) → S.left source.old ≡ Some input → result ≡ TooLong
+        → WasTooLong input (S.left source.new) }
+    ensures only_too_long { (command : CommandData) (input : List ℕ)
+        → command_of (map string_bytes words.now) ≡ Some command
+        → S.left source.old ≡ Some input → most_bytes < length input
+        → (result ≡ TooLong) ⊎ ((result ≡ ReadFault) ⊎ (result ≡ Memory)) }
+    ensures took_at_most { (input : List ℕ) → S.left source.old ≡ Some input
+        → TookAtMost input (S.left source.new) }
+
+    // A fault comes only where it was counted.
+    ensures read_fault { result ≡ ReadFault → Rose (S.faults source.old) (S.faults source.new) }
+    ensures write_fault { result ≡ WriteFault → Rose (O.faults out.old) (O.faults out.new) }
+    ensures nothing_put { puts_nothing result ≡ true → out.new ≡ out.old }
+
+    // The line of the status.
+    ensures error_line { (before : List ℕ) → E.held errs.old ≡ Some before
+        → HasLine (status_line result) before (E.held errs.new)
+        (E.faults errs.old) (E.faults errs.new) }
+    ensures no_line { IsAnalysed result → errs.new ≡ errs.old }
+
+    // Accepted input is analysed.
+    ensures completes { (command : CommandData) (input : List ℕ) (fs : Forms)
+        → command_of (map string_bytes words.now) ≡ Some command → S.left source.old ≡ Some input
+        → IsAccepted input fs → (Rose (S.faults source.old) (S.faults source.new) → ⊥)
+        → (Rose (O.faults out.old) (O.faults out.new) → ⊥) → IsAnalysed result ⊎ (result ≡ Memory) }
+{
+    let status = execute(alloc, words, source, out);
+    put_line(errs, status);
+    status
+}

@@ -1,0 +1,234 @@
+-- Grown skeletons in which an event is to release the critical term.
+use Rattle.std.proofs.Common.{◌≡◌, ◌≢◌, ℕ, suc, ◌<◌, List, [], ◌∷◌, ◌++◌, length, get_or, map, Option, Some, None, refl, sym, ap, ◌∙◌, subst, arith, inl, inr}
+use Rattle.std.specs.Borrow.{Bor}
+use Rattle.cp_lists.specs.Lists.{item_at, one_step}
+use Rattle.cp_lists.proofs.Items.{item_still, item_last, item_below, map_of_read}
+use Rattle.cp_lists.proofs.Mapped.{map_then}
+use Rattle.cp_lists.proofs.Members.{in_append_left, in_last}
+use Rattle.cp_lists.proofs.Reached.{steps_append}
+use Rattle.cp_model.specs.Term.{Term, Substitution, apply_to}
+use Rattle.cp_model.specs.Strand.{Event, send, recv, Declaration, Role}
+use Rattle.cp_model.specs.Bundle.{node_at}
+use Rattle.cp_model.specs.declared.node.Node.{Node}
+use Rattle.cp_model.specs.Skeleton.{SkeletonStrand, instance, listener, skeleton_trace_or_none, term_event_at, Skeleton, Before, along_pair, IsOrderPair}
+use Rattle.cp_model.specs.Tree.{Operation, by_displacement, by_added_strand}
+use Rattle.cp_model.proofs.LawOrder.{before_wider}
+use Rattle.cp_model.proofs.LawStandings.{event_of_higher}
+use Rattle.cp_guard.specs.Critical.{IsTest}
+use Rattle.cp_completeness.specs.Normal.{skeleton_under}
+use Rattle.cp_collapse.specs.SameSkeletons.{SaysTheSame}
+use Rattle.cp_match.specs.Candidates.{may_equal}
+use Rattle.cp_match.specs.Unifiers.{UnifiesMostGenerally, NeverEqual}
+use Rattle.cp_match.proofs.DifferentTerms as differing
+use Rattle.cp_skel.specs.Extensions.{AddsStrand, Extends}
+use Rattle.cp_skel.specs.Data.{SkeletonData}
+use Rattle.cp_skel.specs.Ordered.{ChangesOrderOnly}
+use Rattle.cp_skel.specs.View.{skeleton_view}
+use Rattle.cp_strand.specs.Data.{InstanceData, StrandData}
+use Rattle.cp_strand.specs.View.{event_view, strand_view}
+use Rattle.cp_strand.specs.Shapes.{strand_of_shape}
+use Rattle.cp_strand.specs.declared.strand.StrandShape.{StrandShape}
+use Rattle.cp_strand.specs.declared.strand.StrandShape.TheVariants.{Instance, Listener}
+use Rattle.cp_strand.specs.declared.protocol.Event as program_events
+use Rattle.cp_strand.specs.PrefixVariables.{prefix_variables, added_variables}
+use Rattle.cp_term.specs.declared.path.Step.{Step}
+use Rattle.cp_term.specs.Positions.{term_at, positions_where}
+use Rattle.cp_answers.specs.Covering.{put_before}
+use Rattle.cp_answers.specs.Fresh.{fresh_terms}
+use Rattle.cp_settle.specs.Releases.{Tried}
+use Rattle.cp_settle.specs.Stages.{Settles, on_the_way}
+use Rattle.cp_settle.specs.Views.{tried_view}
+use Rattle.cp_settle.specs.declared.release.Tried as program
+use Rattle.cp_covering.specs.GatheredLists.{EachGives, nothing_given, then_given}
+use Rattle.cp_covering.specs.Children.{Child, child, declarations_of, HasGrown}
+use Rattle.cp_covering.specs.Cohort.{Question, positions, cyclic, never_equal, unified, release_at, DisplacesAt, DisplacesEvent, is_displaced, AddsAt, AddsEvent, is_added}
+use Rattle.cp_cohort.specs.Children.{ReleasesAt, ReleasesEach, ReleasesPut}
+use Rattle.cp_cohort.specs.Views.{settled_child}
+use Rattle.cp_cohort.proofs.ChildLists.{each_nothing, length_of}
+use Rattle.cp_cohort.proofs.Positions.{wider, positions_under}
+
+pub each_other : {A B : Type 0} (P Q : A → List B → Type 0) → ((x : A) (ys : List B) → P x ys → Q x ys) → (xs : List A) (ys : List B) → EachGives P xs ys → EachGives Q xs ys
+each_other P Q f [] _ nothing_given = nothing_given
+each_other P Q f (x ∷ xs) _ (then_given {ys = ys} {zs = zs} h rest) = then_given (f x ys h) (each_other P Q f xs zs rest)
+
+-- ---- put before the node
+
+module _ (m n : Node) (k : Skeleton) where
+  -- A node put before one that is before it closes a cycle.
+  pub closes : Before k n m → Before (put_before m n k) n n
+  closes b =
+      steps_append (before_wider k (put_before m n k) refl (λ p i. in_append_left (record { earlier = m; later = n } ∷ []) i) b) (one_step (along_pair (in_last k.pairs (record { earlier = m; later = n }))))
+
+-- A skeleton with one more pair.
+pub put_there : (old new : SkeletonData) (m n : Node) → ChangesOrderOnly old new → (skeleton_view new).pairs ≡ (skeleton_view old).pairs ++ record { earlier = m; later = n } ∷ [] → skeleton_view new ≡ put_before m n (skeleton_view old)
+put_there old new m n c p = λ i. record { strands = map strand_view (c.strands i); pairs = p i; assumptions = c.assumptions i; from_problem = c.from_problem i }
+
+module _ (q : Question) (vs : List Declaration) (op : Operation) (m : Node) where
+  -- One that closes a cycle gives nothing.
+  pub nothing_released : (grown : Skeleton) → Before grown q.node m → ReleasesEach q vs op m grown []
+  nothing_released grown b t at = each_nothing (ReleasesAt q vs op m grown) (positions t) (λ path. cyclic (closes m q.node grown b))
+
+  -- Nor does a position at which something else stands.
+  pub never_released : (put : Skeleton) (t u : Term) (path : List Step) → term_at t path ≡ Some u → NeverEqual u q.critical → ReleasesPut q vs op m put t path []
+  never_released put t u path at never grown same there = never_equal there at never
+
+  pub released_by : (put : Skeleton) (t u : Term) (path : List Step) (s : Substitution) (l : Skeleton) (ws : List Declaration) (settled : List program.Tried) → ((y : Node) → Before put y y → ⊥) → term_at t path ≡ Some u →
+      UnifiesMostGenerally u q.critical s → SaysTheSame (skeleton_under s put) l → ws ≡ vs →
+      Settles (release_at q m.strand m.index path) on_the_way (record { variables = ws; substitution = s; skeleton = l }) (map tried_view settled) → ReleasesPut q vs op m put t path (map (settled_child op path) settled)
+  released_by put t u path s l ws settled acyclic at unifies says variables settles grown same there =
+      let free : (y : Node) → Before (put_before m q.node grown) y y → ⊥ = subst (λ (k : Skeleton). (y : Node) → Before k y y → ⊥) same acyclic in
+      let says_so : SaysTheSame (skeleton_under s (put_before m q.node grown)) l = subst (λ (k : Skeleton). SaysTheSame (skeleton_under s k) l) same says in
+      let settles_so : Settles (release_at q m.strand m.index path) on_the_way (record { variables = vs; substitution = s; skeleton = l }) (map tried_view settled) =
+      subst (λ (ds : List Declaration). Settles (release_at q m.strand m.index path) on_the_way (record { variables = ds; substitution = s; skeleton = l }) (map tried_view settled)) variables settles in
+      subst (ReleasesAt q vs op m grown path) (sym (map_then tried_view (λ (x : Tried). child x.variables op path x.skeleton) (settled_child op path) (λ x. refl) settled))
+      (unified free there at unifies says_so settles_so)
+
+  -- The positions at which what stands may equal the critical term are enough.
+  pub each_released : (put grown : Skeleton) (message : Term) (paths : List (List Step)) → put ≡ put_before m q.node grown → paths ≡ positions_where (may_equal q.critical) message → ((t : Term) → term_event_at put.strands m ≡ Some (send t) → message ≡ t) →
+      (cs : List Child) → EachGives (ReleasesPut q vs op m put message) paths cs → ReleasesEach q vs op m grown cs
+  each_released put grown message paths same all is cs e t there =
+      let here : term_event_at put.strands m ≡ Some (send t) = ap (λ (k : Skeleton). term_event_at k.strands m) same ∙ there in
+      let says : message ≡ t = is t here in
+      let there_message : term_event_at grown.strands m ≡ Some (send message) = there ∙ ap (λ (u : Term). Some (send u)) (sym says) in
+      let some : EachGives (ReleasesAt q vs op m grown) paths cs = each_other (ReleasesPut q vs op m put message) (ReleasesAt q vs op m grown) (λ path ys r. r grown same there_message) paths cs e in
+      let wide : EachGives (ReleasesAt q vs op m grown) (positions message) cs =
+      wider (may_equal q.critical) message (ReleasesAt q vs op m grown) (λ path u at fails. never_equal there_message at (differing.never_equal q.critical u fails)) cs
+      (subst (λ ps. EachGives (ReleasesAt q vs op m grown) ps cs) all some) in
+      subst (λ (u : Term). EachGives (ReleasesAt q vs op m grown) (positions u) cs) says wide
+
+-- ---- the events of a strand
+
+-- The event at a node of another strand stays.
+pub event_stays : (old new : List SkeletonStrand) (n : Node) (e : Event Term) → ((x : SkeletonStrand) → item_at old n.strand ≡ Some x → item_at new n.strand ≡ Some x) → term_event_at old n ≡ Some e → term_event_at new n ≡ Some e
+event_stays old new n e keeps at = by_strand (item_at old n.strand) refl
+  where
+    by_strand : (o : Option SkeletonStrand) → item_at old n.strand ≡ o → term_event_at new n ≡ Some e
+    by_strand None none = let fails : item_at (skeleton_trace_or_none None) n.index ≡ Some e = ap (λ (p : Option SkeletonStrand). item_at (skeleton_trace_or_none p) n.index) (sym none) ∙ at in absurd (cc)
+    by_strand (Some x) is =
+        ap (λ (p : Option SkeletonStrand). item_at (skeleton_trace_or_none p) n.index) (keeps x is ∙ sym is) ∙ at
+
+-- What a grown strand sends at its event.
+pub record Sends (k : Skeleton) (m : Node) (t : Term) : Type 0 where
+  pub terms : Substitution
+  pub there : term_event_at k.strands m ≡ Some (send (apply_to terms t))
+
+-- ---- displaced
+
+module _ (q : Question) (s : ℕ) (role : Role) (height j : ℕ) (terms : Substitution) (t : Term) (on : item_at q.skeleton.strands s ≡ Some (instance role height terms)) (sent : item_at role.trace j ≡ Some (send t)) where
+  module _ (vs : List Declaration) (grown : Skeleton) (grows : HasGrown s role height j q.variables q.skeleton vs grown) where
+    extended_sends : Extends s (suc j) (fresh_terms (length q.variables) (added_variables role height (suc j))) q.skeleton grown → Sends grown (node_at s j) t
+    extended_sends x =
+        let both : Some (instance role height terms) ≡ Some (instance x.role x.before x.old_terms) = sym on ∙ x.was_instance in
+        let same : x.role ≡ role = cc in
+        let is : item_at grown.strands s ≡ Some (instance role (suc j) x.terms) = x.on_instance ∙ ap (λ (r : Role). Some (instance r (suc j) x.terms)) same in
+        record { terms = x.terms; there = event_of_higher grown.strands s j role (suc j) x.terms (send t) is (omega arith) sent }
+
+    pub grown_sends : Sends grown (node_at s j) t
+    grown_sends = elim grows.how [
+      | inl h ↦ record {
+        terms = terms;
+        there = ap (λ (k : Skeleton). term_event_at k.strands (node_at s j)) h.2 ∙ event_of_higher q.skeleton.strands s j role height terms (send t) on h.0 sent;
+      }
+      | inr h ↦ extended_sends h.2
+    ]
+
+    keeps_others : (n : ℕ) → s ≢ n → (x : SkeletonStrand) → item_at q.skeleton.strands n ≡ Some x → item_at grown.strands n ≡ Some x
+    keeps_others n other x at = elim grows.how [
+      | inl h ↦ ap (λ (k : Skeleton). item_at k.strands n) h.2 ∙ at
+      | inr h ↦ let e : Extends s (suc j) (fresh_terms (length q.variables) (added_variables role height (suc j))) q.skeleton grown = h.2 in e.others n (λ same. other (sym same)) ∙ at
+    ]
+
+    pub grown_pair : s ≢ q.node.strand → IsTest q.skeleton q.node q.critical → IsOrderPair grown (record { earlier = node_at s j; later = q.node })
+    grown_pair other test = record {
+      sent = apply_to grown_sends.terms t;
+      received = test.message;
+      transmission = grown_sends.there;
+      reception = event_stays q.skeleton.strands grown.strands q.node (recv test.message) (keeps_others q.node.strand other) test.reception;
+      between_strands = other;
+    }
+
+    pub displaced_each : (Before q.skeleton (node_at s j) q.node → ⊥) → (cs : List Child) → ReleasesEach q vs (by_displacement (node_at s j)) (node_at s j) grown cs → DisplacesEvent q s role height j cs
+    displaced_each not_before cs r =
+        is_displaced sent not_before (each_other (ReleasesAt q vs (by_displacement (node_at s j)) (node_at s j) grown) (DisplacesAt q s role height j) (λ path ys h. record { variables = vs; grown = grown; grows = grows; releases = h })
+        (positions t) cs
+        (subst (λ ps. EachGives (ReleasesAt q vs (by_displacement (node_at s j)) (node_at s j) grown) ps cs) (positions_under grown_sends.terms t) (r (apply_to grown_sends.terms t) grown_sends.there)))
+
+-- ---- added
+
+module _ (q : Question) (role : Role) (j : ℕ) (t : Term) (sent : item_at role.trace j ≡ Some (send t)) (grown : Skeleton)
+    (adds : AddsStrand role (suc j) (fresh_terms (length q.variables) (prefix_variables role (suc j))) q.skeleton grown) where
+  abbrev place : Node
+  place = node_at (length q.skeleton.strands) j
+
+  pub added_sends : Sends grown place t
+  added_sends = record {
+    terms = adds.terms;
+    there = event_of_higher grown.strands (length q.skeleton.strands) j role (suc j) adds.terms (send t)
+        (ap (λ (ss : List SkeletonStrand). item_at ss (length q.skeleton.strands)) adds.strands ∙ item_last q.skeleton.strands (instance role (suc j) adds.terms)) (omega arith) sent;
+  }
+
+  keeps : (n : ℕ) (x : SkeletonStrand) → item_at q.skeleton.strands n ≡ Some x → item_at grown.strands n ≡ Some x
+  keeps n x at = ap (λ (ss : List SkeletonStrand). item_at ss n) adds.strands ∙ item_still q.skeleton.strands (instance role (suc j) adds.terms ∷ []) n x at
+
+  pub added_pair : length q.skeleton.strands ≢ q.node.strand → IsTest q.skeleton q.node q.critical → IsOrderPair grown (record { earlier = place; later = q.node })
+  added_pair other test = record {
+    sent = apply_to added_sends.terms t;
+    received = test.message;
+    transmission = added_sends.there;
+    reception = event_stays q.skeleton.strands grown.strands q.node (recv test.message) (keeps q.node.strand) test.reception;
+    between_strands = other;
+  }
+
+  pub added_each : (vs : List Declaration) → vs ≡ q.variables ++ declarations_of role (prefix_variables role (suc j)) → (cs : List Child) → ReleasesEach q vs (by_added_strand (length q.skeleton.strands)) place grown cs → AddsEvent q role j cs
+  added_each vs same cs r =
+      let each : EachGives (ReleasesAt q vs (by_added_strand (length q.skeleton.strands)) place grown) (positions t) cs =
+      subst (λ ps. EachGives (ReleasesAt q vs (by_added_strand (length q.skeleton.strands)) place grown) ps cs) (positions_under added_sends.terms t) (r (apply_to added_sends.terms t) added_sends.there) in
+      is_added sent (each_other (ReleasesAt q vs (by_added_strand (length q.skeleton.strands)) place grown) (AddsAt q role j)
+      (λ path ys h. record {
+        grown = grown;
+        adds = adds;
+        releases = subst (λ (ds : List Declaration). ReleasesAt q ds (by_added_strand (length q.skeleton.strands)) place grown path ys) same h;
+      })
+      (positions t) cs each)
+
+-- There is no node beyond the strands.
+pub strand_there : (strands : List SkeletonStrand) (n : Node) (e : Event Term) → term_event_at strands n ≡ Some e → n.strand < length strands
+strand_there strands n e at = by_strand (item_at strands n.strand) refl
+  where
+    by_strand : (o : Option SkeletonStrand) → item_at strands n.strand ≡ o → n.strand < length strands
+    by_strand None none = let fails : item_at (skeleton_trace_or_none None) n.index ≡ Some e = ap (λ (p : Option SkeletonStrand). item_at (skeleton_trace_or_none p) n.index) (sym none) ∙ at in absurd (cc)
+    by_strand (Some x) is = item_below strands n.strand x is
+
+-- What is released in a grown skeleton that has been put before the node, with its variables.
+pub released_all : (q : Question) (vs : List Declaration) (op : Operation) (m : Node) (put grown : Skeleton) (message : Term) (ws : List Declaration) → ws ≡ vs → put ≡ put_before m q.node grown → ((t : Term) → term_event_at put.strands m ≡ Some (send t) → message ≡ t) →
+    (cs : List Child) → EachGives (ReleasesPut q ws op m put message) (positions_where (may_equal q.critical) message) cs → ReleasesEach q vs op m grown cs
+released_all q vs op m put grown message ws variables same is cs e =
+    each_released q vs op m put grown message (positions_where (may_equal q.critical) message) same refl is cs
+    (subst (λ (ds : List Declaration). EachGives (ReleasesPut q ds op m put message) (positions_where (may_equal q.critical) message) cs) variables e)
+
+-- ---- events of roles
+
+-- A strand of the program that is no instance is a listener.
+pub listens : (s : StrandShape) (d : StrandData) → strand_of_shape s ≡ d → ((i : Bor InstanceData) → s ≡ Instance i → ⊥) → (t : Term) × (strand_view d ≡ listener t)
+listens (Instance i) d is other = absurd (other i refl)
+listens (Listener t) d is other = (t.now, ap strand_view (sym is))
+
+-- The events of a role of the program are those of its trace.
+module _ (es : List program_events.Event) (trace : List (Event Term)) (same : map event_view es ≡ trace) (i : ℕ) (reached : i < length trace) where
+  pub is_within : i < length es
+  is_within = let as_long : length es ≡ length trace = length_of event_view es trace same in omega (arith, as_long, reached)
+
+  pub event_there : (e read : program_events.Event) → read ≡ get_or es i read → read ≡ e → item_at trace i ≡ Some (event_view e)
+  event_there e read is same_event = ap (λ (xs : List (Event Term)). item_at xs i) (sym same) ∙ map_of_read event_view es i read is_within is ∙ ap (λ (x : program_events.Event). Some (event_view x)) same_event
+
+module _ (q : Question) (role : Role) (j : ℕ) (t : Term) (sent : item_at role.trace j ≡ Some (send t)) (grown : Skeleton)
+    (adds : AddsStrand role (suc j) (fresh_terms (length q.variables) (prefix_variables role (suc j))) q.skeleton grown) (n : ℕ) (number : n ≡ length q.skeleton.strands) where
+  pub added_pair_at : IsTest q.skeleton q.node q.critical → IsOrderPair grown (record { earlier = record { strand = n; index = j }; later = q.node })
+  added_pair_at test =
+      let below : q.node.strand < length q.skeleton.strands = strand_there q.skeleton.strands q.node (recv test.message) test.reception in
+      subst (λ (m : ℕ). IsOrderPair grown (record { earlier = record { strand = m; index = j }; later = q.node })) (sym number)
+      (added_pair q role j t sent grown adds (λ e. absurd (omega (arith, below, e))) test)
+
+  pub added_at : (vs : List Declaration) → vs ≡ q.variables ++ declarations_of role (prefix_variables role (suc j)) → (cs : List Child) → ReleasesEach q vs (by_added_strand n) (record { strand = n; index = j }) grown cs → AddsEvent q role j cs
+  added_at vs same cs r =
+      added_each q role j t sent grown adds vs same cs (subst (λ (m : ℕ). ReleasesEach q vs (by_added_strand m) (record { strand = m; index = j }) grown cs) number r)

@@ -1,0 +1,72 @@
+-- How a list of children grows, and how skeletons do.
+use Rattle.std.specs.Prelude.{◌≡◌, ℕ, suc, List, [], ◌∷◌, ◌++◌, length, map, Some}
+use Rattle.cp_lists.specs.Lists.{item_at}
+use Rattle.cp_model.specs.Term.{Term, atom_term, atom_of_variable}
+use Rattle.cp_model.specs.Strand.{send, payload, Declaration, Role}
+use Rattle.cp_model.specs.declared.node.Node.{Node}
+use Rattle.cp_model.specs.Skeleton.{term_event_at, Skeleton}
+use Rattle.cp_model.specs.Tree.{Operation}
+use Rattle.cp_term.specs.declared.path.Step.{Step}
+use Rattle.cp_term.specs.Positions.{term_at}
+use Rattle.cp_strand.specs.PrefixVariables.{prefix_variables}
+use Rattle.cp_normal.specs.Exact.{HasForms}
+use Rattle.cp_skel.specs.Extensions.{AddsStrand}
+use Rattle.cp_skel.specs.Data.{SkeletonData}
+use Rattle.cp_skel.specs.Events.{Occurrence}
+use Rattle.cp_skel.specs.View.{skeleton_view}
+use Rattle.cp_skel.specs.Trees.{variables_view}
+use Rattle.cp_strand.specs.Data.{InstanceData}
+use Rattle.cp_strand.specs.View.{instance_view}
+use Rattle.cp_answers.specs.Covering.{put_before}
+use Rattle.cp_answers.specs.Fresh.{fresh_terms}
+use Rattle.cp_covering.specs.GatheredLists.{EachGives}
+use Rattle.cp_covering.specs.Children.{Child, child, declarations_of, IsSentBefore, HasGrown}
+use Rattle.cp_covering.specs.Cohort.{Question, positions, Contracts, Releases, release_at}
+
+-- These are the normal forms of a skeleton with these variables, as children.
+pub record AreForms (variables : List Declaration) (operation : Operation) (path : List Step) (k : Skeleton) (children : List Child) : Type 0 where
+  pub forms : List Skeleton
+  pub normal : HasForms k forms
+  pub are_children : children ≡ map (child variables operation path) forms
+
+-- What an event gives that is not the transmission of a role strand before the node: nothing; and what one gives that is.
+pub data ContractsEvent (q : Question) (o : Occurrence) : List Child → Type 0 where
+  not_before : (IsSentBefore q.skeleton q.node o → ⊥) → ContractsEvent q o []
+  is_before : {children : List Child} → IsSentBefore q.skeleton q.node o → EachGives (Contracts q o) (positions (payload o.event)) children → ContractsEvent q o children
+
+-- A new variable is declared as d is, later than all others, and put behind the values as a term; all else stays.
+pub record Declares (d : Declaration) (old new : SkeletonData) (values values' : List Term) : Type 0 where
+  pub declared : variables_view new.variables ≡ variables_view old.variables ++ d ∷ []
+  pub count : length new.variables ≡ suc (length old.variables)
+  pub rest : new ≡ record old { variables = new.variables }
+  pub put : values' ≡ values ++ atom_term (atom_of_variable (record { sort = d.sort; number = length old.variables })) ∷ []
+
+-- The path is a carried position of the term.
+pub record IsPosition (t : Term) (path : List Step) : Type 0 where
+  pub part : Term
+  pub there : term_at t path ≡ Some part
+
+-- Strand number s is this instance.
+abbrev pub IsThere : Skeleton → ℕ → InstanceData → Type 0
+IsThere k s i = item_at k.strands s ≡ Some (instance_view i)
+
+-- The strand has grown, and is an instance of its role that has event j.
+pub record IsGrown (q : Question) (s : ℕ) (role : Role) (height j : ℕ) (k : SkeletonData) : Type 0 where
+  pub grows : HasGrown s role height j q.variables q.skeleton (variables_view k.variables) (skeleton_view k)
+
+-- A strand of the role is added, which ends with event j.
+pub record IsAdded (q : Question) (role : Role) (j : ℕ) (k : SkeletonData) : Type 0 where
+  pub adds : AddsStrand role (suc j) (fresh_terms (length q.variables) (prefix_variables role (suc j))) q.skeleton (skeleton_view k)
+  pub variables : variables_view k.variables ≡ q.variables ++ declarations_of role (prefix_variables role (suc j))
+
+-- What a grown skeleton gives at one position of the message that is sent at the node.
+abbrev pub ReleasesAt : Question → List Declaration → Operation → Node → Skeleton → List Step → List Child → Type 0
+ReleasesAt q variables operation m grown path children = Releases q variables operation (release_at q m.strand m.index path) grown children
+
+-- What it gives at each of them.
+abbrev pub ReleasesEach : Question → List Declaration → Operation → Node → Skeleton → List Child → Type 0
+ReleasesEach q variables operation m grown children = (t : Term) → term_event_at grown.strands m ≡ Some (send t) → EachGives (ReleasesAt q variables operation m grown) (positions t) children
+
+-- What it gives at one position of the message, where it has been put before the node.
+abbrev pub ReleasesPut : Question → List Declaration → Operation → Node → Skeleton → Term → List Step → List Child → Type 0
+ReleasesPut q variables operation m put t path children = (grown : Skeleton) → put ≡ put_before m q.node grown → term_event_at grown.strands m ≡ Some (send t) → ReleasesAt q variables operation m grown path children

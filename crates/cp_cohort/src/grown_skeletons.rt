@@ -1,0 +1,103 @@
+// Skeletons with a strand that is higher, or one more, in which new variables take the places of those of its role.
+ghost use Rattle.std.specs.Prelude.{◌≡◌, ◌++◌, ◌≤◌, ℕ, suc, length, map, IfOk, OnOk};
+ghost use Rattle.cp_model.specs.Strand.{IsHeight, variables_of_trace};
+ghost use Rattle.cp_skel.specs.Trees.{variables_view};
+ghost use Rattle.cp_strand.specs.PrefixVariables.{is_added, added_variables};
+ghost use Rattle.cp_strand.specs.View.{sort_view, declaration_view, event_view};
+ghost use Rattle.cp_answers.specs.Fresh.{fresh_terms};
+ghost use Rattle.cp_covering.specs.Children.{declarations_of};
+ghost use Rattle.cp_cohort.specs.Children.{Declares, IsThere, IsGrown, IsAdded};
+ghost use Rattle.cp_cohort.specs.Views.{question_view};
+
+use crate::question::Question;
+use cp_skel::{Declaration, Event, Instance, Role, Skeleton, occurs, prefix_of};
+use cp_term::{Sort, Term, VarId, var};
+use std::alloc::{AllocError, Global};
+use std::rc::Rc;
+
+/// Declares a new variable in place of one of a role, and puts it behind others as a term.
+fn declare_one(
+    alloc: Global,
+    declaration: &Declaration,
+    k: &mut Skeleton,
+    values: &mut Vec<Term>,
+) -> Result<(), AllocError>
+    ensures { OnOk result (Declares (declaration_view declaration.now) k.old k.new values.old.items values.new.items) }
+{
+    let variable = k.declare(declaration.identifier.as_str(), declaration.sort)?;
+    let term = var(alloc, variable, declaration.sort)?;
+    values.push(term)?;
+    Ok(())
+}
+
+/// Whether the variable of this sort occurs in the events and not in the earlier ones.
+fn is_added(earlier: &[Event], events: &[Event], id: VarId, sort: Sort) -> bool
+    ensures { result ≡ is_added (variables_of_trace (map event_view earlier.now)) (variables_of_trace (map event_view events.now))
+        (record { sort = sort_view sort; number = id }) }
+{
+    occurs(events, id, sort) && !occurs(earlier, id, sort)
+}
+
+/// Declares new variables in the places of those of a role that occur in its prefix of this height and not in the one before,
+/// and answers them, in the order in which the role declares them.
+fn declare_added(
+    alloc: Global,
+    role: &Role,
+    before: usize,
+    height: usize,
+    k: &mut Skeleton,
+) -> Result<Vec<Term>, AllocError>
+    ensures values { IfOk result (λ v. v.items ≡ fresh_terms (length k.old.variables) (added_variables role.now before height)) }
+    ensures declared { OnOk result (variables_view k.new.variables ≡ variables_view k.old.variables ++ declarations_of role.now (added_variables role.now before height)) }
+    ensures rest { OnOk result (k.new ≡ record k.old { variables = k.new.variables }) }
+{
+    let earlier = prefix_of(role, before);
+    let prefix = prefix_of(role, height);
+    let mut values = Vec::new(alloc);
+    for (number, declaration) in role.variables().iter().enumerate() {
+        let id = VarId::numbered(number);
+        if !is_added(earlier, prefix, id, declaration.sort) {
+            continue;
+        }
+        declare_one(alloc, declaration, k, &mut values)?;
+    }
+    Ok(values)
+}
+
+/// The skeleton, where the instance on this strand is at least of this height.
+pub(crate) fn with_events(
+    alloc: Global,
+    question: &Question,
+    strand: usize,
+    instance: &Instance,
+    height: usize,
+) -> Result<Skeleton, AllocError>
+    requires there { IsThere (question_view question.now).skeleton strand instance.now }
+    requires reached { height ≤ length instance.now.role.trace }
+    ensures { IfOk result (λ k. (j : ℕ) → height ≡ suc j → IsGrown (question_view question.now) strand instance.now.role instance.now.height j k) }
+{
+    let mut grown = question.skeleton.copy(alloc)?;
+    let before = instance.height();
+    if height <= before {
+        return Ok(grown);
+    }
+    let values = declare_added(alloc, instance.role(), before, height, &mut grown)?;
+    grown.extend(alloc, strand, height, &values)?;
+    Ok(grown)
+}
+
+/// The skeleton with a strand of the role of this height.
+pub(crate) fn with_strand(
+    alloc: Global,
+    question: &Question,
+    role: &Rc<Role>,
+    height: usize,
+) -> Result<Skeleton, AllocError>
+    requires height { IsHeight role.now.value height }
+    ensures { IfOk result (λ k. (j : ℕ) → height ≡ suc j → IsAdded (question_view question.now) role.now.value j k) }
+{
+    let mut grown = question.skeleton.copy(alloc)?;
+    let values = declare_added(alloc, role, 0, height, &mut grown)?;
+    let _ = grown.add_strand(alloc, role, height, &values)?;
+    Ok(grown)
+}

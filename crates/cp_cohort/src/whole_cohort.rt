@@ -1,0 +1,86 @@
+// The cohort of a test.
+ghost use Rattle.std.specs.Prelude.{◌≡◌, [], map, IfOk};
+ghost use Rattle.cp_guard.specs.Critical.{IsTest};
+ghost use Rattle.cp_guard.specs.Guards.{Guards};
+ghost use Rattle.cp_lists.specs.Lists.{IsIn};
+ghost use Rattle.cp_model.specs.Bundle.{Bundle, IsBundle};
+ghost use Rattle.cp_model.specs.Standing.{Standing, StandsIn, StandsApart};
+ghost use Rattle.cp_skel.specs.View.{skeleton_view};
+ghost use Rattle.cp_answers.specs.NoneLeftOut.{LeavesNoneOut};
+ghost use Rattle.cp_covering.specs.Children.{Child as PlainChild};
+ghost use Rattle.cp_covering.specs.Cohort.{IsCohort};
+ghost use Rattle.cp_covering.specs.Sound.{IsSoundChild};
+ghost use Rattle.cp_covering.specs.Released.{IsAsSaid};
+ghost use Rattle.cp_covering.specs.Through.{GoesThroughChild};
+ghost use Rattle.cp_cohort.specs.Asked.{IsAskedOver};
+ghost use Rattle.cp_cohort.specs.Views.{child_view, question_of};
+
+use crate::added::add;
+use crate::child::Child;
+use crate::contracted::contract;
+use crate::displaced::displace;
+use crate::listeners::listen;
+use crate::question::Question;
+use cp_covering::{children_are_sound, cohorts_cover, operations_are_true};
+use cp_skel::{Leading, Node, Protocol, Skeleton};
+use cp_term::{Pattern, Term};
+use std::alloc::{AllocError, Global};
+
+/// For how many children there is room from the start: few tests have more, and a list that grows is moved.
+const ROOM: usize = 8;
+
+/// The children of a test under patterns that guard it, all of them, in their order: contracted, displaced, with a strand added,
+/// with a listener added; within these by strand or role, then by event, then by position, in preorder.
+///
+/// Contracted: at a position of a transmission of a role strand before the node, outside the patterns, a term that is not the
+/// critical one is unified with it. Displaced: at a position of a transmission of a role strand that is not before the node, on
+/// another strand, a term is unified with the critical one, where the strand is high enough and the event is put before the node,
+/// unless that closes a cycle. Added: so it is with a new strand of each role, for each transmission. There the position is to be
+/// outside the patterns, and each earlier event of the strand carries the critical term inside them alone. A listener is added on
+/// the key of a critical encryption, if that cannot be derived at the node, else on its plaintext; and on the inverse of each
+/// pattern's key; on each such term once. Each child is in normal form.
+///
+/// So the children leave out no execution: where the skeleton is one over the protocol, with declared variables, whenever it
+/// stands apart in a bundle over the protocol, some child does, and the skeleton's standing goes through the child's along a
+/// homomorphism; there are no children only where it stands apart in no bundle. Each child is then a skeleton over the
+/// protocol, which keeps what the skeleton keeps of its problem; and it is what its operation says.
+///
+/// The node and the term have to be a test of the skeleton, which the patterns guard. The error is that memory ran out.
+pub fn cohort(
+    alloc: Global,
+    protocol: &Protocol,
+    k: &Skeleton,
+    node: Node,
+    critical: &Term,
+    patterns: &[Pattern],
+) -> Result<Vec<Child>, AllocError>
+    requires test { IsTest (skeleton_view k.now) node critical.now }
+    requires guards { Guards patterns.now (skeleton_view k.now) node critical.now }
+    ensures exact { IfOk result (λ cs. IsCohort protocol.now (question_of k.now node critical.now patterns.now) (map child_view cs.items)) }
+    ensures leaves_none_out { IfOk result (λ cs. IsAskedOver protocol.now (question_of k.now node critical.now patterns.now) → LeavesNoneOut protocol.now (skeleton_view k.now) (map (λ (c : PlainChild). c.skeleton) (map child_view cs.items))) }
+    ensures through_a_child { IfOk result (λ cs. IsAskedOver protocol.now (question_of k.now node critical.now patterns.now)
+        → (b : Bundle) (h : Standing) → IsBundle protocol.now b → StandsIn (skeleton_view k.now) b h → StandsApart (skeleton_view k.now) h → GoesThroughChild (question_of k.now node critical.now patterns.now) (map child_view cs.items) b h) }
+    ensures none_only_nowhere { IfOk result (λ cs. map child_view cs.items ≡ [] → IsAskedOver protocol.now (question_of k.now node critical.now patterns.now)
+        → (b : Bundle) (h : Standing) → IsBundle protocol.now b → StandsIn (skeleton_view k.now) b h → StandsApart (skeleton_view k.now) h → ⊥) }
+    ensures sound { IfOk result (λ cs. IsAskedOver protocol.now (question_of k.now node critical.now patterns.now) → (c : PlainChild) → IsIn c (map child_view cs.items) → IsSoundChild protocol.now (question_of k.now node critical.now patterns.now) c) }
+    ensures as_said { IfOk result (λ cs. (c : PlainChild) → IsIn c (map child_view cs.items) → IsAsSaid (question_of k.now node critical.now patterns.now) c) }
+{
+    cohorts_cover();
+    children_are_sound();
+    operations_are_true();
+    protocol.is_sound();
+    let leading = Leading::new(alloc, k.order().pairs(), node)?;
+    let question = Question {
+        skeleton: k,
+        node,
+        leading: &leading,
+        critical,
+        patterns,
+    };
+    let mut children = Vec::with_capacity(alloc, ROOM)?;
+    contract(alloc, &question, &mut children)?;
+    displace(alloc, &question, &mut children)?;
+    add(alloc, protocol, &question, &mut children)?;
+    listen(alloc, &question, &mut children)?;
+    Ok(children)
+}

@@ -1,5 +1,0 @@
-use Rattle.cp_collapse.proofs.AssumptionImages.{assumptions_listed}
-use Rattle.cp_collapse.proofs.collapsing.collapses_are_listed.Goals as goal
-
-pub returns : goal.returns
-returns c = assumptions_listed

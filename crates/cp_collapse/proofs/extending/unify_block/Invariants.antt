@@ -1,6 +1,0 @@
-use Rattle.cp_skel.specs.View.{skeleton_view}
-use Rattle.cp_collapse.specs.Extending.{IsExactFor, EqualsBlock}
-use Rattle.cp_collapse.proofs.extending.unify_block.Given as goal
-
-abbrev pub invariant-loop-strand : goal.invariant-loop-strand
-invariant-loop-strand l = IsExactFor (EqualsBlock (skeleton_view l.k) l.partial.lowest.items l.number l.block l.strand) l.bindings.value

@@ -1,0 +1,44 @@
+// Equal values of two instances of one role.
+ghost use Rattle.std.specs.Prelude.{IfOk, MatchOption};
+ghost use Rattle.cp_skel.specs.Extensions.{IsClosedPrefix};
+ghost use Rattle.cp_collapse.specs.FirstPartitions.{IsExactFor};
+ghost use Rattle.cp_collapse.specs.Partials.{AreSolved, AlsoEqual, IsNever};
+
+use crate::variable_terms::term_of_variable;
+use cp_skel::{Instance, occurs, prefix_of};
+use cp_term::VarId;
+use cp_unify::{Subst, unify};
+use std::alloc::{AllocError, Global};
+use std::rc::Rc;
+
+/// Bindings that are met where the given ones are and two instances of one role have equal values: the same value of each
+/// variable that is in both prefixes, which is in that of the lower height. None where no assignment that meets the given
+/// ones gives them equal values.
+pub(crate) fn unify_instances(
+    alloc: Global,
+    a: &Instance,
+    b: &Instance,
+    given: &Rc<Subst>,
+) -> Result<Option<Rc<Subst>>, AllocError>
+    requires declared { IsClosedPrefix a.now.role a.now.height }
+    requires solved { AreSolved given.now.value }
+    ensures { IfOk result (λ found. MatchOption found
+        (IsNever (AlsoEqual given.now.value a.now b.now))
+        (λ r. IsExactFor (AlsoEqual given.now.value a.now b.now) r.value)) }
+{
+    let events = prefix_of(a.role(), a.height().min(b.height()));
+    let mut bindings = given.clone()?;
+    for (number, declaration) in a.role().variables().iter().enumerate() {
+        let id = VarId::numbered(number);
+        if !occurs(events, id, declaration.sort) {
+            continue;
+        }
+        let first = term_of_variable(alloc, a.values(), id, declaration.sort)?;
+        let second = term_of_variable(alloc, b.values(), id, declaration.sort)?;
+        match unify(alloc, &first, &second, &bindings)? {
+            Some(next) => bindings = Rc::new(alloc, next)?,
+            None => return Ok(None),
+        }
+    }
+    Ok(Some(bindings))
+}

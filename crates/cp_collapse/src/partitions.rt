@@ -1,0 +1,233 @@
+// The partitions of the strands of a skeleton into blocks of instances of one role, one more strand a round.
+ghost use Rattle.std.specs.Prelude.{◌≡◌, ◌≢◌, ◌↔◌, ◌+◌, ◌<◌, ◌++◌, ◌∷◌, [], ℕ, List, Some, map, option_map, length, IsTrue, IfOk, OnOk, IfSome, IfNone, MatchOption};
+ghost use Rattle.cp_lists.specs.Lists.{item_at};
+ghost use Rattle.cp_model.specs.Strand.{Role as PlainRole};
+ghost use Rattle.cp_model.specs.Term.{Substitution};
+ghost use Rattle.cp_model.specs.Skeleton.{instance, Skeleton as PlainSkeleton};
+ghost use Rattle.cp_unify.specs.Bindings.{Meets};
+ghost use Rattle.cp_skel.specs.DeclaredPrefixes.{HasDeclaredPrefixes};
+ghost use Rattle.cp_strand.specs.View.{instance_as_data, strand_view};
+ghost use Rattle.cp_skel.specs.View.{skeleton_view};
+ghost use Rattle.cp_collapse.specs.FirstPartitions.{IsPartitionOfFirst, IsExactFor, EqualAt};
+ghost use Rattle.cp_collapse.specs.Partials.{AreSolved, IsNever, IsExact, lists, ArePartials, ArePartlyExtended, Joins, MayNotJoin};
+ghost use Rattle.cp_collapse.specs.Partitions.{AreOfOneRole, IdentifiesValues, AreDescending};
+ghost use Rattle.cp_collapse.specs.Collapses.{IsNeverIdentified};
+
+use crate::equal_values::unify_instances;
+use cp_skel::{Instance, Skeleton, Strand, StrandShape, is_same_role};
+use cp_unify::Subst;
+use std::alloc::{AllocError, Global};
+use std::rc::Rc;
+
+/// A partition of the first strands, by the lowest strand of each strand's block, and bindings that identify the strands
+/// of each block.
+#[derive(Drop)]
+pub(crate) struct Partial {
+    pub(crate) lowest: Vec<usize>,
+    pub(crate) bindings: Rc<Subst>,
+}
+
+/// The instance of a role that is the strand with this number, if it is one.
+pub(crate) fn instance_at(strands: &[Strand], number: usize) -> Option<&Instance>
+    ensures some { IfSome result (λ i. item_at strands.now number ≡ Some (instance_as_data i.now)) }
+    ensures none { IfNone result ((role : PlainRole) (height : ℕ) (terms : Substitution)
+        → item_at (map strand_view strands.now) number ≡ Some (instance role height terms) → ⊥) }
+{
+    let Some(strand) = strands.get(number) else {
+        return None;
+    };
+    match strand.shape() {
+        StrandShape::Instance(instance) => Some(instance),
+        StrandShape::Listener(_) => None,
+    }
+}
+
+/// Whether two strands are instances of one role.
+fn are_of_one_role(strands: &[Strand], s: usize, t: usize) -> bool
+    ensures { IsTrue result ↔ AreOfOneRole (map strand_view strands.now) s t }
+{
+    let Some(first) = instance_at(strands, s) else {
+        return false;
+    };
+    let Some(second) = instance_at(strands, t) else {
+        return false;
+    };
+    is_same_role(first.role(), second.role())
+}
+
+/// Bindings that are met where the given ones are and two strands, instances of one role, have equal values, if there are
+/// any.
+fn unify_strands(
+    alloc: Global,
+    k: &Skeleton,
+    s: usize,
+    t: usize,
+    given: &Rc<Subst>,
+) -> Result<Option<Rc<Subst>>, AllocError>
+    requires declared { HasDeclaredPrefixes (skeleton_view k.now) }
+    requires alike { AreOfOneRole (skeleton_view k.now).strands s t }
+    requires solved { AreSolved given.now.value }
+    ensures { IfOk result (λ found. MatchOption found
+        (IsNever (λ g. Meets g given.now.value × EqualAt (skeleton_view k.now) s t g))
+        (λ r. IsExactFor (λ g. Meets g given.now.value × EqualAt (skeleton_view k.now) s t g) r.value)) }
+{
+    let Some(first) = instance_at(k.strands(), s) else {
+        unreachable!();
+    };
+    let Some(second) = instance_at(k.strands(), t) else {
+        unreachable!();
+    };
+    unify_instances(alloc, first, second, given)
+}
+
+/// Bindings that identify the strands of each block, where strand `number` joins a block of instances of its role; none
+/// where they never have equal values.
+fn unify_block(
+    alloc: Global,
+    k: &Skeleton,
+    partial: &Partial,
+    block: usize,
+    number: usize,
+) -> Result<Option<Rc<Subst>>, AllocError>
+    requires declared { HasDeclaredPrefixes (skeleton_view k.now) }
+    requires partition { IsPartitionOfFirst (skeleton_view k.now) number partial.now.lowest.items }
+    requires exact { IsExact (skeleton_view k.now) partial.now }
+    requires own { item_at partial.now.lowest.items block ≡ Some block }
+    requires alike { AreOfOneRole (skeleton_view k.now).strands number block }
+    ensures { IfOk result (λ found. MatchOption found
+        (IsNeverIdentified (skeleton_view k.now) (partial.now.lowest.items ++ (block ∷ [])))
+        (λ r. IsExactFor (IdentifiesValues (skeleton_view k.now) (partial.now.lowest.items ++ (block ∷ []))) r.value)) }
+{
+    let mut bindings = partial.bindings.clone()?;
+    for strand in 0..partial.lowest.len() {
+        if !is_in_block(partial, strand, block) {
+            continue;
+        }
+        match unify_strands(alloc, k, strand, number, &bindings)? {
+            Some(next) => bindings = next,
+            None => return Ok(None),
+        }
+    }
+    Ok(Some(bindings))
+}
+
+/// The numbers, and one more behind them.
+fn with_entry(alloc: Global, lowest: &[usize], entry: usize) -> Result<Vec<usize>, AllocError>
+    ensures { IfOk result (λ v. v.items ≡ lowest.now ++ (entry ∷ [])) }
+{
+    let mut entries = Vec::from_slice(alloc, lowest)?;
+    entries.push(entry)?;
+    Ok(entries)
+}
+
+/// Whether a strand is in the block whose lowest strand is `block`.
+pub(crate) fn is_in_block(partial: &Partial, strand: usize, block: usize) -> bool
+    ensures { IsTrue result ↔ (item_at partial.now.lowest.items strand ≡ Some block) }
+{
+    match partial.lowest.get(strand) {
+        Some(lowest) => *lowest == block,
+        None => false,
+    }
+}
+
+/// The partition with one more strand, which is alone.
+fn alone(alloc: Global, partial: &Partial, number: usize) -> Result<Partial, AllocError>
+    ensures { IfOk result (λ q. (k : PlainSkeleton) → IsPartitionOfFirst k number partial.now.lowest.items
+        → IsExact k partial.now → Joins k number partial.now.lowest.items number q) }
+{
+    Ok(Partial {
+        lowest: with_entry(alloc, &partial.lowest, number)?,
+        bindings: partial.bindings.clone()?,
+    })
+}
+
+/// The partition with one more strand, which joins a block, if it may.
+fn join(
+    alloc: Global,
+    k: &Skeleton,
+    partial: &Partial,
+    block: usize,
+    number: usize,
+) -> Result<Option<Partial>, AllocError>
+    requires declared { HasDeclaredPrefixes (skeleton_view k.now) }
+    requires partition { IsPartitionOfFirst (skeleton_view k.now) number partial.now.lowest.items }
+    requires exact { IsExact (skeleton_view k.now) partial.now }
+    requires earlier { block < number }
+    ensures { IfOk result (λ found. MatchOption found
+        (MayNotJoin (skeleton_view k.now) number partial.now.lowest.items block)
+        (λ q. Joins (skeleton_view k.now) number partial.now.lowest.items block q)) }
+{
+    if !is_in_block(partial, block, block) {
+        return Ok(None);
+    }
+    if !are_of_one_role(k.strands(), number, block) {
+        return Ok(None);
+    }
+    match unify_block(alloc, k, partial, block, number)? {
+        Some(bindings) => Ok(Some(Partial {
+            lowest: with_entry(alloc, &partial.lowest, block)?,
+            bindings,
+        })),
+        None => Ok(None),
+    }
+}
+
+/// Puts the partitions that one more strand gives behind others: first the one in which it is alone, then those in which
+/// it joins a block, from the highest block on.
+fn extend(
+    alloc: Global,
+    k: &Skeleton,
+    partial: &Partial,
+    number: usize,
+    next: &mut Vec<Partial>,
+) -> Result<(), AllocError>
+    requires declared { HasDeclaredPrefixes (skeleton_view k.now) }
+    requires partition { IsPartitionOfFirst (skeleton_view k.now) number partial.now.lowest.items }
+    requires exact { IsExact (skeleton_view k.now) partial.now }
+    ensures { OnOk result ((ps : List (List ℕ)) (i : ℕ) → item_at ps i ≡ Some partial.now.lowest.items → AreDescending ps
+        → ArePartlyExtended (skeleton_view k.now) number ps i (number + 1) next.old.items → ArePartlyExtended (skeleton_view k.now) number ps i 0 next.new.items) }
+{
+    next.push(alone(alloc, partial, number)?)?;
+    for block in (0..number).rev() {
+        let joined = match join(alloc, k, partial, block, number)? {
+            Some(joined) => joined,
+            None => continue,
+        };
+        next.push(joined)?;
+    }
+    Ok(())
+}
+
+/// The partitions of one strand more.
+fn round(
+    alloc: Global,
+    k: &Skeleton,
+    partials: &[Partial],
+    number: usize,
+) -> Result<Vec<Partial>, AllocError>
+    requires declared { HasDeclaredPrefixes (skeleton_view k.now) }
+    requires partials { ArePartials (skeleton_view k.now) number partials.now }
+    ensures { IfOk result (λ next. ArePartials (skeleton_view k.now) (number + 1) next.items) }
+{
+    let mut next = Vec::new(alloc);
+    for partial in partials {
+        extend(alloc, k, partial, number, &mut next)?;
+    }
+    Ok(next)
+}
+
+/// The partitions of the strands into blocks of instances of one role that may have equal values, in descending order.
+pub(crate) fn partitions(alloc: Global, k: &Skeleton) -> Result<Vec<Partial>, AllocError>
+    requires { HasDeclaredPrefixes (skeleton_view k.now) }
+    ensures { IfOk result (λ partials. ArePartials (skeleton_view k.now) (length (skeleton_view k.now).strands) partials.items) }
+{
+    let mut partials = Vec::new(alloc);
+    partials.push(Partial {
+        lowest: Vec::new(alloc),
+        bindings: Rc::new(alloc, Subst::new(alloc))?,
+    })?;
+    for number in 0..k.strands().len() {
+        partials = round(alloc, k, &partials, number)?;
+    }
+    Ok(partials)
+}

@@ -1,0 +1,170 @@
+// Skeletons under substitutions.
+ghost use Rattle.std.specs.Prelude.{◌≡◌, ◌↔◌, map, IsTrue, IfOk};
+ghost use Rattle.cp_model.specs.Term.{Substitution, apply_to, apply_to_atom};
+ghost use Rattle.cp_completeness.specs.Normal.{unique_under, assumptions_under, from_problem_under, skeleton_under};
+ghost use Rattle.cp_unify.specs.Bindings.{as_substitution};
+ghost use Rattle.cp_strand.specs.View.{instance_as_data, strand_view};
+ghost use Rattle.cp_skel.specs.View.{skeleton_view};
+ghost use Rattle.cp_collapse.specs.SameSkeletons.{SaysTheSame};
+ghost use Rattle.cp_collapse.specs.Values.{declared_under};
+
+use crate::variable_terms::declared_terms;
+use cp_skel::{Assumptions, Atom, FromProblem, Instance, Skeleton, Strand, StrandShape, UniqueAt};
+use cp_term::Term;
+use cp_unify::{Subst, apply};
+use std::alloc::{AllocError, Global};
+
+/// What changes under a substitution.
+pub(crate) trait Substituted {
+    /// What it becomes under a substitution.
+    ghost becomes: { Substitution → Self → Self };
+
+    /// What it becomes. The error is that memory ran out.
+    fn under(&self, alloc: Global, s: &Subst) -> Result<Self, AllocError>
+        ensures { IfOk result (λ x. x ≡ becomes (as_substitution s.now) self.now) };
+}
+
+/// Each of these under a substitution.
+pub(crate) fn each_under<T: Substituted + Drop>(
+    alloc: Global,
+    items: &[T],
+    s: &Subst,
+) -> Result<Vec<T>, AllocError>
+    ensures { IfOk result (λ v. v.items ≡ map (T.becomes (as_substitution s.now)) items.now) }
+{
+    let mut changed = Vec::with_capacity(alloc, items.len())?;
+    for item in items {
+        changed.push(item.under(alloc, s)?)?;
+    }
+    Ok(changed)
+}
+
+impl Substituted for Term {
+    ghost becomes = { apply_to };
+
+    fn under(&self, alloc: Global, s: &Subst) -> Result<Term, AllocError> {
+        apply(alloc, s, self)
+    }
+}
+
+impl Substituted for Atom {
+    ghost becomes = { apply_to_atom };
+
+    fn under(&self, alloc: Global, s: &Subst) -> Result<Atom, AllocError> {
+        match Atom::new(apply(alloc, s, self.as_term())?) {
+            Some(atom) => Ok(atom),
+            None => unreachable!(),
+        }
+    }
+}
+
+/// Of a unique value the recorded origin stays.
+impl Substituted for UniqueAt {
+    ghost becomes = { unique_under };
+
+    fn under(&self, alloc: Global, s: &Subst) -> Result<UniqueAt, AllocError> {
+        let value = self.value().under(alloc, s)?;
+        Ok(UniqueAt::new(value, self.origin()))
+    }
+}
+
+impl Substituted for Assumptions {
+    ghost becomes = { assumptions_under };
+
+    fn under(&self, alloc: Global, s: &Subst) -> Result<Assumptions, AllocError> {
+        let non = each_under(alloc, self.non_originating(), s)?;
+        let penetrator_non = each_under(alloc, self.penetrator_non_originating(), s)?;
+        let unique = each_under(alloc, self.uniquely_originating(), s)?;
+        Ok(Assumptions::new(non, penetrator_non, unique))
+    }
+}
+
+/// The way from a problem is followed by the substitution.
+impl Substituted for FromProblem {
+    ghost becomes = { from_problem_under };
+
+    fn under(&self, alloc: Global, s: &Subst) -> Result<FromProblem, AllocError> {
+        let strands = Vec::from_slice(alloc, self.strands())?;
+        let values = each_under(alloc, self.values(), s)?;
+        let assumptions = self.assumptions().under(alloc, s)?;
+        let pairs = Vec::from_slice(alloc, self.pairs())?;
+        Ok(FromProblem::new(strands, values, assumptions, pairs))
+    }
+}
+
+/// Whether the terms are the same, one by one.
+pub fn are_same_terms(a: &[Term], b: &[Term]) -> bool
+    ensures { IsTrue result ↔ (a.now ≡ b.now) }
+{
+    if a.len() != b.len() {
+        return false;
+    }
+    for index in 0..a.len() {
+        if !a[index].same(&b[index]) {
+            return false;
+        }
+    }
+    true
+}
+
+/// The strand of an instance with these terms in place of its own: the strand itself, which both share, where they are the
+/// same. It holds its events where the strand does.
+fn with_values(
+    alloc: Global,
+    strand: &Strand,
+    instance: &Instance,
+    values: Vec<Term>,
+) -> Result<Strand, AllocError>
+    requires { strand.now ≡ instance_as_data instance.now }
+    ensures { IfOk result (λ t. t ≡ instance_as_data (record instance.now { values = values.items })) }
+{
+    if are_same_terms(&values, instance.values()) {
+        return strand.copy();
+    }
+    let role = instance.role().clone()?;
+    let changed = Instance::new(role, instance.height(), values);
+    match strand.held() {
+        Some(_) => Strand::with_events(alloc, changed),
+        None => Strand::instance(alloc, changed),
+    }
+}
+
+/// A strand under a substitution: the term of each variable that the role of an instance declares, and the message of a
+/// listener. Where nothing changes of an instance, both share it.
+pub(crate) fn strand_under(alloc: Global, strand: &Strand, s: &Subst) -> Result<Strand, AllocError>
+    ensures { IfOk result (λ t. strand_view t ≡ declared_under (as_substitution s.now) (strand_view strand.now)) }
+{
+    match strand.shape() {
+        StrandShape::Instance(instance) => {
+            let declarations = instance.role().variables();
+            let values = declared_terms(alloc, declarations, instance.values(), s)?;
+            with_values(alloc, strand, instance, values)
+        }
+        StrandShape::Listener(message) => Strand::listener(alloc, apply(alloc, s, message)?),
+    }
+}
+
+fn strands_under(alloc: Global, strands: &[Strand], s: &Subst) -> Result<Vec<Strand>, AllocError>
+    ensures { IfOk result (λ v. map strand_view v.items ≡ map (declared_under (as_substitution s.now)) (map strand_view strands.now)) }
+{
+    let mut changed = Vec::with_capacity(alloc, strands.len())?;
+    for strand in strands {
+        changed.push(strand_under(alloc, strand, s)?)?;
+    }
+    Ok(changed)
+}
+
+/// The skeleton under a substitution: each of its terms is, and strands, nodes and pairs stay where they are. The error
+/// is that memory ran out.
+pub fn under(alloc: Global, k: &Skeleton, s: &Subst) -> Result<Skeleton, AllocError>
+    ensures same { IfOk result (λ l. SaysTheSame (skeleton_under (as_substitution s.now) (skeleton_view k.now)) (skeleton_view l)) }
+    ensures variables { IfOk result (λ l. l.variables ≡ k.now.variables) }
+{
+    k.is_sound();
+    let variables = k.variables().copy()?;
+    let strands = strands_under(alloc, k.strands(), s)?;
+    let order = k.order().copy(alloc)?;
+    let assumptions = k.assumptions().under(alloc, s)?;
+    let from_problem = k.from_problem().under(alloc, s)?;
+    Ok(Skeleton::new(variables, strands, order, assumptions, from_problem))
+}

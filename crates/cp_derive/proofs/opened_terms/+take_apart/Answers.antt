@@ -1,0 +1,12 @@
+use Rattle.std.proofs.Common.{arith}
+use Rattle.cp_derive.proofs.TermParts.{takes_pair}
+use Rattle.cp_derive.proofs.opened_terms.+take_apart.Goals as goal
+
+pub loop-opening-preserved : goal.loop-opening-preserved
+loop-opening-preserved t c = (
+  grind arith,
+  λ o second. c.loop-opening.invariant.1 o (takes_pair _ _ _ _ _ _ _ c.in-Pair.ensures c.in_ok-take_apart-in-Pair.ensures second),
+)
+
+pub returns-in-Encryption : goal.returns-in-Encryption
+returns-in-Encryption t c = c.loop-opening.invariant.1 _ (c.in_ok-lock-in-Encryption.ensures c.args.secrets.now)

@@ -1,0 +1,83 @@
+// The escape set of a test.
+ghost use Rattle.std.specs.Prelude.{◌≡◌, ◌↔◌, [], map, IfOk};
+ghost use Rattle.cp_lists.specs.Lists.{IsIn};
+ghost use Rattle.cp_derive.specs.Given.{IsDerivable};
+ghost use Rattle.cp_model.specs.Derivable.{DerivableAt};
+ghost use Rattle.cp_model.specs.Pattern.{IsPattern};
+ghost use Rattle.cp_model.specs.PointOfView.{HasDeclaredVariables};
+ghost use Rattle.cp_model.specs.Term.{Term as Plain};
+ghost use Rattle.cp_guard.specs.Critical.{IsTest};
+ghost use Rattle.cp_guard.specs.Guards.{Guards};
+ghost use Rattle.cp_skel.specs.Trees.{variables_view};
+ghost use Rattle.cp_skel.specs.View.{skeleton_view};
+ghost use Rattle.cp_escape.specs.ClosedEncryptions.{AreClosedBefore};
+ghost use Rattle.cp_escape.specs.Escape.{whole_pattern, IsEscape};
+ghost use Rattle.cp_escape.specs.Sent.{CarriesBefore};
+
+use crate::closed_encryptions::add_closed;
+use cp_covering::is_sent_before;
+use cp_derive::{Known, known};
+use cp_skel::{Leading, Node, Skeleton};
+use cp_term::{Locals, Pattern, Term};
+use std::alloc::{AllocError, Global};
+
+/// What the occurrences of the critical term in the transmissions of role strands before the node give, each once.
+fn closed_before(
+    alloc: Global,
+    k: &Skeleton,
+    node: Node,
+    known: &Known,
+    critical: &Term,
+) -> Result<Vec<Term>, AllocError>
+    requires test { IsTest (skeleton_view k.now) node critical.now }
+    requires given { (t : Plain) → IsDerivable known.now t ↔ DerivableAt (skeleton_view k.now) node t }
+    ensures { IfOk result (λ es. AreClosedBefore (skeleton_view k.now) node critical.now es.items) }
+{
+    let mut encryptions = Vec::new(alloc);
+    let leading = Leading::new(alloc, k.order().pairs(), node)?;
+    let occurrences = k.events(alloc)?;
+    for occurrence in &occurrences {
+        if !is_sent_before(k, &leading, node, occurrence) {
+            continue;
+        }
+        let message = occurrence.event.payload();
+        add_closed(alloc, known, message, critical, &mut encryptions)?;
+    }
+    Ok(encryptions)
+}
+
+/// The encryptions as patterns without locals.
+fn whole_patterns(alloc: Global, encryptions: &[Term]) -> Result<Vec<Pattern>, AllocError>
+    requires { (e : Plain) → IsIn e encryptions.now → IsPattern (whole_pattern e) }
+    ensures { IfOk result (λ ps. ps.items ≡ map whole_pattern encryptions.now) }
+{
+    let mut patterns = Vec::new(alloc);
+    for encryption in encryptions {
+        let term = encryption.copy()?;
+        patterns.push(Pattern::new(term, Locals::new(alloc)))?;
+    }
+    Ok(patterns)
+}
+
+/// The escape set of a test: for each occurrence of the critical term in the transmissions of role strands before the node, by
+/// strand, then index, then position, the outermost of the encryptions that enclose it whose inverse key cannot be derived there;
+/// each encryption once, as a pattern without locals. It guards the test, and is empty exactly where none of these transmissions
+/// carries the critical term.
+///
+/// The node and the term have to be a test of the skeleton, whose variables have to be declared. The error is that memory ran out.
+pub fn escape(
+    alloc: Global,
+    k: &Skeleton,
+    node: Node,
+    critical: &Term,
+) -> Result<Vec<Pattern>, AllocError>
+    requires test { IsTest (skeleton_view k.now) node critical.now }
+    requires declared { HasDeclaredVariables (variables_view k.now.variables) (skeleton_view k.now) }
+    ensures exact { IfOk result (λ ps. IsEscape (skeleton_view k.now) node critical.now ps.items) }
+    ensures guards { IfOk result (λ ps. Guards ps.items (skeleton_view k.now) node critical.now) }
+    ensures empty { IfOk result (λ ps. (ps.items ≡ []) ↔ (CarriesBefore (skeleton_view k.now) node critical.now → ⊥)) }
+{
+    let known = known(alloc, k, node)?;
+    let encryptions = closed_before(alloc, k, node, &known, critical)?;
+    whole_patterns(alloc, &encryptions)
+}

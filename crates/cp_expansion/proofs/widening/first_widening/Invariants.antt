@@ -1,6 +1,0 @@
-use Rattle.cp_skel.specs.View.{skeleton_view}
-use Rattle.cp_expansion.proofs.Giving.{NoneGives}
-use Rattle.cp_expansion.proofs.widening.first_widening.Given as goal
-
-abbrev pub invariant-loop-number : goal.invariant-loop-number
-invariant-loop-number l = NoneGives (skeleton_view l.k) l.children l.number

@@ -1,0 +1,57 @@
+// The test of an unrealised skeleton.
+ghost use Rattle.std.specs.Prelude.{◌≡◌, ◌↔◌, [], IfOk, IsNone, IfSome};
+ghost use Rattle.cp_skel.specs.View.{skeleton_view};
+ghost use Rattle.cp_derive.specs.Unrealised.{ListsUnrealised};
+ghost use Rattle.cp_expansion.specs.ChosenNode.{listens_at, chosen};
+ghost use Rattle.cp_expansion.specs.ChosenTest.{IsTestOf};
+
+use cp_derive::critical;
+use cp_skel::{Node, Skeleton, StrandShape, Test};
+use std::alloc::{AllocError, Global};
+
+/// Whether the node is a listener's.
+fn is_on_listener(k: &Skeleton, node: Node) -> bool
+    ensures { result ≡ listens_at (skeleton_view k.now) node }
+{
+    match k.strands().get(node.strand) {
+        Some(strand) => match strand.shape() {
+            StrandShape::Listener(_) => true,
+            StrandShape::Instance(_) => false,
+        },
+        None => false,
+    }
+}
+
+/// Of nodes the last that is a listener's, and where none is the first.
+fn chosen(k: &Skeleton, nodes: &[Node]) -> Option<Node>
+    ensures { result ≡ chosen (skeleton_view k.now) nodes.now }
+{
+    let mut chosen = nodes.first().copied();
+    for node in nodes {
+        if !is_on_listener(k, *node) {
+            continue;
+        }
+        chosen = Some(*node);
+    }
+    chosen
+}
+
+/// The test of a skeleton whose unrealised receptions are listed: at the unrealised listener of the highest strand, else at the
+/// unrealised node of the lowest strand and there of the lowest index; and of the components of the message received there the
+/// first that cannot be derived. There is none exactly where no reception is unrealised. The error is that memory ran out.
+pub fn test_of(alloc: Global, k: &Skeleton, unrealised: &[Node]) -> Result<Option<Test>, AllocError>
+    requires listed { ListsUnrealised (skeleton_view k.now) unrealised.now }
+    ensures test { IfOk result (λ t. IfSome t (λ t. IsTestOf (skeleton_view k.now) t.node t.term)) }
+    ensures none { IfOk result (λ t. IsNone t ↔ (unrealised.now ≡ [])) }
+{
+    let Some(node) = chosen(k, unrealised) else {
+        return Ok(None);
+    };
+    let Some(critical) = critical(alloc, k, node)? else {
+        return Ok(None);
+    };
+    Ok(Some(Test {
+        node,
+        term: critical.term,
+    }))
+}

@@ -1,0 +1,55 @@
+// The first child that widens a set of patterns.
+ghost use Rattle.std.specs.Prelude.{map, IfOk, IfNone, IfSome};
+ghost use Rattle.cp_lists.specs.Lists.{IsIn};
+ghost use Rattle.cp_model.specs.PointOfView.{HasDeclaredVariables};
+ghost use Rattle.cp_skel.specs.Trees.{variables_view};
+ghost use Rattle.cp_skel.specs.View.{skeleton_view};
+ghost use Rattle.cp_model.specs.Tree.{Pattern as PlainPattern};
+ghost use Rattle.cp_covering.specs.Children.{Child as PlainChild};
+ghost use Rattle.cp_cohort.specs.Views.{child_view};
+ghost use Rattle.cp_expansion.specs.Widened.{GivesPattern, FindsWidening};
+
+use cp_cohort::Child;
+use cp_escape::widen;
+use cp_skel::{Operation, Skeleton};
+use cp_term::Pattern;
+use std::alloc::{AllocError, Global};
+
+/// A child that widens a set of patterns, and the pattern that it gives.
+#[derive(Drop)]
+pub(crate) struct Widening {
+    pub child: usize,
+    pub pattern: Pattern,
+}
+
+/// The pattern that a child gives, if a strand was added with it and it gives one.
+fn pattern_of(alloc: Global, k: &Skeleton, child: &Child) -> Result<Option<Pattern>, AllocError>
+    requires declared { HasDeclaredVariables (variables_view child.now.skeleton.variables) (skeleton_view child.now.skeleton) }
+    ensures some { IfOk result (λ p. IfSome p (λ p. GivesPattern (skeleton_view k.now) (child_view child.now) p)) }
+    ensures none { IfOk result (λ p. IfNone p ((q : PlainPattern) → GivesPattern (skeleton_view k.now) (child_view child.now) q → ⊥)) }
+{
+    match child.operation {
+        Operation::AddedStrand(_) => widen(alloc, k, &child.skeleton, &child.path),
+        _ => Ok(None),
+    }
+}
+
+/// The first of the children that gives a pattern.
+pub(crate) fn first_widening(
+    alloc: Global,
+    k: &Skeleton,
+    children: &[Child],
+) -> Result<Option<Widening>, AllocError>
+    requires declared { (c : PlainChild) → IsIn c (map child_view children.now) → HasDeclaredVariables c.variables c.skeleton }
+    ensures { IfOk result (FindsWidening (skeleton_view k.now) children.now) }
+{
+    for (number, child) in children.iter().enumerate() {
+        if let Some(pattern) = pattern_of(alloc, k, child)? {
+            return Ok(Some(Widening {
+                child: number,
+                pattern,
+            }));
+        }
+    }
+    Ok(None)
+}

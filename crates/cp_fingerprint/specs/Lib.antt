@@ -1,0 +1,8 @@
+pub mod Fingerprints
+pub mod FirstPlaces
+pub mod Heights
+pub mod Isomorphic
+pub mod PartitionNumber
+pub mod Partition
+pub mod SharedValues
+pub mod Slots

@@ -1,0 +1,73 @@
+// How many role strands there are of each role and height.
+ghost use Rattle.std.specs.Prelude.{◌≡◌, ◌↔◌, ◌++◌, ◌≤◌, map, IsTrue, IfOk, OnOk};
+ghost use Rattle.cp_strand.specs.View.{strand_view};
+ghost use Rattle.cp_fingerprint.specs.Heights.{heights_of, is_as_high, count_from, HaveNoMore};
+
+use cp_base::Text;
+use cp_skel::{Strand, StrandShape};
+use std::alloc::{AllocError, Global};
+
+/// The name of the role of a role strand, and its height.
+#[derive(Drop)]
+pub(crate) struct RoleHeight {
+    pub(crate) name: Text,
+    pub(crate) height: usize,
+}
+
+/// The names and heights of the role strands.
+pub(crate) fn heights_of(alloc: Global, strands: &[Strand]) -> Result<Vec<RoleHeight>, AllocError>
+    ensures { IfOk result (λ v. v.items ≡ heights_of (map strand_view strands.now)) }
+{
+    let mut heights = Vec::with_capacity(alloc, strands.len())?;
+    for strand in strands {
+        let StrandShape::Instance(instance) = strand.shape() else {
+            continue;
+        };
+        heights.push(RoleHeight {
+            name: instance.role().name().copy()?,
+            height: instance.height(),
+        })?;
+    }
+    Ok(heights)
+}
+
+/// Whether it is of a role of this name, and of this height or more.
+fn is_as_high(name: &Text, height: usize, other: &RoleHeight) -> bool
+    ensures { result ≡ is_as_high name.now height other.now }
+{
+    other.height >= height && other.name.same(name)
+}
+
+/// How many are of roles of this name and of this height or more.
+fn count(name: &Text, height: usize, heights: &[RoleHeight]) -> usize
+    ensures { result ≡ count_from 0 name.now height heights.now }
+{
+    let mut count = 0;
+    for other in heights {
+        if !is_as_high(name, height, other) {
+            continue;
+        }
+        count += 1;
+    }
+    count
+}
+
+/// Whether there are no more of the name and the height of this one or more among the first than among the others.
+fn has_no_more(one: &RoleHeight, heights: &[RoleHeight], others: &[RoleHeight]) -> bool
+    ensures { IsTrue result ↔ (count_from 0 one.now.name one.now.height heights.now ≤ count_from 0 one.now.name one.now.height others.now) }
+{
+    count(&one.name, one.height, heights) <= count(&one.name, one.height, others)
+}
+
+/// Whether for each name and each height there are no more of that name and that height or more among the first than among
+/// the others. A height that none of the first has is that of the next higher of them.
+pub(crate) fn have_no_more(heights: &[RoleHeight], others: &[RoleHeight]) -> bool
+    ensures { IsTrue result ↔ HaveNoMore heights.now others.now }
+{
+    for one in heights {
+        if !has_no_more(one, heights, others) {
+            return false;
+        }
+    }
+    true
+}

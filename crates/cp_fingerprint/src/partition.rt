@@ -1,0 +1,99 @@
+// The partition of a problem's strands: which of them go to one role strand.
+ghost use Rattle.std.specs.Prelude.{◌≡◌, ◌↔◌, ◌⊎◌, false, IsTrue, IfOk};
+ghost use Rattle.cp_model.specs.Homomorphism.{Embeds};
+ghost use Rattle.cp_model.specs.Skeleton as model;
+ghost use Rattle.cp_skel.specs.View.{skeleton_view};
+ghost use Rattle.cp_fingerprint.specs.Partition.{entry_of, partition_of, is_whole};
+ghost use Rattle.cp_fingerprint.specs.PartitionNumber.{number_of};
+
+use crate::first_places::first_of;
+use cp_skel::{Skeleton, StrandShape};
+use std::alloc::{AllocError, Global};
+use std::marker::Model;
+
+/// How a skeleton's map identifies the strands of its problem: which of them go to one role strand. A skeleton that embeds
+/// in another identifies the same, where it is whole: no entry is none. The number, made of the entries, tells most that
+/// differ apart at once.
+#[derive(Drop)]
+pub(crate) struct Partition {
+    number: usize,
+    whole: bool,
+    entries: Vec<Option<usize>>,
+}
+
+impl Model for Partition {
+    ghost use Rattle.std.specs.Prelude.{◌≡◌, ℕ, List, Option};
+    ghost use Rattle.cp_fingerprint.specs.Partition.{is_whole};
+    ghost use Rattle.cp_fingerprint.specs.PartitionNumber.{number_of};
+
+    ghost Value = { List (Option ℕ) };
+
+    ghost view = { λ f. f.entries.items };
+
+    ghost invariant = { λ f. (f.number ≡ number_of 1 f.entries.items) × (f.whole ≡ is_whole f.entries.items) };
+}
+
+/// For a strand of the problem, which goes to this place: where that is an instance, the first strand of the problem that
+/// goes to the same place; where it is a listener, its own number. None past the end.
+fn entry(k: &Skeleton, strand: usize, place: usize) -> Option<usize>
+    ensures { result ≡ entry_of (skeleton_view k.now) strand place }
+{
+    match k.strands().get(place)?.shape() {
+        StrandShape::Instance(_) => Some(first_of(k.from_problem().strands(), place)),
+        StrandShape::Listener(_) => Some(strand),
+    }
+}
+
+/// The number made of entries, by mixing one after the other; 0 where one is none.
+fn number_of(entries: &[Option<usize>]) -> usize
+    ensures { result ≡ number_of 1 entries.now }
+{
+    let mut number: usize = 1;
+    for entry in entries {
+        let Some(entry) = *entry else {
+            return 0;
+        };
+        number = number.wrapping_mul(1_000_003).wrapping_add(entry);
+    }
+    number
+}
+
+/// Whether no entry is none.
+fn is_whole(entries: &[Option<usize>]) -> bool
+    ensures { result ≡ is_whole entries.now }
+{
+    for entry in entries {
+        if entry.is_none() {
+            return false;
+        }
+    }
+    true
+}
+
+impl Partition {
+    /// The partition of a skeleton.
+    pub(crate) fn of(alloc: Global, k: &Skeleton) -> Result<Partition, AllocError>
+        ensures { IfOk result (λ f. f ≡ partition_of (skeleton_view k.now)) }
+    {
+        let mut entries = Vec::new(alloc);
+        for (strand, place) in k.from_problem().strands().iter().enumerate() {
+            entries.push(entry(k, strand, *place))?;
+        }
+        let number = number_of(&entries);
+        let whole = is_whole(&entries);
+        Ok(Partition {
+            number,
+            whole,
+            entries,
+        })
+    }
+
+    /// Whether a skeleton with this partition may embed in one with the other: where this is whole, whether both are the
+    /// same. False only where it does not.
+    pub(crate) fn may_embed(&self, other: &Partition) -> bool
+        ensures exact { IsTrue result ↔ ((is_whole self.now ≡ false) ⊎ (self.now ≡ other.now)) }
+        ensures kept { (a b : model.Skeleton) → partition_of a ≡ self.now → partition_of b ≡ other.now → Embeds a b → IsTrue result }
+    {
+        !self.whole || (self.number == other.number && self.entries == other.entries)
+    }
+}

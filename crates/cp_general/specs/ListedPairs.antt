@@ -1,0 +1,70 @@
+-- The pairs of a skeleton's order in a list, and how they are gathered.
+use Rattle.std.specs.Prelude.{◌↔◌, ◌==◌, ◌&&◌, not, if◌then◌else◌, length, Bool, true, false, List, [], ◌∷◌, ◌++◌}
+use Rattle.cp_lists.specs.Lists.{IsIn}
+use Rattle.cp_model.specs.Term.{Term}
+use Rattle.cp_model.specs.Strand.{Event, send, recv}
+use Rattle.cp_model.specs.Same.{same_node}
+use Rattle.cp_model.specs.declared.node.Node.{Node}
+use Rattle.cp_model.specs.declared.node.OrderPair.{OrderPair}
+use Rattle.cp_model.specs.Order.{LeadsTo}
+use Rattle.cp_model.specs.OrderTests.{reaches}
+use Rattle.cp_model.specs.Skeleton.{Skeleton}
+use Rattle.cp_strand.specs.View.{event_view}
+use Rattle.cp_skel.specs.declared.events.Occurrence as program
+use Rattle.cp_general.specs.Steps.{IsPairOfOrder, IsLowerPair}
+
+-- Each pair stands before all that are higher, and once.
+abbrev pub AreRisingPairs : List OrderPair → Type 0
+AreRisingPairs [] = Unit {0}
+AreRisingPairs (p ∷ ps) = ((q : OrderPair) → IsIn q ps → IsLowerPair p q) × AreRisingPairs ps
+
+-- The list holds exactly the pairs of the skeleton's order, from the lowest on.
+pub record ListsOrder (k : Skeleton) (pairs : List OrderPair) : Type 0 where
+  pub each : (q : OrderPair) → IsIn q pairs ↔ IsPairOfOrder k q
+  pub rising : AreRisingPairs pairs
+
+-- Of each of the pairs the first node leads to the second in the order.
+abbrev pub AllLead : List OrderPair → List OrderPair → Type 0
+AllLead order pairs = (p : OrderPair) → IsIn p pairs → LeadsTo order p.earlier p.later
+
+-- ---- how they are gathered
+
+-- The event is a transmission, or a reception.
+abbrev pub is_transmission : Event Term → Bool
+is_transmission (send t) = true
+is_transmission (recv t) = false
+
+abbrev pub is_reception : Event Term → Bool
+is_reception (send t) = false
+is_reception (recv t) = true
+
+-- The nodes of those of the events that pass the test.
+abbrev pub nodes_where : (Event Term → Bool) → List program.Occurrence → List Node
+nodes_where test [] = []
+nodes_where test (o ∷ os) = if test (event_view o.event) then o.node ∷ nodes_where test os else nodes_where test os
+
+-- The first node leads to the second, which is on another strand.
+abbrev pub leads_across : List OrderPair → Node → Node → Bool
+leads_across order x y = not (x.strand == y.strand) && reaches (length order) order x y
+
+-- The pairs from a node to those of these nodes, on other strands, to which it leads.
+abbrev pub pairs_from : List OrderPair → Node → List Node → List OrderPair
+pairs_from order x [] = []
+pairs_from order x (y ∷ ys) = if leads_across order x y then record { earlier = x; later = y } ∷ pairs_from order x ys else pairs_from order x ys
+
+-- The same from each of several nodes.
+abbrev pub pairs_between : List OrderPair → List Node → List Node → List OrderPair
+pairs_between order [] ys = []
+pairs_between order (x ∷ xs) ys = pairs_from order x ys ++ pairs_between order xs ys
+
+-- ---- pairs that are the same
+
+abbrev pub is_same_pair : OrderPair → OrderPair → Bool
+is_same_pair p q = same_node p.earlier q.earlier && same_node p.later q.later
+
+abbrev pub is_other_pair : OrderPair → OrderPair → Bool
+is_other_pair p q = not (is_same_pair p q)
+
+-- The pair is in neither of the lists.
+abbrev pub IsInNeither : List OrderPair → List OrderPair → OrderPair → Type 0
+IsInNeither first second p = (IsIn p first → ⊥) × (IsIn p second → ⊥)

@@ -1,0 +1,88 @@
+// Whether a pair covers, among all pairs of an order.
+ghost use Rattle.std.specs.Prelude.{◌≡◌, IfOk};
+ghost use Rattle.cp_model.specs.Same.{same_node};
+ghost use Rattle.cp_general.specs.CoveringPairs.{led_to, leading_to, is_below, is_below_one, some_is_below, is_covered};
+
+use cp_skel::{Node, OrderPair};
+use std::alloc::{AllocError, Global};
+
+/// Whether the two nodes are the same.
+pub(crate) fn is_same_node(node: Node, other: Node) -> bool
+    ensures { result ≡ same_node node other }
+{
+    node.strand == other.strand && node.index == other.index
+}
+
+/// The nodes to which pairs lead from a node.
+fn led_to(alloc: Global, pairs: &[OrderPair], node: Node) -> Result<Vec<Node>, AllocError>
+    ensures { IfOk result (λ ns. ns.items ≡ led_to pairs.now node) }
+{
+    let mut nodes = Vec::new(alloc);
+    for pair in pairs {
+        if !is_same_node(pair.earlier, node) {
+            continue;
+        }
+        nodes.push(pair.later)?;
+    }
+    Ok(nodes)
+}
+
+/// The nodes from which pairs lead to a node.
+fn leading_to(alloc: Global, pairs: &[OrderPair], node: Node) -> Result<Vec<Node>, AllocError>
+    ensures { IfOk result (λ ns. ns.items ≡ leading_to pairs.now node) }
+{
+    let mut nodes = Vec::new(alloc);
+    for pair in pairs {
+        if !is_same_node(pair.later, node) {
+            continue;
+        }
+        nodes.push(pair.earlier)?;
+    }
+    Ok(nodes)
+}
+
+/// Whether a node is before another one on one strand.
+fn is_below(node: Node, other: Node) -> bool
+    ensures { result ≡ is_below node other }
+{
+    node.strand == other.strand && node.index < other.index
+}
+
+/// Whether a node is before one of these on one strand.
+fn is_below_one(node: Node, others: &[Node]) -> bool
+    ensures { result ≡ is_below_one node others.now }
+{
+    for other in others {
+        if is_below(node, *other) {
+            return true;
+        }
+    }
+    false
+}
+
+/// Whether one of the first nodes is before one of the second on its strand.
+fn some_is_below(nodes: &[Node], others: &[Node]) -> bool
+    ensures { result ≡ some_is_below nodes.now others.now }
+{
+    for node in nodes {
+        if is_below_one(*node, others) {
+            return true;
+        }
+    }
+    false
+}
+
+/// Whether something is between the nodes of a pair, where these are all pairs of an order. The error is that memory ran out.
+pub(crate) fn is_covered(
+    alloc: Global,
+    pairs: &[OrderPair],
+    pair: OrderPair,
+) -> Result<bool, AllocError>
+    ensures { IfOk result (λ covered. covered ≡ is_covered pairs.now pair) }
+{
+    let mut firsts = led_to(alloc, pairs, pair.earlier)?;
+    firsts.push(pair.earlier)?;
+    let mut lasts = leading_to(alloc, pairs, pair.later)?;
+    lasts.push(pair.later)?;
+    Ok(some_is_below(&firsts, &lasts))
+}

@@ -1,0 +1,76 @@
+// The deletion of a strand.
+ghost use Rattle.std.specs.Prelude.{◌≡◌, ◌↔◌, ◌<◌, length, IsTrue, IfOk, IfSome, IfNone};
+ghost use Rattle.cp_lists.specs.Lists.{IsIn};
+ghost use Rattle.cp_skel.specs.View.{skeleton_view};
+ghost use Rattle.cp_general.specs.Steps.{Deletes};
+ghost use Rattle.cp_general.specs.Generalisation.{DeletesNone, StepsTo};
+ghost use Rattle.cp_general.specs.ProgramSteps.{NeverDeletes, LeavesFit};
+
+use crate::fit::is_fit;
+use cp_skel::Skeleton;
+use std::alloc::{AllocError, Global};
+
+/// Whether a strand of the problem goes to this one.
+fn is_image(strands: &[usize], strand: usize) -> bool
+    ensures { IsTrue result ↔ IsIn strand strands.now }
+{
+    for image in strands {
+        if *image == strand {
+            return true;
+        }
+    }
+    false
+}
+
+/// The skeleton without a strand that is there and is no image of a strand of the problem. The error is that memory ran out.
+fn without_strand(alloc: Global, k: &Skeleton, strand: usize) -> Result<Skeleton, AllocError>
+    requires there_is { strand < length (skeleton_view k.now).strands }
+    requires no_image { IsIn strand (skeleton_view k.now).from_problem.strands → ⊥ }
+    ensures deletes { IfOk result (λ h. Deletes strand (skeleton_view k.now) (skeleton_view h)) }
+    ensures variables { IfOk result (λ h. h.variables ≡ k.now.variables) }
+{
+    let mut left = k.copy(alloc)?;
+    left.delete_strand(alloc, strand)?;
+    left.is_sound();
+    Ok(left)
+}
+
+/// The skeleton without a strand that is there, if it may be deleted and what is left is fit. The error is that memory ran out.
+fn try_deletion(alloc: Global, k: &Skeleton, strand: usize) -> Result<Option<Skeleton>, AllocError>
+    requires { strand < length (skeleton_view k.now).strands }
+    ensures some { IfOk result (λ found. IfSome found (λ h. LeavesFit strand (skeleton_view k.now) (skeleton_view h))) }
+    ensures none { IfOk result (λ found. IfNone found (NeverDeletes strand (skeleton_view k.now))) }
+    ensures variables { IfOk result (λ found. IfSome found (λ h. h.variables ≡ k.now.variables)) }
+{
+    k.is_sound();
+    if is_image(k.from_problem().strands(), strand) {
+        return Ok(None);
+    }
+    let left = without_strand(alloc, k, strand)?;
+    if !is_fit(alloc, &left)? {
+        return Ok(None);
+    }
+    Ok(Some(left))
+}
+
+/// The step that deletes a strand, of those that can be the one of the highest number; the assumptions of what is left stand in the
+/// order of a report. There is none where no strand can be deleted so that what is left is fit. The error is that memory ran out.
+pub(crate) fn first_deletion(alloc: Global, k: &Skeleton) -> Result<Option<Skeleton>, AllocError>
+    ensures some { IfOk result (λ found. IfSome found (λ h. StepsTo (skeleton_view k.now) (skeleton_view h))) }
+    ensures none { IfOk result (λ found. IfNone found (DeletesNone (skeleton_view k.now))) }
+    ensures fewer { IfOk result (λ found. IfSome found (λ h. length (skeleton_view h).strands < length (skeleton_view k.now).strands)) }
+    ensures variables { IfOk result (λ found. IfSome found (λ h. h.variables ≡ k.now.variables)) }
+{
+    let mut rest = k.strands().len();
+    while rest > 0 {
+        rest -= 1;
+        match try_deletion(alloc, k, rest)? {
+            Some(mut left) => {
+                left.list_assumptions(alloc)?;
+                return Ok(Some(left));
+            }
+            None => {}
+        }
+    }
+    Ok(None)
+}

@@ -1,0 +1,174 @@
+// The dropping of a pair.
+ghost use Rattle.std.specs.Prelude.{◌≡◌, ◌↔◌, drop, IsTrue, IfOk, IfSome, IfNone};
+ghost use Rattle.std.specs.List.{filter};
+ghost use Rattle.cp_lists.specs.Lists.{IsIn};
+ghost use Rattle.cp_model.specs.declared.node.OrderPair.{OrderPair as Plain};
+ghost use Rattle.cp_model.specs.OrderTests.{any_pair};
+ghost use Rattle.cp_skel.specs.View.{skeleton_view};
+ghost use Rattle.cp_collapse.specs.Property.{Has};
+ghost use Rattle.cp_normal.specs.Findings.{IsAddedPair};
+ghost use Rattle.cp_general.specs.Fit.{IsFit};
+ghost use Rattle.cp_general.specs.Generalisation.{DropsNone};
+ghost use Rattle.cp_general.specs.ListedPairs.{ListsOrder, IsInNeither, is_same_pair, is_other_pair};
+ghost use Rattle.cp_general.specs.ProgramSteps.{NeverDrops, MayDrop, HasFreePair, LeavesFitOrder, DropsFirst};
+
+use crate::covering_pairs::{is_covered, is_same_node};
+use crate::fit::all_lead;
+use crate::pairs::reordered;
+use cp_derive::critical;
+use cp_normal::added_pairs;
+use cp_skel::{Order, OrderPair, Skeleton};
+use std::alloc::{AllocError, Global};
+
+/// Whether the two pairs are the same.
+fn is_same_pair(pair: OrderPair, other: OrderPair) -> bool
+    ensures { result ≡ is_same_pair pair other }
+{
+    is_same_node(pair.earlier, other.earlier) && is_same_node(pair.later, other.later)
+}
+
+/// Whether the pair is one of these.
+fn is_among(pairs: &[OrderPair], pair: OrderPair) -> bool
+    ensures { result ≡ any_pair (is_same_pair pair) pairs.now }
+{
+    for other in pairs {
+        if is_same_pair(pair, *other) {
+            return true;
+        }
+    }
+    false
+}
+
+/// The first place, from this one on, at which the pair stands.
+fn place_from(pairs: &[OrderPair], from: usize, pair: OrderPair) -> Option<usize>
+    ensures some { IfSome result (λ _. IsIn pair pairs.now) }
+    ensures none { IfNone result (IsIn pair (drop from pairs.now) → ⊥) }
+{
+    for place in from..pairs.len() {
+        if is_same_pair(pair, pairs[place]) {
+            return Some(place);
+        }
+    }
+    None
+}
+
+/// Whether one of these pairs is in neither of the two lists. As they mostly stand there in the same order, each is looked for first
+/// from where the last one stood, and only then from the beginning.
+fn some_is_in_neither(first: &[OrderPair], second: &[OrderPair], pairs: &[OrderPair]) -> bool
+    ensures { IsTrue result ↔ Has (IsInNeither first.now second.now) pairs.now }
+{
+    let mut in_first = 0;
+    let mut in_second = 0;
+    for pair in pairs {
+        if let Some(place) = place_from(first, in_first, *pair) {
+            in_first = place;
+            continue;
+        }
+        if let Some(place) = place_from(second, in_second, *pair) {
+            in_second = place;
+            continue;
+        }
+        if let Some(place) = place_from(first, 0, *pair) {
+            in_first = place;
+            continue;
+        }
+        let Some(place) = place_from(second, 0, *pair) else {
+            return true;
+        };
+        in_second = place;
+    }
+    false
+}
+
+/// Whether one of the pairs by which the skeleton is ordered is neither stated by the problem nor added by a unique value: no other
+/// pair can be dropped. The error is that memory ran out.
+pub(crate) fn some_may_drop(alloc: Global, k: &Skeleton) -> Result<bool, AllocError>
+    ensures { IfOk result (λ some. IsTrue some ↔ HasFreePair (skeleton_view k.now)) }
+{
+    let added = added_pairs(alloc, k)?;
+    let some = some_is_in_neither(k.from_problem().pairs(), &added, k.order().pairs());
+    Ok(some)
+}
+
+/// The pairs but for this one.
+fn others(alloc: Global, pairs: &[OrderPair], pair: OrderPair) -> Result<Vec<OrderPair>, AllocError>
+    ensures { IfOk result (λ ps. ps.items ≡ filter (is_other_pair pair) pairs.now) }
+{
+    let mut others = Vec::new(alloc);
+    for other in pairs {
+        if is_same_pair(pair, *other) {
+            continue;
+        }
+        others.push(*other)?;
+    }
+    Ok(others)
+}
+
+/// Whether a pair of the skeleton, which lists all of its order, covers, where neither the problem states it nor a unique value adds
+/// it. The error is that memory ran out.
+fn may_drop(
+    alloc: Global,
+    k: &Skeleton,
+    added: &[OrderPair],
+    pair: OrderPair,
+) -> Result<bool, AllocError>
+    requires lists { ListsOrder (skeleton_view k.now) k.now.order }
+    requires added { (p : Plain) → IsIn p added.now ↔ IsAddedPair (skeleton_view k.now) p }
+    requires listed { IsIn pair k.now.order }
+    ensures { IfOk result (λ may. IsTrue may ↔ MayDrop pair (skeleton_view k.now)) }
+{
+    k.is_sound();
+    if is_among(k.from_problem().pairs(), pair) {
+        return Ok(false);
+    }
+    if is_among(added, pair) {
+        return Ok(false);
+    }
+    let covered = is_covered(alloc, k.order().pairs(), pair)?;
+    Ok(!covered)
+}
+
+/// The skeleton without a pair that may be dropped, if what is left keeps what the problem states and is fit: of the receptions only
+/// that of the pair has to be asked. The error is that memory ran out.
+fn try_drop(alloc: Global, k: &Skeleton, pair: OrderPair) -> Result<Option<Skeleton>, AllocError>
+    requires lists { ListsOrder (skeleton_view k.now) k.now.order }
+    requires fit { IsFit (skeleton_view k.now) }
+    requires may { MayDrop pair (skeleton_view k.now) }
+    ensures some { IfOk result (λ found. IfSome found (λ h. LeavesFitOrder pair (skeleton_view k.now) (skeleton_view h))) }
+    ensures none { IfOk result (λ found. IfNone found (NeverDrops pair (skeleton_view k.now))) }
+    ensures variables { IfOk result (λ found. IfSome found (λ h. h.variables ≡ k.now.variables)) }
+{
+    k.is_sound();
+    let pairs = others(alloc, k.order().pairs(), pair)?;
+    let order = Order::of(pairs);
+    if !all_lead(alloc, &order, k.from_problem().pairs())? {
+        return Ok(None);
+    }
+    let less = reordered(alloc, k, order)?;
+    match critical(alloc, &less, pair.later)? {
+        Some(_) => Ok(None),
+        None => Ok(Some(less)),
+    }
+}
+
+/// The step that drops a pair, of those that can be dropped the lowest, where the skeleton is fit and lists all pairs of its order.
+/// There is none where no pair can be dropped so that what is left is fit. The error is that memory ran out.
+pub(crate) fn first_drop(alloc: Global, k: &Skeleton) -> Result<Option<Skeleton>, AllocError>
+    requires lists { ListsOrder (skeleton_view k.now) k.now.order }
+    requires fit { IsFit (skeleton_view k.now) }
+    ensures some { IfOk result (λ found. IfSome found (λ h. DropsFirst (skeleton_view k.now) (skeleton_view h))) }
+    ensures none { IfOk result (λ found. IfNone found (DropsNone (skeleton_view k.now))) }
+    ensures variables { IfOk result (λ found. IfSome found (λ h. h.variables ≡ k.now.variables)) }
+{
+    let added = added_pairs(alloc, k)?;
+    for pair in k.order().pairs() {
+        if !may_drop(alloc, k, &added, *pair)? {
+            continue;
+        }
+        match try_drop(alloc, k, *pair)? {
+            Some(less) => return Ok(Some(less)),
+            None => {}
+        }
+    }
+    Ok(None)
+}

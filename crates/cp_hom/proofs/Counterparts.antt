@@ -1,0 +1,241 @@
+-- Strands, atoms and unique values that become others.
+use Rattle.std.proofs.Common.{◌≡◌, ◌≢◌, ℕ, ◌<◌, ◌≤◌, ◌+◌, List, ◌∷◌, length, map, drop, get_or, refl, sym, ap, ap₂, ◌∙◌, subst, arith}
+use Rattle.std.specs.Prelude.{Option, Some, None, Bool, true, false, nat_lt, ◌==◌}
+use Rattle.std.proofs.lemmas.Bool.Decides.{nat_tests}
+use Rattle.std.proofs.lemmas.List.{drop_all}
+use Rattle.cp_lists.proofs.Members.{drop_read}
+use Rattle.cp_lists.specs.Lists.{item_at}
+use Rattle.cp_model.specs.Term.{AtomTerm, Term, atom_term, Substitution, apply_to_atom, apply_to}
+use Rattle.cp_model.specs.Strand.{Event, payload}
+use Rattle.cp_model.specs.Skeleton.{SkeletonStrand, instance, UniqueAt, Skeleton}
+use Rattle.cp_model.specs.declared.node.OrderPair.{OrderPair}
+use Rattle.cp_model.specs.declared.node.Node.{Node}
+use Rattle.cp_model.specs.Order.{LeadsTo}
+use Rattle.cp_model.specs.Homomorphism.{SkeletonMap, mapped}
+use Rattle.cp_hom.proofs.KeptOrder.{both_nodes}
+use Rattle.cp_lists.proofs.Items.{item_below}
+use Rattle.cp_hom.specs.PartialMaps.{PartialMap, IsExtended, IsNever, Finds}
+use Rattle.cp_hom.specs.Counterparts.{MakesEvents, MakesPart, GoesToStrand, BecomesAtom, BecomesUnique, KeepsProblem, IsKeptBy, IsRoleStrand, MeetsEarlier, KeepsApart}
+use Rattle.cp_hom.proofs.Extended.{IsSoFar, finds_like, finds_both, never_before, so_far_next, so_far_never, so_far_all}
+use Rattle.cp_hom.specs.declared.partials.Partial.{Partial}
+
+-- ---- strands
+
+pub strand_placed : (xs ys : List SkeletonStrand) (s image : ℕ) (x y : SkeletonStrand) (given found : PartialMap) (answer : Option Partial) → Some x ≡ item_at xs s → Some y ≡ item_at ys image →
+    IsExtended (λ f. f.strands s ≡ image) given found → Finds (λ f. MakesPart f.terms x y) found answer → Finds (GoesToStrand xs ys s image) given answer
+strand_placed xs ys s image x y given found answer at au h k =
+    finds_both (λ f. f.strands s ≡ image) (λ f. MakesPart f.terms x y) (GoesToStrand xs ys s image) given found answer
+    (λ f e p. record { from = x; to = y; is_from = sym at; is_to = sym au; goes = e; part = p })
+    (λ f g. g.goes)
+    (λ f g.
+    let d : Some g.from ≡ Some x = sym g.is_from ∙ sym at in
+    let e : Some g.to ≡ Some y = sym g.is_to ∙ sym au in
+    let d' : g.from ≡ x = cc in
+    let e' : g.to ≡ y = cc in
+    subst (λ (z : SkeletonStrand). MakesPart f.terms z y) d' (subst (λ (z : SkeletonStrand). MakesPart f.terms g.from z) e' g.part))
+    h k
+
+pub no_strand : (xs ys : List SkeletonStrand) (s image : ℕ) (given : PartialMap) → None ≡ item_at xs s → IsNever (GoesToStrand xs ys s image) given
+no_strand xs ys s image given at = λ f follows g. let e : None ≡ Some g.from = at ∙ g.is_from in cc
+
+-- ---- atoms
+
+pub atom_placed : (xs ys : List AtomTerm) (i image : ℕ) (x y : AtomTerm) (t u : Term) (given : PartialMap) (answer : Option Partial) → Some x ≡ item_at xs i → Some y ≡ item_at ys image →
+    t ≡ atom_term x → u ≡ atom_term y → Finds (λ f. apply_to f.terms t ≡ u) given answer → Finds (BecomesAtom xs ys i image) given answer
+atom_placed xs ys i image x y t u given answer at au is_t is_u k =
+    finds_like (λ f. apply_to f.terms t ≡ u) (BecomesAtom xs ys i image) given answer
+    (λ f e.
+    let g : atom_term (apply_to_atom f.terms x) ≡ atom_term y = sym (ap (apply_to f.terms) is_t) ∙ e ∙ is_u in
+    let g' : apply_to_atom f.terms x ≡ y = cc in
+    record { from = x; to = y; is_from = sym at; is_to = sym au; becomes = g' })
+    (λ f g.
+    let d : Some g.from ≡ Some x = sym g.is_from ∙ sym at in
+    let e : Some g.to ≡ Some y = sym g.is_to ∙ sym au in
+    let d' : g.from ≡ x = cc in
+    let e' : g.to ≡ y = cc in
+    ap (apply_to f.terms) is_t ∙ ap atom_term (ap (apply_to_atom f.terms) (sym d') ∙ g.becomes ∙ e') ∙ sym is_u)
+    k
+
+-- ---- unique values
+
+module _ (xs ys : List UniqueAt) (i image : ℕ) (given : PartialMap) where
+  pub no_unique : None ≡ item_at xs i → IsNever (BecomesUnique xs ys i image) given
+  no_unique at = λ f follows g. let e : None ≡ Some g.from = at ∙ g.is_from in cc
+
+  pub no_other_unique : None ≡ item_at ys image → IsNever (BecomesUnique xs ys i image) given
+  no_other_unique at = λ f follows g. let e : None ≡ Some g.to = at ∙ g.is_to in cc
+
+  module _ (x y : UniqueAt) (at : Some x ≡ item_at xs i) (au : Some y ≡ item_at ys image) where
+    from_is : (f : SkeletonMap) (g : BecomesUnique xs ys i image f) → g.from ≡ x
+    from_is f g = let d : Some g.from ≡ Some x = sym g.is_from ∙ sym at in cc
+
+    to_is : (f : SkeletonMap) (g : BecomesUnique xs ys i image f) → g.to ≡ y
+    to_is f g = let d : Some g.to ≡ Some y = sym g.is_to ∙ sym au in cc
+
+    pub other_index : x.origin.index ≢ y.origin.index → IsNever (BecomesUnique xs ys i image) given
+    other_index ne = λ f follows g.
+        ne (sym (ap (λ (u : UniqueAt). u.origin.index) (from_is f g)) ∙ g.index ∙ ap (λ (u : UniqueAt). u.origin.index) (to_is f g))
+
+    strand_first : (f : SkeletonMap) → BecomesUnique xs ys i image f → f.strands x.origin.strand ≡ y.origin.strand
+    strand_first f g =
+        sym (ap (λ (u : UniqueAt). f.strands u.origin.strand) (from_is f g)) ∙ g.origin ∙ ap (λ (u : UniqueAt). u.origin.strand) (to_is f g)
+
+    pub other_strand : IsNever (λ f. f.strands x.origin.strand ≡ y.origin.strand) given → IsNever (BecomesUnique xs ys i image) given
+    other_strand never = never_before (λ f. f.strands x.origin.strand ≡ y.origin.strand) (BecomesUnique xs ys i image) given strand_first never
+
+    pub unique_placed : (t u : Term) (found : PartialMap) (answer : Option Partial) → x.origin.index ≡ y.origin.index → t ≡ atom_term x.value → u ≡ atom_term y.value →
+        IsExtended (λ f. f.strands x.origin.strand ≡ y.origin.strand) given found → Finds (λ f. apply_to f.terms t ≡ u) found answer →
+        Finds (BecomesUnique xs ys i image) given answer
+    unique_placed t u found answer same is_t is_u h k =
+        finds_both (λ f. f.strands x.origin.strand ≡ y.origin.strand) (λ f. apply_to f.terms t ≡ u) (BecomesUnique xs ys i image) given found answer
+        (λ f d e.
+        let g : atom_term (apply_to_atom f.terms x.value) ≡ atom_term y.value = sym (ap (apply_to f.terms) is_t) ∙ e ∙ is_u in
+        let g' : apply_to_atom f.terms x.value ≡ y.value = cc in
+        record {
+          from = x;
+          to = y;
+          is_from = sym at;
+          is_to = sym au;
+          becomes = g';
+          origin = d;
+          index = same;
+        })
+        strand_first
+        (λ f g.
+        ap (apply_to f.terms) is_t
+        ∙ ap atom_term (sym (ap (λ (v : UniqueAt). apply_to_atom f.terms v.value) (from_is f g)) ∙ g.becomes ∙ ap (λ (v : UniqueAt). v.value) (to_is f g))
+        ∙ sym is_u)
+        h k
+
+-- ---- events
+
+pub event_matched : (s t : Substitution) (m from to : Term) (given : PartialMap) (answer : Option Partial) → from ≡ apply_to s m → to ≡ apply_to t m →
+    Finds (λ f. apply_to f.terms from ≡ to) given answer → Finds (λ f. apply_to f.terms (apply_to s m) ≡ apply_to t m) given answer
+event_matched s t m from to given answer is_from is_to h =
+    finds_like (λ f. apply_to f.terms from ≡ to) (λ f. apply_to f.terms (apply_to s m) ≡ apply_to t m) given answer
+    (λ f e. sym (ap (apply_to f.terms) is_from) ∙ e ∙ is_to)
+    (λ f e. ap (apply_to f.terms) is_from ∙ e ∙ sym is_to)
+    h
+
+-- ---- lists
+
+module _ {A B : Type 0} (g : SkeletonMap → A → B) where
+  -- One more of two lists.
+  heads : (f : SkeletonMap) (x : A) (y : B) (xs : List A) (ys : List B) → map (g f) (x ∷ xs) ≡ y ∷ ys → g f x ≡ y
+  heads f x y xs ys e = cc
+
+  tails : (f : SkeletonMap) (x : A) (y : B) (xs : List A) (ys : List B) → map (g f) (x ∷ xs) ≡ y ∷ ys → map (g f) xs ≡ ys
+  tails f x y xs ys e = cc
+
+  pub lists_next : (xs : List A) (ys : List B) (i : ℕ) (x : A) (y : B) (given found next : PartialMap) → i < length xs → length xs ≡ length ys → x ≡ get_or xs i x → y ≡ get_or ys i y →
+      IsSoFar (λ f. map (g f) xs ≡ ys) (λ f. map (g f) (drop i xs) ≡ drop i ys) given found → IsExtended (λ f. g f x ≡ y) found next →
+      IsSoFar (λ f. map (g f) xs ≡ ys) (λ f. map (g f) (drop (i + 1) xs) ≡ drop (i + 1) ys) given next
+  lists_next xs ys i x y given found next l same is_x is_y h k =
+      let dx = drop_read xs i x l is_x in
+      let dy = drop_read ys i y (omega (arith, l, same)) is_y in
+      so_far_next (λ f. map (g f) xs ≡ ys) (λ f. map (g f) (drop i xs) ≡ drop i ys) (λ f. g f x ≡ y) (λ f. map (g f) (drop (i + 1) xs) ≡ drop (i + 1) ys) given found next
+      (λ f d e. ap (map (g f)) dx ∙ ap₂ ◌∷◌ d e ∙ sym dy)
+      (λ f e. heads f x y (drop (i + 1) xs) (drop (i + 1) ys) (sym (ap (map (g f)) dx) ∙ e ∙ dy))
+      (λ f e. tails f x y (drop (i + 1) xs) (drop (i + 1) ys) (sym (ap (map (g f)) dx) ∙ e ∙ dy))
+      h k
+
+  pub lists_never : (xs : List A) (ys : List B) (i : ℕ) (x : A) (y : B) (given found : PartialMap) → i < length xs → length xs ≡ length ys → x ≡ get_or xs i x → y ≡ get_or ys i y →
+      IsSoFar (λ f. map (g f) xs ≡ ys) (λ f. map (g f) (drop i xs) ≡ drop i ys) given found → IsNever (λ f. g f x ≡ y) found → IsNever (λ f. map (g f) xs ≡ ys) given
+  lists_never xs ys i x y given found l same is_x is_y h k =
+      let dx = drop_read xs i x l is_x in
+      let dy = drop_read ys i y (omega (arith, l, same)) is_y in
+      so_far_never (λ f. map (g f) xs ≡ ys) (λ f. map (g f) (drop i xs) ≡ drop i ys) (λ f. g f x ≡ y) given found
+      (λ f e. heads f x y (drop (i + 1) xs) (drop (i + 1) ys) (sym (ap (map (g f)) dx) ∙ e ∙ dy))
+      h k
+
+  pub lists_all : (xs : List A) (ys : List B) (i : ℕ) (given found : PartialMap) → length xs ≤ i → length xs ≡ length ys →
+      IsSoFar (λ f. map (g f) xs ≡ ys) (λ f. map (g f) (drop i xs) ≡ drop i ys) given found → IsExtended (λ f. map (g f) xs ≡ ys) given found
+  lists_all xs ys i given found done same h =
+      so_far_all (λ f. map (g f) xs ≡ ys) (λ f. map (g f) (drop i xs) ≡ drop i ys) given found
+      (λ f. ap (map (g f)) (drop_all i xs done) ∙ sym (drop_all i ys (omega (arith, done, same)))) h
+
+-- Strands and terms from the problem.
+pub problem_kept : (a b : Skeleton) (xs ys : List ℕ) (ts us : List Term) (given found : PartialMap) (answer : Option Partial) →
+    xs ≡ a.from_problem.strands → ys ≡ b.from_problem.strands → ts ≡ a.from_problem.values → us ≡ b.from_problem.values →
+    IsExtended (λ f. map f.strands xs ≡ ys) given found → Finds (λ f. map (apply_to f.terms) ts ≡ us) found answer → Finds (KeepsProblem a b) given answer
+problem_kept a b xs ys ts us given found answer is_xs is_ys is_ts is_us h k =
+    finds_both (λ f. map f.strands xs ≡ ys) (λ f. map (apply_to f.terms) ts ≡ us) (KeepsProblem a b) given found answer
+    (λ f d e. record {
+      strands = sym (ap (map f.strands) is_xs) ∙ d ∙ is_ys;
+      values = sym (ap (map (apply_to f.terms)) is_ts) ∙ e ∙ is_us;
+    })
+    (λ f g. ap (map f.strands) is_xs ∙ g.strands ∙ sym is_ys)
+    (λ f g. ap (map (apply_to f.terms)) is_ts ∙ g.values ∙ sym is_us)
+    h k
+
+module _ {E : Type 0} (view : E → Event Term) (s t : Substitution) where
+  pub events_next : (es : List E) (i : ℕ) (e : E) (given found next : PartialMap) → i < length es → e ≡ get_or es i e →
+      IsSoFar (λ f. MakesEvents f.terms (map view es) s t) (λ f. MakesEvents f.terms (map view (drop i es)) s t) given found →
+      IsExtended (λ f. apply_to f.terms (apply_to s (payload (view e))) ≡ apply_to t (payload (view e))) found next →
+      IsSoFar (λ f. MakesEvents f.terms (map view es) s t) (λ f. MakesEvents f.terms (map view (drop (i + 1) es)) s t) given next
+  events_next es i e given found next l is_e h k =
+      let d = drop_read es i e l is_e in
+      so_far_next (λ f. MakesEvents f.terms (map view es) s t) (λ f. MakesEvents f.terms (map view (drop i es)) s t)
+      (λ f. apply_to f.terms (apply_to s (payload (view e))) ≡ apply_to t (payload (view e))) (λ f. MakesEvents f.terms (map view (drop (i + 1) es)) s t) given found next
+      (λ f p q. subst (λ (ds : List E). MakesEvents f.terms (map view ds) s t) (sym d) (p, q))
+      (λ f p. (whole f e (drop (i + 1) es) (subst (λ (ds : List E). MakesEvents f.terms (map view ds) s t) d p)).0)
+      (λ f p. (whole f e (drop (i + 1) es) (subst (λ (ds : List E). MakesEvents f.terms (map view ds) s t) d p)).1)
+      h k
+    where
+      whole : (f : SkeletonMap) (e : E) (ds : List E) → MakesEvents f.terms (map view (e ∷ ds)) s t →
+          (apply_to f.terms (apply_to s (payload (view e))) ≡ apply_to t (payload (view e))) × MakesEvents f.terms (map view ds) s t
+      whole f e ds p = p
+
+  pub events_never : (es : List E) (i : ℕ) (e : E) (given found : PartialMap) → i < length es → e ≡ get_or es i e →
+      IsSoFar (λ f. MakesEvents f.terms (map view es) s t) (λ f. MakesEvents f.terms (map view (drop i es)) s t) given found →
+      IsNever (λ f. apply_to f.terms (apply_to s (payload (view e))) ≡ apply_to t (payload (view e))) found → IsNever (λ f. MakesEvents f.terms (map view es) s t) given
+  events_never es i e given found l is_e h k =
+      let d = drop_read es i e l is_e in
+      so_far_never (λ f. MakesEvents f.terms (map view es) s t) (λ f. MakesEvents f.terms (map view (drop i es)) s t)
+      (λ f. apply_to f.terms (apply_to s (payload (view e))) ≡ apply_to t (payload (view e))) given found
+      (λ f p. first f e (drop (i + 1) es) (subst (λ (ds : List E). MakesEvents f.terms (map view ds) s t) d p))
+      h k
+    where
+      first : (f : SkeletonMap) (e : E) (ds : List E) → MakesEvents f.terms (map view (e ∷ ds)) s t → apply_to f.terms (apply_to s (payload (view e))) ≡ apply_to t (payload (view e))
+      first f e ds p = p.0
+
+  pub events_all : (es : List E) (i : ℕ) (given found : PartialMap) → length es ≤ i →
+      IsSoFar (λ f. MakesEvents f.terms (map view es) s t) (λ f. MakesEvents f.terms (map view (drop i es)) s t) given found → IsExtended (λ f. MakesEvents f.terms (map view es) s t) given found
+  events_all es i given found done h =
+      so_far_all (λ f. MakesEvents f.terms (map view es) s t) (λ f. MakesEvents f.terms (map view (drop i es)) s t) given found
+      (λ f. subst (λ (ds : List E). MakesEvents f.terms (map view ds) s t) (sym (drop_all i es done)) tt) h
+
+-- ---- strands that are kept apart
+
+-- One number is before the other, or they are one.
+by_order : (P : Type 0) (m n : ℕ) → (m < n → P) → (m ≡ n → P) → (n < m → P) → P
+by_order P m n less same more = choose (nat_lt m n) refl (m == n) refl
+  where
+    choose : (b : Bool) → nat_lt m n ≡ b → (c : Bool) → (m == n) ≡ c → P
+    choose true e c g = less (grind (arith, nat_tests))
+    choose false e true g = same (grind (arith, nat_tests))
+    choose false e false g = more (grind (arith, nat_tests))
+
+role_strand_within : (strands : List SkeletonStrand) (s : ℕ) → IsRoleStrand strands s → s < length strands
+role_strand_within strands s p = item_below strands s (instance p.role p.height p.terms) p.on_instance
+
+pub apart_all : (strands : List SkeletonStrand) (f : ℕ → ℕ) → ((s : ℕ) → s < length strands → MeetsEarlier strands f s → ⊥) → KeepsApart strands f
+apart_all strands f none s t p q e =
+    by_order (s ≡ t) s t
+    (λ l. absurd (none t (role_strand_within strands t q) (record { role_strand = q; other = s; earlier = l; other_role_strand = p; meets = e })))
+    (λ same. same)
+    (λ l. absurd (none s (role_strand_within strands s p) (record { role_strand = p; other = t; earlier = l; other_role_strand = q; meets = sym e })))
+
+pub one_meets : (strands : List SkeletonStrand) (f : ℕ → ℕ) (s : ℕ) → MeetsEarlier strands f s → KeepsApart strands f → ⊥
+one_meets strands f s m apart =
+    let e : m.other ≡ s = apart m.other s m.other_role_strand m.role_strand m.meets in
+    let l : m.other < s = m.earlier in
+    omega (arith, e, l)
+
+-- ---- pairs that are kept
+
+pub kept_by : (pairs : List OrderPair) (f : SkeletonMap) (p : OrderPair) (x y : Node) → x ≡ mapped f p.earlier → y ≡ mapped f p.later → LeadsTo pairs x y × (x ≢ y) → IsKeptBy pairs f p
+kept_by pairs f p x y e l h = both_nodes pairs x (mapped f p.earlier) y (mapped f p.later) e l h
+
+pub by_kept : (pairs : List OrderPair) (f : SkeletonMap) (p : OrderPair) (x y : Node) → x ≡ mapped f p.earlier → y ≡ mapped f p.later → IsKeptBy pairs f p → LeadsTo pairs x y × (x ≢ y)
+by_kept pairs f p x y e l h = both_nodes pairs (mapped f p.earlier) x (mapped f p.later) y (sym e) (sym l) h

@@ -1,6 +1,0 @@
-use Rattle.std.proofs.Common.{◌≡◌, drop}
-use Rattle.cp_hom.specs.Mixing.{number_of}
-use Rattle.cp_hom.proofs.partition.number_of.Given as goal
-
-abbrev pub invariant-loop-entry : goal.invariant-loop-entry
-invariant-loop-entry l = number_of l.number (drop l.entry-index l.entries) ≡ number_of 1 l.entries

@@ -1,7 +1,0 @@
-use Rattle.std.proofs.Common.{◌≡◌, ◌++◌, drop, map}
-use Rattle.cp_strand.specs.View.{event_view, strand_view}
-use Rattle.cp_hom.specs.Sharing.{listened}
-use Rattle.cp_hom.proofs.sharing.listened.Given as goal
-
-abbrev pub invariant-loop-strand : goal.invariant-loop-strand
-invariant-loop-strand l = map event_view l.events.items ++ listened (map strand_view (drop l.strand-index l.strands)) ≡ listened (map strand_view l.strands)

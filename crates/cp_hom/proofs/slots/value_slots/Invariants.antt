@@ -1,6 +1,0 @@
-use Rattle.std.proofs.Common.{◌≡◌, ◌++◌, drop}
-use Rattle.cp_hom.specs.Sharing.{value_slots}
-use Rattle.cp_hom.proofs.slots.value_slots.Given as goal
-
-abbrev pub invariant-loop-number : goal.invariant-loop-number
-invariant-loop-number l = l.slots.items ++ value_slots l.number (drop l.number l.values) ≡ value_slots 0 l.values

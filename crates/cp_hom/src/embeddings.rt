@@ -1,0 +1,52 @@
+// Embeddings of skeletons in others.
+ghost use Rattle.std.specs.Prelude.{◌↔◌, IsTrue, IfOk, IfSome, IfNone};
+ghost use Rattle.cp_model.specs.Homomorphism.{SkeletonMap, IsEmbedding};
+ghost use Rattle.cp_skel.specs.View.{skeleton_view};
+ghost use Rattle.cp_fingerprint.specs.Isomorphic.{IsIsomorphic};
+ghost use Rattle.cp_hom.specs.Maps.{map_view};
+
+use crate::from_problem::start;
+use crate::items::items;
+use crate::role_counts::have_room;
+use crate::search::search;
+use crate::strand_map::Map;
+use cp_skel::Skeleton;
+use std::alloc::{AllocError, Global};
+
+/// An embedding of a skeleton in another, over what comes from the problem; none exactly where there is none. The error is
+/// that memory ran out.
+pub fn embed(alloc: Global, a: &Skeleton, b: &Skeleton) -> Result<Option<Map>, AllocError>
+    ensures some { IfOk result (λ found. IfSome found (λ f. IsEmbedding (skeleton_view a.now) (skeleton_view b.now) (map_view f))) }
+    ensures none { IfOk result (λ found. IfNone found ((f : SkeletonMap) → IsEmbedding (skeleton_view a.now) (skeleton_view b.now) f → ⊥)) }
+{
+    if !have_room(a.strands(), b.strands()) {
+        return Ok(None);
+    }
+    embed_by_search(alloc, a, b)
+}
+
+/// The same without a first look whether there is room.
+fn embed_by_search(alloc: Global, a: &Skeleton, b: &Skeleton) -> Result<Option<Map>, AllocError>
+    ensures some { IfOk result (λ found. IfSome found (λ f. IsEmbedding (skeleton_view a.now) (skeleton_view b.now) (map_view f))) }
+    ensures none { IfOk result (λ found. IfNone found ((f : SkeletonMap) → IsEmbedding (skeleton_view a.now) (skeleton_view b.now) f → ⊥)) }
+{
+    let Some(given) = start(alloc, a, b)? else {
+        return Ok(None);
+    };
+    let items = items(alloc, a)?;
+    a.is_sound();
+    b.is_sound();
+    search(alloc, a, b, &items, given)
+}
+
+/// Whether each of two skeletons embeds in the other. There is no first look whether there is room: it is mostly asked of
+/// skeletons whose fingerprints agree. The error is that memory ran out.
+pub fn isomorphic(alloc: Global, a: &Skeleton, b: &Skeleton) -> Result<bool, AllocError>
+    ensures exact { IfOk result (λ same. IsTrue same ↔ IsIsomorphic (skeleton_view a.now) (skeleton_view b.now)) }
+{
+    if embed_by_search(alloc, a, b)?.is_none() {
+        return Ok(false);
+    }
+    let back = embed_by_search(alloc, b, a)?;
+    Ok(back.is_some())
+}

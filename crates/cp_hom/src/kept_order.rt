@@ -1,0 +1,177 @@
+// Whether maps keep role strands apart, and the order.
+ghost use Rattle.std.specs.Prelude.{◌≡◌, ◌≢◌, ◌↔◌, map, IsTrue, IfOk};
+ghost use Rattle.cp_model.specs.Order.{IsAtOrAfter, LeadsTo};
+ghost use Rattle.cp_strand.specs.View.{strand_view};
+ghost use Rattle.cp_hom.specs.Maps.{map_view};
+ghost use Rattle.cp_hom.specs.Counterparts.{IsRoleStrand, HoldsImage, IsTaken, IsBlocked, IsElsewhere, MeetsEarlier, KeepsApart, KeepsPairs};
+
+use crate::items::{Item, Kind};
+use crate::numbered_items::strand_at;
+use crate::partials::{Placement, image_of};
+use crate::strand_map::Map;
+use cp_skel::{Leading, Node, OrderPair, Strand, StrandShape};
+use std::alloc::{AllocError, Global};
+
+/// Whether a strand is an instance of a role.
+fn is_role_strand(strands: &[Strand], strand: usize) -> bool
+    ensures { IsTrue result ↔ IsRoleStrand (map strand_view strands.now) strand }
+{
+    match strand_at(strands, strand) {
+        Some(strand) => matches!(strand.shape(), StrandShape::Instance(_)),
+        None => false,
+    }
+}
+
+/// Whether a placement sends another role strand than this to this image.
+fn holds_image(strands: &[Strand], strand: usize, image: usize, placement: Placement) -> bool
+    ensures { IsTrue result ↔ HoldsImage (map strand_view strands.now) strand image placement }
+{
+    placement.image == image
+        && placement.strand != strand
+        && is_role_strand(strands, placement.strand)
+}
+
+/// Whether another role strand than this is placed and goes to this image.
+fn is_taken(strands: &[Strand], strand: usize, image: usize, placements: &[Placement]) -> bool
+    ensures { IsTrue result ↔ IsTaken (map strand_view strands.now) strand image placements.now }
+{
+    for placement in placements {
+        if holds_image(strands, strand, image, *placement) {
+            return true;
+        }
+    }
+    false
+}
+
+/// Whether an item is a role strand, and another role strand is placed and goes to this image.
+pub(crate) fn is_blocked(
+    strands: &[Strand],
+    item: Item,
+    image: usize,
+    placements: &[Placement],
+) -> bool
+    ensures { IsTrue result ↔ IsBlocked (map strand_view strands.now) item image placements.now }
+{
+    item.kind == Kind::Strands
+        && is_role_strand(strands, item.index)
+        && is_taken(strands, item.index, image, placements)
+}
+
+/// Whether an item is a strand that is placed, and goes to another image than this.
+pub(crate) fn is_elsewhere(item: Item, image: usize, placements: &[Placement]) -> bool
+    ensures { IsTrue result ↔ IsElsewhere item image placements.now }
+{
+    if item.kind != Kind::Strands {
+        return false;
+    }
+    match image_of(placements, item.index) {
+        Some(other) => other != image,
+        None => false,
+    }
+}
+
+/// Whether two strands are instances of roles and go to one strand.
+fn meet(strands: &[Strand], mapping: &Map, strand: usize, other: usize) -> bool
+    ensures { IsTrue result ↔ (IsRoleStrand (map strand_view strands.now) strand
+        × IsRoleStrand (map strand_view strands.now) other
+        × ((map_view mapping.now).strands other ≡ (map_view mapping.now).strands strand)) }
+{
+    is_role_strand(strands, strand)
+        && is_role_strand(strands, other)
+        && mapping.strand(other) == mapping.strand(strand)
+}
+
+/// Whether a strand is an instance of a role and goes where an earlier one goes.
+fn meets_earlier(strands: &[Strand], mapping: &Map, strand: usize) -> bool
+    ensures { IsTrue result ↔ MeetsEarlier (map strand_view strands.now) (map_view mapping.now).strands strand }
+{
+    for other in 0..strand {
+        if meet(strands, mapping, strand, other) {
+            return true;
+        }
+    }
+    false
+}
+
+/// Whether different role strands go to different strands.
+pub(crate) fn keeps_apart(strands: &[Strand], mapping: &Map) -> bool
+    ensures { IsTrue result ↔ KeepsApart (map strand_view strands.now) (map_view mapping.now).strands }
+{
+    for strand in 0..strands.len() {
+        if meets_earlier(strands, mapping, strand) {
+            return false;
+        }
+    }
+    true
+}
+
+/// Whether the nodes are the same.
+fn is_same_node(x: Node, y: Node) -> bool
+    ensures { IsTrue result ↔ (x ≡ y) }
+{
+    x.strand == y.strand && x.index == y.index
+}
+
+/// Whether a node leads to another over this pair, along the strands of its two nodes.
+fn leads_over(pair: &OrderPair, x: Node, y: Node) -> bool
+    ensures { IsTrue result ↔ (IsAtOrAfter x pair.now.earlier × IsAtOrAfter pair.now.later y) }
+{
+    x.strand == pair.earlier.strand
+        && x.index <= pair.earlier.index
+        && pair.later.strand == y.strand
+        && pair.later.index <= y.index
+}
+
+/// Whether a node leads to another over one of the pairs alone.
+fn leads_over_one(pairs: &[OrderPair], x: Node, y: Node) -> bool
+    ensures { IsTrue result → LeadsTo pairs.now x y }
+{
+    for pair in pairs {
+        if leads_over(pair, x, y) {
+            return true;
+        }
+    }
+    false
+}
+
+/// Whether a node leads to another along strands and these pairs. The error is that memory ran out.
+pub(crate) fn leads_to_another(
+    alloc: Global,
+    pairs: &[OrderPair],
+    x: Node,
+    y: Node,
+) -> Result<bool, AllocError>
+    ensures { IfOk result (λ leads. IsTrue leads
+        ↔ (LeadsTo pairs.now x y × (x ≢ y))) }
+{
+    if is_same_node(x, y) {
+        return Ok(false);
+    }
+    // Most pairs go to pairs, and what leads to a node need not be gathered then.
+    if leads_over_one(pairs, x, y) {
+        return Ok(true);
+    }
+    let leading = Leading::new(alloc, pairs, y)?;
+    Ok(leading.has(x))
+}
+
+/// Whether the images of the pairs are kept: of each the earlier node leads to the later one, another, along the other
+/// pairs. The error is that memory ran out.
+pub(crate) fn keeps_pairs(
+    alloc: Global,
+    pairs: &[OrderPair],
+    others: &[OrderPair],
+    mapping: &Map,
+) -> Result<bool, AllocError>
+    ensures { IfOk result (λ kept. IsTrue kept
+        ↔ KeepsPairs pairs.now others.now (map_view mapping.now)) }
+{
+    for pair in pairs {
+        let x = mapping.node(pair.earlier);
+        let y = mapping.node(pair.later);
+        if !leads_to_another(alloc, others, x, y)? {
+            return Ok(false);
+        }
+    }
+    Ok(true)
+}

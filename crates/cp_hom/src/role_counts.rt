@@ -1,0 +1,59 @@
+// How many strands there are of a role.
+ghost use Rattle.std.specs.Prelude.{◌↔◌, map, IsTrue};
+ghost use Rattle.cp_strand.specs.View.{strand_view};
+ghost use Rattle.cp_hom.specs.RoleCounts.{IsCount, IsOfRole, HasRoom, HasRoomFor, HaveRoom};
+
+use cp_skel::{Role, Strand, StrandShape, is_same_role};
+
+/// Whether a strand is an instance of this role.
+fn is_of_role(role: &Role, strand: &Strand) -> bool
+    ensures { IsTrue result ↔ IsOfRole role.now (strand_view strand.now) }
+{
+    match strand.shape() {
+        StrandShape::Instance(instance) => is_same_role(instance.role(), role),
+        StrandShape::Listener(_) => false,
+    }
+}
+
+/// How many strands are instances of this role.
+fn count_of_role(role: &Role, strands: &[Strand]) -> usize
+    ensures { IsCount (IsOfRole role.now) (map strand_view strands.now) result }
+{
+    let mut count = 0;
+    for strand in strands {
+        if !is_of_role(role, strand) {
+            continue;
+        }
+        count += 1;
+    }
+    count
+}
+
+/// Whether there are no more strands of this role among the first than among the others.
+fn has_room(role: &Role, strands: &[Strand], others: &[Strand]) -> bool
+    ensures { IsTrue result ↔ HasRoom (map strand_view strands.now) (map strand_view others.now) role.now }
+{
+    count_of_role(role, strands) <= count_of_role(role, others)
+}
+
+/// The same of the role of a strand, where it has one.
+fn has_room_for(strand: &Strand, strands: &[Strand], others: &[Strand]) -> bool
+    ensures { IsTrue result ↔ HasRoomFor (map strand_view strands.now) (map strand_view others.now) (strand_view strand.now) }
+{
+    match strand.shape() {
+        StrandShape::Instance(instance) => has_room(instance.role(), strands, others),
+        StrandShape::Listener(_) => true,
+    }
+}
+
+/// Whether of each role there are no more strands among the first than among the others.
+pub(crate) fn have_room(strands: &[Strand], others: &[Strand]) -> bool
+    ensures { IsTrue result ↔ HaveRoom (map strand_view strands.now) (map strand_view others.now) }
+{
+    for strand in strands {
+        if !has_room_for(strand, strands, others) {
+            return false;
+        }
+    }
+    true
+}

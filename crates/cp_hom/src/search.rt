@@ -1,0 +1,214 @@
+// The search for an embedding: one item after the other is placed, and where that fails the next choice is tried.
+ghost use Rattle.std.specs.Prelude.{◌≡◌, ◌↔◌, ◌<◌, ◌-◌, [], ◌∷◌, ◌++◌, ◌^◌, take, option_map, IsTrue, IfOk, OnOk, IfSome, IfNone};
+ghost use Rattle.cp_lists.specs.Lists.{IsIn};
+ghost use Rattle.cp_model.specs.Homomorphism.{IsEmbedding};
+ghost use Rattle.cp_skel.specs.Ordered.{IsOrdered};
+ghost use Rattle.cp_skel.specs.View.{skeleton_view};
+ghost use Rattle.cp_hom.specs.Maps.{map_view};
+ghost use Rattle.cp_hom.specs.PartialMaps.{partial_view, FindsAmong};
+ghost use Rattle.cp_hom.specs.Counterparts.{Takes, AreItemsOf, KeepsOrderApart};
+ghost use Rattle.cp_hom.specs.OpenMaps.{branch_view, branches_view, next_maps, from_choice, placed_map, IsStarted, IsWhole, NeverEmbeds, IsOpen, AreOpen, TakePlace};
+
+use crate::broken::breaks_order;
+use crate::items::{Item, count};
+use crate::kept_order::{is_blocked, is_elsewhere, keeps_apart, keeps_pairs};
+use crate::known::next_choice;
+use crate::numbered_items::item_at;
+use crate::partials::Partial;
+use crate::placed_items::place;
+use crate::strand_map::Map;
+use cp_skel::Skeleton;
+use std::alloc::{AllocError, Global};
+
+/// A partial map by which the first items are placed, and the number from which on the next item is still to be tried.
+#[derive(Drop)]
+pub(crate) struct Branch {
+    done: usize,
+    choice: usize,
+    given: Partial,
+}
+
+/// The embedding that a partial map is by which all items are placed, if it is one.
+fn finish(
+    alloc: Global,
+    a: &Skeleton,
+    b: &Skeleton,
+    given: Partial,
+) -> Result<Option<Map>, AllocError>
+    requires ordered { IsOrdered (skeleton_view a.now) }
+    requires other_ordered { IsOrdered (skeleton_view b.now) }
+    requires whole { IsWhole (skeleton_view a.now) (skeleton_view b.now) (partial_view given) }
+    ensures some { IfOk result (λ found. IfSome found (λ f. IsEmbedding (skeleton_view a.now) (skeleton_view b.now) (map_view f))) }
+    ensures none { IfOk result (λ found. IfNone found (NeverEmbeds (skeleton_view a.now) (skeleton_view b.now) (partial_view given))) }
+{
+    let mapping = given.into_map(alloc)?;
+    if !keeps_apart(a.strands(), &mapping) {
+        return Ok(None);
+    }
+    if !keeps_pairs(alloc, a.order().pairs(), b.order().pairs(), &mapping)? {
+        return Ok(None);
+    }
+    Ok(Some(mapping))
+}
+
+/// Puts what follows on a branch, of which this choice was tried, behind others: the next choice, and before it what was found by
+/// this one.
+fn push_next(
+    branch: Branch,
+    choice: usize,
+    found: Option<Partial>,
+    branches: &mut Vec<Branch>,
+) -> Result<(), AllocError>
+    requires done { branch.done < 2 ^ 64 - 1 }
+    requires choice { choice < 2 ^ 64 - 1 }
+    ensures { OnOk result (branches_view branches.new.items
+        ≡ branches_view branches.old.items ++ next_maps (from_choice (branch_view branch) choice) (option_map partial_view found)) }
+{
+    let done = branch.done;
+    branches.push(Branch {
+        done,
+        choice: choice + 1,
+        given: branch.given,
+    })?;
+    if let Some(given) = found {
+        branches.push(Branch {
+            done: done + 1,
+            choice: 0,
+            given,
+        })?;
+    }
+    Ok(())
+}
+
+/// Tries one choice for an item: a role strand does not go where another one goes, nor a strand that is placed elsewhere than it is,
+/// nor one where the order of those that are placed would not be kept.
+fn try_choice(
+    alloc: Global,
+    a: &Skeleton,
+    b: &Skeleton,
+    item: Item,
+    choice: usize,
+    given: &Partial,
+) -> Result<Option<Partial>, AllocError>
+    ensures { IfOk result (FindsAmong (KeepsOrderApart (skeleton_view a.now) (skeleton_view b.now))
+        (Takes (skeleton_view a.now) (skeleton_view b.now) item choice) (partial_view given.now)) }
+{
+    if is_blocked(a.strands(), item, choice, &given.placements) {
+        return Ok(None);
+    }
+    if is_elsewhere(item, choice, &given.placements) {
+        return Ok(None);
+    }
+    let copy = given.copy(alloc)?;
+    let Some(found) = place(alloc, a, b, item, choice, copy)? else {
+        return Ok(None);
+    };
+    if breaks_order(alloc, a, b, item, &found.placements)? {
+        return Ok(None);
+    }
+    Ok(Some(found))
+}
+
+/// Whether the items are the same.
+fn is_same_item(x: Item, y: Item) -> bool
+    ensures { IsTrue result ↔ (x ≡ y) }
+{
+    x.kind == y.kind && x.index == y.index
+}
+
+/// Whether an item is one of these.
+fn is_listed(items: &[Item], item: Item) -> bool
+    ensures { IsTrue result → IsIn item items.now }
+{
+    for other in items {
+        if is_same_item(*other, item) {
+            return true;
+        }
+    }
+    false
+}
+
+/// Puts what follows on a branch behind others, where its next item is placed already.
+fn push_placed(branch: Branch, branches: &mut Vec<Branch>) -> Result<(), AllocError>
+    requires done { branch.done < 2 ^ 64 - 1 }
+    ensures { OnOk result (branches_view branches.new.items ≡ branches_view branches.old.items ++ (placed_map (branch_view branch) ∷ [])) }
+{
+    branches.push(Branch {
+        done: branch.done + 1,
+        choice: 0,
+        given: branch.given,
+    })?;
+    Ok(())
+}
+
+/// Takes one step from a branch: goes on behind the next item, where it is placed already; passes over choices for it that hold
+/// for no map; goes on behind it too where the next choice holds for sure; tries it else; and puts what is left to try behind the
+/// other branches. The embedding, if it was the last step to one.
+fn advance(
+    alloc: Global,
+    a: &Skeleton,
+    b: &Skeleton,
+    items: &[Item],
+    branch: Branch,
+    branches: &mut Vec<Branch>,
+) -> Result<Option<Map>, AllocError>
+    requires ordered { IsOrdered (skeleton_view a.now) }
+    requires other_ordered { IsOrdered (skeleton_view b.now) }
+    requires items { AreItemsOf (skeleton_view a.now) items.now }
+    requires branch { IsOpen (skeleton_view a.now) (skeleton_view b.now) items.now (branch_view branch) }
+    requires branches { AreOpen (skeleton_view a.now) (skeleton_view b.now) items.now (branches_view branches.old.items) }
+    ensures some { IfOk result (λ found. IfSome found (λ f. IsEmbedding (skeleton_view a.now) (skeleton_view b.now) (map_view f))) }
+    ensures none { IfOk result (λ found. IfNone found (TakePlace (skeleton_view a.now) (skeleton_view b.now) items.now
+        (branch_view branch) (branches_view branches.old.items) (branches_view branches.new.items))) }
+{
+    let Some(item) = item_at(items, branch.done) else {
+        return finish(alloc, a, b, branch.given);
+    };
+    if branch.choice >= count(item.kind, b) {
+        return Ok(None);
+    }
+    // A choice behind the first is left only where the item is not placed yet.
+    if branch.choice == 0 && is_listed(&items[..branch.done], item) {
+        push_placed(branch, branches)?;
+        return Ok(None);
+    }
+    let Some(next) = next_choice(a, b, item, branch.choice, &branch.given) else {
+        return Ok(None);
+    };
+    if next.is_sure {
+        push_placed(branch, branches)?;
+        return Ok(None);
+    }
+    let found = try_choice(alloc, a, b, item, next.number, &branch.given)?;
+    push_next(branch, next.number, found, branches)?;
+    Ok(None)
+}
+
+/// An embedding of a skeleton in another that follows a partial map, if there is one.
+pub(crate) fn search(
+    alloc: Global,
+    a: &Skeleton,
+    b: &Skeleton,
+    items: &[Item],
+    given: Partial,
+) -> Result<Option<Map>, AllocError>
+    requires ordered { IsOrdered (skeleton_view a.now) }
+    requires other_ordered { IsOrdered (skeleton_view b.now) }
+    requires items { AreItemsOf (skeleton_view a.now) items.now }
+    requires started { IsStarted (skeleton_view a.now) (skeleton_view b.now) (partial_view given) }
+    ensures some { IfOk result (λ found. IfSome found (λ f. IsEmbedding (skeleton_view a.now) (skeleton_view b.now) (map_view f))) }
+    ensures none { IfOk result (λ found. IfNone found (NeverEmbeds (skeleton_view a.now) (skeleton_view b.now) (partial_view given))) }
+{
+    let mut branches = Vec::new(alloc);
+    branches.push(Branch {
+        done: 0,
+        choice: 0,
+        given,
+    })?;
+    while let Some(branch) = branches.pop() {
+        if let Some(found) = advance(alloc, a, b, items, branch, &mut branches)? {
+            return Ok(Some(found));
+        }
+    }
+    Ok(None)
+}

@@ -1,0 +1,105 @@
+// Strands that become parts of others.
+ghost use Rattle.std.specs.Prelude.{◌≡◌, ◌≤◌, length, map, IfOk};
+ghost use Rattle.cp_model.specs.Homomorphism.{substitution_by};
+ghost use Rattle.cp_model.specs.Term.{apply_to};
+ghost use Rattle.cp_strand.specs.View.{event_view, strand_view};
+ghost use Rattle.cp_hom.specs.PartialMaps.{partial_view, Finds};
+ghost use Rattle.cp_hom.specs.Counterparts.{MakesEvents, MakesMessages, MakesPart};
+
+use crate::partials::{Partial, match_terms};
+use cp_skel::{Event, Strand, StrandShape, applied, is_same_role, prefix_of};
+use cp_term::Term;
+use std::alloc::{AllocError, Global};
+
+/// Makes the messages of a role's event under some values what they are under others.
+fn match_event(
+    alloc: Global,
+    message: &Term,
+    from: &[Term],
+    to: &[Term],
+    given: Partial,
+) -> Result<Option<Partial>, AllocError>
+    ensures { IfOk result (Finds
+        (λ f. apply_to f.terms (apply_to (substitution_by from.now) message.now) ≡ apply_to (substitution_by to.now) message.now)
+        (partial_view given)) }
+{
+    let first = applied(alloc, from, message)?;
+    let second = applied(alloc, to, message)?;
+    match_terms(alloc, &first, &second, given)
+}
+
+/// Makes the messages of a role's events under some values what they are under others.
+fn match_events(
+    alloc: Global,
+    events: &[Event],
+    from: &[Term],
+    to: &[Term],
+    given: Partial,
+) -> Result<Option<Partial>, AllocError>
+    ensures { IfOk result (Finds
+        (λ f. MakesEvents f.terms (map event_view events.now) (substitution_by from.now) (substitution_by to.now))
+        (partial_view given)) }
+{
+    let mut found = given;
+    for event in events {
+        match match_event(alloc, event.payload(), from, to, found)? {
+            Some(next) => found = next,
+            None => return Ok(None),
+        }
+    }
+    Ok(Some(found))
+}
+
+/// Makes the messages of some events those of the first so many others.
+fn match_messages(
+    alloc: Global,
+    events: &[Event],
+    others: &[Event],
+    given: Partial,
+) -> Result<Option<Partial>, AllocError>
+    requires { length events.now ≤ length others.now }
+    ensures { IfOk result (Finds
+        (λ f. MakesMessages f.terms (map event_view events.now) (map event_view others.now))
+        (partial_view given)) }
+{
+    let mut found = given;
+    for index in 0..events.len() {
+        match match_terms(
+            alloc,
+            events[index].payload(),
+            others[index].payload(),
+            found,
+        )? {
+            Some(next) => found = next,
+            None => return Ok(None),
+        }
+    }
+    Ok(Some(found))
+}
+
+/// Makes a strand a part of another. Where both hold their events, their messages are matched as they are.
+pub(crate) fn match_strands(
+    alloc: Global,
+    from: &Strand,
+    to: &Strand,
+    given: Partial,
+) -> Result<Option<Partial>, AllocError>
+    ensures { IfOk result (Finds (λ f. MakesPart f.terms (strand_view from.now) (strand_view to.now)) (partial_view given)) }
+{
+    match (from.shape(), to.shape()) {
+        (StrandShape::Instance(first), StrandShape::Instance(second)) => {
+            if first.height() > second.height() || !is_same_role(first.role(), second.role()) {
+                return Ok(None);
+            }
+            if let (Some(events), Some(others)) = (from.held(), to.held()) {
+                return match_messages(alloc, events, others, given);
+            }
+            let events = prefix_of(first.role(), first.height());
+            match_events(alloc, events, first.values(), second.values(), given)
+        }
+        (StrandShape::Listener(first), StrandShape::Listener(second)) => {
+            match_terms(alloc, first, second, given)
+        }
+        _ => Ok(None),
+    }
+}

@@ -1,0 +1,12 @@
+use Rattle.std.proofs.Common.{◌≡◌, map, drop}
+use Rattle.cp_sexpr.specs.View.{view}
+use Rattle.cp_strand.specs.View.{declaration_view}
+use Rattle.cp_report.specs.Misfits.{each_misfits}
+use Rattle.cp_report.specs.Spelled.{pattern_misfits}
+use Rattle.cp_variables.specs.FirstMisfit.{first_onto}
+use Rattle.cp_items.proofs.label_tests.patterns_misfits.Given as goal
+
+abbrev pub invariant-loop-item : goal.invariant-loop-item
+invariant-loop-item l =
+    first_onto l.first (each_misfits (pattern_misfits (map declaration_view l.variables)) (map view (drop l.item-index l.items)))
+    ≡ first_onto l.initial.first (each_misfits (pattern_misfits (map declaration_view l.variables)) (map view l.items))

@@ -1,0 +1,127 @@
+// From forms to protocols and problems.
+ghost use Rattle.std.specs.Prelude.{length, ◌≡◌, ◌++◌, ◌∷◌, [], map, option_map, Ok, Err, IfOk, IfErr, OnOk};
+ghost use Rattle.cp_base.specs.declared.place.Refusal.{Refusal as Fault};
+ghost use Rattle.cp_sexpr.specs.View.{view, views};
+ghost use Rattle.cp_language.specs.Faults.{place_of};
+ghost use Rattle.cp_language.specs.Roles.{headed, protocol_faults, protocol_of};
+ghost use Rattle.cp_language.specs.Input.{protocol_names, headed_top_faults, stated_problem, protocols_behind, faults_from, entries_from};
+ghost use Rattle.cp_language.specs.StatedInput.{protocols_in, protocols_of, IsInput};
+ghost use Rattle.cp_roles.specs.Above.{protocols_view, names_of_protocols, turned};
+ghost use Rattle.cp_forms.specs.FirstFault.{first_onto};
+ghost use Rattle.cp_load.specs.Drafts.{draft_view};
+ghost use Rattle.cp_load.specs.Inputs.{entries_of};
+ghost use Rattle.cp_load.specs.declared.error.LoadError.TheVariants.{Refused};
+
+use crate::drafts::{Draft, all_finished};
+use crate::error::LoadError;
+use crate::input::Input;
+use crate::problems::problem_of;
+use cp_base::{Code, Place, Text};
+use cp_forms::{FirstFault, TopHead, headed, place_of, top_head};
+use cp_roles::protocol_of;
+use cp_scope::Taken;
+use cp_sexpr::Form;
+use cp_skel::Protocol;
+use std::alloc::{AllocError, Global};
+use std::rc::Rc;
+
+/// Puts the protocol with these items behind its head behind those above, which have these names.
+fn add_protocol(
+    alloc: Global,
+    above: &mut Vec<Rc<Protocol>>,
+    names: &mut Taken,
+    place: Place,
+    items: &[Form],
+    first: &mut FirstFault,
+) -> Result<(), AllocError>
+    requires { names.old ≡ names_of_protocols (protocols_view above.old.items) }
+    ensures faults { OnOk result (first.new ≡ first_onto first.old (protocol_faults (protocol_names (turned (protocols_view above.old.items) [])) place (map view items.now))) }
+    ensures protocols { OnOk result (protocols_view above.new.items ≡ protocols_view above.old.items ++ protocol_of (map view items.now) ∷ []) }
+    ensures names { OnOk result (names.new ≡ names_of_protocols (protocols_view above.new.items)) }
+{
+    let protocol = protocol_of(alloc, names, place, items, first)?;
+    let name = Text::new(alloc, protocol.name().as_str())?;
+    names.push(alloc, name)?;
+    let protocol = Rc::new(alloc, protocol)?;
+    above.push(protocol)?;
+    Ok(())
+}
+
+/// The problem that a form states, if it states one; a protocol that it states goes behind those above, which have these
+/// names. The error is that memory ran out.
+pub fn top_form(
+    alloc: Global,
+    above: &mut Vec<Rc<Protocol>>,
+    names: &mut Taken,
+    form: &Form,
+    first: &mut FirstFault,
+) -> Result<Option<Draft>, AllocError>
+    requires { names.old ≡ names_of_protocols (protocols_view above.old.items) }
+    ensures faults { OnOk result (first.new ≡ first_onto first.old (headed_top_faults (turned (protocols_view above.old.items) []) (place_of (view form.now)) (headed (view form.now)))) }
+    ensures problem { IfOk result (λ d. option_map draft_view d ≡ stated_problem (turned (protocols_view above.old.items) []) (headed (view form.now))) }
+    ensures protocols { OnOk result (protocols_view above.new.items ≡ protocols_view above.old.items ++ protocols_behind (headed (view form.now)) []) }
+    ensures names { OnOk result (names.new ≡ names_of_protocols (protocols_view above.new.items)) }
+{
+    let place = place_of(form);
+    let Some(list) = headed(form) else {
+        first.note(place, Code::BadShape);
+        return Ok(None);
+    };
+    match top_head(list.head) {
+        TopHead::Protocol => add_protocol(alloc, above, names, place, list.items, first)?,
+        TopHead::Problem => {
+            let draft = problem_of(alloc, above, place, list.items, first)?;
+            return Ok(Some(draft));
+        }
+        TopHead::Free => {}
+        TopHead::OutOfProfile => first.note(place, Code::OutOfProfile),
+        TopHead::Unknown => first.note(place, Code::UnknownForm),
+    }
+    Ok(None)
+}
+
+/// What forms state: their protocols in order, and for each form the draft of its problem.
+#[derive(Drop)]
+struct Stated {
+    protocols: Vec<Rc<Protocol>>,
+    drafts: Vec<Option<Draft>>,
+}
+
+/// What these forms state. What stands for forms with faults has no meaning.
+fn read_forms(alloc: Global, forms: &[Form], first: &mut FirstFault) -> Result<Stated, AllocError>
+    ensures faults { OnOk result (first.new ≡ first_onto first.old (faults_from [] (map view forms.now))) }
+    ensures problems { IfOk result (λ s. map (option_map draft_view) s.drafts.items ≡ map (λ e. e.problem) (entries_from [] (map view forms.now))) }
+    ensures counted { IfOk result (λ s. length s.drafts.items ≡ length forms.now) }
+    ensures protocols { IfOk result (λ s. protocols_view s.protocols.items ≡ protocols_in (map view forms.now)) }
+{
+    let mut protocols = Vec::new(alloc);
+    let mut names = Taken::new(alloc);
+    let mut drafts = Vec::new(alloc);
+    for form in forms {
+        let draft = top_form(alloc, &mut protocols, &mut names, form, first)?;
+        drafts.push(draft)?;
+    }
+    Ok(Stated { protocols, drafts })
+}
+
+/// What the forms state: the input, which keeps the forms, with its protocols and the problem of each form that states
+/// one. Forms with faults are refused, for the first fault by line, then by column, then by kind. The other error is
+/// want of memory.
+pub fn load<'a>(alloc: Global, forms: &'a [Form]) -> Result<Input<'a>, LoadError>
+    ensures input { IfOk result (λ i. IsInput (views forms.now) (Ok (entries_of i))) }
+    ensures forms { IfOk result (λ i. i.forms.now ≡ forms.now) }
+    ensures problems { IfOk result (λ i. length i.problems.items ≡ length forms.now) }
+    ensures protocols { IfOk result (λ i. protocols_view i.protocols.items ≡ protocols_of (views forms.now)) }
+    ensures refused { IfErr result (λ e. (r : Fault) → e ≡ Refused r → IsInput (views forms.now) (Err r)) }
+{
+    let mut first = FirstFault::new();
+    let Stated { protocols, drafts } = read_forms(alloc, forms, &mut first)?;
+    match first.found() {
+        Some(fault) => Err(LoadError::Refused(fault)),
+        None => Ok(Input {
+            forms,
+            protocols,
+            problems: all_finished(alloc, drafts)?,
+        }),
+    }
+}

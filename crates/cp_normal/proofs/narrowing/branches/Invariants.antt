@@ -1,6 +1,0 @@
-use Rattle.std.proofs.Common.{take}
-use Rattle.cp_normal.specs.Branched.{AreBranchesOf}
-use Rattle.cp_normal.proofs.narrowing.branches.Given as goal
-
-abbrev pub invariant-loop-atom : goal.invariant-loop-atom
-invariant-loop-atom l = AreBranchesOf l.form l.value (take l.atom-index l.atoms) l.branches.items

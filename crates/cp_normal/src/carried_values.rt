@@ -1,0 +1,58 @@
+// Non-originating values that nodes carry.
+ghost use Rattle.std.specs.Prelude.{◌≡◌, ◌↔◌, map, IsTrue, IfOk};
+ghost use Rattle.cp_model.specs.Term.{atom_term, IsCarriedByTerm};
+ghost use Rattle.cp_model.specs.Strand.{payload};
+ghost use Rattle.cp_strand.specs.View.{event_view};
+ghost use Rattle.cp_skel.specs.View.{skeleton_view};
+ghost use Rattle.cp_skel.specs.Events.{occurrence_view, events_of};
+ghost use Rattle.cp_collapse.specs.Property.{Has};
+ghost use Rattle.cp_normal.specs.Events.{CarriesOne};
+ghost use Rattle.cp_normal.specs.Findings.{CarriesNonOriginating};
+
+use cp_skel::{Atom, Occurrence, Skeleton};
+use cp_term::carries;
+use std::alloc::{AllocError, Global};
+
+/// Whether the event carries the value.
+pub(crate) fn carries_value(occurrence: &Occurrence, value: &Atom) -> bool
+    ensures { IsTrue result ↔ IsCarriedByTerm (atom_term value.now) (payload (event_view occurrence.now.event)) }
+{
+    carries(occurrence.event.payload(), value.as_term())
+}
+
+/// Whether the event carries one of the values.
+fn carries_one(occurrence: &Occurrence, values: &[Atom]) -> bool
+    ensures { IsTrue result ↔ CarriesOne values.now (occurrence_view occurrence.now) }
+{
+    for value in values {
+        if carries_value(occurrence, value) {
+            return true;
+        }
+    }
+    false
+}
+
+/// Whether some event carries one of the values.
+fn some_carries_one(occurrences: &[Occurrence], values: &[Atom]) -> bool
+    ensures { IsTrue result ↔ Has (λ o. CarriesOne values.now (occurrence_view o)) occurrences.now }
+{
+    occurrences
+        .iter()
+        .any(|occurrence| carries_one(occurrence, values))
+}
+
+/// Whether some node carries a non-originating value, where these are the events of the skeleton.
+pub(crate) fn some_carries_non_originating(k: &Skeleton, occurrences: &[Occurrence]) -> bool
+    requires listed { map occurrence_view occurrences.now ≡ events_of (skeleton_view k.now) }
+    ensures { IsTrue result ↔ CarriesNonOriginating (skeleton_view k.now) }
+{
+    some_carries_one(occurrences, k.assumptions().non_originating())
+}
+
+/// Whether some node, of a role strand or a listener, carries a non-originating value. The error is that memory ran out.
+pub fn carries_non_originating(alloc: Global, k: &Skeleton) -> Result<bool, AllocError>
+    ensures { IfOk result (λ found. IsTrue found ↔ CarriesNonOriginating (skeleton_view k.now)) }
+{
+    let occurrences = k.events(alloc)?;
+    Ok(some_carries_non_originating(k, &occurrences))
+}

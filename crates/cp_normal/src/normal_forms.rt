@@ -1,0 +1,109 @@
+// Normal forms of a skeleton.
+ghost use Rattle.std.specs.Prelude.{◌≡◌, map, IfOk, OnOk};
+ghost use Rattle.cp_lists.specs.Lists.{IsIn};
+ghost use Rattle.cp_model.specs.Skeleton.{Skeleton as Plain, IsSkeleton};
+ghost use Rattle.cp_model.specs.Strand.{Protocol};
+ghost use Rattle.cp_completeness.specs.Normal.{LosesNoStanding};
+ghost use Rattle.cp_skel.specs.View.{skeleton_view};
+ghost use Rattle.cp_skel.specs.Data.{SkeletonData};
+ghost use Rattle.cp_normal.specs.BySubstitution.{ComeBySubstitutions};
+ghost use Rattle.cp_collapse.specs.Property.{Has};
+ghost use Rattle.cp_normal.specs.Candidates.{form_of, IsOpen, PutsForm, AreForms};
+ghost use Rattle.cp_normal.specs.Exact.{HasForms};
+ghost use Rattle.cp_normal.specs.Formed.{AreFormsBeside};
+ghost use Rattle.cp_normal.specs.NormalForms.{IsNormalFormOf};
+
+use crate::candidates::{Candidate, round, some_is_open};
+use crate::form::Form;
+use cp_skel::Skeleton;
+use cp_unify::Subst;
+use std::alloc::{AllocError, Global};
+
+/// Puts the normal form of a candidate in which no unique value strays behind others.
+fn add_form(alloc: Global, candidate: Candidate, forms: &mut Vec<Form>) -> Result<(), AllocError>
+    requires { IsOpen candidate → ⊥ }
+    ensures { OnOk result (PutsForm (form_of candidate) forms.old.items forms.new.items) }
+{
+    match candidate {
+        Candidate::Open(_) => unreachable!(),
+        Candidate::Settled(settled) => {
+            forms.push(settled.into_normal_form(alloc)?)?;
+            Ok(())
+        }
+    }
+}
+
+/// The normal forms of candidates in which no unique value strays, in their order.
+fn forms_of(alloc: Global, candidates: Vec<Candidate>) -> Result<Vec<Form>, AllocError>
+    requires { Has IsOpen candidates.items → ⊥ }
+    ensures { IfOk result (λ forms. AreForms candidates.items forms.items) }
+{
+    let mut rest = candidates;
+    rest.reverse();
+    let mut forms = Vec::with_capacity(alloc, rest.len())?;
+    while let Some(candidate) = rest.pop() {
+        add_form(alloc, candidate, &mut forms)?;
+    }
+    Ok(forms)
+}
+
+/// The normal forms of a skeleton, in the order in which `normalise` gives them, each with what a substitution has become:
+/// the given one, followed by the one by which the normal form comes from the skeleton, whatever the bundle that this stands
+/// in. So terms that the given substitution makes terms of the skeleton are made terms of the normal form.
+///
+/// The error is that memory ran out.
+pub fn normalise_beside(alloc: Global, k: Skeleton, beside: &Subst) -> Result<Vec<Form>, AllocError>
+    ensures forms { IfOk result (λ fs. AreFormsBeside k beside.now fs.items) }
+{
+    let substitution = beside.copy(alloc)?;
+    let first = Form {
+        skeleton: k,
+        substitution,
+    };
+    let mut alone = Vec::with_capacity(alloc, 1)?;
+    alone.push(Candidate::Open(first))?;
+    let mut candidates = alone;
+    while some_is_open(&candidates) {
+        candidates = round(alloc, candidates)?;
+    }
+    forms_of(alloc, candidates)
+}
+
+/// The skeletons of forms, in their order.
+fn skeletons_of(alloc: Global, forms: Vec<Form>) -> Result<Vec<Skeleton>, AllocError>
+    ensures { IfOk result (λ ks. ks.items ≡ map (λ f. f.skeleton) forms.items) }
+{
+    let mut rest = forms;
+    rest.reverse();
+    let mut skeletons = Vec::with_capacity(alloc, rest.len())?;
+    while let Some(form) = rest.pop() {
+        let Form { skeleton, .. } = form;
+        skeletons.push(skeleton)?;
+    }
+    Ok(skeletons)
+}
+
+/// The normal forms of a skeleton. The rules are tried in order, from the start after each change. There is no normal
+/// form where some node carries a non-originating value, or where a unique value has two recorded origins or does not
+/// originate at its own. Where a unique value originates at a node of a role strand that is not its recorded origin, each
+/// atom that a reception of that strand before the node carries, and that unifies with the value, gives a branch: the
+/// skeleton under the most general unifier of the two, where of two variables the later becomes the earlier; the normal
+/// forms are those of the branches, one after the other. Of several such values the first is taken, by the node's strand,
+/// then its index, then the order in which a report lists unique values: the problem's own first, then those that the
+/// strands' roles give, strand by strand, and at last any others. The atoms are taken in the order of the receptions and
+/// then of their positions, each once. At last the pairs from recorded origins to receptions of other strands that carry
+/// the value are added; where they close a cycle, there is no normal form. Equal normal forms are kept. Each normal form is
+/// the skeleton under one substitution, whatever the bundle that it stands in, with the pairs that are added.
+///
+/// The error is that memory ran out.
+pub fn normalise(alloc: Global, k: Skeleton) -> Result<Vec<Skeleton>, AllocError>
+    ensures forms { IfOk result (λ ks. (r : Plain) → IsIn r (map skeleton_view ks.items) → IsNormalFormOf (skeleton_view k) r) }
+    ensures loses_none { IfOk result (λ ks. (protocol : Protocol) → IsSkeleton protocol (skeleton_view k) → LosesNoStanding protocol (skeleton_view k) (map skeleton_view ks.items)) }
+    ensures exact { IfOk result (λ ks. HasForms (skeleton_view k) (map skeleton_view ks.items)) }
+    ensures by_substitutions { IfOk result (λ ks. (protocol : Protocol) → IsSkeleton protocol (skeleton_view k) → ComeBySubstitutions protocol (skeleton_view k) (map skeleton_view ks.items)) }
+    ensures variables { IfOk result (λ ks. (r : SkeletonData) → IsIn r ks.items → r.variables ≡ k.variables) }
+{
+    let nothing = Subst::new(alloc);
+    let forms = normalise_beside(alloc, k, &nothing)?;
+    skeletons_of(alloc, forms)
+}

@@ -1,0 +1,79 @@
+// Skeletons in which no unique value strays, each with the pairs of its normal form.
+ghost use Rattle.std.specs.Prelude.{◌≡◌, map, IfOk, MatchOption};
+ghost use Rattle.cp_skel.specs.Events.{occurrence_view, events_of};
+ghost use Rattle.cp_normal.specs.Findings.{IsContradictory};
+ghost use Rattle.cp_normal.specs.Branches.{IsSettled};
+ghost use Rattle.cp_normal.specs.Candidates.{IsFormOf};
+ghost use Rattle.cp_normal.specs.Exact.{IsRefuted};
+ghost use Rattle.cp_normal.specs.FormView.{form_view};
+
+use crate::form::Form;
+use crate::normal::normal_pairs_among;
+use cp_skel::{Occurrence, OrderPair};
+use std::alloc::{AllocError, Global};
+use std::marker::Model;
+
+/// A skeleton that does not contradict itself and in which no unique value strays, with its substitution. Beside it stand
+/// the pairs of its normal form, found when its events were listed; contracts see the skeleton and the substitution alone.
+#[derive(Drop)]
+pub(crate) struct Settled {
+    form: Form,
+    pairs: Vec<OrderPair>,
+}
+
+impl Model for Settled {
+    ghost use Rattle.cp_normal.specs.declared.form.Form as program;
+    ghost use Rattle.cp_normal.specs.contracts.form.Form as row;
+
+    ghost Value = { program.Form };
+
+    ghost coded = { row.the_row.coded };
+
+    ghost view = { λ s. s.form };
+
+    ghost use Rattle.cp_normal.specs.Branches.{IsSettled};
+    ghost use Rattle.cp_normal.specs.FormView.{form_view};
+    ghost use Rattle.cp_normal.specs.Findings.{IsNormalised};
+    ghost use Rattle.std.specs.Prelude.{Some};
+
+    ghost invariant = { λ s. IsSettled (form_view s.form) × IsNormalised (form_view s.form) (Some s.pairs.items) };
+}
+
+impl Settled {
+    /// A skeleton in which no unique value strays, with its substitution, where these are its events and its assumptions do
+    /// not contradict what its nodes carry; none where it contradicts itself all the same. The error is that memory ran out.
+    pub(crate) fn new(
+        alloc: Global,
+        form: Form,
+        occurrences: &[Occurrence],
+    ) -> Result<Option<Settled>, AllocError>
+        requires listed { map occurrence_view occurrences.now ≡ events_of (form_view form) }
+        requires consistent { IsRefuted (form_view form) → ⊥ }
+        requires settled { IsSettled (form_view form) }
+        ensures { IfOk result (λ found. MatchOption found
+            (IsContradictory (form_view form))
+            (λ s. s ≡ form)) }
+    {
+        match normal_pairs_among(alloc, &form.skeleton, occurrences)? {
+            Some(pairs) => Ok(Some(Settled { form, pairs })),
+            None => Ok(None),
+        }
+    }
+
+    /// Its normal form. The error is that memory ran out.
+    pub(crate) fn into_normal_form(self, alloc: Global) -> Result<Form, AllocError>
+        ensures { IfOk result (λ r. IsFormOf self r) }
+    {
+        let Settled { form, pairs } = self;
+        let Form {
+            skeleton,
+            substitution,
+        } = form;
+        skeleton.is_sound();
+        let skeleton = skeleton.with_pairs(alloc, pairs)?;
+        Ok(Form {
+            skeleton,
+            substitution,
+        })
+    }
+}

@@ -1,0 +1,43 @@
+-- Covering pairs.
+use Rattle.std.proofs.Common.{◌≡◌, ℕ, zero, suc, ◌&&◌, ◌==◌, List, [], ◌∷◌, ◌++◌, length, map, take, min, Bool, true, false, refl, ap, ◌∙◌, arith, if◌then◌else◌}
+use Rattle.std.specs.Prelude.{not, nat_le}
+use Rattle.std.proofs.lemmas.List.{length-map}
+use Rattle.cp_model.specs.Bundle.{node_at}
+use Rattle.cp_model.specs.declared.node.Node.{Node}
+use Rattle.cp_model.specs.Strand.{Event}
+use Rattle.cp_model.specs.Term.{Term}
+use Rattle.cp_language.specs.Printed.{plain_list}
+use Rattle.cp_language.specs.Report.{node_form, nodes_on, is_before, any_node, is_covering, covering_with, covering_from}
+use Rattle.cp_print.specs.Order.{nodes_counted}
+
+no_cover : (b c d e : Bool) → (not b && (not (b && c) && (b && d)) && e) ≡ false
+no_cover true c d e = refl
+no_cover false c d e = refl
+
+module _ (nodes : List Node) where
+  none_covering : (x y : Node) → is_covering [] nodes x y ≡ false
+  none_covering x y = no_cover (x.strand == y.strand) (x.index == y.index) (nat_le x.index y.index) (not (any_node (λ z. is_before [] x z && is_before [] z y) nodes))
+
+  none_with : (x : Node) (ys : List Node) → covering_with [] nodes x ys ≡ []
+  none_with x [] = refl
+  none_with x (y ∷ ys) =
+      ap (λ (b : Bool). if b then plain_list (node_form x ∷ node_form y ∷ []) ∷ covering_with [] nodes x ys else covering_with [] nodes x ys) (none_covering x y) ∙ none_with x ys
+
+  none_from : (xs : List Node) → covering_from [] nodes xs ≡ []
+  none_from [] = refl
+  none_from (x ∷ xs) = ap (λ fs. fs ++ covering_from [] nodes xs) (none_with x nodes) ∙ none_from xs
+
+-- without pairs nothing is covered
+pub none_cover : (nodes : List Node) → covering_from [] nodes nodes ≡ []
+none_cover nodes = none_from nodes nodes
+
+pub length_min : {A B : Type 0} (f : A → B) (n : ℕ) (xs : List A) → length (map f (take n xs)) ≡ min n (length xs)
+length_min f zero xs = omega arith
+length_min f (suc n) [] = omega arith
+length_min f (suc n) (x ∷ xs) = let h = length_min f n xs in omega arith
+
+pub ruleset lengths = (length_min, length-map)
+
+pub nodes_are : (s i : ℕ) (es : List (Event Term)) → nodes_on s i es ≡ nodes_counted s i (length es)
+nodes_are s i [] = refl
+nodes_are s i (e ∷ es) = ap (λ ns. node_at s i ∷ ns) (nodes_are s (suc i) es)

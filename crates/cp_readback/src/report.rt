@@ -1,0 +1,204 @@
+// From forms to the report that they are.
+ghost use Rattle.std.specs.Prelude.{◌≡◌, [], length, map, option_map, None, Ok, Err, IfOk, IfErr, OnOk};
+ghost use Rattle.cp_base.specs.declared.place.Place.{Place as Where};
+ghost use Rattle.cp_sexpr.specs.View.{view, views};
+ghost use Rattle.cp_language.specs.Input.{faults_from};
+ghost use Rattle.cp_language.specs.StatedInput.{protocols_in};
+ghost use Rattle.cp_forms.specs.FirstFault as fault;
+ghost use Rattle.cp_roles.specs.Above.{protocols_view};
+ghost use Rattle.cp_skel.specs.Trees.{tree_view};
+ghost use Rattle.cp_load.specs.Drafts.{draft_view};
+ghost use Rattle.cp_report.specs.ReadBack.{IsReadBack, sections_of, next_place, first_place, trees_misfits, misfits};
+ghost use Rattle.cp_variables.specs.FirstMisfit.{first_onto, merged};
+ghost use Rattle.cp_readback.specs.Sections.{section_view};
+ghost use Rattle.cp_readback.specs.Reports.{report_view, forms_in, problems_stated, drafts_view, problem_at, trees_by, HaveTrees};
+ghost use Rattle.cp_readback.specs.declared.error.ReadBackError.TheVariants.{NotReport};
+
+use crate::error::ReadBackError;
+use crate::sections::{Section, Sections, sections_of};
+use cp_base::Place;
+use cp_forms::{FirstFault, place_of};
+use cp_load::{Draft, Problem, all_finished, top_form};
+use cp_reading::{behind_misfits, none_may_stand, tree_of};
+use cp_scope::Taken;
+use cp_sexpr::Form;
+use cp_skel::{Protocol, Tree};
+use cp_variables::FirstMisfit;
+use std::alloc::{AllocError, Global};
+use std::rc::Rc;
+
+/// A report: the forms of its input, its protocols in order, and for each form the problem that it states, if it states
+/// one; and a tree for each problem, in their order.
+#[derive(Drop)]
+pub struct Report<'a> {
+    pub forms: Vec<&'a Form>,
+    pub protocols: Vec<Rc<Protocol>>,
+    pub problems: Vec<Option<Problem>>,
+    pub trees: Vec<Tree>,
+}
+
+/// What the forms of the input state: their protocols in order, and for each form the draft of its problem.
+#[derive(Drop)]
+struct Stated {
+    protocols: Vec<Rc<Protocol>>,
+    drafts: Vec<Option<Draft>>,
+}
+
+/// The forms of the input with what stands behind each, what they state, and the first place at which the forms are no report,
+/// if there is one.
+#[derive(Drop)]
+struct Judged<'a> {
+    sections: Vec<Section<'a>>,
+    protocols: Vec<Rc<Protocol>>,
+    drafts: Vec<Option<Draft>>,
+    misfit: Option<Place>,
+}
+
+/// The place of the form of the input that follows; where none does, that of the first form.
+fn next_place(first: Place, following: &[Section<'_>]) -> Place
+    ensures { result ≡ next_place first (map section_view following.now) }
+{
+    match following {
+        [] => first,
+        [section, ..] => place_of(section.form),
+    }
+}
+
+/// The place of the first form; where there is none, that of the first byte of a text.
+fn first_place(forms: &[Form]) -> Place
+    ensures { result ≡ first_place (map view forms.now) }
+{
+    match forms {
+        [] => Place { line: 1, col: 1 },
+        [form, ..] => place_of(form),
+    }
+}
+
+/// What the forms of the input state, with the first of their faults, and the first misfit of what stands behind them, where
+/// the first form of all stands here. What stands for forms with faults has no meaning.
+fn stated_in(
+    alloc: Global,
+    start: Place,
+    sections: &[Section<'_>],
+    faults: &mut FirstFault,
+    first: &mut FirstMisfit,
+) -> Result<Stated, AllocError>
+    ensures faults { OnOk result (faults.new ≡ fault.first_onto faults.old (faults_from [] (forms_in (map section_view sections.now)))) }
+    ensures misfits { OnOk result (first.new ≡ first_onto first.old (trees_misfits start [] (map section_view sections.now))) }
+    ensures problems { IfOk result (λ s. drafts_view s.drafts.items ≡ problems_stated (map section_view sections.now)) }
+    ensures protocols { IfOk result (λ s. protocols_view s.protocols.items ≡ protocols_in (forms_in (map section_view sections.now))) }
+{
+    let mut protocols = Vec::new(alloc);
+    let mut names = Taken::new(alloc);
+    let mut drafts = Vec::new(alloc);
+    for (place, section) in sections.iter().enumerate() {
+        let draft = top_form(alloc, &mut protocols, &mut names, section.form, faults)?;
+        let (_, following) = sections.split_at(place + 1);
+        let next = next_place(start, following);
+        behind_misfits(alloc, draft.as_ref(), next, section.behind, first)?;
+        drafts.push(draft)?;
+    }
+    Ok(Stated { protocols, drafts })
+}
+
+/// Takes notice of the place of the first fault, if there was one.
+fn note_fault(faults: FirstFault, first: &mut FirstMisfit)
+    ensures { first.new ≡ merged first.old (option_map (λ r. r.place) faults) }
+{
+    if let Some(fault) = faults.found() {
+        first.note(fault.place);
+    }
+}
+
+/// Forms by those of the input, with what these state, and the first place at which they are no report.
+fn judge(alloc: Global, forms: &[Form]) -> Result<Judged<'_>, AllocError>
+    ensures sections { IfOk result (λ j. map section_view j.sections.items ≡ (sections_of (map view forms.now)).sections) }
+    ensures problems { IfOk result (λ j. drafts_view j.drafts.items ≡ problems_stated (sections_of (map view forms.now)).sections) }
+    ensures protocols { IfOk result (λ j. protocols_view j.protocols.items ≡ protocols_in (forms_in (sections_of (map view forms.now)).sections)) }
+    ensures misfit { IfOk result (λ j. j.misfit ≡ first_onto None (misfits (views forms.now))) }
+{
+    let Sections { front, sections } = sections_of(alloc, forms)?;
+    let mut faults = FirstFault::new();
+    let mut first = FirstMisfit::new();
+    none_may_stand(front, &mut first);
+    let start = first_place(forms);
+    let Stated { protocols, drafts } = stated_in(alloc, start, &sections, &mut faults, &mut first)?;
+    note_fault(faults, &mut first);
+    let misfit = first.found();
+    Ok(Judged {
+        sections,
+        protocols,
+        drafts,
+        misfit,
+    })
+}
+
+/// The draft at a place, if there is such a place and it has one.
+fn draft_at(drafts: &[Option<Draft>], place: usize) -> Option<&Draft>
+    ensures { option_map (λ d. draft_view d.now) result ≡ problem_at (drafts_view drafts.now) place }
+{
+    match drafts.get(place) {
+        Some(draft) => draft.as_ref(),
+        None => None,
+    }
+}
+
+/// The trees that stand behind the forms that state the problems of these drafts.
+fn trees_of(
+    alloc: Global,
+    sections: &[Section<'_>],
+    drafts: &[Option<Draft>],
+) -> Result<Vec<Tree>, AllocError>
+    requires trees { HaveTrees (drafts_view drafts.now) (map section_view sections.now) }
+    ensures { IfOk result (λ ts. map tree_view ts.items ≡ trees_by (drafts_view drafts.now) (map section_view sections.now)) }
+{
+    let mut trees = Vec::new(alloc);
+    for (place, section) in sections.iter().enumerate() {
+        let Some(problem) = draft_at(drafts, place) else {
+            continue;
+        };
+        let tree = tree_of(alloc, problem, section.behind)?;
+        trees.push(tree)?;
+    }
+    Ok(trees)
+}
+
+/// The forms of the input.
+fn forms_of<'a>(alloc: Global, sections: &[Section<'a>]) -> Result<Vec<&'a Form>, AllocError>
+    ensures { IfOk result (λ v. map (λ f. view f.now) v.items ≡ forms_in (map section_view sections.now)) }
+{
+    let mut forms = Vec::new(alloc);
+    for section in sections {
+        forms.push(section.form)?;
+    }
+    Ok(forms)
+}
+
+/// The report that forms are: the forms of its input with what they state, and a tree for each problem. Forms that are no
+/// report are refused, at the first place at which they fit none, by line and then by column. The other error is want of
+/// memory.
+pub fn read_back<'a>(alloc: Global, forms: &'a [Form]) -> Result<Report<'a>, ReadBackError>
+    ensures read { IfOk result (λ r. IsReadBack (views forms.now) (Ok (report_view r))) }
+    ensures problems { IfOk result (λ r. length r.problems.items ≡ length r.forms.items) }
+    ensures protocols { IfOk result (λ r. protocols_view r.protocols.items ≡ protocols_in (map (λ f. view f.now) r.forms.items)) }
+    ensures refused { IfErr result (λ e. (p : Where) → e ≡ NotReport p → IsReadBack (views forms.now) (Err p)) }
+{
+    let Judged {
+        sections,
+        protocols,
+        drafts,
+        misfit,
+    } = judge(alloc, forms)?;
+    if let Some(place) = misfit {
+        return Err(ReadBackError::NotReport(place));
+    }
+    let trees = trees_of(alloc, &sections, &drafts)?;
+    let forms = forms_of(alloc, &sections)?;
+    let problems = all_finished(alloc, drafts)?;
+    Ok(Report {
+        forms,
+        protocols,
+        problems,
+        trees,
+    })
+}

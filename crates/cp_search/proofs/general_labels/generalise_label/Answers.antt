@@ -1,0 +1,33 @@
+use Rattle.std.proofs.Common.{◌≡◌}
+use Rattle.cp_skel.specs.View.{skeleton_view}
+use Rattle.cp_general.specs.Generalisation.{GeneralisesTo}
+use Rattle.cp_search.proofs.LabelGeneralised.{ends_most_general, of_some, known_own, found_own, found_other}
+use Rattle.cp_search.proofs.general_labels.generalise_label.Goals as goal
+
+pub returns-then-label : goal.returns-then-label
+returns-then-label c =
+    let label = c.label-label.result.now in
+    known_own c.args.number c.args.made.now label c.label-label.ensures c.requires.found c.if-label.true
+
+pub returns-in_default : goal.returns-in_default
+returns-in_default c =
+    let label = c.label-label.result.now in
+    found_own c.args.number c.args.made.now label c.label-label.ensures c.in_ok-skeleton.field-0 c.in_ok-skeleton.ensures.none c.in_default.is
+
+pub make-requires : goal.make-requires
+make-requires c =
+    let label = c.label-label.result.now in
+    record {
+      found = c.requires.found;
+      parent = c.requires.there;
+      general = λ _. ends_most_general (of_some c.in_ok-skeleton.field-0 c.in-Some.skeleton (λ g. GeneralisesTo (skeleton_view label.skeleton) (skeleton_view g)) c.in_ok-skeleton.ensures.some c.in-Some.is);
+    }
+
+pub returns : goal.returns
+returns c =
+    let label = c.label-label.result.now in
+    let g = c.in-Some.skeleton in
+    found_other c.args.number c.len-child.result c.args.made.now c.make.new.made label g c.label-label.ensures c.if-label.false
+    (of_some c.in_ok-skeleton.field-0 g (λ g. GeneralisesTo (skeleton_view label.skeleton) (skeleton_view g)) c.in_ok-skeleton.ensures.some c.in-Some.is)
+    (of_some c.in_ok-skeleton.field-0 g (λ g. g.variables ≡ label.skeleton.variables) c.in_ok-skeleton.ensures.variables c.in-Some.is)
+    c.in_ok-make.ensures.made c.in_ok-make.ensures.general c.generalised_labels_are_sound.ensures c.len-child.ensures

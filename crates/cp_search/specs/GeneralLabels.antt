@@ -1,0 +1,44 @@
+-- Labels that generalise to others, and what becomes of labels that are not expanded.
+use Rattle.std.specs.Prelude.{◌≡◌, ℕ, List, length, true, false, Option, Some, None}
+use Rattle.cp_lists.specs.Lists.{item_at}
+use Rattle.cp_model.specs.Strand.{Protocol}
+use Rattle.cp_model.specs.Skeleton.{Skeleton}
+use Rattle.cp_skel.specs.View.{skeleton_view}
+use Rattle.cp_skel.specs.Trees.{variables_view}
+use Rattle.cp_skel.specs.declared.tree.Mark.{Mark}
+use Rattle.cp_general.specs.Generalisation.{IsMostGeneral, GeneralisesTo}
+use Rattle.cp_tree.specs.Made.{made_of_generalisation}
+use Rattle.cp_search.specs.declared.made.Made.{Made}
+use Rattle.cp_search.specs.declared.settled.Settled.{Settled}
+use Rattle.cp_search.specs.declared.settled.Settled.TheVariants as settled
+use Rattle.cp_search.specs.MadeLabels.{AddsMade, AddsGeneral}
+use Rattle.cp_search.specs.SettledLabels.{AreSoundMade}
+
+-- No step of generalising applies to label i.
+pub record IsOwnGeneralisation (i : ℕ) (ms : List Made) : Type 0 where
+  pub label : Made
+  pub at : item_at ms i ≡ Some label
+  pub most_general : IsMostGeneral (skeleton_view label.skeleton)
+
+-- What label i generalises to is made behind the other labels, and known to generalise no further. It is sound where these are.
+pub record Generalises (i : ℕ) (old new : List Made) : Type 0 where
+  pub label : Made
+  pub at : item_at old i ≡ Some label
+  pub unknown : label.general ≡ false
+  pub skeleton : Skeleton
+  pub generalises : GeneralisesTo (skeleton_view label.skeleton) skeleton
+  pub made : AddsMade (made_of_generalisation i (variables_view label.skeleton.variables) skeleton) old new
+  pub general : AddsGeneral true old new
+  pub sound : (protocol : Protocol) → label.dead ≡ false → AreSoundMade protocol old → AreSoundMade protocol new
+
+-- The label of what label i generalises to has this number; or no step applies to label i, and no label is made.
+abbrev pub GeneralisesLabel : ℕ → List Made → List Made → Option ℕ → Type 0
+GeneralisesLabel i old new None = IsOwnGeneralisation i old × (new ≡ old)
+GeneralisesLabel i old new (Some child) = Generalises i old new × (child ≡ length old)
+
+-- What becomes of label i where it is not expanded: a leaf with this mark; where that is open no step of generalising applies to
+-- the label, and else it generalises to one that is made behind the others.
+abbrev pub SettlesAs : ℕ → List Made → List Made → Option Mark → Settled → Type 0
+SettlesAs i old new mark (settled.Leaf own) = (own ≡ mark) × (new ≡ old) × (mark ≡ None → IsOwnGeneralisation i old)
+SettlesAs i old new mark (settled.Generalised child) = (mark ≡ None) × (child ≡ length old) × Generalises i old new
+SettlesAs i old new mark (settled.Expanded e) = ⊥

@@ -1,0 +1,170 @@
+// Labels that are settled one after the other.
+ghost use Rattle.std.specs.Prelude.{◌≡◌, ◌≢◌, ◌<◌, ◌≤◌, ◌+◌, ℕ, List, [], length, map, true, false, IfOk, OnOk, Option, Some, None};
+ghost use Rattle.cp_lists.specs.Lists.{item_at};
+ghost use Rattle.cp_model.specs.Strand.{Protocol as PlainProtocol};
+ghost use Rattle.cp_skel.specs.Trees.{limits_view};
+ghost use Rattle.cp_tree.specs.Made as plain;
+ghost use Rattle.cp_search.specs.declared.made.Made as program;
+ghost use Rattle.cp_search.specs.Roots.{root_made};
+ghost use Rattle.cp_search.specs.MadeLabels.{AreFound};
+ghost use Rattle.cp_search.specs.GeneralLabels.{SettlesAs};
+ghost use Rattle.cp_search.specs.SettledLabels.{IsLeafOf, IsToExpand, IsNextToExpand, ExpandsLabel, HasSearched, AreSoundMade, AreSoundRoots};
+
+use crate::children::make_children;
+use crate::general_labels::generalise_label;
+use crate::labels::Labels;
+use crate::made::Made;
+use crate::roots::make_roots;
+use crate::settled::{Expanded, Settled};
+use cp_expansion::{Expansion, expand, test_of};
+use cp_roots::Root;
+use cp_skel::{Limits, Mark, Protocol};
+use cp_tree::expansions_are_sound;
+use std::alloc::{AllocError, Global};
+
+/// The labels that were made, what has become of the first of them, and how many of those were expanded.
+#[derive(Drop)]
+pub(crate) struct Search {
+    pub made: Labels,
+    pub settled: Vec<Settled>,
+    pub expanded: usize,
+}
+
+/// What a label becomes where it is not expanded, when so many were expanded: a leaf with a mark, which is open where all receptions
+/// of the label can be derived.
+fn leaf_of(label: &Made, limits: Limits, expanded: usize) -> Option<Option<Mark>>
+    ensures { IsLeafOf (limits_view limits) label.now expanded result }
+{
+    if label.dead {
+        return Some(Some(Mark::Dead));
+    }
+    if let Some(number) = label.seen_in {
+        return Some(Some(Mark::Seen(number)));
+    }
+    if label.unrealised.is_empty() {
+        return Some(None);
+    }
+    if label.skeleton.strands().len() > limits.strands as usize {
+        return Some(Some(Mark::LimitStrands));
+    }
+    if expanded >= limits.steps as usize {
+        return Some(Some(Mark::LimitSteps));
+    }
+    None
+}
+
+/// What becomes of a label that is not expanded: a leaf with this mark; but where that is open, and a step of generalising applies
+/// to the label, the label of what it generalises to is made behind the others.
+fn settle_leaf(
+    alloc: Global,
+    made: &mut Labels,
+    number: usize,
+    mark: Option<Mark>,
+) -> Result<Settled, AllocError>
+    requires found { AreFound made.old }
+    requires there { number < length made.old }
+    ensures { IfOk result (SettlesAs number made.old made.new mark) }
+{
+    if mark.is_some() {
+        return Ok(Settled::Leaf(mark));
+    }
+    let Some(child) = generalise_label(alloc, made, number)? else {
+        return Ok(Settled::Leaf(None));
+    };
+    Ok(Settled::Generalised(child))
+}
+
+/// Settles the labels up to the next one that is to be expanded. Whether there is one.
+fn settle_leaves(alloc: Global, limits: Limits, search: &mut Search) -> Result<bool, AllocError>
+    requires found { AreFound search.old.made }
+    ensures searched { OnOk result ((protocol : PlainProtocol) (made : List plain.Made) → HasSearched protocol (limits_view limits) made search.old → HasSearched protocol (limits_view limits) made search.new) }
+    ensures next { IfOk result (λ some. some ≡ true → IsNextToExpand (limits_view limits) search.new) }
+    ensures all { IfOk result (λ some. some ≡ false → length search.old.settled.items ≤ length search.old.made → length search.new.settled.items ≡ length search.new.made) }
+    ensures expanded { search.new.expanded ≡ search.old.expanded }
+{
+    while search.settled.len() < search.made.len() {
+        let next = search.settled.len();
+        let Some(mark) = leaf_of(search.made.label(next), limits, search.expanded) else {
+            return Ok(true);
+        };
+        let settled = settle_leaf(alloc, &mut search.made, next, mark)?;
+        search.settled.push(settled)?;
+    }
+    Ok(false)
+}
+
+/// Expands a label: makes the labels of the children of its test behind the others.
+fn expand_label(
+    alloc: Global,
+    protocol: &Protocol,
+    made: &mut Labels,
+    number: usize,
+) -> Result<Expanded, AllocError>
+    requires there { number < length made.old }
+    requires found { AreFound made.old }
+    requires sound { AreSoundMade protocol.now made.old }
+    requires unrealised { (m : program.Made) → item_at made.old number ≡ Some m → (m.dead ≡ false) × (m.unrealised.items ≢ []) }
+    ensures { IfOk result (ExpandsLabel protocol.now number made.old made.new) }
+{
+    expansions_are_sound();
+    protocol.is_sound();
+    let label = made.label(number);
+    let Some(test) = test_of(alloc, &label.skeleton, &label.unrealised)? else {
+        unreachable!()
+    };
+    let Expansion {
+        skeleton,
+        patterns,
+        children,
+    } = expand(alloc, protocol, &label.skeleton, &test)?;
+    let children = make_children(alloc, made, number, children)?;
+    Ok(Expanded {
+        skeleton,
+        test,
+        patterns,
+        children,
+    })
+}
+
+/// Expands the next label.
+fn expand_next(
+    alloc: Global,
+    protocol: &Protocol,
+    limits: Limits,
+    search: &mut Search,
+) -> Result<(), AllocError>
+    requires next { IsNextToExpand (limits_view limits) search.old }
+    requires found { AreFound search.old.made }
+    requires sound { AreSoundMade protocol.now search.old.made }
+    ensures searched { OnOk result ((made : List plain.Made) → HasSearched protocol.now (limits_view limits) made search.old → HasSearched protocol.now (limits_view limits) made search.new) }
+    ensures expanded { OnOk result (search.new.expanded ≡ search.old.expanded + 1) }
+{
+    let number = search.settled.len();
+    let expanded = expand_label(alloc, protocol, &mut search.made, number)?;
+    search.settled.push(Settled::Expanded(expanded))?;
+    search.expanded += 1;
+    Ok(())
+}
+
+/// Makes the labels of the roots, and settles all labels in ascending order. The error is that memory ran out.
+pub(crate) fn search_from(
+    alloc: Global,
+    protocol: &Protocol,
+    limits: Limits,
+    roots: Vec<Root>,
+) -> Result<Search, AllocError>
+    requires sound { AreSoundRoots protocol.now roots.items }
+    ensures searched { IfOk result (HasSearched protocol.now (limits_view limits) (map root_made roots.items)) }
+    ensures all { IfOk result (λ s. length s.settled.items ≡ length s.made) }
+{
+    let made = make_roots(alloc, roots)?;
+    let mut search = Search {
+        made,
+        settled: Vec::new(alloc),
+        expanded: 0,
+    };
+    while settle_leaves(alloc, limits, &mut search)? {
+        expand_next(alloc, protocol, limits, &mut search)?;
+    }
+    Ok(search)
+}

@@ -1,9 +1,0 @@
-use Rattle.std.proofs.Common.{◌≡◌, ◌++◌, drop}
-use Rattle.cp_model.specs.Homomorphism.{substitution_by}
-use Rattle.cp_model.specs.Given.{applying, atoms_onto}
-use Rattle.cp_skel.proofs.giving.missing_atoms.Given as goal
-
-abbrev pub invariant-loop-atom : goal.invariant-loop-atom
-invariant-loop-atom l =
-    atoms_onto (l.old ++ l.more.items) (applying l.instance.role l.instance.height (substitution_by l.instance.values) (drop l.atom-index l.stated))
-    ≡ atoms_onto l.old (applying l.instance.role l.instance.height (substitution_by l.instance.values) l.stated)

@@ -1,0 +1,68 @@
+// Skeletons without one of their strands.
+ghost use Rattle.std.specs.Prelude.{◌≡◌, ◌<◌, length, IfOk, OnOk, OnErr};
+ghost use Rattle.std.specs.List.{remove};
+ghost use Rattle.cp_lists.specs.Lists.{IsIn};
+ghost use Rattle.cp_order.specs.Closed.{IsClosed};
+ghost use Rattle.cp_skel.specs.View.{skeleton_view};
+ghost use Rattle.cp_skel.specs.Deletion.{ForgetsAssumptions, KeepsFromProblem, KeepsOrderOfOthers};
+
+use crate::assumptions::Assumptions;
+use crate::assumptions_left::assumptions_without;
+use crate::bridges::pairs_without;
+use crate::from_problem::FromProblem;
+use crate::new_numbers::{left_without, strands_renumbered};
+use crate::skeleton::Skeleton;
+use cp_order::Order;
+use cp_strand::{copy_atoms, copy_terms};
+use std::alloc::{AllocError, Global};
+
+/// The way from the problem where a strand is gone.
+fn from_problem_without(
+    alloc: Global,
+    from: &FromProblem,
+    gone: usize,
+) -> Result<FromProblem, AllocError>
+    ensures { IfOk result (λ p. KeepsFromProblem gone from.now p) }
+{
+    let own = from.assumptions();
+    let assumptions = Assumptions::new(
+        copy_atoms(alloc, own.non_originating())?,
+        copy_atoms(alloc, own.penetrator_non_originating())?,
+        left_without(alloc, gone, own.uniquely_originating())?,
+    );
+    Ok(FromProblem::new(
+        strands_renumbered(alloc, gone, from.strands())?,
+        copy_terms(alloc, from.values())?,
+        assumptions,
+        left_without(alloc, gone, from.pairs())?,
+    ))
+}
+
+impl Skeleton {
+    /// Deletes a strand that is there and is no image of a strand of the problem. The strands above the deleted one
+    /// fall by one. The nodes of the others are ordered as they were, also where the order went through the strand, and
+    /// the order is closed. What its role alone gave is forgotten, unless the problem itself states it. On an error,
+    /// which is that memory ran out, nothing has changed.
+    pub fn delete_strand(&mut self, alloc: Global, strand: usize) -> Result<(), AllocError>
+        requires there_is { strand < length (skeleton_view self.old).strands }
+        requires no_image { IsIn strand (skeleton_view self.old).from_problem.strands → ⊥ }
+        ensures strands { OnOk result ((skeleton_view self.new).strands ≡ remove (skeleton_view self.old).strands strand) }
+        ensures order { OnOk result (KeepsOrderOfOthers strand (skeleton_view self.old) (skeleton_view self.new)) }
+        ensures closed { OnOk result (IsClosed (skeleton_view self.new).pairs) }
+        ensures assumptions { OnOk result (ForgetsAssumptions strand (skeleton_view self.old) (skeleton_view self.new).assumptions) }
+        ensures from_problem { OnOk result (KeepsFromProblem strand (skeleton_view self.old).from_problem (skeleton_view self.new).from_problem) }
+        ensures variables { self.new.variables ≡ self.old.variables }
+        ensures unchanged { OnErr result (self.new ≡ self.old) }
+    {
+        let pairs = pairs_without(alloc, strand, self.order.pairs())?;
+        let mut order = Order::of(pairs);
+        order.close(alloc)?;
+        let assumptions = assumptions_without(alloc, self, strand)?;
+        let from_problem = from_problem_without(alloc, &self.from_problem, strand)?;
+        self.strands.remove(strand);
+        self.order = order;
+        self.assumptions = assumptions;
+        self.from_problem = from_problem;
+        Ok(())
+    }
+}

@@ -1,0 +1,93 @@
+// Strands that are added to skeletons, and strands that grow.
+ghost use Rattle.std.specs.Prelude.{◌≡◌, length, IfOk, OnOk, OnErr};
+ghost use Rattle.cp_model.specs.Strand.{IsHeight};
+ghost use Rattle.cp_strand.specs.PrefixVariables.{prefix_variables, AreTermsFor};
+ghost use Rattle.cp_skel.specs.Extensions.{AddsListener, AddsStrand, CanExtend, Extends};
+ghost use Rattle.cp_skel.specs.View.{skeleton_view};
+
+use crate::role_assumptions::missing;
+use crate::skeleton::Skeleton;
+use cp_strand::{Role, Strand, StrandShape, instance_of};
+use cp_term::Term;
+use std::alloc::{AllocError, Global};
+use std::rc::Rc;
+
+impl Skeleton {
+    /// Adds a listener behind the strands, and answers its number. The error is that memory ran out; then nothing
+    /// changes.
+    pub fn add_listener(&mut self, alloc: Global, message: Term) -> Result<usize, AllocError>
+        ensures number { IfOk result (λ s. s ≡ length (skeleton_view self.old).strands) }
+        ensures changed { OnOk result (AddsListener message (skeleton_view self.old) (skeleton_view self.new)) }
+        ensures unchanged { OnErr result (self.new ≡ self.old) }
+        ensures variables { self.new.variables ≡ self.old.variables }
+    {
+        let listener = Strand::listener(alloc, message)?;
+        let number = self.strands.len();
+        self.strands.push(listener)?;
+        Ok(number)
+    }
+
+    /// Adds an instance of a role behind the strands, and answers its number. The height is at least 1 and at most the
+    /// length of the role's trace. There is a value for each variable of the prefix, of the variable's sort, in the
+    /// order of their declarations. What the role gives the instance is added to the assumptions. The error is that
+    /// memory ran out; then nothing changes.
+    pub fn add_strand(
+        &mut self,
+        alloc: Global,
+        role: &Rc<Role>,
+        height: usize,
+        values: &[Term],
+    ) -> Result<usize, AllocError>
+        requires height { IsHeight role.now.value height }
+        requires values { AreTermsFor (prefix_variables role.now.value height) values.now }
+        ensures number { IfOk result (λ s. s ≡ length (skeleton_view self.old).strands) }
+        ensures changed { OnOk result (AddsStrand role.now.value height values.now (skeleton_view self.old) (skeleton_view self.new)) }
+        ensures unchanged { OnErr result (self.new ≡ self.old) }
+        ensures variables { self.new.variables ≡ self.old.variables }
+    {
+        role.is_sound();
+        let number = self.strands.len();
+        let instance = instance_of(alloc, role, 0, height, &[], values)?;
+        let more = missing(alloc, number, &instance, &self.assumptions)?;
+        let strand = Strand::with_events(alloc, instance)?;
+        let mut assumptions = self.assumptions.copy(alloc)?;
+        assumptions.append(more)?;
+        self.strands.push(strand)?;
+        self.assumptions = assumptions;
+        Ok(number)
+    }
+
+    /// Lets an instance grow to a height, which is not less than its own and at most the length of its role's trace.
+    /// There is a value for each variable that the longer prefix adds, of the variable's sort, in the order of their
+    /// declarations. What the role then gives the instance is added to the assumptions. The error is that memory ran
+    /// out; then nothing changes.
+    pub fn extend(
+        &mut self,
+        alloc: Global,
+        strand: usize,
+        height: usize,
+        values: &[Term],
+    ) -> Result<(), AllocError>
+        requires { CanExtend (skeleton_view self.old) strand height values.now }
+        ensures changed { OnOk result (Extends strand height values.now (skeleton_view self.old) (skeleton_view self.new)) }
+        ensures unchanged { OnErr result (self.new ≡ self.old) }
+        ensures variables { self.new.variables ≡ self.old.variables }
+    {
+        let StrandShape::Instance(old) = self.strands[strand].shape() else {
+            unreachable!()
+        };
+        let instance = instance_of(
+            alloc,
+            old.role(),
+            old.height(),
+            height,
+            old.values(),
+            values,
+        )?;
+        let more = missing(alloc, strand, &instance, &self.assumptions)?;
+        let grown = Strand::with_events(alloc, instance)?;
+        self.assumptions.append(more)?;
+        self.strands[strand] = grown;
+        Ok(())
+    }
+}

@@ -1,0 +1,43 @@
+// The assumptions that the roles of strands give, added strand by strand.
+ghost use Rattle.std.specs.Prelude.{◌≡◌, ◌∷◌, [], map, OnOk};
+ghost use Rattle.cp_model.specs.Given.{with_given};
+ghost use Rattle.cp_skel.specs.Given.{with_given_from};
+ghost use Rattle.cp_strand.specs.View.{instance_view, strand_view};
+
+use crate::assumptions::Assumptions;
+use crate::role_assumptions::lacking;
+use cp_strand::{Instance, Strand, StrandShape};
+use std::alloc::{AllocError, Global};
+
+/// Adds what the role of an instance, which is the strand of this number, gives.
+fn add_given_by(
+    alloc: Global,
+    strand: usize,
+    instance: &Instance,
+    assumptions: &mut Assumptions,
+) -> Result<(), AllocError>
+    ensures { OnOk result (assumptions.new
+        ≡ with_given_from strand (instance_view instance.now ∷ []) assumptions.old) }
+{
+    let more = lacking(alloc, strand, instance, assumptions)?;
+    assumptions.append(more)
+}
+
+/// Adds what the roles of these strands give, strand by strand, each that is not there yet. The error is that memory
+/// ran out; then a part may have been added.
+pub fn add_given(
+    alloc: Global,
+    strands: &[Strand],
+    assumptions: &mut Assumptions,
+) -> Result<(), AllocError>
+    ensures { OnOk result (assumptions.new
+        ≡ with_given (map strand_view strands.now) assumptions.old) }
+{
+    for (number, strand) in strands.iter().enumerate() {
+        match strand.shape() {
+            StrandShape::Instance(instance) => add_given_by(alloc, number, instance, assumptions)?,
+            StrandShape::Listener(_) => {}
+        }
+    }
+    Ok(())
+}

@@ -1,0 +1,47 @@
+// The order in which a report lists assumptions.
+ghost use Rattle.std.specs.Prelude.{◌≡◌, IfOk, OnOk, OnErr};
+ghost use Rattle.cp_model.specs.Given.{listed};
+ghost use Rattle.cp_skel.specs.View.{skeleton_view};
+
+use crate::assumptions::Assumptions;
+use crate::gathered::stated_first;
+use crate::given_assumptions::add_given;
+use crate::skeleton::Skeleton;
+use std::alloc::{AllocError, Global};
+
+/// The assumptions of a skeleton in the order in which a report lists them: the problem's own first, then those that the
+/// strands' roles give, strand by strand, each once, and at last any others. The error is that memory ran out.
+pub fn listed(alloc: Global, skeleton: &Skeleton) -> Result<Assumptions, AllocError>
+    ensures { IfOk result (λ a. a ≡ listed (skeleton_view skeleton.now)) }
+{
+    let mut stated = skeleton.from_problem().assumptions().copy(alloc)?;
+    add_given(alloc, skeleton.strands(), &mut stated)?;
+    let old = skeleton.assumptions();
+    Ok(Assumptions::new(
+        stated_first(alloc, stated.non_originating(), old.non_originating())?,
+        stated_first(
+            alloc,
+            stated.penetrator_non_originating(),
+            old.penetrator_non_originating(),
+        )?,
+        stated_first(
+            alloc,
+            stated.uniquely_originating(),
+            old.uniquely_originating(),
+        )?,
+    ))
+}
+
+impl Skeleton {
+    /// Puts the assumptions into the order in which a report lists them: the problem's own first, then those that the
+    /// strands' roles give, strand by strand, each once, and at last any others. What is assumed stays the same. The
+    /// error is that memory ran out; then nothing changes.
+    pub fn list_assumptions(&mut self, alloc: Global) -> Result<(), AllocError>
+        ensures listed { OnOk result (skeleton_view self.new ≡ record (skeleton_view self.old) { assumptions = listed (skeleton_view self.old) }) }
+        ensures unchanged { OnErr result (self.new ≡ self.old) }
+        ensures variables { self.new.variables ≡ self.old.variables }
+    {
+        self.assumptions = listed(alloc, self)?;
+        Ok(())
+    }
+}

@@ -1,0 +1,12 @@
+use Rattle.std.proofs.Common.{map, ap, ◌∙◌}
+use Rattle.cp_strand.specs.View.{strand_view}
+use Rattle.cp_variables.specs.FirstMisfit.{first_onto}
+use Rattle.cp_variables.proofs.InOrder.{list-read}
+use Rattle.cp_stated.specs.ProblemMap.{strands_of_problem_misfits}
+use Rattle.cp_stated.proofs.problem_map.strands_mapped_misfits.Goals as goal
+
+pub returns : goal.returns
+returns c =
+    c.strand_numbers_misfits.ensures
+    ∙ ap (first_onto c.args.first.now) (list-read (strands_of_problem_misfits (map strand_view c.args.problem.now) (map strand_view c.args.strands.now)) c.args.form.now c.in-List.place c.in-List.items
+    c.as_slice.result.now c.in-List.is c.as_slice.ensures.value)

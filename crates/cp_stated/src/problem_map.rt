@@ -1,0 +1,150 @@
+// The map from the problem that a label form states.
+ghost use Rattle.std.specs.Prelude.{◌≡◌, ◌∷◌, [], nat_lt, codes, length, map, IfOk, OnOk};
+ghost use Rattle.cp_sexpr.specs.View.{view};
+ghost use Rattle.cp_strand.specs.View.{declaration_view, strand_view};
+ghost use Rattle.cp_report.specs.Misfits.{list_misfits};
+ghost use Rattle.cp_report.specs.Heads.{item_with, optional_misfits};
+ghost use Rattle.cp_report.specs.Skeletons.{strand_number_misfits, strands_mapped};
+ghost use Rattle.cp_variables.specs.FirstMisfit.{first_onto};
+ghost use Rattle.cp_spelled.specs.Views.{scope_view};
+ghost use Rattle.cp_stated.specs.ProblemMap.{strands_of_problem_misfits, map_misfits_to, values_by};
+
+use crate::heads::item_with;
+use crate::stated_strands::number_of;
+use cp_base::Place;
+use cp_forms::{items_behind, list_items, place_of};
+use cp_sexpr::Form;
+use cp_skel::Strand;
+use cp_spelled::{Scope, mapping_misfits, values_mapped};
+use cp_term::Term;
+use cp_variables::{FirstMisfit, Variables};
+use std::alloc::{AllocError, Global};
+
+/// Whether there are more strands than this number says.
+fn has_strand(strands: &[Strand], number: usize) -> bool
+    ensures { result ≡ nat_lt number (length strands.now) }
+{
+    number < strands.len()
+}
+
+/// A form has to be the number of one of these strands.
+pub fn strand_number_misfits(strands: &[Strand], form: &Form, first: &mut FirstMisfit)
+    ensures { first.new ≡ first_onto first.old (strand_number_misfits (map strand_view strands.now) (view form.now)) }
+{
+    match form {
+        Form::Number(place, number) => first.note_unless(has_strand(strands, *number), *place),
+        _ => first.note(place_of(form)),
+    }
+}
+
+/// Numbers of strands have to stand in a list at this place, one for each of the problem's.
+fn strand_numbers_misfits(
+    problem: &[Strand],
+    strands: &[Strand],
+    place: Place,
+    items: &[Form],
+    first: &mut FirstMisfit,
+)
+    ensures { first.new ≡ first_onto first.old (strands_of_problem_misfits (map strand_view problem.now) (map strand_view strands.now) place (map view items.now)) }
+{
+    for (number, item) in items.iter().enumerate() {
+        if !has_strand(problem, number) {
+            first.note(place_of(item));
+            return;
+        }
+        strand_number_misfits(strands, item, first);
+    }
+    first.note_unless(!has_strand(problem, items.len()), place);
+}
+
+/// A form has to be a list of numbers of strands, one for each of the problem's.
+fn strands_mapped_misfits(
+    problem: &[Strand],
+    strands: &[Strand],
+    form: &Form,
+    first: &mut FirstMisfit,
+)
+    ensures { first.new ≡ first_onto first.old (list_misfits (strands_of_problem_misfits (map strand_view problem.now) (map strand_view strands.now)) (view form.now)) }
+{
+    let Form::List(place, items) = form else {
+        first.note(place_of(form));
+        return;
+    };
+    strand_numbers_misfits(problem, strands, *place, items.as_slice(), first);
+}
+
+/// What a map goes from and to: the problem's strands and its variables under their names in a report, and the strands of
+/// the label, whose terms are read in this scope.
+#[derive(Clone, Copy)]
+pub(crate) struct Ends<'a> {
+    pub(crate) problem: &'a [Strand],
+    pub(crate) names: &'a Variables,
+    pub(crate) strands: &'a [Strand],
+    pub(crate) scope: Scope<'a>,
+}
+
+/// What stands behind the head of a map has to be a strand for each of the problem's, and a maplet for each of its
+/// variables.
+fn map_entries_misfits(
+    alloc: Global,
+    ends: Ends<'_>,
+    place: Place,
+    items: &[Form],
+    first: &mut FirstMisfit,
+) -> Result<(), AllocError>
+    ensures { OnOk result (first.new ≡ first_onto first.old (map_misfits_to (map strand_view ends.entry.problem.now) (map declaration_view ends.entry.names.now)
+        (scope_view ends.entry.scope) (map strand_view ends.entry.strands.now) place (map view items.now))) }
+{
+    let Some((numbers, maplets)) = items.split_first() else {
+        first.note(place);
+        return Ok(());
+    };
+    strands_mapped_misfits(ends.problem, ends.strands, numbers, first);
+    mapping_misfits(alloc, ends.scope, ends.names, place, maplets, first)
+}
+
+/// Where the map among these items of a label form does not fit, if it is there.
+pub(crate) fn map_misfits(
+    alloc: Global,
+    ends: Ends<'_>,
+    items: &[Form],
+    first: &mut FirstMisfit,
+) -> Result<(), AllocError>
+    ensures { OnOk result (first.new ≡ first_onto first.old (optional_misfits (map_misfits_to (map strand_view ends.entry.problem.now) (map declaration_view ends.entry.names.now)
+        (scope_view ends.entry.scope) (map strand_view ends.entry.strands.now)) (item_with (codes "map" ∷ []) (map view items.now)))) }
+{
+    match item_with(items, b"map") {
+        Some(item) => map_entries_misfits(alloc, ends, place_of(item), items_behind(item), first),
+        None => Ok(()),
+    }
+}
+
+/// The strands that the entries of a map state.
+pub(crate) fn strands_mapped(alloc: Global, entries: &[Form]) -> Result<Vec<usize>, AllocError>
+    ensures { IfOk result (λ v. v.items ≡ strands_mapped (map view entries.now)) }
+{
+    let mut numbers = Vec::new(alloc);
+    let Some((strands, _)) = entries.split_first() else {
+        return Ok(numbers);
+    };
+    let forms = list_items(strands);
+    for form in forms {
+        numbers.push(number_of(form))?;
+    }
+    Ok(numbers)
+}
+
+/// The terms that the entries of a map give the problem's variables, which have these names in a report.
+pub(crate) fn values_of_map(
+    alloc: Global,
+    names: &Variables,
+    scope: Scope<'_>,
+    entries: &[Form],
+) -> Result<Vec<Term>, AllocError>
+    ensures { IfOk result (λ v. v.items ≡ values_by (map declaration_view names.now) (scope_view scope.entry) (map view entries.now)) }
+{
+    match entries.split_first() {
+        Some((_, maplets)) => values_mapped(alloc, scope, maplets, names.as_slice()),
+        None => Ok(Vec::new(alloc)),
+    }
+}

@@ -1,0 +1,148 @@
+// Terms and events of instances.
+ghost use Rattle.std.specs.Prelude.{◌≡◌, map, option_map, IfOk, IfSome};
+ghost use Rattle.cp_lists.specs.Lists.{item_at};
+ghost use Rattle.cp_model.specs.Term.{apply_to, apply_to_atom};
+ghost use Rattle.cp_model.specs.Strand.{event_map};
+ghost use Rattle.cp_model.specs.Skeleton.{skeleton_trace, listener};
+ghost use Rattle.cp_model.specs.Homomorphism.{substitution_by};
+ghost use Rattle.cp_strand.specs.View.{event_view, instance_view, strand_view};
+
+use crate::atom::Atom;
+use crate::prefix_variables::prefix_of;
+use crate::protocol::Event;
+use crate::strand::{Body, Instance, Strand};
+use crate::values::ByNumber;
+use cp_term::{Term, substituted};
+use std::alloc::{AllocError, Global};
+
+/// A role's term under the terms of an instance: variable number i becomes the i-th of these, where that is of its sort.
+/// The error is that memory ran out.
+pub fn applied(alloc: Global, values: &[Term], term: &Term) -> Result<Term, AllocError>
+    ensures { IfOk result (λ t. t ≡ apply_to (substitution_by values.now) term.now) }
+{
+    substituted(alloc, &ByNumber { terms: values }, term)
+}
+
+/// An atom of a role under the terms of an instance. The error is that memory ran out.
+pub fn applied_atom(alloc: Global, values: &[Term], atom: &Atom) -> Result<Atom, AllocError>
+    ensures { IfOk result (λ a. a ≡ apply_to_atom (substitution_by values.now) atom.now) }
+{
+    match Atom::new(applied(alloc, values, atom.as_term())?) {
+        Some(atom) => Ok(atom),
+        None => unreachable!(),
+    }
+}
+
+/// A role's event under the terms of an instance.
+fn applied_event(alloc: Global, values: &[Term], event: &Event) -> Result<Event, AllocError>
+    ensures { IfOk result (λ e. event_view e ≡ event_map (apply_to (substitution_by values.now)) (event_view event.now)) }
+{
+    match event {
+        Event::Send(message) => Ok(Event::Send(applied(alloc, values, message)?)),
+        Event::Receive(message) => Ok(Event::Receive(applied(alloc, values, message)?)),
+    }
+}
+
+/// The event at a place, counted from 0.
+pub(crate) fn event_at(events: &[Event], place: usize) -> Option<&Event>
+    ensures { option_map (λ e. event_view e.now) result ≡ item_at (map event_view events.now) place }
+{
+    events.get(place)
+}
+
+/// The event at a place of an instance, counted from 0.
+fn instance_event(
+    alloc: Global,
+    instance: &Instance,
+    index: usize,
+) -> Result<Option<Event>, AllocError>
+    ensures { IfOk result (λ e. option_map event_view e ≡ item_at (skeleton_trace (instance_view instance.now)) index) }
+{
+    if index >= instance.height() {
+        return Ok(None);
+    }
+    match event_at(instance.role().trace(), index) {
+        Some(event) => Ok(Some(applied_event(alloc, instance.values(), event)?)),
+        None => Ok(None),
+    }
+}
+
+/// The events of an instance.
+fn instance_events(alloc: Global, instance: &Instance) -> Result<Vec<Event>, AllocError>
+    ensures { IfOk result (λ es. map event_view es.items ≡ skeleton_trace (instance_view instance.now)) }
+{
+    let events = prefix_of(instance.role(), instance.height());
+    let mut applied = Vec::with_capacity(alloc, events.len())?;
+    for event in events {
+        applied.push(applied_event(alloc, instance.values(), event)?)?;
+    }
+    Ok(applied)
+}
+
+/// The events of an instance that a strand holds: all of them where its role is small, and else none, since those of many
+/// strands could take much memory.
+pub(crate) fn held_events(
+    alloc: Global,
+    instance: &Instance,
+) -> Result<Option<Vec<Event>>, AllocError>
+    ensures { IfOk result (λ held. IfSome held (λ es. map event_view es.items ≡ skeleton_trace (instance_view instance.now))) }
+{
+    if !instance.role().is_small() {
+        return Ok(None);
+    }
+    Ok(Some(instance_events(alloc, instance)?))
+}
+
+/// The same event again.
+fn copy_of(event: &Event) -> Result<Event, AllocError>
+    ensures { IfOk result (λ e. event_view e ≡ event_view event.now) }
+{
+    match event {
+        Event::Send(message) => Ok(Event::Send(message.copy()?)),
+        Event::Receive(message) => Ok(Event::Receive(message.copy()?)),
+    }
+}
+
+/// The event at a place among these, counted from 0.
+fn copy_at(events: &[Event], index: usize) -> Result<Option<Event>, AllocError>
+    ensures { IfOk result (λ e. option_map event_view e ≡ item_at (map event_view events.now) index) }
+{
+    match event_at(events, index) {
+        Some(event) => Ok(Some(copy_of(event)?)),
+        None => Ok(None),
+    }
+}
+
+/// The event at a place of a listener, counted from 0.
+fn listener_event(message: &Term, index: usize) -> Result<Option<Event>, AllocError>
+    ensures { IfOk result (λ e. option_map event_view e ≡ item_at (skeleton_trace (listener message.now)) index) }
+{
+    match index {
+        0 => Ok(Some(Event::Receive(message.copy()?))),
+        1 => Ok(Some(Event::Send(message.copy()?))),
+        _ => Ok(None),
+    }
+}
+
+impl Strand {
+    /// The events of the strand, where it holds them.
+    pub fn held(&self) -> Option<&[Event]>
+        ensures { IfSome result (λ es. map event_view es.now ≡ skeleton_trace (strand_view self.now)) }
+    {
+        match self.body() {
+            Body::Instance(_, Some(events)) => Some(events),
+            _ => None,
+        }
+    }
+
+    /// The event at a place of the strand, counted from 0. The error is that memory ran out.
+    pub fn event(&self, alloc: Global, index: usize) -> Result<Option<Event>, AllocError>
+        ensures { IfOk result (λ e. option_map event_view e ≡ item_at (skeleton_trace (strand_view self.now)) index) }
+    {
+        match self.body() {
+            Body::Instance(_, Some(events)) => copy_at(events, index),
+            Body::Instance(instance, None) => instance_event(alloc, instance, index),
+            Body::Listener(message) => listener_event(message, index),
+        }
+    }
+}

@@ -1,0 +1,81 @@
+// The terms of instances.
+ghost use Rattle.std.specs.Prelude.{◌≡◌, IfOk};
+ghost use Rattle.std.specs.Option.{option_map};
+ghost use Rattle.cp_model.specs.Strand.{variables_of_prefix};
+ghost use Rattle.cp_strand.specs.PrefixVariables.{is_added};
+ghost use Rattle.cp_strand.specs.Valued.{term_or, valued};
+ghost use Rattle.cp_strand.specs.View.{sort_view};
+
+use crate::prefix_variables::{is_added, prefix_of};
+use crate::protocol::Role;
+use crate::strand::Instance;
+use crate::values::value_at;
+use cp_term::{Sort, Term, VarId, var};
+use std::alloc::{AllocError, Global};
+use std::rc::Rc;
+
+/// A copy of a term, or else the variable itself.
+fn term_or_variable(
+    alloc: Global,
+    term: Option<&Term>,
+    id: VarId,
+    sort: Sort,
+) -> Result<Term, AllocError>
+    ensures { IfOk result (λ t. t ≡ term_or (record { sort = sort_view sort; number = id }) (option_map (λ u. u.now) term.entry)) }
+{
+    match term {
+        Some(term) => term.copy(),
+        None => var(alloc, id, sort),
+    }
+}
+
+/// The terms of a role's variables: those that occur in the prefix and not in the earlier one take the values in their
+/// order, the others keep their old terms.
+fn terms_of(
+    alloc: Global,
+    role: &Role,
+    before: usize,
+    height: usize,
+    old: &[Term],
+    values: &[Term],
+) -> Result<Vec<Term>, AllocError>
+    ensures { IfOk result (λ v. v.items ≡ valued
+        (is_added (variables_of_prefix role.now before) (variables_of_prefix role.now height))
+        old.now 0 role.now.variables values.now) }
+{
+    let earlier = prefix_of(role, before);
+    let prefix = prefix_of(role, height);
+    let mut terms = Vec::with_capacity(alloc, role.variables().len())?;
+    let mut next = 0;
+    for (number, declaration) in role.variables().iter().enumerate() {
+        let id = VarId::numbered(number);
+        if !is_added(earlier, prefix, id, declaration.sort) {
+            terms.push(term_or_variable(alloc, value_at(old, number), id, declaration.sort)?)?;
+            continue;
+        }
+        terms.push(term_or_variable(alloc, value_at(values, next), id, declaration.sort)?)?;
+        next += 1;
+    }
+    Ok(terms)
+}
+
+/// An instance of a role at a height: of the variables of its prefix those that do not occur in the earlier one become
+/// the values, in the order of their declarations, and the others keep their old terms. The error is that memory ran out.
+pub fn instance_of(
+    alloc: Global,
+    role: &Rc<Role>,
+    before: usize,
+    height: usize,
+    old: &[Term],
+    values: &[Term],
+) -> Result<Instance, AllocError>
+    ensures role { IfOk result (λ i. i.role ≡ role.now.value) }
+    ensures height { IfOk result (λ i. i.height ≡ height) }
+    ensures terms { IfOk result (λ i. i.values ≡ valued
+        (is_added (variables_of_prefix role.now.value before) (variables_of_prefix role.now.value height))
+        old.now 0 role.now.value.variables values.now) }
+{
+    let values = terms_of(alloc, role, before, height, old, values)?;
+    let role = role.clone()?;
+    Ok(Instance::new(role, height, values))
+}

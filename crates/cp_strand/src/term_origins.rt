@@ -1,0 +1,77 @@
+// Where terms originate among events, on instances and on strands.
+ghost use Rattle.std.specs.Prelude.{◌≡◌, ◌↔◌, IsTrue, IfSome, IfNone, map, ℕ};
+ghost use Rattle.cp_model.specs.Strand.{OriginatesInTerms};
+ghost use Rattle.cp_model.specs.Skeleton.{skeleton_trace};
+ghost use Rattle.cp_model.specs.Homomorphism.{substitution_by};
+ghost use Rattle.cp_strand.specs.View.{event_view, instance_view, strand_view};
+ghost use Rattle.cp_strand.specs.Origins.{IsCarriedByOne, OriginatesUnder};
+
+use crate::events::event_at;
+use crate::protocol::Event;
+use crate::strand::{Instance, Strand, StrandShape};
+use crate::terms_under::carries_under;
+use cp_term::{Term, carries};
+
+/// The place among events at which a term originates, if it does.
+pub fn origin(events: &[Event], value: &Term) -> Option<usize>
+    ensures some { IfSome result (λ i. OriginatesInTerms (map event_view events.now) value.now i) }
+    ensures none { IfNone result ((i : ℕ) → OriginatesInTerms (map event_view events.now) value.now i → ⊥) }
+{
+    for (index, event) in events.iter().enumerate() {
+        if carries(event.payload(), value) {
+            return match event {
+                Event::Send(_) => Some(index),
+                Event::Receive(_) => None,
+            };
+        }
+    }
+    None
+}
+
+/// Whether one of a role's events becomes one that carries the term.
+fn is_carried_by_one(values: &[Term], events: &[Event], t: &Term) -> bool
+    ensures { IsTrue result ↔ IsCarriedByOne (substitution_by values.now) (map event_view events.now) t.now }
+{
+    for event in events {
+        if carries_under(values, event.payload(), t) {
+            return true;
+        }
+    }
+    false
+}
+
+/// Whether the term originates at a place of a role's events as they become, counted from 0.
+fn originates_under(values: &[Term], events: &[Event], index: usize, t: &Term) -> bool
+    ensures { IsTrue result ↔ OriginatesUnder (substitution_by values.now) (map event_view events.now) t.now index }
+{
+    let Some(event) = event_at(events, index) else {
+        return false;
+    };
+    match event {
+        Event::Send(message) => {
+            carries_under(values, message, t) && !is_carried_by_one(values, &events[..index], t)
+        }
+        Event::Receive(_) => false,
+    }
+}
+
+impl Instance {
+    /// Whether the term originates at a place of the instance, counted from 0.
+    pub fn originates(&self, index: usize, t: &Term) -> bool
+        ensures { IsTrue result ↔ OriginatesInTerms (skeleton_trace (instance_view self.now)) t.now index }
+    {
+        index < self.height() && originates_under(self.values(), self.role().trace(), index, t)
+    }
+}
+
+impl Strand {
+    /// Whether the term originates at a place of the strand, counted from 0: on a listener nothing does.
+    pub fn originates(&self, index: usize, t: &Term) -> bool
+        ensures { IsTrue result ↔ OriginatesInTerms (skeleton_trace (strand_view self.now)) t.now index }
+    {
+        match self.shape() {
+            StrandShape::Instance(instance) => instance.originates(index, t),
+            StrandShape::Listener(_) => false,
+        }
+    }
+}

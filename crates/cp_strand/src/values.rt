@@ -1,0 +1,61 @@
+// The terms that the list of an instance, or any other, gives to variables.
+ghost use Rattle.std.specs.Prelude.{◌≡◌, MatchOption, IfOk};
+ghost use Rattle.std.specs.Option.{option_map};
+ghost use Rattle.cp_lists.specs.Lists.{item_at};
+ghost use Rattle.cp_model.specs.Homomorphism.{substitution_by};
+ghost use Rattle.cp_model.specs.Term.{apply_to};
+ghost use Rattle.cp_term.specs.Variables.{variable_term};
+
+use cp_term::{Sort, Term, Valuation, VarId, is_of_sort, var};
+use std::alloc::{AllocError, Global};
+
+/// The term at a place, counted from 0.
+pub(crate) fn value_at(values: &[Term], place: usize) -> Option<&Term>
+    ensures { option_map (λ t. t.now) result ≡ item_at values.now place }
+{
+    values.get(place)
+}
+
+/// The term that a variable of this sort becomes, if it becomes one.
+pub(crate) fn value_of<'a>(values: &'a [Term], sort: Sort, variable: VarId) -> Option<&'a Term>
+    ensures { MatchOption result
+        (apply_to (substitution_by values.now) (variable_term sort variable) ≡ variable_term sort variable)
+        (λ t. apply_to (substitution_by values.now) (variable_term sort variable) ≡ t.now) }
+{
+    let term = value_at(values, variable.number())?;
+    if is_of_sort(term, sort) {
+        Some(term)
+    } else {
+        None
+    }
+}
+
+/// What a variable of a role becomes under the terms of an instance: the term with its number, where that is of its sort, and
+/// otherwise itself. The error is that memory ran out.
+pub fn value_of_variable(
+    alloc: Global,
+    values: &[Term],
+    id: VarId,
+    sort: Sort,
+) -> Result<Term, AllocError>
+    ensures { IfOk result (λ t. t ≡ apply_to (substitution_by values.now) (variable_term sort id)) }
+{
+    match value_of(values, sort, id) {
+        Some(value) => value.copy(),
+        None => var(alloc, id, sort),
+    }
+}
+
+/// A list of terms as what variables become: variable number i becomes the i-th, where that is of its sort.
+#[derive(Clone, Copy)]
+pub(crate) struct ByNumber<'a> {
+    pub(crate) terms: &'a [Term],
+}
+
+impl Valuation for ByNumber<'_> {
+    ghost substitution = { λ v. substitution_by v.terms.now };
+
+    fn term_for(&self, sort: Sort, variable: VarId) -> Option<&Term> {
+        value_of(self.terms, sort, variable)
+    }
+}

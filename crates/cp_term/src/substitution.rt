@@ -1,0 +1,240 @@
+// Terms under what gives variables terms. What does not change is shared.
+ghost use Rattle.std.specs.Prelude.{◌≡◌, unwrap_or, MatchOption, IfOk};
+ghost use Rattle.std.specs.Option.{option_map};
+ghost use Rattle.cp_model.specs.Term.{Term as Plain, Substitution, KeyTerm, ltk_term, pubk_term, symmetric_term, asymmetric_term, pair_term, enc_term, apply_to};
+ghost use Rattle.cp_term.specs.Keys.{key_as_term, IsKey};
+ghost use Rattle.cp_term.specs.Spines.{tail_of, HasTail};
+ghost use Rattle.cp_term.specs.Variables.{variable_term};
+
+use crate::makers::{enc, invert, ltk, pair, pubk, var};
+use crate::shape::Shape;
+use crate::term::Term;
+use crate::variable::{Sort, VarId};
+use std::alloc::{AllocError, Global};
+
+/// What gives variables terms of their sorts.
+pub trait Valuation {
+    /// The substitution that puts these terms in place of the variables.
+    ghost substitution: { Self → Substitution };
+
+    /// The term that a variable of this sort becomes, if it becomes one.
+    fn term_for(&self, sort: Sort, variable: VarId) -> Option<&Term>
+        ensures { MatchOption result
+            (apply_to (substitution self.now) (variable_term sort variable) ≡ variable_term sort variable)
+            (λ t. apply_to (substitution self.now) (variable_term sort variable) ≡ t.now) };
+}
+
+/// The name that a name becomes.
+pub fn name_for<V: Valuation>(values: &V, name: VarId) -> VarId
+    ensures { result ≡ (V.substitution values.now).names name }
+{
+    match values.term_for(Sort::Name, name) {
+        None => name,
+        Some(term) => match term.shape() {
+            Shape::Variable(other, _) => other,
+            _ => unreachable!(),
+        },
+    }
+}
+
+/// A new long-term key, or none where the names do not change.
+fn ltk_under<V: Valuation>(
+    alloc: Global,
+    values: &V,
+    a: VarId,
+    b: VarId,
+) -> Result<Option<Term>, AllocError>
+    ensures { IfOk result (λ changed. (t : Plain) → t ≡ key_as_term (symmetric_term (ltk_term a b))
+        → unwrap_or changed t ≡ apply_to (V.substitution values.now) t) }
+{
+    let c = name_for(values, a);
+    let d = name_for(values, b);
+    if c == a && d == b {
+        return Ok(None);
+    }
+    let first = var(alloc, c, Sort::Name)?;
+    let second = var(alloc, d, Sort::Name)?;
+    let key = ltk(alloc, first, second)?;
+    Ok(Some(key))
+}
+
+/// A new key of a name, or none where the name does not change.
+fn pubk_under<V: Valuation>(
+    alloc: Global,
+    values: &V,
+    flag: bool,
+    purpose: Option<&str>,
+    a: VarId,
+) -> Result<Option<Term>, AllocError>
+    ensures { IfOk result (λ changed. (t : Plain)
+        → t ≡ key_as_term (asymmetric_term flag (pubk_term (option_map (λ text. text.now) purpose.entry) a))
+        → unwrap_or changed t ≡ apply_to (V.substitution values.now) t) }
+{
+    let b = name_for(values, a);
+    if b == a {
+        return Ok(None);
+    }
+    let name = var(alloc, b, Sort::Name)?;
+    let key = pubk(alloc, purpose, name)?;
+    if flag {
+        let inverse = invert(alloc, &key)?;
+        Ok(Some(inverse))
+    } else {
+        Ok(Some(key))
+    }
+}
+
+/// A new term of a tag or of a term of an atom sort, or none where it does not change.
+fn leaf_under<V: Valuation>(
+    alloc: Global,
+    values: &V,
+    leaf: &Term,
+) -> Result<Option<Term>, AllocError>
+    requires { ¬ HasTail leaf.now }
+    ensures { IfOk result (λ changed. unwrap_or changed leaf.now ≡ apply_to (V.substitution values.now) leaf.now) }
+{
+    match leaf.shape() {
+        Shape::Variable(variable, sort) => match values.term_for(sort, variable) {
+            Some(term) => {
+                let term = term.copy()?;
+                Ok(Some(term))
+            }
+            None => Ok(None),
+        },
+        Shape::Inverse(variable) => match values.term_for(Sort::Akey, variable) {
+            Some(key) => {
+                let inverse = invert(alloc, key)?;
+                Ok(Some(inverse))
+            }
+            None => Ok(None),
+        },
+        Shape::Ltk(a, b) => ltk_under(alloc, values, a, b),
+        Shape::Pubk(flag, purpose, a) => pubk_under(alloc, values, flag, purpose, a),
+        _ => Ok(None),
+    }
+}
+
+/// What is new, or else a copy of the term.
+fn or_copy(changed: Option<Term>, term: &Term) -> Result<Term, AllocError>
+    ensures { IfOk result (λ t. t ≡ unwrap_or changed term.now) }
+{
+    match changed {
+        Some(new) => Ok(new),
+        None => term.copy(),
+    }
+}
+
+/// What two parts have become, or none where neither is new.
+fn new_parts(
+    first: &Term,
+    second: &Term,
+    new_first: Option<Term>,
+    new_second: Option<Term>,
+) -> Result<Option<(Term, Term)>, AllocError>
+    ensures { IfOk result (λ parts. MatchOption parts
+        ((unwrap_or new_first first.now ≡ first.now) × (unwrap_or new_second second.now ≡ second.now))
+        (λ p. (p.0 ≡ unwrap_or new_first first.now) × (p.1 ≡ unwrap_or new_second second.now))) }
+{
+    if new_first.is_none() && new_second.is_none() {
+        return Ok(None);
+    }
+    let first = or_copy(new_first, first)?;
+    let second = or_copy(new_second, second)?;
+    Ok(Some((first, second)))
+}
+
+/// A new pair of what is new of its parts, or none where neither is.
+fn pair_of(
+    alloc: Global,
+    left: &Term,
+    right: &Term,
+    new_left: Option<Term>,
+    new_right: Option<Term>,
+) -> Result<Option<Term>, AllocError>
+    ensures { IfOk result (λ changed. unwrap_or changed (pair_term left.now right.now)
+        ≡ pair_term (unwrap_or new_left left.now) (unwrap_or new_right right.now)) }
+{
+    match new_parts(left, right, new_left, new_right)? {
+        None => Ok(None),
+        Some((first, second)) => Ok(Some(pair(alloc, first, second)?)),
+    }
+}
+
+/// A new encryption of what is new of its parts, or none where neither is.
+fn encryption_of(
+    alloc: Global,
+    body: &Term,
+    key: &Term,
+    new_body: Option<Term>,
+    new_key: Option<Term>,
+) -> Result<Option<Term>, AllocError>
+    requires { IsKey (unwrap_or new_key key.now) }
+    ensures { IfOk result (λ changed. (k j : KeyTerm) → key.now ≡ key_as_term k → unwrap_or new_key key.now ≡ key_as_term j
+        → unwrap_or changed (enc_term body.now k) ≡ enc_term (unwrap_or new_body body.now) j) }
+{
+    match new_parts(body, key, new_body, new_key)? {
+        None => Ok(None),
+        Some((plain, under)) => Ok(Some(enc(alloc, plain, under)?)),
+    }
+}
+
+/// A new term of one on a spine, where its tail has become another or stayed, or none where it does not change.
+#[cycle(under)]
+fn above_under<V: Valuation>(
+    alloc: Global,
+    values: &V,
+    above: &Term,
+    tail: Option<Term>,
+) -> Result<Option<Term>, AllocError>
+    requires has_tail { HasTail above.now }
+    requires tail { unwrap_or tail (tail_of above.now) ≡ apply_to (V.substitution values.now) (tail_of above.now) }
+    ensures { IfOk result (λ changed. unwrap_or changed above.now ≡ apply_to (V.substitution values.now) above.now) }
+{
+    match above.shape() {
+        Shape::Pair(left, right) => {
+            let new_left = under(alloc, values, left)?;
+            pair_of(alloc, left, right, new_left, tail)
+        }
+        Shape::Encryption(body, key) => {
+            let new_key = leaf_under(alloc, values, key)?;
+            encryption_of(alloc, body, key, tail, new_key)
+        }
+        _ => unreachable!(),
+    }
+}
+
+/// The new term, or none where it does not change. The right spine is walked by loops, since it may be long.
+#[cycle(under)]
+fn under<V: Valuation>(alloc: Global, values: &V, term: &Term) -> Result<Option<Term>, AllocError>
+    ensures { IfOk result (λ changed. unwrap_or changed term.now ≡ apply_to (V.substitution values.now) term.now) }
+{
+    let mut spine: Vec<&Term> = Vec::new(alloc);
+    let mut rest = term;
+    loop {
+        match rest.shape() {
+            Shape::Pair(_, right) => {
+                spine.push(rest)?;
+                rest = right;
+            }
+            Shape::Encryption(body, _) => {
+                spine.push(rest)?;
+                rest = body;
+            }
+            _ => break,
+        }
+    }
+    let mut changed = leaf_under(alloc, values, rest)?;
+    while let Some(above) = spine.pop() {
+        changed = above_under(alloc, values, above, changed)?;
+    }
+    Ok(changed)
+}
+
+/// The term in which each variable has become what it is given. It shares with the term what does not change. The error is
+/// that memory ran out.
+pub fn substituted<V: Valuation>(alloc: Global, values: &V, term: &Term) -> Result<Term, AllocError>
+    ensures { IfOk result (λ t. t ≡ apply_to (V.substitution values.now) term.now) }
+{
+    let changed = under(alloc, values, term)?;
+    or_copy(changed, term)
+}

@@ -1,0 +1,40 @@
+// Substitutions one after the other.
+ghost use Rattle.std.specs.Prelude.{◌≡◌, ◌++◌, IfOk};
+ghost use Rattle.cp_model.specs.Term.{Term as Plain, Assignment, after, value_of, apply_to};
+ghost use Rattle.cp_unify.specs.Bindings.{as_substitution, variables_of_bindings};
+ghost use Rattle.cp_unify.specs.Joined.{joined};
+ghost use Rattle.cp_unify.specs.Unifiers.{AreAmong};
+
+use crate::binding::Binding;
+use crate::subst::Subst;
+use crate::terms_under::apply;
+use std::alloc::{AllocError, Global};
+
+/// The bindings of the first with their terms under the second, and those of the second.
+pub(crate) fn join(alloc: Global, first: &Subst, second: &Subst) -> Result<Subst, AllocError>
+    ensures { IfOk result (λ s. s ≡ joined first.now second.now) }
+{
+    let mut bindings = Vec::new(alloc);
+    for binding in first.bindings() {
+        let term = apply(alloc, second, binding.term())?;
+        bindings.push(Binding::new(binding.variable(), term))?;
+    }
+    for binding in second.bindings() {
+        let copy = binding.copy()?;
+        bindings.push(copy)?;
+    }
+    Subst::made(alloc, bindings)
+}
+
+/// The substitution that does what the first does, and then what the second does.
+pub fn compose(alloc: Global, first: &Subst, second: &Subst) -> Result<Subst, AllocError>
+    ensures plain { IfOk result (λ s. (t : Plain)
+        → apply_to (as_substitution s) t ≡ apply_to (as_substitution second.now) (apply_to (as_substitution first.now) t)) }
+    ensures value { IfOk result (λ s. (g : Assignment) (t : Plain)
+        → value_of (after g (as_substitution s)) t
+        ≡ value_of (after (after g (as_substitution second.now)) (as_substitution first.now)) t) }
+    ensures no_new { IfOk result (λ s. AreAmong (variables_of_bindings s)
+        (variables_of_bindings first.now ++ variables_of_bindings second.now)) }
+{
+    join(alloc, first, second)
+}
