@@ -1,10 +1,9 @@
 -- What goes through a skeleton's map factors from the problem.
-use Rattle.std.proofs.Common.{List, [], ◌∷◌, map, refl, ap, ◌∙◌}
-use Rattle.cp_lists.specs.Lists.{IsIn, here, there}
+use Rattle.std.proofs.Common.{List, map, refl, ap, ◌∙◌}
 use Rattle.cp_lists.proofs.Items.{item_there}
 use Rattle.cp_lists.proofs.Mapped.{map_alike, map_then}
-use Rattle.cp_lists.proofs.Members.{in_append_left, in_append_right}
-use Rattle.cp_model.specs.Term.{Variable, Term, variables_of, value_of, after, apply_to}
+use Rattle.cp_lists.proofs.Members.{in_append_right}
+use Rattle.cp_model.specs.Term.{value_of, after, apply_to}
 use Rattle.cp_model.specs.Strand.{Protocol}
 use Rattle.cp_model.specs.Bundle.{Bundle, IsBundle}
 use Rattle.cp_model.specs.Skeleton.{Skeleton}
@@ -13,14 +12,9 @@ use Rattle.cp_model.specs.Homomorphism.{SkeletonMap, FactorsThrough, Covers}
 use Rattle.cp_model.specs.Problem.{variables_of_skeleton}
 use Rattle.cp_model.proofs.LawTerms.{value_after}
 use Rattle.cp_model.proofs.LawAgreement.{agree_value}
-use Rattle.cp_completeness.specs.Normal.{variables_of_terms}
+use Rattle.cp_model.proofs.OccurringVariables.{in_terms}
 use Rattle.cp_completeness.proofs.Under.{factors_then}
 use Rattle.cp_answers.specs.NoneLeftOut.{GoesThrough, LeavesNoneOut, IsMapInRange}
-
-in_terms : (ts : List Term) (t : Term) (x : Variable) → IsIn t ts → IsIn x (variables_of t) → IsIn x (variables_of_terms ts)
-in_terms [] t x p i = elim p [ ]
-in_terms (t ∷ ts) u x here i = in_append_left (variables_of_terms ts) i
-in_terms (u ∷ ts) t x (there p) i = in_append_right (variables_of u) (in_terms ts t x p i)
 
 -- The standing of k that goes through a map of l factors through l's.
 through_factors : (k l : Skeleton) (h g : Standing) (f : SkeletonMap) → IsMapInRange k → GoesThrough k h f l g → FactorsThrough k h l g

@@ -15,7 +15,7 @@ use Rattle.cp_model.specs.Problem.{variables_of_strands, variables_of_atoms, var
 use Rattle.cp_model.proofs.LawTerms.{atom_after}
 use Rattle.cp_model.proofs.LawAgreement.{agree_atom_value, agree_value}
 use Rattle.cp_completeness.specs.Normal.{variables_of_terms}
-use Rattle.cp_completeness.proofs.Under.{in_trace_under, in_strands, in_atoms, in_uniques}
+use Rattle.cp_model.proofs.OccurringVariables.{in_trace_under, in_strands, in_atoms, in_uniques}
 use Rattle.cp_completeness.proofs.Pairs.{ordered, no_cycle}
 use Rattle.cp_guard.specs.Critical.{used_variables}
 use Rattle.cp_answers.specs.Covering.{put_before}

@@ -1,5 +1,5 @@
 -- The trees of the problems of an input.
-use Rattle.std.proofs.Common.{◌≡◌, ℕ, zero, suc, ◌+◌, ◌<◌, ◌≤◌, List, [], ◌∷◌, ◌++◌, length, get_or, take, map, Option, Some, None, ◌⊎◌, inl, inr, refl, sym, ap, ◌∙◌, subst, arith, ⊎_elim, Ok, add-one, Bool, true, false, if◌then◌else◌}
+use Rattle.std.proofs.Common.{◌≡◌, ℕ, zero, suc, ◌+◌, ◌<◌, ◌≤◌, List, [], ◌∷◌, ◌++◌, length, get_or, take, map, Option, Some, None, ◌⊎◌, inl, inr, refl, sym, ap, ◌∙◌, subst, arith, ⊎_elim, Ok, add-one, Bool, true, false}
 use Rattle.std.specs.Prelude.{◌^◌, option_map}
 use Rattle.std.specs.List.{AllZip, cons_option, filter_map}
 use Rattle.std.proofs.lemmas.List.{append-nil, length-map, map-append, take_all}
@@ -14,7 +14,7 @@ use Rattle.cp_app.specs.Steps.{is_complete}
 use Rattle.cp_lists.specs.Lists.{item_at, IsIn, here, there}
 use Rattle.cp_lists.proofs.Members.{in_append}
 use Rattle.cp_lists.proofs.Items.{place_of}
-use Rattle.cp_model.specs.Term.{Variable, Term, variables_of}
+use Rattle.cp_model.specs.Term.{Variable, variables_of}
 use Rattle.cp_model.specs.Strand.{Declaration}
 use Rattle.cp_model.specs.Problem.{IsDeclared, variables_of_skeleton}
 use Rattle.cp_model.specs.Tree.{Pattern, Test, Outcome, complete, at_step_limit, at_strand_limit, Label, Tree, Limits, IsTrueOf}
@@ -25,12 +25,12 @@ use Rattle.cp_language.specs.Problems.{Problem}
 use Rattle.cp_language.specs.Report.{variables_of_terms, variables_of_test, variables_but, variables_of_patterns, occurring, HasItsVariables}
 use Rattle.cp_language.specs.Input.{Entry, faults_of, input_of}
 use Rattle.cp_language.specs.StatedInput.{IsInput}
+use Rattle.cp_language.proofs.NoLocals.{from_but}
 use Rattle.cp_load.specs.Inputs.{problem_view, entries_view, entries_of}
 use Rattle.cp_load.specs.declared.input.Problem.{Problem as ProgramProblem}
 use Rattle.cp_load.specs.declared.input.Input.{Input}
 use Rattle.cp_sexpr.specs.declared.form.Form as form
-use Rattle.cp_model.specs.Same.{has_variable}
-use Rattle.cp_model.proofs.SameTests.{in_has_variable}
+use Rattle.cp_model.proofs.OccurringVariables.{term_with}
 use Rattle.cp_guard.specs.Matches.{IsFreeIn}
 use Rattle.cp_tree.specs.Searched.{IsTreeOf}
 use Rattle.cp_tree.specs.Declared.{DeclaresItsOwn}
@@ -41,32 +41,16 @@ use Rattle.cp_app.specs.Analysis.{HaveFewVariables, IsAnalysable, IsAnalysisOf}
 
 -- ---- variables
 
--- what is in the variables of terms is in those of one of them
-in_one_term : (ts : List Term) (x : Variable) → IsIn x (variables_of_terms ts) → (t : Term) × IsIn t ts × IsIn x (variables_of t)
-in_one_term [] x m = elim m [ ]
-in_one_term (t ∷ ts) x m = ⊎_elim (λ q. (t, here, q)) (λ q. let r = in_one_term ts x q in (r.0, there r.1, r.2)) (in_append (variables_of t) (variables_of_terms ts) m)
-
 -- those of a test are its critical term's
 in_test : (o : Option Test) (x : Variable) → IsIn x (variables_of_test o) → (t : Test) × (o ≡ Some t) × IsIn x (variables_of t.critical)
 in_test None x m = elim m [ ]
 in_test (Some t) x m = (t, refl, m)
 
--- those but for locals are no locals
-but_by : (locals : List Variable) (y : Variable) (ys : List Variable) (x : Variable) (b : Bool) → has_variable locals y ≡ b → (IsIn x (variables_but locals ys) → IsIn x ys × (IsIn x locals → ⊥))
-    → IsIn x (if b then variables_but locals ys else y ∷ variables_but locals ys) → IsIn x (y ∷ ys) × (IsIn x locals → ⊥)
-but_by locals y ys x true e hyp m = let r = hyp m in (there r.0, r.1)
-but_by locals y ys x false e hyp here = (here, λ l. let h : has_variable locals x ≡ true = in_has_variable locals x l in cc)
-but_by locals y ys x false e hyp (there n) = let r = hyp n in (there r.0, r.1)
-
-in_but : (locals xs : List Variable) (x : Variable) → IsIn x (variables_but locals xs) → IsIn x xs × (IsIn x locals → ⊥)
-in_but locals [] x m = elim m [ ]
-in_but locals (y ∷ ys) x m = but_by locals y ys x (has_variable locals y) refl (in_but locals ys x) m
-
 -- those of patterns are one's, and no locals of it
 in_patterns : (ps : List Pattern) (x : Variable) → IsIn x (variables_of_patterns ps) → (p : Pattern) × IsIn p ps × IsFreeIn x p
 in_patterns [] x m = elim m [ ]
 in_patterns (p ∷ ps) x m =
-    ⊎_elim (λ q. let r = in_but p.locals (variables_of p.term) x q in (p, here, record { occurs = r.0; no_local = r.1 })) (λ q. let r = in_patterns ps x q in (r.0, there r.1, r.2))
+    ⊎_elim (λ q. let r = from_but p.locals (variables_of p.term) x q in (p, here, record { occurs = r.0; no_local = r.1 })) (λ q. let r = in_patterns ps x q in (r.0, there r.1, r.2))
     (in_append (variables_but p.locals (variables_of p.term)) (variables_of_patterns ps) m)
 
 all_declared : (variables : List Declaration) (l : Label) → DeclaresItsOwn variables l → (x : Variable) → IsIn x (occurring l) → IsDeclared l.variables x
@@ -76,7 +60,7 @@ all_declared variables l d x m =
     let tested : List Variable = variables_of_test l.test in
     ⊎_elim
     (λ a. ⊎_elim
-    (λ b. ⊎_elim (d.skeleton.occurring x) (λ q. let r = in_one_term l.skeleton.from_problem.values x q in d.skeleton.mapped r.0 x r.1 r.2) (in_append own mapped b))
+    (λ b. ⊎_elim (d.skeleton.occurring x) (λ q. let r = term_with l.skeleton.from_problem.values x q in d.skeleton.mapped r.0 x r.1 r.2) (in_append own mapped b))
     (λ q. let r = in_test l.test x q in d.test r.0 x r.1 r.2)
     (in_append (own ++ mapped) tested a))
     (λ q. let r = in_patterns l.escape x q in d.patterns r.0 x r.1 r.2)

@@ -3,10 +3,8 @@ use Rattle.std.proofs.Common.{ℕ, ◌+◌, ◌<◌, ◌≤◌, List, ◌≡◌,
 use Rattle.cp_lists.specs.Lists.{IsIn, here, there}
 use Rattle.cp_lists.proofs.Members as members
 use Rattle.cp_model.specs.Term.{Term, IsCarriedByTerm}
+use Rattle.cp_model.proofs.CarriedParts.{not_both}
 use Rattle.cp_collapse.specs.Property.{Has}
-
-pub not_both : {b : Bool} → b ≡ false → b ≡ true → ⊥
-not_both p q = cc
 
 pub is_not : {b : Bool} → not b ≡ true → b ≡ true → ⊥
 is_not p q = cc

@@ -3,6 +3,7 @@ use Rattle.std.proofs.Common.{◌≡◌, ◌⊎◌, inl, inr, ℕ, zero, suc, �
 use native.Mathlib.Decide.{dec_lt}
 use Rattle.cp_lists.specs.Lists.{item_at}
 use Rattle.cp_model.specs.Problem.{numbers_from}
+use Rattle.cp_model.proofs.CarriedParts.{not_both}
 
 -- The least number below n that passes the test, or the given one.
 abbrev pub least : (ℕ → Bool) → ℕ → ℕ → ℕ
@@ -34,9 +35,6 @@ both true true e = (refl, refl)
 both true false e = absurd (cc)
 both false b e = absurd (cc)
 
-both_ways : {b : Bool} → b ≡ true → b ≡ false → ⊥
-both_ways e f = let g : true ≡ false = sym e ∙ f in cc
-
 module _ (together : ℕ → ℕ → Bool) where
   -- The lowest number that goes with s.
   abbrev pub low : ℕ → ℕ
@@ -56,7 +54,7 @@ module _ (together : ℕ → ℕ → Bool) where
     low_goes_too s t e = elim (low_with s) [ inl p ↦ subst (λ (a : ℕ). together a t ≡ true) (sym p) e | inr p ↦ then (low s) s t p e ]
 
     not_lower : (s t : ℕ) → together s t ≡ true → low s < low t → ⊥
-    not_lower s t e l = both_ways (low_goes_too s t e) (low_first t (low s) l)
+    not_lower s t e l = not_both (low_first t (low s) l) (low_goes_too s t e)
 
     -- Numbers that go together have one lowest.
     pub low_same : (s t : ℕ) → together s t ≡ true → low s ≡ low t

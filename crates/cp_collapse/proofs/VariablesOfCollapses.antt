@@ -9,9 +9,9 @@ use Rattle.cp_model.specs.PointOfView.{HasDeclaredVariables}
 use Rattle.cp_lists.proofs.Members.{in_append, in_append_left, in_append_right, from_map}
 use Rattle.cp_model.proofs.LawTerms.{atom_after, atom_composed}
 use Rattle.cp_model.proofs.LawAgreement.{agree_atom}
-use Rattle.cp_completeness.proofs.Under.{in_trace_under, in_strands, in_atoms, in_uniques, trace_under}
+use Rattle.cp_model.proofs.OccurringVariables.{in_trace_under, in_strands, in_atoms, in_uniques, strand_with, atom_with, unique_with}
+use Rattle.cp_completeness.proofs.Under.{trace_under}
 use Rattle.cp_unify.proofs.Free.{free}
-use Rattle.cp_skel.proofs.UnderVariables.{strand_with, atom_with, unique_with}
 use Rattle.cp_collapse.specs.SameSkeletons.{same_instance}
 use Rattle.cp_collapse.specs.Partitions.{IsPartition, IdentifiesValues}
 use Rattle.cp_collapse.specs.Collapses.{IsCollapsed, AreCollapsesBy, no_collapses, collapse_by}

@@ -18,7 +18,7 @@ use Rattle.cp_model.proofs.LawOrder.{before_wider}
 use Rattle.cp_model.proofs.DeclaredVariables.{declared_at}
 use Rattle.cp_model.proofs.LawEmbeddings.{then_homomorphism}
 use Rattle.cp_completeness.specs.Normal.{with_pairs, strand_under, unique_under, skeleton_under}
-use Rattle.cp_completeness.proofs.Under.{in_trace_under, in_strands, in_atoms, in_uniques}
+use Rattle.cp_model.proofs.OccurringVariables.{in_trace_under, in_strands, in_atoms, in_uniques}
 use Rattle.cp_completeness.proofs.Skeletons.{event_under}
 
 -- A homomorphism whose substitution is changed where no variable of the skeleton is.

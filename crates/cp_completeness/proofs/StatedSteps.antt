@@ -16,7 +16,7 @@ use Rattle.cp_model.proofs.Images.{images_then, mapped_images, images_within}
 use Rattle.cp_model.proofs.SingleMaps.{itself}
 use Rattle.cp_model.proofs.StatedStays.{stated_stays}
 use Rattle.cp_completeness.specs.Normal.{with_pairs, strand_under, unique_under, skeleton_under}
-use Rattle.cp_completeness.proofs.Under.{in_atoms, in_uniques}
+use Rattle.cp_model.proofs.OccurringVariables.{in_atoms, in_uniques}
 use Rattle.cp_model.proofs.LawAgreement.{agree_atom}
 use Rattle.cp_completeness.proofs.Mapped.{agree_declared, before_under, before_more}
 

@@ -1,81 +1,21 @@
 -- A skeleton under a substitution stands where the skeleton does, under an assignment that solves it.
-use Rattle.std.proofs.Common.{◌≡◌, ◌≢◌, ℕ, zero, suc, Bool, List, [], ◌∷◌, ◌++◌, Some, map, refl, sym, ap, ap₂, ◌∙◌, subst, subst₂, ⊎_elim}
-use Rattle.cp_lists.specs.Lists.{item_at, IsIn, here, there, one_step, more_steps}
+use Rattle.std.proofs.Common.{◌≡◌, ◌≢◌, ℕ, zero, suc, List, [], ◌∷◌, ◌++◌, Some, map, refl, sym, ap, ap₂, ◌∙◌, subst, subst₂}
+use Rattle.cp_lists.specs.Lists.{item_at, IsIn, one_step, more_steps}
 use Rattle.cp_model.specs.Message.{Atom, Message, atom}
-use Rattle.cp_model.specs.Term.{Variable, SymmetricTerm, skey_variable, ltk_term, PairTerm, akey_variable, pubk_term, KeyTerm, symmetric_term, asymmetric_term, AtomTerm, text_variable, datum_variable, name_variable, key_term, atom_of_variable, Term, tag_term, atom_term, pair_term, enc_term, name_sort, variables_of_symmetric, variables_of_pair, variables_of_key, variables_of_atom, variables_of, Assignment, value_of, value_of_atom, Substitution, apply_to_key, apply_to_atom, apply_to, after, composed, AgreeOn}
-use Rattle.cp_model.specs.Strand.{Event, send, recv, payload, event_map, Role, prefix_of, variables_of_trace, variables_of_prefix}
+use Rattle.cp_model.specs.Term.{Variable, AtomTerm, atom_of_variable, Term, variables_of_atom, variables_of, Assignment, value_of, value_of_atom, Substitution, apply_to_atom, apply_to, after, composed, AgreeOn}
+use Rattle.cp_model.specs.Strand.{Event, send, recv, event_map, Role, prefix_of, variables_of_prefix}
 use Rattle.cp_model.specs.Bundle.{node_at, event_at, KeepsNon, KeepsPenetratorNon, KeepsUnique, Bundle, Precedes}
 use Rattle.cp_model.specs.declared.node.Node.{Node}
 use Rattle.cp_model.specs.Skeleton.{SkeletonStrand, instance, listener, skeleton_trace, skeleton_trace_or_none, term_event_at, UniqueAt, Skeleton, OrderStep, along_strand_of, along_pair, Before}
 use Rattle.cp_model.specs.Standing.{Standing, image_on, image_of, StandsOnRegular, StandsIn, StandsApart}
 use Rattle.cp_model.specs.Homomorphism.{FactorsThrough}
 use Rattle.cp_model.specs.Problem.{variables_of_strands, variables_of_atoms, variables_of_uniques, variables_of_assumptions}
-use Rattle.cp_lists.proofs.Members.{in_append, in_append_left, in_append_right, from_map}
+use Rattle.cp_lists.proofs.Members.{in_append_left, in_append_right, from_map}
 use Rattle.cp_lists.proofs.Items.{item_of_map}
 use Rattle.cp_model.proofs.LawTerms.{atom_after, value_after, atom_composed, term_composed}
 use Rattle.cp_completeness.specs.Normal.{strand_under, unique_under, skeleton_under, variables_of_terms, IsSolution}
 use Rattle.cp_model.proofs.LawAgreement.{agree_atom_value, agree_value}
-
--- The variables of the terms of a term's variables occur in the term under the substitution.
-in_symmetric : (s : Substitution) (k : SymmetricTerm) (x y : Variable) → IsIn x (variables_of_symmetric k) → IsIn y (variables_of_atom (apply_to_atom s (atom_of_variable x))) → IsIn y (variables_of_key (apply_to_key s (symmetric_term k)))
-in_symmetric s (skey_variable n) x y here q = q
-in_symmetric s (skey_variable n) x y (there p) q = elim p [ ]
-in_symmetric s (ltk_term a b) x y here q = in_append_left (record { sort = name_sort; number = s.names b } ∷ []) q
-in_symmetric s (ltk_term a b) x y (there here) q = there q
-in_symmetric s (ltk_term a b) x y (there (there p)) q = elim p [ ]
-
-in_pair : (s : Substitution) (flag : Bool) (k : PairTerm) (x y : Variable) → IsIn x (variables_of_pair k) → IsIn y (variables_of_atom (apply_to_atom s (atom_of_variable x))) → IsIn y (variables_of_key (apply_to_key s (asymmetric_term flag k)))
-in_pair s flag (akey_variable n) x y here q = q
-in_pair s flag (akey_variable n) x y (there p) q = elim p [ ]
-in_pair s flag (pubk_term purpose a) x y here q = q
-in_pair s flag (pubk_term purpose a) x y (there p) q = elim p [ ]
-
-in_key : (s : Substitution) (k : KeyTerm) (x y : Variable) → IsIn x (variables_of_key k) → IsIn y (variables_of_atom (apply_to_atom s (atom_of_variable x))) → IsIn y (variables_of_key (apply_to_key s k))
-in_key s (symmetric_term k) x y p q = in_symmetric s k x y p q
-in_key s (asymmetric_term flag k) x y p q = in_pair s flag k x y p q
-
-in_atom : (s : Substitution) (v : AtomTerm) (x y : Variable) → IsIn x (variables_of_atom v) → IsIn y (variables_of_atom (apply_to_atom s (atom_of_variable x))) → IsIn y (variables_of_atom (apply_to_atom s v))
-in_atom s (text_variable n) x y here q = q
-in_atom s (text_variable n) x y (there p) q = elim p [ ]
-in_atom s (datum_variable n) x y here q = q
-in_atom s (datum_variable n) x y (there p) q = elim p [ ]
-in_atom s (name_variable n) x y here q = q
-in_atom s (name_variable n) x y (there p) q = elim p [ ]
-in_atom s (key_term k) x y p q = in_key s k x y p q
-
-in_term : (s : Substitution) (t : Term) (x y : Variable) → IsIn x (variables_of t) → IsIn y (variables_of_atom (apply_to_atom s (atom_of_variable x))) → IsIn y (variables_of (apply_to s t))
-in_term s (tag_term bytes) x y p q = elim p [ ]
-in_term s (atom_term v) x y p q = in_atom s v x y p q
-in_term s (pair_term t u) x y p q =
-    ⊎_elim (λ l. in_append_left (variables_of (apply_to s u)) (in_term s t x y l q)) (λ r. in_append_right (variables_of (apply_to s t)) (in_term s u x y r q)) (in_append (variables_of t) (variables_of u) p)
-in_term s (enc_term t k) x y p q =
-    ⊎_elim (λ l. in_append_left (variables_of_key (apply_to_key s k)) (in_term s t x y l q)) (λ r. in_append_right (variables_of (apply_to s t)) (in_key s k x y r q)) (in_append (variables_of t) (variables_of_key k) p)
-
-in_event : (s : Substitution) (e : Event Term) (x y : Variable) → IsIn x (variables_of (payload e)) → IsIn y (variables_of_atom (apply_to_atom s (atom_of_variable x))) → IsIn y (variables_of (payload (event_map (apply_to s) e)))
-in_event s (send t) x y p q = in_term s t x y p q
-in_event s (recv t) x y p q = in_term s t x y p q
-
-pub in_trace_under : (s : Substitution) (es : List (Event Term)) (x y : Variable) → IsIn x (variables_of_trace es) → IsIn y (variables_of_atom (apply_to_atom s (atom_of_variable x))) → IsIn y (variables_of_trace (map (event_map (apply_to s)) es))
-in_trace_under s [] x y p q = elim p [ ]
-in_trace_under s (e ∷ es) x y p q =
-    ⊎_elim (λ l. in_append_left (variables_of_trace (map (event_map (apply_to s)) es)) (in_event s e x y l q)) (λ r. in_append_right (variables_of (payload (event_map (apply_to s) e))) (in_trace_under s es x y r q))
-    (in_append (variables_of (payload e)) (variables_of_trace es) p)
-
--- Of items of lists: their variables occur in the lists'.
-pub in_strands : (ss : List SkeletonStrand) (i : ℕ) (st : SkeletonStrand) (x : Variable) → item_at ss i ≡ Some st → IsIn x (variables_of_trace (skeleton_trace st)) → IsIn x (variables_of_strands ss)
-in_strands [] i st x at p = absurd (cc)
-in_strands (s ∷ ss) zero st x at p = let same : st ≡ s = cc in in_append_left (variables_of_strands ss) (subst (λ (d : SkeletonStrand). IsIn x (variables_of_trace (skeleton_trace d))) same p)
-in_strands (s ∷ ss) (suc i) st x at p = in_append_right (variables_of_trace (skeleton_trace s)) (in_strands ss i st x at p)
-
-pub in_atoms : (vs : List AtomTerm) (v : AtomTerm) (x : Variable) → IsIn v vs → IsIn x (variables_of_atom v) → IsIn x (variables_of_atoms vs)
-in_atoms (w ∷ vs) v x here p = in_append_left (variables_of_atoms vs) p
-in_atoms (w ∷ vs) v x (there q) p = in_append_right (variables_of_atom w) (in_atoms vs v x q p)
-in_atoms [] v x q p = elim q [ ]
-
-pub in_uniques : (us : List UniqueAt) (u : UniqueAt) (x : Variable) → IsIn u us → IsIn x (variables_of_atom u.value) → IsIn x (variables_of_uniques us)
-in_uniques (w ∷ us) u x here p = in_append_left (variables_of_uniques us) p
-in_uniques (w ∷ us) u x (there q) p = in_append_right (variables_of_atom w.value) (in_uniques us u x q p)
-in_uniques [] u x q p = elim q [ ]
+use Rattle.cp_model.proofs.OccurringVariables.{in_trace_under, in_strands, in_atoms, in_uniques}
 
 -- Traces and images under a substitution.
 event_under : (s t : Substitution) (e : Event Term) → event_map (apply_to (composed t s)) e ≡ event_map (apply_to s) (event_map (apply_to t) e)

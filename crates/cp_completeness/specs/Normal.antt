@@ -1,8 +1,8 @@
 -- What normalising does to a skeleton, and what it looks for: values that nodes carry, pairs from recorded origins,
 -- values that were heard, and skeletons under substitutions.
-use Rattle.std.specs.Prelude.{◌≡◌, ◌⊎◌, ℕ, ◌<◌, List, [], ◌∷◌, ◌++◌, Some, map}
+use Rattle.std.specs.Prelude.{◌≡◌, ◌⊎◌, ℕ, ◌<◌, List, Some, map}
 use Rattle.cp_lists.specs.Lists.{IsIn}
-use Rattle.cp_model.specs.Term.{Variable, AtomTerm, Term, atom_term, IsCarriedByTerm, variables_of, Assignment, value_of_atom, after, AgreeOn, Substitution, apply_to, apply_to_atom, composed}
+use Rattle.cp_model.specs.Term.{AtomTerm, Term, atom_term, IsCarriedByTerm, Assignment, value_of_atom, after, AgreeOn, Substitution, apply_to, apply_to_atom, composed}
 use Rattle.cp_model.specs.Strand.{Event, recv, payload, Protocol}
 use Rattle.cp_model.specs.Bundle.{node_at, Bundle, IsBundle}
 use Rattle.cp_model.specs.declared.node.Node.{Node}
@@ -11,6 +11,7 @@ use Rattle.cp_model.specs.declared.node.OrderPair.{OrderPair}
 use Rattle.cp_model.specs.Standing.{Standing, StandsIn, StandsApart}
 use Rattle.cp_model.specs.Homomorphism.{FactorsThrough}
 use Rattle.cp_model.specs.Problem.{variables_of_skeleton}
+pub use Rattle.cp_model.specs.Problem.{variables_of_terms}
 
 -- The node, of a role strand or a listener, carries the value.
 pub record IsCarriedAt (k : Skeleton) (v : AtomTerm) (n : Node) : Type 0 where
@@ -72,10 +73,6 @@ skeleton_under s k = record {
   assumptions = assumptions_under s k.assumptions;
   from_problem = from_problem_under s k.from_problem;
 }
-
-abbrev pub variables_of_terms : List Term → List Variable
-variables_of_terms [] = []
-variables_of_terms (t ∷ ts) = variables_of t ++ variables_of_terms ts
 
 -- The assignment gives each variable of the skeleton, those of its map from the problem included, the value of the
 -- variable's term under the substitution.

@@ -22,7 +22,7 @@ use Rattle.cp_term.specs.declared.path.Step.TheVariants.{Left, Right, Plaintext}
 use Rattle.cp_term.specs.Positions.{term_at, positions_where}
 use Rattle.cp_term.proofs.PositionLaws.{part_found}
 use Rattle.cp_completeness.specs.Normal.{skeleton_under}
-use Rattle.cp_skel.proofs.UnderVariables.{in_strands}
+use Rattle.cp_model.proofs.OccurringVariables.{in_strands}
 use Rattle.cp_guard.specs.Above.{encryptions_above}
 use Rattle.cp_guard.specs.Critical.{used_variables}
 use Rattle.cp_guard.specs.Inside.{IsBroughtInside}

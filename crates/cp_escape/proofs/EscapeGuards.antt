@@ -34,11 +34,12 @@ use Rattle.cp_escape.specs.Escape.{IsFirstWith, in_front, further, positions_of,
 use Rattle.cp_escape.specs.Sent.{CarriesBefore}
 use Rattle.cp_escape.proofs.PartsAbove.{part_above, event_variables, sort_of_number}
 
-pub first_is_in : {has : Term → Type 0} {ts : List Term} {t : Term} → IsFirstWith has ts t → IsIn t ts
+-- The first with a property is one of the list, and has it.
+pub first_is_in : {A : Type 0} {has : A → Type 0} {xs : List A} {x : A} → IsFirstWith has xs x → IsIn x xs
 first_is_in (in_front h) = here
 first_is_in (further n h) = there (first_is_in h)
 
-pub first_has : {has : Term → Type 0} {ts : List Term} {t : Term} → IsFirstWith has ts t → has t
+pub first_has : {A : Type 0} {has : A → Type 0} {xs : List A} {x : A} → IsFirstWith has xs x → has x
 first_has (in_front h) = h
 first_has (further n h) = first_has h
 

@@ -1,6 +1,5 @@
 -- What encloses positions: encryptions, whose variables are variables of the message; step by step.
-use Rattle.std.proofs.Common.{◌≡◌, ℕ, ◌≤◌, length, drop, List, [], ◌∷◌, ◌++◌, Some, refl, sym, ap, ◌∙◌, subst, ⊎_elim}
-use Rattle.std.proofs.lemmas.List.{append-nil, drop_all}
+use Rattle.std.proofs.Common.{◌≡◌, List, [], ◌∷◌, Some, refl, sym, ap, ◌∙◌, subst, ⊎_elim}
 use Rattle.cp_lists.specs.Lists.{IsIn}
 use Rattle.cp_lists.proofs.Members.{in_append_left, in_append_right, head_or_behind, not_in_none}
 use Rattle.cp_model.specs.Term.{Variable, KeyTerm, Term, tag_term, atom_term, pair_term, enc_term, variables_of, variables_of_key}
@@ -11,7 +10,7 @@ use Rattle.cp_model.specs.Pattern.{IsEncryption}
 use Rattle.cp_model.specs.Problem.{IsDeclared, declared_sort, variables_of_assumptions, variables_of_skeleton}
 use Rattle.cp_model.proofs.LawPrefixes.{in_trace}
 use Rattle.cp_model.proofs.LawStandings.{strand_of_event, event_on}
-use Rattle.cp_skel.proofs.UnderVariables.{in_strands}
+use Rattle.cp_model.proofs.OccurringVariables.{in_strands}
 use Rattle.cp_lists.specs.Lists.{item_at}
 use Rattle.cp_term.specs.declared.path.Step.{Step}
 use Rattle.cp_term.specs.declared.path.Step.TheVariants.{Left, Right, Plaintext}
@@ -56,14 +55,3 @@ pub sort_of_number : (ds : List Declaration) (x y : Variable) → IsDeclared ds 
 sort_of_number ds x y a b e =
     let same : Some x.sort ≡ Some y.sort = sym a ∙ ap (λ n. declared_sort (item_at ds n)) e ∙ b in
     cc
-
--- Nothing encloses the position of the whole.
-nothing_above : (t : Term) → encryptions_above t [] ≡ []
-nothing_above (tag_term bytes) = refl
-nothing_above (atom_term a) = refl
-nothing_above (pair_term a b) = refl
-nothing_above (enc_term a k) = refl
-
-pub nothing_left : (es : List Term) (rest : Term) (path : List Step) (i : ℕ) (whole : List Term) → length path ≤ i → (es ++ encryptions_above rest (drop i path)) ≡ whole → es ≡ whole
-nothing_left es rest path i whole past so_far =
-    sym (append-nil es) ∙ ap (λ (xs : List Term). es ++ xs) (sym (ap (encryptions_above rest) (drop_all i path past) ∙ nothing_above rest)) ∙ so_far

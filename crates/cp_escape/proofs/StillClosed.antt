@@ -7,7 +7,7 @@ use Rattle.cp_model.specs.Term.{Variable, KeyTerm, symmetric_term, asymmetric_te
 use Rattle.cp_model.specs.Problem.{variables_of_atoms, variables_of_uniques, variables_of_strands}
 use Rattle.cp_model.specs.Skeleton.{Skeleton}
 use Rattle.cp_completeness.specs.Normal.{variables_of_terms}
-use Rattle.cp_skel.proofs.UnderVariables.{in_atoms}
+use Rattle.cp_model.proofs.OccurringVariables.{in_atoms}
 use Rattle.cp_term.specs.Keys.{key_as_term}
 use Rattle.cp_guard.specs.Critical.{used_variables}
 use Rattle.cp_escape.specs.Escape.{IsFirstWith, in_front, further}

@@ -9,7 +9,7 @@ use Rattle.cp_model.specs.Skeleton.{SkeletonStrand, instance, listener, Skeleton
 use Rattle.cp_model.specs.Homomorphism.{SkeletonMap, IsEmbedding}
 use Rattle.cp_model.specs.Same.{has_variable}
 use Rattle.cp_model.proofs.SameTests.{variable_in, in_has_variable}
-use Rattle.cp_completeness.proofs.Under.{in_trace_under}
+use Rattle.cp_model.proofs.OccurringVariables.{in_trace_under}
 use Rattle.cp_fingerprint.specs.SharedValues.{listened, is_heard, heard_weight}
 
 record IsHeardAt (ss : List SkeletonStrand) (x : Variable) : Type 0 where

@@ -2,7 +2,6 @@
 use Rattle.std.proofs.Common.{◌≡◌, ◌↔◌, ◌⊎◌, inl, inr, List, sym, subst}
 use Rattle.std.specs.Prelude.{Some}
 use Rattle.cp_lists.specs.Lists.{IsIn, one_step, more_steps}
-use Rattle.cp_lists.proofs.Reached.{steps_append}
 use Rattle.cp_model.specs.Term.{AtomTerm, Term}
 use Rattle.cp_model.specs.Strand.{send}
 use Rattle.cp_model.specs.declared.node.Node.{Node}
@@ -10,10 +9,10 @@ use Rattle.cp_model.specs.declared.node.OrderPair.{OrderPair}
 use Rattle.cp_model.specs.Skeleton.{SkeletonStrand, UniqueAt, Assumptions, FromProblem, Skeleton, term_event_at, OrderStep, along_strand_of, along_pair, Before}
 use Rattle.cp_model.specs.Derivable.{IsSecret, IsOnInstance, DerivableAt, a_tag, an_atom, sent_before, paired, left_of, right_of, encrypted, decrypted}
 use Rattle.cp_model.specs.Given.{listed}
-use Rattle.cp_completeness.specs.Normal.{with_pairs}
 use Rattle.cp_skel.proofs.EachOnce.{listed-non, listed-penetrator-non, listed-unique}
 use Rattle.cp_normal.specs.Findings.{CarriesNonOriginating, HasTwoOrigins, LosesOrigin, IsAddedPair, AreNormalPairs, ClosesCycle, IsContradictory}
 use Rattle.cp_normal.specs.NormalForms.{IsStray, IsNormal}
+use Rattle.cp_normal.proofs.NormalSkeletons.{closes_none}
 use Rattle.cp_roots.specs.Roots.{in_report_order}
 use Rattle.cp_general.specs.Fit.{IsFit}
 
@@ -103,24 +102,6 @@ module _ (k : Skeleton) (pairs : List OrderPair) (assumed : Assumptions) (from :
 
   pub normal : IsNormal k → (ClosesCycle other → ⊥) → ((p : OrderPair) → IsAddedPair other p → Before other p.earlier p.later) → IsNormal other
   normal n none before = record { consistent = contradicts n none; no_stray = λ u x s. n.no_stray u x (stray u x s); ordered = before }
-
--- ---- pairs that are in an order without cycles close none
-
-module _ (k : Skeleton) (before : (p : OrderPair) → IsAddedPair k p → Before k p.earlier p.later) (ps : List OrderPair) (normal_pairs : AreNormalPairs k ps) where
-  pair_within : (p : OrderPair) → IsIn p k.pairs ⊎ IsAddedPair k p → Before k p.earlier p.later
-  pair_within p (inl i) = one_step (along_pair i)
-  pair_within p (inr a) = before p a
-
-  step_within : (x y : Node) → OrderStep (with_pairs k ps) x y → Before k x y
-  step_within x y (along_strand_of e) = one_step (along_strand_of e)
-  step_within x y (along_pair {p = p} m) = pair_within p ((normal_pairs p).0 m)
-
-  way_within : (x y : Node) → Before (with_pairs k ps) x y → Before k x y
-  way_within x y (one_step s) = step_within x y s
-  way_within x z (more_steps {y = y} s r) = steps_append (step_within x y s) (way_within y z r)
-
-pub closes_none : (k : Skeleton) → ((p : OrderPair) → IsAddedPair k p → Before k p.earlier p.later) → ((n : Node) → Before k n n → ⊥) → ClosesCycle k → ⊥
-closes_none k before no_cycle c = no_cycle c.node (way_within k before c.pairs c.normal c.node c.node c.cycle)
 
 -- ---- one that orders no less, and has no cycle
 

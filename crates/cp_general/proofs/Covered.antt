@@ -2,7 +2,7 @@
 use Rattle.std.proofs.Common.{◌≡◌, ◌≢◌, ◌↔◌, ◌⊎◌, inl, inr, ℕ, ◌<◌, ◌≤◌, List, [], ◌∷◌, ◌++◌, Bool, true, ◌&&◌, map, refl, sym, ap, ◌∙◌, subst, arith}
 use Rattle.std.specs.Prelude.{◌==◌, nat_lt, Some}
 use Rattle.std.specs.List.{filter}
-use Rattle.std.proofs.lemmas.Bool.{or_cases, or_left, or_right}
+use Rattle.std.proofs.lemmas.Bool.{or_cases, or_left, or_right, cases_lt}
 use Rattle.std.proofs.lemmas.Bool.Decides.{nat_tests}
 use Rattle.cp_lists.specs.Lists.{IsIn, here, there}
 use Rattle.cp_lists.proofs.Members.{in_append_left, in_last, in_pushed, into_map, from_map, into_filter, from_filter}
@@ -18,7 +18,7 @@ use Rattle.cp_model.proofs.SameTests.{node_is, is_node}
 use Rattle.cp_skel.specs.Ordered.{IsOrdered}
 use Rattle.cp_general.specs.Steps.{IsPairOfOrder}
 use Rattle.cp_general.specs.CoveringPairs.{led_to, leading_to, is_below, is_below_one, some_is_below, is_covered}
-use Rattle.cp_general.proofs.Ways.{same_or_not, less_or_not, along, rises, arrives, departs}
+use Rattle.cp_general.proofs.Ways.{same_or_not, along, rises, arrives, departs}
 
 -- ---- nodes that are gathered
 
@@ -194,4 +194,4 @@ module _ (k : Skeleton) (ordered : IsOrdered k) (pairs : List OrderPair) (each :
       let r = row n a in
       let c = column n b in
       below_some r.node c.node (led_to pairs p.earlier ++ (p.earlier ∷ [])) (leading_to pairs p.later ++ (p.later ∷ [])) r.listed c.listed (r.up.0 ∙ c.up.0)
-      (strictly n r c r.strict c.strict (less_or_not r.node.index c.node.index))
+      (strictly n r c r.strict c.strict (cases_lt r.node.index c.node.index))

@@ -18,7 +18,7 @@ use Rattle.cp_skel.specs.Deletion.{renumbered, node_renumbered, unique_renumbere
 use Rattle.cp_skel.proofs.NumbersWithout.{restored, restored_renumbered, renumbered_restored, restored_other, item_without, node_restored, node_again}
 use Rattle.cp_skel.proofs.PairsWithout.{was_left}
 use Rattle.cp_skel.proofs.SkeletonWithout.{skeleton_kept}
-use Rattle.cp_skel.proofs.UnderVariables.{strand_with, in_strands, atom_with, unique_with}
+use Rattle.cp_model.proofs.OccurringVariables.{strand_with, in_strands, atom_with, unique_with}
 use Rattle.cp_collapse.proofs.VariablesOfCollapses.{of_each_part, non_declared, penetrator_non_declared, unique_declared}
 use Rattle.cp_general.specs.Steps.{Deletes}
 

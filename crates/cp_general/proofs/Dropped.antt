@@ -16,6 +16,7 @@ use Rattle.cp_model.specs.OrderTests.{any_pair}
 use Rattle.cp_model.specs.Skeleton.{term_event_at, Skeleton, OrderStep, along_strand_of, along_pair, Before, IsOrderPair}
 use Rattle.cp_model.specs.Derivable.{DerivableAt}
 use Rattle.cp_model.proofs.SameTests.{node_is, is_node}
+use Rattle.cp_model.proofs.CarriedParts.{not_both}
 use Rattle.cp_model.proofs.LawOrder.{before_leads, leads_before, before_wider}
 use Rattle.cp_model.proofs.BoundedSearch.{some_in, in_some}
 use Rattle.cp_skel.specs.Ordered.{IsOrdered, ordered_by}
@@ -23,11 +24,13 @@ use Rattle.cp_skel.specs.Sound.{IsSound}
 use Rattle.cp_skel.proofs.CarriedHomomorphisms.{reordered_stays_skeleton}
 use Rattle.cp_skel.proofs.SoundSkeletons.{sound_ordered}
 use Rattle.cp_normal.specs.Findings.{IsAddedPair}
+use Rattle.cp_normal.specs.OwnPairs.{AllLead}
+use Rattle.cp_normal.proofs.NormalSkeletons.{closes_none}
 use Rattle.cp_general.specs.Fit.{IsFit}
 use Rattle.cp_general.specs.Steps.{IsPairOfOrder, IsCoveringPair, IsLowerPair, Drops}
-use Rattle.cp_general.specs.ListedPairs.{AreRisingPairs, ListsOrder, AllLead, is_same_pair, is_other_pair}
+use Rattle.cp_general.specs.ListedPairs.{AreRisingPairs, ListsOrder, is_same_pair, is_other_pair}
 use Rattle.cp_general.specs.ProgramSteps.{NeverDrops, MayDrop, LeavesFitOrder}
-use Rattle.cp_general.proofs.Alike.{assume_the_same, derivable, normal, was_added, closes_none, fit_alike}
+use Rattle.cp_general.proofs.Alike.{assume_the_same, derivable, normal, was_added, fit_alike}
 use Rattle.cp_general.proofs.Deleted.{deletes_none_still}
 use Rattle.cp_general.specs.CoveringPairs.{is_covered}
 use Rattle.cp_general.proofs.Covered.{covered_between, between_covered}
@@ -55,9 +58,6 @@ not_is false e h = cc
 
 not_is_true : false ≡ true → ⊥
 not_is_true e = cc
-
-not_both : {b : Bool} → b ≡ false → b ≡ true → ⊥
-not_both e f = cc
 
 other_pair : (p q : OrderPair) → q ≢ p → is_other_pair p q ≡ true
 other_pair p q h = not_true (is_same_pair p q) (λ e. h (sym (same_pair_is p q e)))

@@ -13,7 +13,8 @@ use Rattle.cp_general.specs.ListedPairs.{IsInNeither, is_same_pair}
 use Rattle.cp_general.specs.ProgramSteps.{HasFreePair}
 use Rattle.cp_general.proofs.CoveringPairs.{no_free_pair}
 use Rattle.cp_general.proofs.Dropped.{same_pair_is, same_pair_itself}
-use Rattle.cp_general.proofs.FitTests.{not_both, no_pair}
+use Rattle.cp_model.proofs.CarriedParts.{not_both}
+use Rattle.cp_general.proofs.FitTests.{no_pair}
 
 -- ---- the place of a pair
 

@@ -1,6 +1,7 @@
 -- Ways from strand to strand.
 use Rattle.std.proofs.Common.{◌≡◌, ◌≢◌, ◌⊎◌, inl, inr, ℕ, suc, ◌<◌, ◌≤◌, Bool, true, false, refl, sym, ap, subst, arith}
-use Rattle.std.specs.Prelude.{◌==◌, nat_lt, Some}
+use Rattle.std.specs.Prelude.{◌==◌, Some}
+use Rattle.std.proofs.lemmas.Bool.{cases_lt}
 use Rattle.std.proofs.lemmas.Bool.Decides.{nat_tests}
 use Rattle.cp_lists.specs.Lists.{IsIn, one_step, more_steps}
 use Rattle.cp_lists.proofs.Items.{item_before}
@@ -21,13 +22,6 @@ same_or_not s t = by_test (s == t) refl
     by_test : (b : Bool) → (s == t) ≡ b → (s ≡ t) ⊎ (s ≢ t)
     by_test true e = inl (grind (arith, nat_tests))
     by_test false e = inr (λ h. grind (arith, nat_tests))
-
-pub less_or_not : (i j : ℕ) → (i < j) ⊎ (j ≤ i)
-less_or_not i j = by_test (nat_lt i j) refl
-  where
-    by_test : (b : Bool) → nat_lt i j ≡ b → (i < j) ⊎ (j ≤ i)
-    by_test true e = inl (grind (arith, nat_tests))
-    by_test false e = inr (grind (arith, nat_tests))
 
 module _ (k : Skeleton) (ordered : IsOrdered k) where
   -- ---- nodes of a way
@@ -53,7 +47,7 @@ module _ (k : Skeleton) (ordered : IsOrdered k) where
       of (inr b) = b
 
   pub rises : (x y : Node) → x.strand ≡ y.strand → Before k x y → x.index < y.index
-  rises x y s b = of (less_or_not x.index y.index)
+  rises x y s b = of (cases_lt x.index y.index)
     where
       none : (y ≡ x) ⊎ Before k y x → ⊥
       none (inl e) = ordered.no_cycle x (subst (λ (z : Node). Before k x z) e b)

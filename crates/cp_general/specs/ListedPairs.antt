@@ -6,7 +6,6 @@ use Rattle.cp_model.specs.Strand.{Event, send, recv}
 use Rattle.cp_model.specs.Same.{same_node}
 use Rattle.cp_model.specs.declared.node.Node.{Node}
 use Rattle.cp_model.specs.declared.node.OrderPair.{OrderPair}
-use Rattle.cp_model.specs.Order.{LeadsTo}
 use Rattle.cp_model.specs.OrderTests.{reaches}
 use Rattle.cp_model.specs.Skeleton.{Skeleton}
 use Rattle.cp_strand.specs.View.{event_view}
@@ -22,10 +21,6 @@ AreRisingPairs (p ∷ ps) = ((q : OrderPair) → IsIn q ps → IsLowerPair p q) 
 pub record ListsOrder (k : Skeleton) (pairs : List OrderPair) : Type 0 where
   pub each : (q : OrderPair) → IsIn q pairs ↔ IsPairOfOrder k q
   pub rising : AreRisingPairs pairs
-
--- Of each of the pairs the first node leads to the second in the order.
-abbrev pub AllLead : List OrderPair → List OrderPair → Type 0
-AllLead order pairs = (p : OrderPair) → IsIn p pairs → LeadsTo order p.earlier p.later
 
 -- ---- how they are gathered
 

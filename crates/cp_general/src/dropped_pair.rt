@@ -7,17 +7,17 @@ ghost use Rattle.cp_model.specs.OrderTests.{any_pair};
 ghost use Rattle.cp_skel.specs.View.{skeleton_view};
 ghost use Rattle.cp_collapse.specs.Property.{Has};
 ghost use Rattle.cp_normal.specs.Findings.{IsAddedPair};
+ghost use Rattle.cp_normal.specs.OwnPairs.{AllLead};
 ghost use Rattle.cp_general.specs.Fit.{IsFit};
 ghost use Rattle.cp_general.specs.Generalisation.{DropsNone};
 ghost use Rattle.cp_general.specs.ListedPairs.{ListsOrder, IsInNeither, is_same_pair, is_other_pair};
 ghost use Rattle.cp_general.specs.ProgramSteps.{NeverDrops, MayDrop, HasFreePair, LeavesFitOrder, DropsFirst};
 
 use crate::covering_pairs::{is_covered, is_same_node};
-use crate::fit::all_lead;
 use crate::pairs::reordered;
 use cp_derive::critical;
 use cp_normal::added_pairs;
-use cp_skel::{Order, OrderPair, Skeleton};
+use cp_skel::{Leading, Order, OrderPair, Skeleton};
 use std::alloc::{AllocError, Global};
 
 /// Whether the two pairs are the same.
@@ -126,6 +126,20 @@ fn may_drop(
     }
     let covered = is_covered(alloc, k.order().pairs(), pair)?;
     Ok(!covered)
+}
+
+/// Whether each of the pairs is in the order. The error is that memory ran out.
+fn all_lead(alloc: Global, order: &Order, pairs: &[OrderPair]) -> Result<bool, AllocError>
+    ensures { IfOk result (λ all. IsTrue all ↔ AllLead order.now pairs.now) }
+{
+    let own = order.pairs();
+    for pair in pairs {
+        let leading = Leading::new(alloc, own, pair.later)?;
+        if !leading.has(pair.earlier) {
+            return Ok(false);
+        }
+    }
+    Ok(true)
 }
 
 /// The skeleton without a pair that may be dropped, if what is left keeps what the problem states and is fit: of the receptions only

@@ -1,3 +1,4 @@
 pub mod Read
 pub mod Decided
 pub mod Positions
+pub mod AllAbove

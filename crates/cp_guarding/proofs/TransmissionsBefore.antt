@@ -1,19 +1,19 @@
 -- Transmissions of role strands before a node, as they are listed.
 use Rattle.std.proofs.Common.{◌≡◌, List, map, Some, Bool, true, refl, sym, ap, ◌∙◌, subst}
-use Rattle.cp_lists.specs.Lists.{IsIn, here, one_step, more_steps}
-use Rattle.cp_lists.proofs.Members.{into_map, in_append_right}
+use Rattle.cp_lists.specs.Lists.{IsIn, here}
+use Rattle.cp_lists.proofs.Members.{in_append_right}
 use Rattle.cp_guarding.proofs.Each.{each_of_map, map_of_each}
 use Rattle.cp_model.specs.Same.{same_term}
 use Rattle.cp_model.specs.Term.{Term, Substitution}
-use Rattle.cp_model.specs.Strand.{send, recv}
+use Rattle.cp_model.specs.Strand.{send}
 use Rattle.cp_model.specs.declared.node.Node.{Node}
-use Rattle.cp_model.specs.Skeleton.{instance, term_event_at, Skeleton, Before, IsNodeOf, IsOrderPair, along_strand_of, along_pair}
-use Rattle.cp_model.specs.declared.node.OrderPair.{OrderPair}
+use Rattle.cp_model.specs.Skeleton.{instance, term_event_at, Skeleton, Before, IsNodeOf}
 use Rattle.cp_model.specs.Derivable.{IsOnInstance}
 use Rattle.cp_model.specs.Tree.{Pattern}
 use Rattle.cp_skel.specs.Events.{Occurrence, occurrence_view, is_role_strand, events_of}
 use Rattle.cp_skel.specs.declared.events.Occurrence as program
 use Rattle.cp_skel.specs.Sound.{IsSound}
+use Rattle.cp_skel.proofs.OrderWithout.{way_ends}
 use Rattle.cp_skel.proofs.EventLists.{listed_event, listed_role, event_listed}
 use Rattle.cp_term.specs.declared.path.Step.{Step}
 use Rattle.cp_term.specs.Positions.{positions_where}
@@ -27,14 +27,8 @@ pub not_alone : (ps : List Pattern) (s : Substitution) (c t : Term) (path : List
 not_alone ps s c t path f alone =
     f.outside (alone path ((part_found c t (positions_where (same_term c) t) refl path).0 (subst (IsIn path) (sym f.among) (in_append_right f.before here))))
 
--- The later of two nodes in order is there.
-later_is_there : (k : Skeleton) (x y : Node) → ((p : OrderPair) → IsIn p k.pairs → IsOrderPair k p) → Before k x y → IsNodeOf k.strands y
-later_is_there k x y h (one_step (along_strand_of {e = e} p)) = (e, p)
-later_is_there k x y h (one_step (along_pair {p = p} m)) = (recv (h p m).received, (h p m).reception)
-later_is_there k x y h (more_steps {y = z} s r) = later_is_there k z y h r
-
 pub nothing_before : (k : Skeleton) → IsSound k → (m n : Node) → Before k m n → IsNodeOf k.strands n
-nothing_before k sound m n before = later_is_there k m n sound.skeleton.order_pairs before
+nothing_before k sound m n before = way_ends k m n sound.skeleton.order_pairs before
 
 module _ (ps : List Pattern) (k : Skeleton) (n : Node) (c : Term) where
   -- a transmission of a role strand is listed as one
@@ -52,9 +46,6 @@ module _ (ps : List Pattern) (k : Skeleton) (n : Node) (c : Term) where
   each_guarded each m t on at before = each (record { node = m; event = send t; by_role = true }) (sent_listed m t on at) t refl refl before
 
   module _ (os : List program.Occurrence) (all : map occurrence_view os ≡ events_of k) where
-    pub listed_one : (o : program.Occurrence) → IsIn o os → IsIn (occurrence_view o) (events_of k)
-    listed_one o i = subst (λ (xs : List Occurrence). IsIn (occurrence_view o) xs) all (into_map occurrence_view i)
-
     pub guarded_by_each : ((o : program.Occurrence) → IsIn o os → IsGuardedAt ps k n c (occurrence_view o)) → SendInsideAlone ps k n c
     guarded_by_each each = each_guarded (each_of_map occurrence_view (IsGuardedAt ps k n c) os (events_of k) all each)
 

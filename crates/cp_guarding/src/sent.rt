@@ -1,35 +1,47 @@
 // What role strands send before a node.
-ghost use Rattle.std.specs.Prelude.{◌↔◌, IsTrue, IfOk};
-ghost use Rattle.cp_lists.specs.Lists.{IsIn};
-ghost use Rattle.cp_model.specs.Skeleton.{IsNodeOf};
-ghost use Rattle.cp_skel.specs.Events.{occurrence_view, events_of};
+ghost use Rattle.std.specs.Prelude.{◌≡◌, ◌↔◌, IsTrue, IfOk};
+ghost use Rattle.cp_model.specs.Skeleton.{IsNodeOf, Before};
+ghost use Rattle.cp_skel.specs.Events.{occurrence_view};
 ghost use Rattle.cp_skel.specs.View.{skeleton_view};
 ghost use Rattle.cp_guarding.specs.Sent.{IsGuardedAt, SendInsideAlone};
 
 use crate::test_terms::event_at;
 use cp_match::first_outside;
-use cp_skel::{Event, Node, Occurrence, Skeleton};
+use cp_skel::{Event, Leading, Node, Occurrence, Skeleton};
 use cp_term::{Pattern, Term};
 use cp_unify::Subst;
 use std::alloc::{AllocError, Global};
 
-/// Whether the event, where a role strand sends it before the node, carries the critical term inside the patterns alone.
+/// Whether n is before m in the skeleton's order, by the nodes that lead to m along its pairs, which were gathered. The node m
+/// has to be there.
+fn comes_before(k: &Skeleton, leading: &Leading<'_>, n: Node, m: Node) -> bool
+    requires there { IsNodeOf (skeleton_view k.now).strands m }
+    requires gathered { leading.now ≡ record { pairs = k.now.order; node = m } }
+    ensures { IsTrue result ↔ Before (skeleton_view k.now) n m }
+{
+    k.is_sound();
+    n != m && leading.has(n)
+}
+
+/// Whether the event, where a role strand sends it before the node, carries the critical term inside the patterns alone, by the
+/// nodes that lead to that node along the skeleton's pairs, which were gathered. The node has to be there.
 fn is_guarded_at(
     alloc: Global,
     k: &Skeleton,
+    leading: &Leading<'_>,
     node: Node,
     critical: &Term,
     patterns: &[Pattern],
     occurrence: &Occurrence,
 ) -> Result<bool, AllocError>
     requires there { IsNodeOf (skeleton_view k.now).strands node }
-    requires listed { IsIn (occurrence_view occurrence.now) (events_of (skeleton_view k.now)) }
+    requires gathered { leading.now ≡ record { pairs = k.now.order; node = node } }
     ensures { IfOk result (λ answer. IsTrue answer ↔ IsGuardedAt patterns.now (skeleton_view k.now) node critical.now (occurrence_view occurrence.now)) }
 {
     let Event::Send(message) = &occurrence.event else {
         return Ok(true);
     };
-    if !occurrence.by_role || !k.before(occurrence.node, node) {
+    if !occurrence.by_role || !comes_before(k, leading, occurrence.node, node) {
         return Ok(true);
     }
     let nothing = Subst::new(alloc);
@@ -63,9 +75,10 @@ pub(crate) fn send_inside_alone(
     if !is_there(alloc, k, node)? {
         return Ok(true);
     }
+    let leading = Leading::new(alloc, k.order().pairs(), node)?;
     let occurrences = k.events(alloc)?;
     for occurrence in &occurrences {
-        if !is_guarded_at(alloc, k, node, critical, patterns, occurrence)? {
+        if !is_guarded_at(alloc, k, &leading, node, critical, patterns, occurrence)? {
             return Ok(false);
         }
     }

@@ -6,3 +6,4 @@ pub mod BoundedSearch
 mod ReportExamples
 pub mod ChosenLabels
 pub mod ValidTests
+pub mod NoLocals

@@ -8,6 +8,7 @@ use Rattle.cp_model.specs.declared.node.Node.{Node}
 use Rattle.cp_model.specs.Skeleton.{SkeletonStrand, instance, listener, skeleton_trace, UniqueAt, Skeleton}
 use Rattle.cp_model.specs.declared.node.OrderPair.{OrderPair}
 use Rattle.cp_model.specs.Problem.{IsDeclared, variables_of_skeleton}
+pub use Rattle.cp_model.specs.Problem.{variables_of_terms}
 use Rattle.cp_model.specs.Given.{listed}
 use Rattle.cp_model.specs.Tree.{Operation, by_problem, by_collapse, by_contraction, by_displacement, by_added_strand, by_added_listener, by_generalising, Mark, shape, dead, seen, instance_of, limit_steps, limit_strands, Outcome, complete, at_step_limit, at_strand_limit, Pattern, Test, Label, Tree, expanded_count}
 use Rattle.cp_sexpr.specs.Syntax.{Form}
@@ -19,10 +20,6 @@ use Rattle.cp_language.specs.Names.{problem_names, label_names, has_number, sort
 use Rattle.cp_language.specs.Printed.{word, numeral, headed_list, plain_list, variable, term_form, atom_form, pattern_form}
 
 -- ---- the variables of a label form
-
-abbrev pub variables_of_terms : List Term → List Variable
-variables_of_terms [] = []
-variables_of_terms (t ∷ ts) = variables_of t ++ variables_of_terms ts
 
 abbrev pub variables_of_test : Option Test → List Variable
 variables_of_test None = []

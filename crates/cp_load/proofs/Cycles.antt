@@ -1,5 +1,5 @@
 -- The faults of pairs, part by part.
-use Rattle.std.proofs.Common.{◌≡◌, ℕ, ◌+◌, ◌-◌, ◌<◌, ◌≤◌, List, [], ◌∷◌, ◌++◌, length, get_or, map, take, drop, Bool, true, false, ◌&&◌, ◌||◌, refl, sym, ap, ◌∙◌, subst, arith}
+use Rattle.std.proofs.Common.{◌≡◌, ℕ, ◌+◌, ◌-◌, ◌<◌, ◌≤◌, List, [], ◌∷◌, ◌++◌, length, get_or, map, take, drop, Bool, true, false, ◌&&◌, refl, sym, ap, ◌∙◌, subst, arith}
 use Rattle.std.specs.Prelude.{◌↔◌, ◌==◌, Option, Some, None, is_none, nat_le, if◌then◌else◌}
 use Rattle.std.proofs.lemmas.Bool.{cond-false}
 use Rattle.std.proofs.lemmas.Bool.Decides.{nat_tests}
@@ -11,9 +11,9 @@ use Rattle.cp_base.specs.declared.place.Code.TheVariants.{BadShape, BadNode, Cyc
 use Rattle.cp_base.specs.declared.place.Refusal.{Refusal}
 use Rattle.cp_model.specs.Skeleton.{SkeletonStrand, term_event_at}
 use Rattle.cp_model.specs.declared.node.OrderPair.{OrderPair}
-use Rattle.cp_lists.specs.Lists.{IsIn, here, there}
 use Rattle.cp_model.specs.declared.node.Node.{Node}
 use Rattle.cp_model.specs.Order.{IsAtOrAfter, LeadsTo, on_strand, over_pair}
+use Rattle.cp_model.proofs.BoundedSearch.{none_in}
 use Rattle.cp_sexpr.specs.Syntax.{Form}
 use Rattle.cp_sexpr.specs.View.{view}
 use Rattle.cp_sexpr.specs.declared.form.Form as program
@@ -31,10 +31,6 @@ use Rattle.cp_load.specs.Behind.{is_behind_fault}
 
 -- ---- cycles
 
-or_neither : (b c : Bool) → (b || c) ≡ false → (b ≡ false) × (c ≡ false)
-or_neither true c h = absurd (cc)
-or_neither false c h = (refl, h)
-
 pub same_bool : (b c : Bool) → (b ≡ true → c ≡ true) → (c ≡ true → b ≡ true) → b ≡ c
 same_bool true c f g = sym (f refl)
 same_bool false true f g = g refl
@@ -51,11 +47,6 @@ pub cycle-searched : (before : List OrderPair) (p : OrderPair) (l : Target) (b :
 cycle-searched before p l b other is h =
     order-searched before p.later p.earlier l b is h
     ∙ sym (cond-false (on_one_strand p) (nat_le p.later.index p.earlier.index) (reaches (length before) before p.later p.earlier) other)
-
-pub none_in : (test : OrderPair → Bool) (ps : List OrderPair) (p : OrderPair) → any_pair test ps ≡ false → IsIn p ps → test p ≡ false
-none_in test [] p none m = elim m [ ]
-none_in test (q ∷ ps) p none here = (or_neither (test p) (any_pair test ps) none).0
-none_in test (q ∷ ps) p none (there m) = none_in test ps p (or_neither (test q) (any_pair test ps) none).1 m
 
 pub not_after : (s t i j : ℕ) → ((s == t) && nat_le i j) ≡ false → (s ≡ t) × (i ≤ j) → ⊥
 not_after s t i j h a = grind (arith, nat_tests)

@@ -19,7 +19,8 @@ use Rattle.cp_language.proofs.BoundedSearch.{reaches_all}
 use Rattle.cp_order.specs.LeadingNodes.{Tops, is_below}
 use Rattle.cp_order.proofs.AlongPairs.{leads_within_more}
 use Rattle.cp_load.specs.Acyclic.{IsAcyclic, IsAcyclicIf, IsAcyclicUpTo, IsSwept, pair_in, pairs_under, pairs_stated}
-use Rattle.cp_load.proofs.Cycles.{same_bool, none_in, not_after, stays_behind}
+use Rattle.cp_model.proofs.BoundedSearch.{none_in}
+use Rattle.cp_load.proofs.Cycles.{same_bool, not_after, stays_behind}
 
 -- ---- some of the pairs
 

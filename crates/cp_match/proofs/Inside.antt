@@ -13,6 +13,7 @@ use Rattle.cp_term.specs.declared.path.Step.TheVariants.{Left, Right, Plaintext}
 use Rattle.cp_guard.specs.Above.{encryptions_above}
 use Rattle.cp_guard.specs.Inside.{IsInside}
 use Rattle.cp_guard.specs.Matches.{Matches}
+use Rattle.cp_guard.proofs.AllAbove.{nothing_above}
 use Rattle.cp_match.specs.Ready.{AreReadyFor, HasMatch}
 use Rattle.cp_match.specs.declared.pattern_matches.Ready.{Ready}
 
@@ -23,12 +24,6 @@ moved_to ps s t u p q e i = record { encryption = i.encryption; above = subst (I
 -- A position is inside exactly where what is left of it is inside what is left of the term.
 abbrev pub IsInsideLeft : List Ready → Term → List Step → Term → List Step → Type 0
 IsInsideLeft all t path rest steps = (ps : List Pattern) (s : Substitution) → AreReadyFor s ps all → IsInside ps s t path ↔ IsInside ps s rest steps
-
-nothing_above : (t : Term) → encryptions_above t [] ≡ []
-nothing_above (tag_term bytes) = refl
-nothing_above (atom_term a) = refl
-nothing_above (pair_term a b) = refl
-nothing_above (enc_term a k) = refl
 
 pub not_inside : (ps : List Pattern) (s : Substitution) (t : Term) (path : List Step) → encryptions_above t path ≡ [] → IsInside ps s t path → ⊥
 not_inside ps s t path e i = not_in_none (subst (IsIn i.encryption) e i.above)

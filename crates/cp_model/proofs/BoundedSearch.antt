@@ -1,6 +1,6 @@
 -- The bounded search along pairs finds what leads to a node: each pair needs to be taken at most once.
-use Rattle.std.proofs.Common.{◌≡◌, ◌↔◌, ◌⊎◌, inl, inr, ℕ, zero, suc, List, [], ◌∷◌, length, Bool, true, ◌&&◌, refl, sym, ◌∙◌, subst, arith}
-use Rattle.std.proofs.lemmas.Bool.{or_cases, or_left, or_right, and_from, and_parts}
+use Rattle.std.proofs.Common.{◌≡◌, ◌↔◌, ◌⊎◌, inl, inr, ℕ, zero, suc, List, [], ◌∷◌, length, Bool, true, false, ◌&&◌, refl, sym, ◌∙◌, subst, arith}
+use Rattle.std.proofs.lemmas.Bool.{both_ways, false_from_ne_true, or_cases, or_left, or_right, and_from, and_parts}
 use Rattle.cp_lists.specs.Lists.{IsIn, here, there}
 use Rattle.cp_lists.proofs.Members.{in_cases}
 use Rattle.cp_lists.proofs.Without.{Without, without, no_fewer}
@@ -29,6 +29,10 @@ pub in_some : (test : OrderPair → Bool) (ps : List OrderPair) (p : OrderPair) 
 in_some test [] p m e = elim m [ ]
 in_some test (q ∷ ps) p here e = or_left (test p) (any_pair test ps) e
 in_some test (q ∷ ps) p (there m) e = or_right (test q) (any_pair test ps) (in_some test ps p m e)
+
+-- Where no pair passes a test, each fails it.
+pub none_in : (test : OrderPair → Bool) (ps : List OrderPair) (p : OrderPair) → any_pair test ps ≡ false → IsIn p ps → test p ≡ false
+none_in test ps p none m = false_from_ne_true (test p) (λ e. both_ways (any_pair test ps) none (in_some test ps p m e))
 
 -- ---- ways
 

@@ -1,8 +1,10 @@
 -- What is left to look for where a value carries a part, whatever carrying is.
 use Rattle.std.proofs.Common.{Bool, true, false, ◌≡◌, ◌≢◌, sym, subst, ◌∙◌}
+use Rattle.std.proofs.lemmas.Bool.{both_ways}
 
+-- A test does not answer both, whichever test it is.
 pub not_both : {b : Bool} → b ≡ false → b ≡ true → ⊥
-not_both p q = cc
+not_both {b} p q = both_ways b p q
 
 -- What a value that is made so carries, the whole carries.
 pub made_carries : {T : Type 0} (Carries : T → Type 0) (whole rest made : T) → rest ≡ made → Carries made → (Carries rest → Carries whole) → Carries whole

@@ -31,3 +31,4 @@ pub mod NodeTests
 pub mod BoundedSearch
 pub mod DeclaredVariables
 pub mod Numbers
+pub mod OccurringVariables

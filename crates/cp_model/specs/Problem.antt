@@ -1,7 +1,7 @@
 -- The variables that occur in skeletons, and those that are declared.
 use Rattle.std.specs.Prelude.{◌≡◌, ℕ, suc, List, [], ◌∷◌, ◌++◌, Option, Some, None}
 use Rattle.cp_lists.specs.Lists.{item_at}
-use Rattle.cp_model.specs.Term.{Sort, Variable, AtomTerm, atom_of_variable, Term, atom_term, variables_of_atom}
+use Rattle.cp_model.specs.Term.{Sort, Variable, AtomTerm, atom_of_variable, Term, atom_term, variables_of_atom, variables_of}
 use Rattle.cp_model.specs.Strand.{Declaration, variables_of_trace}
 use Rattle.cp_model.specs.Skeleton.{SkeletonStrand, skeleton_trace, UniqueAt, Assumptions, Skeleton}
 
@@ -13,6 +13,10 @@ variables_of_strands (s ∷ ss) = variables_of_trace (skeleton_trace s) ++ varia
 abbrev pub variables_of_atoms : List AtomTerm → List Variable
 variables_of_atoms [] = []
 variables_of_atoms (v ∷ vs) = variables_of_atom v ++ variables_of_atoms vs
+
+abbrev pub variables_of_terms : List Term → List Variable
+variables_of_terms [] = []
+variables_of_terms (t ∷ ts) = variables_of t ++ variables_of_terms ts
 
 abbrev pub variables_of_uniques : List UniqueAt → List Variable
 variables_of_uniques [] = []

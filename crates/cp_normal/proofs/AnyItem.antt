@@ -5,7 +5,7 @@ use Rattle.std.proofs.lemmas.List.{get_or_default}
 use Rattle.cp_lists.specs.Lists.{IsIn, here, there}
 use Rattle.cp_lists.proofs.Members.{item_is_in}
 use Rattle.cp_collapse.specs.Property.{Has}
-use Rattle.cp_collapse.proofs.ItemsWithProperty.{not_both}
+use Rattle.cp_model.proofs.CarriedParts.{not_both}
 
 -- The item at a place where the property holds has it.
 has_there : {A : Type 0} (has : A → Type 0) (xs : List A) (k : ℕ) → k < length xs → HoldsAt has xs k → Has has xs

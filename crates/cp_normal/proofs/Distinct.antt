@@ -3,8 +3,8 @@ use Rattle.std.proofs.Common.{◌≡◌, ◌⊎◌, inl, inr, ◌<◌, ◌≤◌
 use Rattle.cp_lists.specs.Lists.{IsIn, here, there}
 use Rattle.cp_model.specs.Term.{Variable}
 use Rattle.cp_unify.specs.Unifiers.{AreAmong}
-use Rattle.cp_lists.proofs.Members.{in_cases}
-use Rattle.cp_unify.proofs.VariableTests.{is_variable, is_variable_tells, occurs, occurs_tells}
+use Rattle.cp_unify.proofs.VariableTests.{is_variable, is_variable_tells, occurs, occurs_tells, occurs_in, occurs_not}
+use Rattle.cp_unify.proofs.Members.{among_cons}
 
 abbrev pub distinct : List Variable → ℕ
 distinct [] = 0
@@ -48,12 +48,6 @@ count_without y (x ∷ xs) = at (is_variable_tells x y) (count_without y xs)
         rw (p.0, is_itself y x (sym p.1)) (ap (λ (n : ℕ). cond (occurs xs x) 0 1 + n) rest ∙ ap (λ (z : Variable). cond (occurs xs z) 0 1 + (cond (occurs xs y) 1 0 + distinct (without y xs))) p.1 ∙ sum (occurs xs y) (distinct (without y xs)))
     at (inr p) rest = rw (p.0, is_other y x (λ e. p.1 (sym e)), without_other y x p.1 xs) (swap (occurs xs x) (occurs xs y) (distinct xs) (distinct (without y xs)) rest)
 
-occurs_in : (xs : List Variable) (x : Variable) → IsIn x xs → occurs xs x ≡ true
-occurs_in xs x i = elim (occurs_tells xs x) [ inl p ↦ p.0 | inr p ↦ absurd (p.1 i) ]
-
-occurs_not : (xs : List Variable) (x : Variable) → (IsIn x xs → ⊥) → occurs xs x ≡ false
-occurs_not xs x h = elim (occurs_tells xs x) [ inl p ↦ absurd (h p.1) | inr p ↦ p.0 ]
-
 in_occurs : (xs : List Variable) (x : Variable) → occurs xs x ≡ true → IsIn x xs
 in_occurs xs x e = elim (occurs_tells xs x) [ inl p ↦ p.1 | inr p ↦ absurd (let f : true ≡ false = sym e ∙ p.0 in cc) ]
 
@@ -75,9 +69,6 @@ not_more_at y ys xs h rest (inr p) =
 pub not_more : (ys xs : List Variable) → AreAmong ys xs → distinct ys ≤ distinct xs
 not_more [] xs h = omega arith
 not_more (y ∷ ys) xs h = not_more_at y ys xs h (λ zs k. not_more ys zs k) (occurs_tells ys y)
-
-among_cons : (x : Variable) (ys xs : List Variable) → IsIn x xs → AreAmong ys xs → AreAmong (x ∷ ys) xs
-among_cons x ys xs h k y i = elim (in_cases i) [ inl e ↦ subst (λ (z : Variable). IsIn z xs) e h | inr j ↦ k y j ]
 
 pub fewer_distinct : (ys xs : List Variable) (x : Variable) → AreAmong ys xs → IsIn x xs → (IsIn x ys → ⊥) → distinct ys < distinct xs
 fewer_distinct ys xs x h i gone =

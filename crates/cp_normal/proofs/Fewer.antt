@@ -10,7 +10,7 @@ use Rattle.cp_model.specs.Problem.{variables_of_strands, variables_of_atoms, var
 use Rattle.cp_lists.proofs.Members.{in_append_left, in_append_right}
 use Rattle.cp_model.proofs.LawStandings.{strand_of_event, event_on}
 use Rattle.cp_completeness.specs.Normal.{skeleton_under}
-use Rattle.cp_completeness.proofs.Under.{in_strands, in_uniques}
+use Rattle.cp_model.proofs.OccurringVariables.{in_strands, in_uniques}
 use Rattle.cp_model.proofs.LawPrefixes.{in_trace}
 use Rattle.cp_unify.specs.Bindings.{Binding, as_substitution}
 use Rattle.cp_unify.specs.Unifiers.{AreAmong, IsMostGeneral}

@@ -1,9 +1,11 @@
+pub mod AllItems
 pub mod AnyItem
 pub mod Losses
 pub mod Found
 pub mod ListLoops
 pub mod ClosedCycles
 pub mod Normalised
+pub mod NormalSkeletons
 pub mod OwnPairs
 pub mod Branches
 pub mod Rounds

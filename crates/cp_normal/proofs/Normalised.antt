@@ -34,8 +34,3 @@ consistent k refuted cycle (inl c) = refuted (inl c)
 consistent k refuted cycle (inr (inl t)) = refuted (inr (inl t))
 consistent k refuted cycle (inr (inr (inl l))) = refuted (inr (inr l))
 consistent k refuted cycle (inr (inr (inr c))) = cycle c
-
-pub only_last : (k : Skeleton) → (CarriesNonOriginating k → ⊥) → (HasTwoOrigins k → ⊥) → CarriesNonOriginating k ⊎ (HasTwoOrigins k ⊎ LosesOrigin k) → LosesOrigin k
-only_last k a b (inl c) = absurd (a c)
-only_last k a b (inr (inl t)) = absurd (b t)
-only_last k a b (inr (inr l)) = l

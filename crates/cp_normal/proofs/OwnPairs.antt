@@ -1,5 +1,5 @@
 -- Pairs that are looked up among a skeleton's own.
-use Rattle.std.proofs.Common.{◌≡◌, ◌↔◌, ◌⊎◌, inl, inr, ℕ, suc, ◌+◌, ◌<◌, ◌≤◌, ◌==◌, ◌&&◌, ◌||◌, cond, not, Bool, true, false, List, [], ◌∷◌, ◌++◌, length, get_or, drop, refl, sym, ap, subst, ◌∙◌, add-one}
+use Rattle.std.proofs.Common.{◌≡◌, ◌↔◌, ◌⊎◌, inl, inr, ℕ, suc, ◌+◌, ◌<◌, ◌≤◌, ◌==◌, ◌&&◌, ◌||◌, cond, not, Bool, true, false, List, [], ◌∷◌, ◌++◌, length, get_or, drop, refl, sym, ap, subst, ◌∙◌, add-one, arith}
 use Rattle.std.proofs.Math.Seq.{drop-cons}
 use Rattle.std.proofs.lemmas.List.{drop_all}
 use Rattle.std.proofs.lemmas.Bool.Decides.{Decides-eqb, Decides-and}
@@ -8,7 +8,10 @@ use Rattle.std.specs.List.{filter}
 use Rattle.cp_lists.specs.Lists.{IsIn, here, there}
 use Rattle.cp_lists.proofs.Members.{in_append, in_append_left, in_append_right, from_filter, into_filter}
 use Rattle.cp_model.specs.Skeleton.{Skeleton}
+use Rattle.cp_model.specs.declared.node.Node.{Node}
 use Rattle.cp_model.specs.declared.node.OrderPair.{OrderPair}
+use Rattle.cp_model.specs.Order.{LeadsTo, on_strand, over_pair}
+use Rattle.cp_order.specs.LeadingNodes.{Target}
 use Rattle.cp_skel.proofs.EventLists.{moved}
 use Rattle.cp_normal.specs.Findings.{IsAddedPair, AreNormalPairs}
 use Rattle.cp_normal.specs.OwnPairs.{Key, key_of, is_same_key, has_key, AreKeysOf, is_other}
@@ -68,6 +71,14 @@ key_found (p ∷ ps) r e = elim (either_true (is_same_key (key_of p) (key_of r))
   | inl h ↦ subst (λ x. IsIn r (x ∷ ps)) (sym (same_key p r h)) here
   | inr h ↦ there (key_found ps r h)
 ]
+
+-- What leads to the later node is what leads there in the order.
+pub leads_as_asked : (own : List OrderPair) (x y : Node) (l : Target) (b : Bool) → l ≡ record { pairs = own; node = y } → (b ≡ true) ↔ LeadsTo l.pairs x l.node → (b ≡ true) ↔ LeadsTo own x y
+leads_as_asked own x y l b e = subst (λ (t : Target). (b ≡ true) ↔ LeadsTo t.pairs x t.node) e
+
+-- A pair whose key is found leads in the order.
+pub own_leads : {S : Type 0} (keys : HashSet Key S) (ps : List OrderPair) (p : OrderPair) → AreKeysOf keys ps → contains is_same_key keys (key_of p) ≡ true → LeadsTo ps p.earlier p.later
+own_leads keys ps p are e = over_pair (key_found ps p (sym (are (key_of p)) ∙ e)) (refl, omega arith) (on_strand (refl, omega arith))
 
 -- ---- own pairs, and the others that are added
 

@@ -12,7 +12,7 @@ use Rattle.cp_normal.specs.Formed.{AreFormsBeside}
 use Rattle.cp_normal.specs.Candidates.{form_of, candidate_view, IsOpen, ComesOn, FallsTo, IsRound, AreForms}
 use Rattle.cp_collapse.specs.Property.{Has}
 use Rattle.cp_normal.specs.Exact.{HasForms, HaveForms}
-use Rattle.cp_collapse.proofs.ItemsWithProperty.{not_both}
+use Rattle.cp_model.proofs.CarriedParts.{not_both}
 use Rattle.cp_normal.proofs.Distinct.{distinct}
 use Rattle.cp_normal.proofs.Fewer.{fewer_counted}
 use Rattle.cp_normal.proofs.Greatest.{greatest, greatest_falls}

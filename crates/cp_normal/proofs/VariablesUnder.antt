@@ -1,6 +1,6 @@
 -- The variables of a skeleton, and of what it is under a substitution.
-use Rattle.std.proofs.Common.{◌≡◌, List, [], ◌∷◌, Some, sym, subst, ⊎_elim}
-use Rattle.cp_lists.specs.Lists.{IsIn, here, there}
+use Rattle.std.proofs.Common.{◌≡◌, List, Some, sym, subst, ⊎_elim}
+use Rattle.cp_lists.specs.Lists.{IsIn}
 use Rattle.cp_model.specs.Term.{Variable, AtomTerm, atom_of_variable, atom_term, Term, IsCarriedByTerm, variables_of_atom, variables_of, Substitution, apply_to_atom, apply_to}
 use Rattle.cp_model.specs.Strand.{Declaration, Event, payload}
 use Rattle.cp_model.specs.declared.node.Node.{Node}
@@ -10,7 +10,7 @@ use Rattle.cp_model.specs.PointOfView.{HasDeclaredVariables}
 use Rattle.cp_lists.proofs.Members.{in_append, in_append_left, in_append_right, from_map}
 use Rattle.cp_model.proofs.LawStandings.{strand_of_event, event_on}
 use Rattle.cp_completeness.specs.Normal.{skeleton_under, variables_of_terms}
-use Rattle.cp_completeness.proofs.Under.{in_strands}
+use Rattle.cp_model.proofs.OccurringVariables.{in_strands, in_terms, term_with}
 use Rattle.cp_model.proofs.LawPrefixes.{in_trace}
 use Rattle.cp_unify.proofs.VariablesUnder.{given_term}
 use Rattle.cp_skel.proofs.UnderVariables.{carried_variables}
@@ -25,15 +25,6 @@ carried_occurs k n e v at carried x i =
     in_append_left (variables_of_assumptions k.assumptions)
     (in_strands k.strands n.strand st.0 x st.1
     (in_trace (skeleton_trace st.0) n.index e x (event_on k n st.0 e st.1 at) (carried_variables carried x i)))
-
-in_terms : (ts : List Term) (t : Term) (x : Variable) → IsIn t ts → IsIn x (variables_of t) → IsIn x (variables_of_terms ts)
-in_terms (u ∷ ts) t x here i = in_append_left (variables_of_terms ts) i
-in_terms (u ∷ ts) t x (there m) i = in_append_right (variables_of u) (in_terms ts t x m i)
-in_terms [] t x m i = elim m [ ]
-
-term_with : (ts : List Term) (x : Variable) → IsIn x (variables_of_terms ts) → (t : Term) × IsIn t ts × IsIn x (variables_of t)
-term_with [] x i = elim i [ ]
-term_with (t ∷ ts) x i = ⊎_elim (λ j. (t, here, j)) (λ j. let r = term_with ts x j in (r.0, there r.1, r.2)) (in_append (variables_of t) (variables_of_terms ts) i)
 
 module _ (ds : List Declaration) where
   pub all_declared : (k : Skeleton) → HasDeclaredVariables ds k → (x : Variable) → IsIn x (all_variables k) → IsDeclared ds x

@@ -2,7 +2,9 @@
 use Rattle.std.specs.Prelude.{◌≡◌, ◌==◌, ◌&&◌, ℕ, List, Bool, not}
 use Rattle.std.specs.List.{list_any}
 use Rattle.std.specs.HashSet.{HashSet, contains}
+use Rattle.cp_lists.specs.Lists.{IsIn}
 use Rattle.cp_model.specs.declared.node.OrderPair.{OrderPair}
+use Rattle.cp_model.specs.Order.{LeadsTo}
 
 -- The strand and index of a pair's earlier node, and those of its later one.
 abbrev pub Key : Type 0
@@ -25,3 +27,7 @@ AreKeysOf keys ps = (q : Key) → contains is_same_key keys q ≡ has_key ps q
 -- The pair's key is not in the set.
 abbrev pub is_other : {S : Type 0} → HashSet Key S → OrderPair → Bool
 is_other keys p = not (contains is_same_key keys (key_of p))
+
+-- Of each of the pairs the first node leads to the second in the order.
+abbrev pub AllLead : List OrderPair → List OrderPair → Type 0
+AllLead order pairs = (p : OrderPair) → IsIn p pairs → LeadsTo order p.earlier p.later

@@ -30,7 +30,7 @@ pub use examples::stray_text_example;
 pub use form::Form;
 pub use forms_law::{forms_come_by_substitutions, normal_forms_have_substitutions};
 pub use laws::{contradictory_skeletons_stand_nowhere, normal_forms_keep_what_is_stated};
-pub use normal::normal_pairs;
+pub use normal::{is_normal, normal_pairs};
 pub use normal_forms::{normalise, normalise_beside};
 pub use origins::{has_two_origins, loses_origin};
 pub use pairs::added_pairs;

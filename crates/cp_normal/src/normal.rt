@@ -1,14 +1,16 @@
-// The pairs of a normal form, where there is one.
+// Whether a skeleton is normal, and the pairs of its normal form, where there is one.
 ghost use Rattle.std.specs.Prelude.{◌≡◌, ◌↔◌, map, option_map, IsTrue, IfOk};
 ghost use Rattle.cp_skel.specs.Events.{occurrence_view, events_of};
 ghost use Rattle.cp_skel.specs.View.{skeleton_view};
 ghost use Rattle.cp_normal.specs.Exact.{IsRefuted};
 ghost use Rattle.cp_normal.specs.Findings.{AreNormalPairs, ClosesCycle, IsNormalised};
+ghost use Rattle.cp_normal.specs.NormalForms.{IsNormal};
 
 use crate::carried_values::some_carries_non_originating;
 use crate::origins::{has_two_origins, some_loses_origin};
-use crate::own_pairs::{add_others, keys_of};
+use crate::own_pairs::{add_others, all_lead, keys_of};
 use crate::pairs::pairs_among;
+use crate::stray_values::some_strays;
 use cp_collapse::some_is_closed;
 use cp_skel::{Occurrence, OrderPair, Skeleton};
 use std::alloc::{AllocError, Global};
@@ -75,4 +77,22 @@ pub fn normal_pairs(alloc: Global, k: &Skeleton) -> Result<Option<Vec<OrderPair>
         return Ok(None);
     }
     normal_pairs_among(alloc, k, &occurrences)
+}
+
+/// Whether none of the rules of normalising changes the skeleton: its assumptions do not contradict what its nodes carry, no
+/// unique value originates elsewhere than at its recorded origin, and the pairs that unique values add are in its order,
+/// so that they close no cycle. The error is that memory ran out.
+pub fn is_normal(alloc: Global, k: &Skeleton) -> Result<bool, AllocError>
+    ensures { IfOk result (λ normal. IsTrue normal ↔ IsNormal (skeleton_view k.now)) }
+{
+    k.is_sound();
+    let occurrences = k.events(alloc)?;
+    if is_refuted(k, &occurrences) {
+        return Ok(false);
+    }
+    if some_strays(k, &occurrences)? {
+        return Ok(false);
+    }
+    let added = pairs_among(alloc, k, &occurrences)?;
+    all_lead(alloc, k.order().pairs(), &added)
 }

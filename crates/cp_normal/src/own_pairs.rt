@@ -1,9 +1,9 @@
 // A skeleton's own pairs, among which others are looked up.
-ghost use Rattle.std.specs.Prelude.{◌≡◌, ◌++◌, map, IfOk, OnOk};
+ghost use Rattle.std.specs.Prelude.{◌≡◌, ◌↔◌, ◌++◌, map, IsTrue, IfOk, OnOk};
 ghost use Rattle.std.specs.List.{filter};
-ghost use Rattle.cp_normal.specs.OwnPairs.{key_of, AreKeysOf, is_other};
+ghost use Rattle.cp_normal.specs.OwnPairs.{key_of, AreKeysOf, is_other, AllLead};
 
-use cp_skel::OrderPair;
+use cp_skel::{Leading, OrderPair};
 use std::alloc::{AllocError, Global};
 use std::collections::HashSet;
 
@@ -44,4 +44,25 @@ pub(crate) fn add_others(
         pairs.push(*pair)?;
     }
     Ok(())
+}
+
+/// Whether each of the pairs is in the order that a skeleton's own give, among which most stand.
+pub(crate) fn all_lead(
+    alloc: Global,
+    own: &[OrderPair],
+    pairs: &[OrderPair],
+) -> Result<bool, AllocError>
+    ensures { IfOk result (λ all. IsTrue all ↔ AllLead own.now pairs.now) }
+{
+    let keys = keys_of(alloc, own)?;
+    for pair in pairs {
+        if keys.contains(&key_of(*pair)) {
+            continue;
+        }
+        let leading = Leading::new(alloc, own, pair.later)?;
+        if !leading.has(pair.earlier) {
+            return Ok(false);
+        }
+    }
+    Ok(true)
 }

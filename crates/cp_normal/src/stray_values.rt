@@ -63,7 +63,7 @@ fn first_at(
 }
 
 /// Whether some unique value strays, where these are the events of the skeleton.
-fn some_strays(k: &Skeleton, occurrences: &[Occurrence]) -> Result<bool, AllocError>
+pub(crate) fn some_strays(k: &Skeleton, occurrences: &[Occurrence]) -> Result<bool, AllocError>
     requires listed { map occurrence_view occurrences.now ≡ events_of (skeleton_view k.now) }
     ensures none { IfOk result (λ found. found ≡ false → IsSettled (skeleton_view k.now)) }
     ensures some { IfOk result (λ found. IsTrue found → IsSettled (skeleton_view k.now) → ⊥) }

@@ -5,7 +5,7 @@ use Rattle.std.proofs.lemmas.Bool.Decides.{nat_tests}
 use Rattle.std.proofs.lemmas.List.{length-map, map_push, get_or_default}
 use Rattle.std.specs.List.{filter}
 use Rattle.cp_lists.specs.Lists.{IsIn, here, there, item_at}
-use Rattle.cp_lists.proofs.Members.{not_in_none, into_filter, next_or_rest, none_left}
+use Rattle.cp_lists.proofs.Members.{into_filter, next_or_rest, none_left}
 use Rattle.cp_lists.proofs.Items.{item_below, item_there, item_of_push, map_of_item, slice_get_item}
 use Rattle.cp_model.specs.declared.node.Node.{Node}
 use Rattle.cp_model.specs.declared.node.OrderPair.{OrderPair}
@@ -15,7 +15,7 @@ use Rattle.cp_order.specs.LeadingNodes.{Tops}
 use Rattle.cp_order.specs.Closed.{IsClosed}
 use Rattle.cp_order.specs.Composed.{is_between, leads_along_one}
 use Rattle.cp_order.specs.Rows.{AreTopsAlongOne, AreRows, AreRowsOn, AreRowsOf, AreRowsSoFar, shown, is_in_last, is_in_row, is_in_rows, ends_at, ends_on}
-use Rattle.cp_model.proofs.BoundedSearch.{after_true}
+use Rattle.cp_model.proofs.BoundedSearch.{after_true, none_in}
 use Rattle.cp_order.proofs.AlongPairs.{closed_search}
 
 -- ---- pairs that lead on alike
@@ -27,19 +27,6 @@ some_alike f g (p ∷ ps) h = ap (λ b. b || any_pair f ps) (h p here) ∙ ap (�
 none_passes : (f : OrderPair → Bool) (ps : List OrderPair) → ((p : OrderPair) → IsIn p ps → f p ≡ false) → any_pair f ps ≡ false
 none_passes f [] h = refl
 none_passes f (p ∷ ps) h = ap (λ b. b || any_pair f ps) (h p here) ∙ none_passes f ps (λ q m. h q (there m))
-
-each_fails : (f : OrderPair → Bool) (ps : List OrderPair) → any_pair f ps ≡ false → (p : OrderPair) → IsIn p ps → f p ≡ false
-each_fails f [] h p m = absurd (not_in_none m)
-each_fails f (q ∷ ps) h p here = first_fails (f p) (any_pair f ps) h
-  where
-    first_fails : (b c : Bool) → (b || c) ≡ false → b ≡ false
-    first_fails true c e = e
-    first_fails false c e = refl
-each_fails f (q ∷ ps) h p (there m) = each_fails f ps (rest_fails (f q) (any_pair f ps) h) p m
-  where
-    rest_fails : (b c : Bool) → (b || c) ≡ false → c ≡ false
-    rest_fails true c e = absurd (cc)
-    rest_fails false c e = e
 
 no_later : (t s j i : ℕ) → (t ≡ s → ⊥) → ((t == s) && nat_le j i) ≡ false
 no_later t s j i h = by_test (t == s) refl
@@ -135,7 +122,7 @@ module _ (pairs : List OrderPair) (s : ℕ) where
       let n = length rows in
       let some_before : n - 1 < n = item_below rows (n - 1) tops e in
       r (n - 1) tops e x
-      ∙ between_alike pairs s (n - 1) n (λ p m. not_at p.later.strand s p.later.index (n - 1) n (omega (arith, some_before)) (each_fails (ends_at (at pairs s n)) pairs none p m)) x
+      ∙ between_alike pairs s (n - 1) n (λ p m. not_at p.later.strand s p.later.index (n - 1) n (omega (arith, some_before)) (none_in (ends_at (at pairs s n)) pairs p none m)) x
 
   pub no_rows_yet : (rows : List Tops) → rows ≡ [] → AreRows pairs s rows
   no_rows_yet rows e i tops h = let f : Some tops ≡ None = sym h ∙ ap (λ rs. item_at rs i) e in cc

@@ -5,7 +5,6 @@ ghost use Rattle.cp_model.specs.Order.{LeadsTo};
 ghost use Rattle.cp_order.specs.Closed.{IsClosed, KeepsOrder, IsClosureOf};
 
 use crate::closed::ClosedPairs;
-use crate::leading_nodes::Leading;
 use crate::ways::leads_within;
 use cp_model::{Node, OrderPair};
 use std::alloc::{AllocError, Global};
@@ -74,18 +73,6 @@ impl Order {
             Some(closed) => closed.leads_to(x, y),
             None => leads_within(&self.pairs, self.pairs.len(), x, y),
         }
-    }
-
-    /// Whether x leads to y along strands and pairs. Of an order that was closed this is looked up; of another the
-    /// nodes that lead to y are gathered, each once. The error is that memory ran out.
-    pub fn leads_to_with_memory(&self, alloc: Global, x: Node, y: Node) -> Result<bool, AllocError>
-        ensures { IfOk result (λ leads. IsTrue leads ↔ LeadsTo self.now x y) }
-    {
-        if self.closure.is_some() {
-            return Ok(self.leads_to(x, y));
-        }
-        let leading = Leading::new(alloc, &self.pairs, y)?;
-        Ok(leading.has(x))
     }
 
     /// Closed pairs that order as its own do.

@@ -15,7 +15,7 @@ use Rattle.cp_model.specs.Same.{has_variable}
 use Rattle.cp_model.specs.Given.{listed_atoms, listed_uniques}
 use Rattle.cp_model.proofs.SameTests.{variable_in}
 use Rattle.cp_model.proofs.Gathered.{IsGathering, onto-only, atoms, uniques}
-use Rattle.cp_completeness.proofs.Under.{in_trace_under, in_strands, in_atoms, in_uniques}
+use Rattle.cp_model.proofs.OccurringVariables.{in_trace_under, in_strands, in_atoms, in_uniques}
 use Rattle.cp_sexpr.specs.Syntax.{Form}
 use Rattle.cp_language.specs.Printed.{word, plain_list, variable, atom_form}
 use Rattle.cp_language.specs.Report.{node_form, maplets_from, strand_form, is_covering, covering_with, covering_from, unique_form}

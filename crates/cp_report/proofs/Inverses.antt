@@ -12,7 +12,8 @@ use Rattle.cp_model.proofs.SameTests.{variable_is, same_sort_itself}
 use Rattle.cp_model.proofs.LawTerms.{atom_composed, term_composed, atom_unchanged, term_unchanged}
 use Rattle.cp_model.proofs.LawAgreement.{agree_atom, agree_term}
 use Rattle.cp_model.specs.Strand.{send}
-use Rattle.cp_skel.proofs.UnderVariables.{of_trace, in_trace}
+use Rattle.cp_model.proofs.OccurringVariables.{in_trace_under}
+use Rattle.cp_skel.proofs.UnderVariables.{of_trace}
 use Rattle.cp_report.specs.UpToNames.{numbered, renamed, renaming, IsOneToOne}
 
 -- ---- variables under a substitution, of terms and atoms by what is sent
@@ -24,7 +25,7 @@ of_term : (P : Variable → Type 0) (s : Substitution) (t : Term) → ((x : Vari
 of_term P s t h y i = of_trace P s (send t ∷ []) (λ x m. h x (in_sent t x m)) y (in_append_left [] i)
 
 in_term : (s : Substitution) (x y : Variable) → IsIn y (variables_of_atom (apply_to_atom s (atom_of_variable x))) → (t : Term) → IsIn x (variables_of t) → IsIn y (variables_of (apply_to s t))
-in_term s x y given t i = in_sent (apply_to s t) y (in_trace s x y given (send t ∷ []) (in_append_left [] i))
+in_term s x y given t i = in_sent (apply_to s t) y (in_trace_under s (send t ∷ []) x y (in_append_left [] i) given)
 
 of_atom : (P : Variable → Type 0) (s : Substitution) (v : AtomTerm) → ((x : Variable) → IsIn x (variables_of_atom v) → (y : Variable) → IsIn y (variables_of_atom (apply_to_atom s (atom_of_variable x))) → P y) → (y : Variable) → IsIn y (variables_of_atom (apply_to_atom s v)) → P y
 of_atom P s v h y i = of_term P s (atom_term v) h y i

@@ -16,7 +16,7 @@ use Rattle.cp_model.specs.declared.node.OrderPair.{OrderPair}
 use Rattle.cp_model.proofs.Gathered.{atoms, uniques}
 use Rattle.cp_model.proofs.Images.{mapped_images}
 use Rattle.cp_model.proofs.LawOrder.{before_leads}
-use Rattle.cp_skel.proofs.UnderVariables.{in_atoms, in_uniques}
+use Rattle.cp_model.proofs.OccurringVariables.{in_atoms, in_uniques}
 use Rattle.cp_sexpr.specs.Syntax.{Form}
 use Rattle.cp_language.specs.Names.{problem_names}
 use Rattle.cp_language.specs.Printed.{numeral, plain_list, atom_form}

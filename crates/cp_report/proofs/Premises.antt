@@ -12,7 +12,8 @@ use Rattle.cp_model.specs.PointOfView.{IsPointOfView}
 use Rattle.cp_model.specs.Skeleton.{Skeleton}
 use Rattle.cp_model.specs.Tree.{Label, Tree}
 use Rattle.cp_model.proofs.LawPrefixes.{in_front_of_trace}
-use Rattle.cp_skel.proofs.UnderVariables.{in_trace as trace_under, applies_at, in_atoms, in_uniques}
+use Rattle.cp_model.proofs.OccurringVariables.{in_trace_under, in_atoms, in_uniques}
+use Rattle.cp_skel.proofs.UnderVariables.{applies_at}
 use Rattle.cp_sexpr.specs.Syntax.{Forms}
 use Rattle.cp_language.specs.Names.{identifiers_in, first_of, problem_names}
 use Rattle.cp_language.specs.Terms.{variable_named}
@@ -34,7 +35,7 @@ use Rattle.cp_report.proofs.ReportFits.{Reads, is_report}
 -- ---- in general
 
 pub under_all : IsUnder
-under_all terms x y i es m = trace_under terms x y i es m
+under_all terms x y i es m = in_trace_under terms es x y m i
 
 pub applies_whole : AppliesWhole
 applies_whole role height v i a = applies_at role height v i a

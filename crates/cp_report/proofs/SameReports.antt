@@ -1,22 +1,20 @@
 -- Two labels, trees and reports that are the same as a third are the same; so those for which the same is printed are.
-use Rattle.std.proofs.Common.{◌≡◌, ℕ, List, [], ◌∷◌, ◌++◌, Bool, true, false, refl, sym, ap, ◌∙◌, subst, if◌then◌else◌, ⊎_elim}
+use Rattle.std.proofs.Common.{◌≡◌, ℕ, List, [], ◌∷◌, ◌++◌, refl, sym, ap, ◌∙◌, subst}
 use Rattle.std.specs.Prelude.{Option, Some, None}
-use Rattle.std.proofs.lemmas.Bool.{both_ways}
 use Rattle.cp_lists.specs.Lists.{IsIn, here, there}
 use Rattle.cp_lists.proofs.Items.{place_of}
-use Rattle.cp_lists.proofs.Members.{in_append_left, in_append_right, head_or_behind, at_head}
+use Rattle.cp_lists.proofs.Members.{in_append_left, in_append_right}
 use Rattle.cp_model.specs.Senders.{ArePaired}
 use Rattle.cp_model.specs.Term.{Variable, variables_of}
 use Rattle.cp_model.specs.Problem.{variables_of_skeleton}
 use Rattle.cp_model.specs.Pattern.{IsPattern}
 use Rattle.cp_model.specs.Stated.{HasOwnAssumptions}
 use Rattle.cp_model.specs.Tree.{Pattern, Test, Label, Tree}
-use Rattle.cp_model.specs.Same.{has_variable}
-use Rattle.cp_model.proofs.SameTests.{in_has_variable}
 use Rattle.cp_sexpr.specs.Syntax.{Forms, forms_of}
 use Rattle.cp_language.specs.Report.{variables_of_terms, variables_of_test, variables_but, variables_of_patterns, occurring, report_forms}
 use Rattle.cp_language.specs.Problems.{Problem}
 use Rattle.cp_language.specs.Input.{Entry, input_of}
+use Rattle.cp_language.proofs.NoLocals.{from_but}
 use Rattle.cp_report.specs.FittingTrees.{TreeFits, problems_in}
 use Rattle.cp_report.specs.ReadBack.{report_of}
 use Rattle.cp_report.specs.Laws.{ArePrinted, CanBeStated}
@@ -27,22 +25,6 @@ use Rattle.cp_report.proofs.LabelRead.{not_among}
 use Rattle.cp_report.proofs.Premises.{reads_back}
 
 -- ---- patterns
-
--- A variable of a pattern that is no local.
-from_but : (locals xs : List Variable) (x : Variable) → IsIn x (variables_but locals xs) → IsIn x xs × (IsIn x locals → ⊥)
-from_but locals [] x m = elim m [ ]
-from_but locals (y ∷ xs) x m = by (has_variable locals y) refl m (from_but locals xs x)
-  where
-    behind : IsIn x xs × (IsIn x locals → ⊥) → IsIn x (y ∷ xs) × (IsIn x locals → ⊥)
-    behind r = (there r.0, r.1)
-
-    by : (b : Bool) → has_variable locals y ≡ b → IsIn x (if b then variables_but locals xs else y ∷ variables_but locals xs) → (IsIn x (variables_but locals xs) → IsIn x xs × (IsIn x locals → ⊥)) → IsIn x (y ∷ xs) × (IsIn x locals → ⊥)
-    by true e i rest = behind (rest i)
-    by false e i rest =
-        ⊎_elim
-        (λ same. (at_head same, λ l. both_ways (has_variable locals y) e (in_has_variable locals y (subst (λ (z : Variable). IsIn z locals) same l))))
-        (λ j. behind (rest j))
-        (head_or_behind i)
 
 module _ (a b : Variable → ℕ) (p q r : Pattern) (h : IsSamePattern a p r) (g : IsSamePattern b q r) (occur : (x : Variable) → IsIn x p.locals → IsIn x (variables_of p.term)) where
   matched : AreCovered h.with_locals (variables_of p.term) g.with_locals (variables_of q.term)

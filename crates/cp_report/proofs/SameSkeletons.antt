@@ -11,7 +11,8 @@ use Rattle.cp_model.specs.Skeleton.{SkeletonStrand, instance, listener, skeleton
 use Rattle.cp_model.specs.Stated.{AreImages, HasOwnAssumptions}
 use Rattle.cp_model.specs.declared.node.Node.{Node}
 use Rattle.cp_model.proofs.LawTerms.{atom_composed}
-use Rattle.cp_skel.proofs.UnderVariables.{of_trace, in_trace, atom_with, in_atoms, unique_with, in_uniques}
+use Rattle.cp_model.proofs.OccurringVariables.{in_trace_under, atom_with, in_atoms, unique_with, in_uniques}
+use Rattle.cp_skel.proofs.UnderVariables.{of_trace}
 use Rattle.cp_language.specs.Report.{variables_of_terms}
 use Rattle.cp_report.specs.UpToNames.{renamed, renaming, IsOneToOne, IsSameStrand, unique_renamed, AreSameAssumptions, IsSameSkeleton}
 use Rattle.cp_report.proofs.RenamedStrands.{trace_renamed}
@@ -39,7 +40,7 @@ terms_covered a b (t ∷ ts) (u ∷ us) e x m =
 trace_covered : (a b : Variable → ℕ) (es ds : List (Event Term)) → map (event_map (apply_to (renaming a))) es ≡ map (event_map (apply_to (renaming b))) ds → AreCovered a (variables_of_trace es) b (variables_of_trace ds)
 trace_covered a b es ds e x m =
     of_trace (ComesFrom b (variables_of_trace ds)) (renaming b) ds (λ y i z j. record { from = y; listed = i; is = is_renamed b y z j }) (renamed a x)
-    (subst (λ (cs : List (Event Term)). IsIn (renamed a x) (variables_of_trace cs)) e (in_trace (renaming a) x (renamed a x) (renamed_in a x) es m))
+    (subst (λ (cs : List (Event Term)). IsIn (renamed a x) (variables_of_trace cs)) e (in_trace_under (renaming a) es x (renamed a x) m (renamed_in a x)))
 
 strands_covered : (a b : Variable → ℕ) (ks ms ss : List SkeletonStrand) → ArePaired (IsSameStrand (renaming a)) ks ss → ArePaired (IsSameStrand (renaming b)) ms ss → AreCovered a (variables_of_strands ks) b (variables_of_strands ms)
 strands_covered a b [] ms ss h g x m = elim m [ ]
@@ -88,7 +89,7 @@ module _ (a b : Variable → ℕ) (ys : List Variable) (one : IsOneToOne b ys) w
         let j : IsIn x (variables_of_prefix role' height') = moved (h.0 ∙ sym g.0) (h.1 ∙ sym g.1) i in
         let e = sym (atom_composed terms (renaming a) (atom_of_variable x)) ∙ h.2 x i ∙ sym (g.2 x j) ∙ atom_composed terms' (renaming b) (atom_of_variable x) in
         atom_composed terms f (atom_of_variable x) ∙ atom_in_two a b ys one (apply_to_atom terms (atom_of_variable x)) ∙ ap (apply_to_atom (renaming (back a b ys one))) e
-        ∙ atom_returned a b ys one (apply_to_atom terms' (atom_of_variable x)) (λ y n. within y (in_trace terms' x y n (prefix_of role' height') j)),
+        ∙ atom_returned a b ys one (apply_to_atom terms' (atom_of_variable x)) (λ y n. within y (in_trace_under terms' (prefix_of role' height') x y j n)),
   )
     where
       moved : {r r' : Role} {n n' : ℕ} {x : Variable} → r ≡ r' → n ≡ n' → IsIn x (variables_of_prefix r n) → IsIn x (variables_of_prefix r' n')

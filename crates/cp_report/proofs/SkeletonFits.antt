@@ -12,7 +12,7 @@ use Rattle.cp_model.specs.Skeleton.{SkeletonStrand, UniqueAt, Assumptions, Skele
 use Rattle.cp_model.specs.Given.{listed_atoms, listed, given_non, given_penetrator_non, given_uniques}
 use Rattle.cp_model.specs.Tree.{Label}
 use Rattle.cp_model.proofs.Gathered.{atoms, uniques}
-use Rattle.cp_skel.proofs.UnderVariables.{in_atoms}
+use Rattle.cp_model.proofs.OccurringVariables.{in_atoms}
 use Rattle.cp_sexpr.specs.Syntax.{Form}
 use Rattle.cp_language.specs.Printed.{numeral, headed_list, plain_list, no_place, atom_form}
 use Rattle.cp_language.specs.Report.{occurring, vars_from, covering_pairs, unique_form, item_unless_empty, value_forms}

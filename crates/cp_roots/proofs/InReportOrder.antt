@@ -20,7 +20,7 @@ use Rattle.cp_completeness.specs.Normal.{SaysNoMore}
 use Rattle.cp_completeness.proofs.Weaker.{stands_too}
 use Rattle.cp_skel.proofs.EachOnce.{listed-non, listed-penetrator-non, listed-unique}
 use Rattle.cp_roots.specs.Roots.{in_report_order}
-use Rattle.cp_skel.proofs.UnderVariables.{atom_with, unique_with}
+use Rattle.cp_model.proofs.OccurringVariables.{atom_with, unique_with}
 use Rattle.cp_collapse.proofs.VariablesOfCollapses.{of_each_part, non_declared, penetrator_non_declared, unique_declared}
 
 module _ (k : Skeleton) where

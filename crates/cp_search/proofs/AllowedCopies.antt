@@ -9,7 +9,7 @@ use Rattle.cp_skel.specs.View.{skeleton_view}
 use Rattle.cp_fingerprint.specs.Isomorphic.{IsIsomorphic}
 use Rattle.cp_fingerprint.specs.Fingerprints.{Traits, traits_of, MayEmbed}
 use Rattle.cp_fingerprint.proofs.Traits.{embedded_may_embed}
-use Rattle.cp_term.proofs.CarriedTerms.{not_both}
+use Rattle.cp_model.proofs.CarriedParts.{not_both}
 use Rattle.cp_search.specs.declared.made.Made.{Made}
 use Rattle.cp_search.specs.LeastNumber.{FindsLeast, IsFlagged}
 use Rattle.cp_search.specs.LabelsByNumber.{with_sharing}

@@ -3,13 +3,13 @@ use Rattle.std.proofs.Common.{◌≡◌, ◌≢◌, ◌⊎◌, inl, inr, ℕ, su
 use Rattle.cp_lists.specs.Lists.{item_at}
 use Rattle.cp_model.specs.Strand.{Protocol}
 use Rattle.cp_model.specs.Skeleton.{Skeleton}
-use Rattle.cp_model.specs.Derivable.{IsUnrealised}
 use Rattle.cp_model.specs.Realisation.{AllDerivable}
 use Rattle.cp_model.specs.Tree.{Mark, dead, seen, Test, Label, Limits, is_expanded}
 use Rattle.cp_skel.specs.View.{skeleton_view}
 use Rattle.cp_tree.specs.Candidates.{Candidate, IsCandidate, CandidatesFrom}
 use Rattle.cp_tree.specs.Made.{Made, Way, way_of, seen_in_of}
 use Rattle.cp_tree.specs.Searched.{Becomes, is_dead, is_seen, is_realised, is_generalised, above_bound, at_limit, is_tested, AreSettled, all_settled, then_settled, children_of}
+use Rattle.cp_tree.proofs.MarksSay.{not_both}
 use Rattle.cp_search.specs.declared.made.Made as program
 use Rattle.cp_search.specs.declared.settled.Settled.{Settled}
 use Rattle.cp_search.specs.declared.settled.Settled.TheVariants as settled
@@ -132,9 +132,6 @@ module _ (marks : ℕ → Option Mark → Type 0) where
         then_settled (becomes_marked i before m l n fs b t.0) (subst (λ (k : ℕ). AreSettled protocol limits ways marks (suc i) k ms ns gs) counted (settled_marked (suc i) (before + is_expanded l.test) ms ls ns gs s t.1))
 
     -- ---- candidates
-
-    not_both : (k : Skeleton) → IsUnrealised k → AllDerivable k → ⊥
-    not_both k u all = u.underivable (all u.node u.message u.reception)
 
     module _ (lives : (i : ℕ) (mark : Mark) → marks i (Some mark) → mark ≢ dead) (unseen : (i k : ℕ) (mark : Mark) → marks i (Some mark) → mark ≢ seen k) where
       abbrev IsPick : ℕ → Label → Label → List Candidate → Type 0

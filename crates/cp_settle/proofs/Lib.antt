@@ -1,4 +1,3 @@
-pub mod AllAbove
 pub mod AsMessages
 pub mod UnmatchedEncryptions
 pub mod FurtherMatches

@@ -4,7 +4,7 @@ use Rattle.std.proofs.lemmas.List.{reverse-append, reverse-reverse, append-nil}
 use Rattle.cp_lists.specs.Lists.{IsIn, here, there}
 use Rattle.cp_lists.proofs.Members.{in_append, in_append_left, in_append_right, from_reverse, only_item}
 use Rattle.cp_collapse.specs.Property.{Has}
-use Rattle.cp_collapse.proofs.ItemsWithProperty.{not_both}
+use Rattle.cp_model.proofs.CarriedParts.{not_both}
 use Rattle.cp_settle.specs.Releases.{Release, Tried}
 use Rattle.cp_settle.specs.Stages.{Settles, on_the_way}
 use Rattle.cp_settle.specs.Views.{tried_view}

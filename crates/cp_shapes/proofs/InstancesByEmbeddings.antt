@@ -9,7 +9,7 @@ use Rattle.cp_model.specs.Homomorphism.{SkeletonMap, IsEmbedding, Embeds}
 use Rattle.cp_hom.specs.Maps.{map_view}
 use Rattle.cp_hom.specs.declared.strand_map.Map.{Map}
 use Rattle.cp_fingerprint.specs.Fingerprints.{Traits, traits_of}
-use Rattle.cp_term.proofs.CarriedTerms.{not_both}
+use Rattle.cp_model.proofs.CarriedParts.{not_both}
 use Rattle.cp_shapes.specs.Shapes.{EmbedsAt, IsInstanceWithin}
 use Rattle.cp_shapes.proofs.Instances.{same_item, embeds_first_within}
 

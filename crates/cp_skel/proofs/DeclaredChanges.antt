@@ -18,7 +18,8 @@ use Rattle.cp_skel.specs.Given.{IsGivenFrom, IsOriginFrom, AddsOnce, AddsGiven}
 use Rattle.cp_strand.specs.PrefixVariables.{prefix_variables, added_variables, terms_of}
 use Rattle.cp_skel.specs.Ordered.{ordered_by}
 use Rattle.cp_skel.proofs.PrefixVariables.{in-prefix, in-added}
-use Rattle.cp_skel.proofs.UnderVariables.{applies_at, of_atom, of_trace, in_trace, strand_with, in_strands, atom_with, in_atoms, unique_with, in_uniques}
+use Rattle.cp_model.proofs.OccurringVariables.{in_trace_under, strand_with, in_strands, atom_with, in_atoms, unique_with, in_uniques}
+use Rattle.cp_skel.proofs.UnderVariables.{applies_at, of_atom, of_trace}
 
 -- ---- more declarations
 
@@ -134,7 +135,7 @@ module _ (ds : List Declaration) where
     of_old : (z : Variable) → IsIn z (variables_of_prefix x.role x.before) → (y : Variable) → IsIn y (variables_of_atom (apply_to_atom x.terms (atom_of_variable z))) → IsOne y
     of_old z i y j =
         old_strand old new h x.from_problem s (instance x.role x.before x.old_terms) x.was_instance y
-        (in_trace x.old_terms z y (subst (λ (v : AtomTerm). IsIn y (variables_of_atom v)) (sym (x.keeps z i)) j) (prefix_of x.role x.before) i)
+        (in_trace_under x.old_terms (prefix_of x.role x.before) z y i (subst (λ (v : AtomTerm). IsIn y (variables_of_atom v)) (sym (x.keeps z i)) j))
 
     of_new : (z : Variable) → IsIn z (variables_of_prefix x.role height) → (IsIn z (variables_of_prefix x.role x.before) → ⊥) → (y : Variable) → IsIn y (variables_of_atom (apply_to_atom x.terms (atom_of_variable z))) → IsOne y
     of_new z i never y j =

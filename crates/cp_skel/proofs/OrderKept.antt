@@ -8,15 +8,13 @@ use Rattle.cp_model.specs.Skeleton.{term_event_at, IsNodeOf, Skeleton, OrderStep
 use Rattle.cp_model.specs.declared.node.OrderPair.{OrderPair}
 use Rattle.cp_model.specs.Order.{IsAtOrAfter, LeadsTo, on_strand}
 use Rattle.cp_lists.proofs.Reached.{steps_append}
+use Rattle.cp_model.proofs.CarriedParts.{not_both}
 use Rattle.cp_model.proofs.LawOrder.{before_by_pairs}
 use Rattle.cp_order.specs.Closed.{IsComposedOf, KeepsOrder}
 use Rattle.cp_skel.specs.Ordered.{IsOrdered, ordered_by}
 use Rattle.cp_order.proofs.AlongPairs.{pair_led}
 
 -- ---- questions to an order
-
-pub not_both : {b : Bool} → b ≡ false → b ≡ true → ⊥
-not_both e f = cc
 
 pub asked_before : (k : Skeleton) (x y : Node) (leads : Bool) → IsOrdered k → IsNodeOf k.strands y → (x ≡ y → ⊥) → (leads ≡ true) ↔ LeadsTo k.pairs x y → (leads ≡ true) ↔ Before k x y
 asked_before k x y leads ordered at other l =

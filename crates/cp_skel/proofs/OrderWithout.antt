@@ -1,7 +1,8 @@
 -- The order of a skeleton without one of its strands is that of the others.
-use Rattle.std.proofs.Common.{◌≡◌, ◌≢◌, ◌↔◌, ◌⊎◌, inl, inr, ℕ, suc, ◌<◌, ◌≤◌, List, Some, Bool, true, false, refl, sym, ap, ◌∙◌, subst, arith}
-use Rattle.std.specs.Prelude.{◌==◌, nat_lt}
+use Rattle.std.proofs.Common.{◌≡◌, ◌≢◌, ◌↔◌, ◌⊎◌, inl, inr, ℕ, suc, ◌≤◌, List, Some, Bool, true, false, refl, sym, ap, ◌∙◌, subst, arith}
+use Rattle.std.specs.Prelude.{◌==◌}
 use Rattle.std.specs.List.{remove}
+use Rattle.std.proofs.lemmas.Bool.{cases_lt}
 use Rattle.std.proofs.lemmas.Bool.Decides.{nat_tests}
 use Rattle.cp_lists.specs.Lists.{IsIn, one_step, more_steps}
 use Rattle.cp_model.specs.Bundle.{node_at}
@@ -29,13 +30,6 @@ same_or_other s t = by_test (s == t) refl
     by_test : (b : Bool) → (s == t) ≡ b → (s ≡ t) ⊎ (s ≢ t)
     by_test true e = inl (grind (arith, nat_tests))
     by_test false e = inr (λ h. grind (arith, nat_tests))
-
-less_or_not : (i j : ℕ) → (i < j) ⊎ (j ≤ i)
-less_or_not i j = by_test (nat_lt i j) refl
-  where
-    by_test : (b : Bool) → nat_lt i j ≡ b → (i < j) ⊎ (j ≤ i)
-    by_test true e = inl (grind (arith, nat_tests))
-    by_test false e = inr (grind (arith, nat_tests))
 
 -- The last node of a way is there.
 pub way_ends : (k : Skeleton) (x y : Node) → ((p : OrderPair) → IsIn p k.pairs → IsOrderPair k p) → Before k x y → IsNodeOf k.strands y
@@ -92,7 +86,7 @@ module _ (old new : Skeleton) (d : ℕ) (strands : new.strands ≡ remove old.st
 
   -- Where two pairs lead through the strand to the strand where they began, they lead onward.
   leads_onward : (p q : OrderPair) → IsIn p old.pairs → IsIn q old.pairs → IsAtOrAfter p.later q.earlier → p.earlier.strand ≡ q.later.strand → IsAtOrAfter p.earlier q.later
-  leads_onward p q m n a e = elim (less_or_not q.later.index p.earlier.index) as (λ _. IsAtOrAfter p.earlier q.later) [
+  leads_onward p q m n a e = elim (cases_lt q.later.index p.earlier.index) as (λ _. IsAtOrAfter p.earlier q.later) [
     | inl less ↦
         let other : q.later ≡ p.earlier → ⊥ = λ h. let i : q.later.index ≡ p.earlier.index = ap (λ x. x.index) h in omega arith in
         let back : Before old q.later p.earlier =

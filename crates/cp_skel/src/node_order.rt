@@ -8,6 +8,7 @@ ghost use Rattle.cp_skel.specs.Sound.{IsSound};
 ghost use Rattle.cp_skel.specs.View.{skeleton_view};
 
 use crate::skeleton::{Node, OrderPair, Skeleton};
+use cp_order::Leading;
 use std::alloc::{AllocError, Global};
 
 impl Skeleton {
@@ -60,7 +61,7 @@ impl Skeleton {
             → Before (skeleton_view self.new) x y ↔ Before (ordered_by (skeleton_view self.old) (record { earlier = n; later = m } ∷ (skeleton_view self.old).pairs)) x y) }
         ensures unchanged { OnErr result (self.new ≡ self.old) }
     {
-        if self.order.leads_to_with_memory(alloc, m, n)? {
+        if Leading::new(alloc, self.order.pairs(), n)?.has(m) {
             return Ok(false);
         }
         let (earlier, later) = (n, m);

@@ -7,7 +7,7 @@ use Rattle.cp_model.specs.Term.{Term, IsCarriedByTerm, Substitution, apply_to}
 use Rattle.cp_model.specs.Strand.{Event, send, recv, payload, event_map, OriginatesInTerms}
 use Rattle.cp_model.proofs.LawEvents.{payload_map}
 use Rattle.cp_lists.proofs.Items.{item_of_take, take_of_item, map_of_item}
-use Rattle.cp_term.proofs.CarriedTerms.{not_both}
+use Rattle.cp_model.proofs.CarriedParts.{not_both}
 use Rattle.cp_strand.specs.Origins.{IsCarriedByOne, OriginatesUnder}
 
 module _ {A : Type 0} (view : A → Event Term) (s : Substitution) (t : Term) where

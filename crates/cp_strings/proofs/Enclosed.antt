@@ -8,7 +8,7 @@ use Rattle.cp_term.specs.declared.path.Step.TheVariants.{Left, Right, Plaintext}
 use Rattle.cp_derive.specs.Components.{Component, below, components_of, IsFirstUnderivable}
 use Rattle.cp_guard.specs.Above.{encryptions_above}
 use Rattle.cp_escape.specs.Escape.{IsFirstWith}
-use Rattle.cp_tree.proofs.AskedOn.{first_listed}
+use Rattle.cp_escape.proofs.EscapeGuards.{first_is_in}
 use Rattle.cp_proper.specs.Strings.{strings_of, strings_of_key}
 use Rattle.cp_proper.specs.Spelled.{IsSpelledTerm}
 
@@ -42,7 +42,7 @@ module _ (S : List ℕ → Type 0) where
   above_spelled (enc_term a k) [] e is i = absurd (not_in_none i)
 
   pub first_above_spelled : {has : Term → Type 0} (t : Term) (path : List Step) (e : Term) → IsSpelledTerm S t → IsFirstWith has (encryptions_above t path) e → IsSpelledTerm S e
-  first_above_spelled t path e is first = above_spelled t path e is (first_listed first)
+  first_above_spelled t path e is first = above_spelled t path e is (first_is_in first)
 
   -- ---- components
 

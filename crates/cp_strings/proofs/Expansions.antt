@@ -26,7 +26,8 @@ use Rattle.cp_escape.specs.Escape.{GivesClosed, positions_of, whole_pattern, IsE
 use Rattle.cp_escape.specs.WidenedPattern.{WidensBy}
 use Rattle.cp_expansion.specs.ChosenTest.{IsTestOf}
 use Rattle.cp_expansion.specs.Expansion.{IsWidening, asked_under, AreWidened, has_most, none_widens, one_widens, question_about, Expansion, IsExpansionOf}
-use Rattle.cp_tree.proofs.AskedOn.{first_listed, IsWellAsked, asked_on}
+use Rattle.cp_escape.proofs.EscapeGuards.{first_is_in}
+use Rattle.cp_tree.proofs.AskedOn.{IsWellAsked, asked_on}
 use Rattle.cp_proper.specs.Spelled.{IsSpelledTerm, AreSpelledDeclarations, IsSpelledRole, IsSpelledSkeleton}
 use Rattle.cp_strings.proofs.Under.{event_spelled}
 use Rattle.cp_strings.proofs.Enclosed.{first_above_spelled, underivable_spelled}
@@ -73,7 +74,7 @@ module _ (S I : List ℕ → Type 0) where
 local_declared : (k l : Skeleton) (path : List Step) (p : Pattern) (ds : List Declaration) → HasDeclaredVariables ds l → WidensBy k l path p → (x : Variable) → IsIn x p.locals → IsDeclared ds x
 local_declared k l path p ds has w x i =
     event_declared ds l has (node_at (length k.strands) w.sends.index) (send w.message) w.sends.sends x
-    (above_variables w.message path p.term (first_listed w.outermost) x ((w.locals.exactly x).0 i).0)
+    (above_variables w.message path p.term (first_is_in w.outermost) x ((w.locals.exactly x).0 i).0)
 
 module _ (S I : List ℕ → Type 0) (decide : (t : List ℕ) → S t ⊎ (S t → ⊥)) (protocol : Protocol) (declares : (role : Role) → IsIn role protocol.roles → DeclaresItsVariables role)
     (roles : (role : Role) → IsIn role protocol.roles → IsSpelledRole S I role) where
@@ -110,7 +111,7 @@ module _ (S I : List ℕ → Type 0) (decide : (t : List ℕ) → S t ⊎ (S t �
   last_spelled (has_most {q = q} {children = children} most is) well asked = record { question = asked; each = child_spelled q children well asked is }
   last_spelled (none_widens {q = q} {children = children} fewer is none) well asked = record { question = asked; each = child_spelled q children well asked is }
   last_spelled (one_widens {q = q} {before = before} {c = c} fewer is first w rest) well asked =
-      let i = first_listed first in
+      let i = first_is_in first in
       last_spelled rest (asked_on protocol declares q before c well is i w)
       (widened_on q c asked (child_spelled q before well asked is c i) (sound_child protocol q before well.skeleton declares well.declared well.test well.guards is c i) w)
 

@@ -1,10 +1,10 @@
 -- The substitution by which a normal form comes gives variables admitted strings, where the normal form has them: it changes
 -- the skeleton's own variables alone, and all that it gives them stands in the normal form.
-use Rattle.std.proofs.Common.{◌≡◌, ℕ, List, [], ◌∷◌, ◌++◌, Bool, true, false, refl, sym, subst, ⊎_elim}
-use Rattle.cp_lists.specs.Lists.{IsIn, here, there}
+use Rattle.std.proofs.Common.{◌≡◌, ℕ, List, [], ◌++◌, Bool, true, false, refl, sym, subst, ⊎_elim}
+use Rattle.cp_lists.specs.Lists.{IsIn}
 use Rattle.cp_lists.proofs.Items.{at_place}
 use Rattle.cp_lists.proofs.Members.{not_in_none, in_append, into_map}
-use Rattle.cp_model.specs.Term.{akey_sort, Variable, AtomTerm, Term, atom_of_variable, variables_of_atom, variables_of, Substitution, apply_to, apply_to_atom}
+use Rattle.cp_model.specs.Term.{akey_sort, Variable, AtomTerm, atom_of_variable, variables_of_atom, variables_of, Substitution, apply_to, apply_to_atom}
 use Rattle.cp_model.specs.Strand.{Role, prefix_of, variables_of_trace, variables_of_prefix}
 use Rattle.cp_model.specs.Skeleton.{SkeletonStrand, instance, listener, skeleton_trace, Skeleton}
 use Rattle.cp_model.specs.Problem.{variables_of_strands, variables_of_atoms, variables_of_uniques, variables_of_assumptions, variables_of_skeleton}
@@ -13,17 +13,14 @@ use Rattle.cp_model.proofs.LawTerms.{atom_composed}
 use Rattle.cp_model.proofs.SameTests.{variable_in, in_has_variable}
 use Rattle.cp_completeness.specs.Normal.{strand_under, unique_under, skeleton_under, with_pairs, variables_of_terms}
 use Rattle.cp_collapse.specs.SameSkeletons.{IsSameStrand, same_instance, same_listener, AreSameStrands, no_strands, same_strands, SaysTheSame}
-use Rattle.cp_skel.proofs.UnderVariables.{of_trace, strand_with, atom_with, unique_with}
+use Rattle.cp_model.proofs.OccurringVariables.{strand_with, atom_with, unique_with, term_with}
+use Rattle.cp_skel.proofs.UnderVariables.{of_trace}
 use Rattle.cp_normal.specs.BySubstitution.{all_variables, ComesBySubstitution}
 use Rattle.cp_normal.specs.Formed.{Formed, AreNormalForms}
 use Rattle.cp_proper.specs.Strings.{strings_of_atom}
 use Rattle.cp_proper.specs.Spelled.{IsSpelledStrand, IsSpelledSkeleton}
 use Rattle.cp_strings.proofs.Under.{GivesStrings, same_spelled}
 use Rattle.cp_strings.proofs.Applied.{variable_has_none, GivesAdmitted, in_atom, in_term}
-
-term_with : (ts : List Term) (x : Variable) → IsIn x (variables_of_terms ts) → (t : Term) × IsIn t ts × IsIn x (variables_of t)
-term_with [] x i = absurd (not_in_none i)
-term_with (t ∷ ts) x i = ⊎_elim (λ j. (t, here, j)) (λ j. let r = term_with ts x j in (r.0, there r.1, r.2)) (in_append (variables_of t) (variables_of_terms ts) i)
 
 -- ---- to say the same goes both ways
 

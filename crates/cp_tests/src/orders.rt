@@ -57,7 +57,8 @@ fn leading(rt: HostRuntime) -> Result<(), Fail> {
     Ok(())
 }
 
-/// Whether the order says of each of these nodes that it leads to a node, or that it does not.
+/// Whether the order, and what is gathered along its pairs, say of each of these nodes that it leads to a node, or that it
+/// does not.
 fn answers(
     alloc: Global,
     order: &Order,
@@ -65,12 +66,10 @@ fn answers(
     to: Node,
     leads: bool,
 ) -> Result<bool, AllocError> {
+    let leading = Leading::new(alloc, order.pairs(), to)?;
     for &(strand, index) in nodes {
         let from = node(strand, index);
-        if order.leads_to(from, to) != leads {
-            return Ok(false);
-        }
-        if order.leads_to_with_memory(alloc, from, to)? != leads {
+        if order.leads_to(from, to) != leads || leading.has(from) != leads {
             return Ok(false);
         }
     }

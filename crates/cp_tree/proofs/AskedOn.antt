@@ -1,32 +1,19 @@
 -- What is asked under more and more patterns goes on meeting what the law of cohorts wants.
-use Rattle.std.proofs.Common.{◌≡◌, List, Some, sym, subst}
-use Rattle.cp_lists.specs.Lists.{item_at, IsIn, here, there}
-use Rattle.cp_model.specs.Term.{Variable}
-use Rattle.cp_model.specs.Strand.{Declaration, Role, Protocol}
-use Rattle.cp_model.specs.Skeleton.{Skeleton, IsSkeleton}
-use Rattle.cp_model.specs.Problem.{declared_sort, IsDeclared}
+use Rattle.std.proofs.Common.{List}
+use Rattle.cp_lists.specs.Lists.{IsIn}
+use Rattle.cp_model.specs.Strand.{Role, Protocol}
+use Rattle.cp_model.specs.Skeleton.{IsSkeleton}
 use Rattle.cp_model.specs.PointOfView.{HasDeclaredVariables}
-use Rattle.cp_model.proofs.DeclaredVariables.{still_declared}
 use Rattle.cp_strand.specs.Declares.{DeclaresItsVariables}
 use Rattle.cp_guard.specs.Critical.{IsTest}
 use Rattle.cp_guard.specs.Guards.{Guards}
 use Rattle.cp_covering.specs.Children.{Child}
 use Rattle.cp_covering.specs.Cohort.{Question, IsCohort}
-use Rattle.cp_covering.specs.Way.{DeclaresMore}
 use Rattle.cp_covering.proofs.SoundChildren.{sound_child}
-use Rattle.cp_escape.specs.Escape.{IsFirstWith, in_front, further}
+use Rattle.cp_escape.proofs.EscapeGuards.{first_is_in}
 use Rattle.cp_escape.proofs.Widened.{guards_still}
+use Rattle.cp_expansion.proofs.OnceMore.{declared_more}
 use Rattle.cp_expansion.specs.Expansion.{IsWidening, asked_under, AreWidened, has_most, none_widens, one_widens}
-
--- What is declared is declared with more declarations.
-more_declared : (ds es : List Declaration) (k : Skeleton) → DeclaresMore ds es → HasDeclaredVariables ds k → HasDeclaredVariables es k
-more_declared ds es k more has =
-    let still : (x : Variable) → IsDeclared ds x → IsDeclared es x = (λ x d. subst (λ (fs : List Declaration). declared_sort (item_at fs x.number) ≡ Some x.sort) (sym more.behind) (still_declared ds more.more x.number x.sort d)) in
-    record { occurring = λ x i. still x (has.occurring x i); mapped = λ t x i j. still x (has.mapped t x i j) }
-
-pub first_listed : {A : Type 0} {has : A → Type 0} {xs : List A} {x : A} → IsFirstWith has xs x → IsIn x xs
-first_listed (in_front h) = here
-first_listed (further n f) = there (first_listed f)
 
 -- What the law of cohorts wants of a question.
 pub record IsWellAsked (protocol : Protocol) (q : Question) : Type 0 where
@@ -41,7 +28,7 @@ module _ (protocol : Protocol) (declares : (role : Role) → IsIn role protocol.
       let s = sound_child protocol q children well.skeleton declares well.declared well.test well.guards is c i in
       record {
         skeleton = well.skeleton;
-        declared = more_declared q.variables c.variables q.skeleton s.more well.declared;
+        declared = declared_more q.variables c.variables q.skeleton s.more well.declared;
         test = well.test;
         guards = guards_still q.skeleton c.skeleton q.node q.critical c.path w.pattern c.variables s.declared w.widens q.patterns well.guards;
       }
@@ -50,4 +37,4 @@ module _ (protocol : Protocol) (declares : (role : Role) → IsIn role protocol.
   pub last_asked : {q last : Question} {children : List Child} → AreWidened protocol q last children → IsWellAsked protocol q → IsWellAsked protocol last × IsCohort protocol last children
   last_asked (has_most most is) well = (well, is)
   last_asked (none_widens fewer is none) well = (well, is)
-  last_asked (one_widens {q = q} {before = before} {c = c} fewer is first w rest) well = last_asked rest (asked_on q before c well is (first_listed first) w)
+  last_asked (one_widens {q = q} {before = before} {c = c} fewer is first w rest) well = last_asked rest (asked_on q before c well is (first_is_in first) w)

@@ -1,14 +1,15 @@
 -- The labels of a tree declare their variables, the problem's first.
-use Rattle.std.proofs.Common.{◌≡◌, ◌⊎◌, inl, inr, ℕ, zero, suc, ◌<◌, List, [], ◌∷◌, map, Some, None, refl, sym, ap, ◌∙◌, subst, ⊎_elim, arith}
-use Rattle.cp_lists.specs.Lists.{item_at, IsIn, here, there}
+use Rattle.std.proofs.Common.{◌≡◌, ◌⊎◌, inl, inr, ℕ, zero, suc, ◌<◌, List, [], map, Some, None, refl, sym, ap, ◌∙◌, subst, ⊎_elim, arith}
+use Rattle.cp_lists.specs.Lists.{item_at, IsIn}
 use Rattle.cp_lists.proofs.Items.{item_of_map}
 use Rattle.cp_lists.proofs.Members.{in_append}
-use Rattle.cp_model.specs.Term.{Variable, Term, variables_of}
+use Rattle.cp_model.specs.Term.{Variable, variables_of}
 use Rattle.cp_model.specs.Strand.{Declaration, Role, Protocol}
 use Rattle.cp_model.specs.Skeleton.{Skeleton}
 use Rattle.cp_model.specs.Problem.{variables_of_skeleton, IsDeclared}
 use Rattle.cp_model.specs.PointOfView.{HasDeclaredVariables}
 use Rattle.cp_model.specs.Tree.{Pattern, Test, Label, Tree, Limits}
+use Rattle.cp_model.proofs.OccurringVariables.{term_with}
 use Rattle.cp_completeness.specs.Normal.{variables_of_terms}
 use Rattle.cp_strand.specs.Declares.{DeclaresItsVariables}
 use Rattle.cp_guard.specs.Critical.{used_variables}
@@ -24,7 +25,8 @@ use Rattle.cp_tree.specs.Made.{Made, made_of_root, way_of}
 use Rattle.cp_tree.specs.Searched.{IsMarkedAmong, Becomes, is_dead, is_seen, is_realised, is_generalised, above_bound, at_limit, is_tested, IsTreeFrom}
 use Rattle.cp_tree.specs.Sound.{IsSoundMade, ExpandsSoundly}
 use Rattle.cp_tree.specs.Declared.{DeclaresItsOwn}
-use Rattle.cp_tree.proofs.AskedOn.{IsWellAsked, asked_on, first_listed, last_asked}
+use Rattle.cp_escape.proofs.EscapeGuards.{first_is_in}
+use Rattle.cp_tree.proofs.AskedOn.{IsWellAsked, asked_on, last_asked}
 use Rattle.cp_tree.proofs.SoundExpansions.{well_asked}
 use Rattle.cp_tree.proofs.Settled.{IsMadeOfChild, IsMadeOfGeneralisation, made_from}
 use Rattle.cp_tree.proofs.SoundOrGeneralised.{IsSoundLabel, label_declared, where_unrealised}
@@ -33,13 +35,9 @@ use Rattle.cp_tree.proofs.Numbered.{front_or_behind}
 
 -- ---- what is declared
 
-in_one_of : (ts : List Term) (x : Variable) → IsIn x (variables_of_terms ts) → (t : Term) × IsIn t ts × IsIn x (variables_of t)
-in_one_of [] x i = elim i [ ]
-in_one_of (t ∷ ts) x i = ⊎_elim (λ j. (t, here, j)) (λ j. let r = in_one_of ts x j in (r.0, there r.1, r.2)) (in_append (variables_of t) (variables_of_terms ts) i)
-
 used_declared : (ds : List Declaration) (k : Skeleton) (x : Variable) → HasDeclaredVariables ds k → IsIn x (used_variables k) → IsDeclared ds x
 used_declared ds k x h i =
-    ⊎_elim (h.occurring x) (λ j. let r = in_one_of k.from_problem.values x j in h.mapped r.0 x r.1 r.2) (in_append (variables_of_skeleton k) (variables_of_terms k.from_problem.values) i)
+    ⊎_elim (h.occurring x) (λ j. let r = term_with k.from_problem.values x j in h.mapped r.0 x r.1 r.2) (in_append (variables_of_skeleton k) (variables_of_terms k.from_problem.values) i)
 
 -- ---- what is asked of a skeleton last has the variables of what is asked first
 
@@ -51,7 +49,7 @@ module _ (protocol : Protocol) (declares : (role : Role) → IsIn role protocol.
   last_more (has_most {q = q} most is) well = more_itself q.variables
   last_more (none_widens {q = q} fewer is none) well = more_itself q.variables
   last_more (one_widens {q = q} {last = last} {before = before} {c = c} fewer is first w rest) well =
-      more_then q.variables c.variables last.variables (child_more q before c well is (first_listed first)) (last_more rest (asked_on protocol declares q before c well is (first_listed first) w))
+      more_then q.variables c.variables last.variables (child_more q before c well is (first_is_in first)) (last_more rest (asked_on protocol declares q before c well is (first_is_in first) w))
 
   -- What an expansion declares.
   record Declares (variables : List Declaration) (k : Skeleton) (e : Expansion) : Type 0 where

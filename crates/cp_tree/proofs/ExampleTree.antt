@@ -2,7 +2,7 @@
 use Rattle.std.proofs.Common.{◌≡◌, ◌≢◌, ◌<◌, inl, inr, ℕ, zero, suc, List, [], ◌∷◌, map, false, true, Some, None, refl, sym, ap, ◌∙◌, subst, arith}
 use Rattle.cp_lists.specs.Lists.{item_at, IsIn, here, there, one_step}
 use Rattle.cp_lists.proofs.Members.{not_in_none, only_item}
-use Rattle.cp_model.specs.Term.{Term, tag_term, atom_term, pair_term, enc_term}
+use Rattle.cp_model.specs.Term.{Term}
 use Rattle.cp_model.specs.Strand.{recv}
 use Rattle.cp_model.specs.Bundle.{node_at}
 use Rattle.cp_model.specs.declared.node.Node.{Node}
@@ -14,6 +14,7 @@ use Rattle.cp_model.specs.Homomorphism.{Embeds}
 use Rattle.cp_model.specs.Tree.{Mark, shape, limit_steps, limit_strands, Label}
 use Rattle.cp_derive.specs.Unrealised.{IsUnrealisedAt, ListsUnrealised}
 use Rattle.cp_guard.specs.Above.{encryptions_above}
+use Rattle.cp_guard.proofs.AllAbove.{nothing_above}
 use Rattle.cp_answers.specs.Example.{locked, locker, protocol, heard, reception, sent_before}
 use Rattle.cp_answers.proofs.Heard.{no_instance, unlocked}
 use Rattle.cp_shapes.specs.Shapes.{EmbedsAt, IsShapeAt}
@@ -82,12 +83,6 @@ no_escape = record {
   each = nothing_given;
   once = refl;
 }
-
-nothing_above : (t : Term) → encryptions_above t [] ≡ []
-nothing_above (tag_term bytes) = refl
-nothing_above (atom_term v) = refl
-nothing_above (pair_term a b) = refl
-nothing_above (enc_term a k) = refl
 
 none_first : {has : Term → Type 0} {t : Term} (ts : List Term) → ts ≡ [] → IsFirstWith has ts t → ⊥
 none_first ts e (in_front h) = cc

@@ -3,7 +3,7 @@ pub mod Numbered
 pub mod Settled
 pub mod Picked
 pub mod SoundLabels
-mod MarksSay
+pub mod MarksSay
 pub mod MadeChildren
 mod TreeEdges
 mod PassedStandings

@@ -1,13 +1,17 @@
 -- Variables that are among others.
-use Rattle.std.proofs.Common.{◌⊎◌, inl, inr, List, ◌++◌}
+use Rattle.std.proofs.Common.{◌⊎◌, inl, inr, List, ◌∷◌, ◌++◌, subst}
 use Rattle.cp_lists.specs.Lists.{IsIn}
-use Rattle.cp_lists.proofs.Members.{in_append_left, in_append_right, in_append}
+use Rattle.cp_lists.proofs.Members.{in_cases, in_append_left, in_append_right, in_append}
 use Rattle.cp_model.specs.Term.{Variable}
 use Rattle.cp_unify.specs.Unifiers.{AreAmong}
 
 either_among : (x : Variable) (xs ys zs : List Variable) → AreAmong xs zs → AreAmong ys zs → IsIn x xs ⊎ IsIn x ys → IsIn x zs
 either_among x xs ys zs p q (inl h) = p x h
 either_among x xs ys zs p q (inr h) = q x h
+
+-- Lists that are put together of what is among others.
+pub among_cons : (x : Variable) (xs zs : List Variable) → IsIn x zs → AreAmong xs zs → AreAmong (x ∷ xs) zs
+among_cons x xs zs h k y i = elim (in_cases i) [ inl e ↦ subst (λ (z : Variable). IsIn z zs) e h | inr j ↦ k y j ]
 
 pub among_append : (xs ys zs : List Variable) → AreAmong xs zs → AreAmong ys zs → AreAmong (xs ++ ys) zs
 among_append xs ys zs p q x h = either_among x xs ys zs p q (in_append xs ys h)

@@ -8,12 +8,12 @@ use Rattle.cp_unify.specs.Bindings.{Binding, variable_of, Meets, put_term, as_su
 use Rattle.cp_unify.specs.Joined.{moved, joined}
 use Rattle.cp_unify.specs.Unifiers.{IsBefore, AreLaterToEarlier, AreAmong}
 use Rattle.cp_unify.specs.Solved.{IsSolved, SolvesBeside}
-use Rattle.cp_unify.proofs.VariableTests.{is_variable, is_variable_tells, occurs, occurs_tells, count, fewer}
+use Rattle.cp_unify.proofs.VariableTests.{is_variable, is_variable_tells, occurs, occurs_tells, occurs_in, occurs_not, count, fewer}
 use Rattle.cp_unify.proofs.Found.{Narrows, IsDifference, found}
 use Rattle.cp_unify.specs.Differences.{difference_of}
 use Rattle.cp_unify.specs.declared.difference.Difference.TheVariants.{Same, Clash, Bind}
-use Rattle.cp_lists.proofs.Members.{in_cases, not_in_none, only_item, in_append_left, in_append_right, in_append}
-use Rattle.cp_unify.proofs.Members.{among_append, among_left, among_right}
+use Rattle.cp_lists.proofs.Members.{not_in_none, only_item, in_append_left, in_append_right, in_append}
+use Rattle.cp_unify.proofs.Members.{among_cons, among_append, among_left, among_right}
 use Rattle.cp_unify.proofs.VariablesUnder.{Leaves, leaves_variables_of, leaves_atom, bound, other, leaves_other, leaves_absent, given_atom, given_term}
 use Rattle.cp_unify.proofs.SolvedBindings.{variable_kept, meets_joined, joined_meets, AlwaysMet, always_met_joined, idempotent_term}
 use Rattle.cp_unify.proofs.Substituted.{as_joined, value_met}
@@ -50,9 +50,6 @@ applied_atom_among q zs u h k y i = given_atom (λ z. IsIn z zs) (as_substitutio
 pub applied_among : (q : List Binding) (zs : List Variable) (t : Term) → AreAmong (variables_of_bindings q) zs → AreAmong (variables_of t) zs →
     AreAmong (variables_of (apply_to (as_substitution q) t)) zs
 applied_among q zs t h k y i = given_term (λ z. IsIn z zs) (as_substitution q) t (λ x j. as_gives q zs h x (k x j)) y i
-
-among_cons : (x : Variable) (xs zs : List Variable) → IsIn x zs → AreAmong xs zs → AreAmong (x ∷ xs) zs
-among_cons x xs zs h k y i = elim (in_cases i) [ inl e ↦ subst (λ (z : Variable). IsIn z zs) e h | inr j ↦ k y j ]
 
 pub joined_among : (r q : List Binding) (zs : List Variable) → AreAmong (variables_of_bindings r) zs → AreAmong (variables_of_bindings q) zs →
     AreAmong (variables_of_bindings (joined r q)) zs
@@ -218,12 +215,6 @@ occurs_still xs ys h x e =
       | inl p ↦ elim (occurs_tells xs x) [ inl q ↦ q.0 | inr q ↦ absurd (q.1 (h x p.1)) ]
       | inr p ↦ absurd (let f : true ≡ false = sym e ∙ p.0 in cc)
     ]
-
-occurs_in : (xs : List Variable) (x : Variable) → IsIn x xs → occurs xs x ≡ true
-occurs_in xs x i = elim (occurs_tells xs x) [ inl p ↦ p.0 | inr p ↦ absurd (p.1 i) ]
-
-occurs_not : (xs : List Variable) (x : Variable) → (IsIn x xs → ⊥) → occurs xs x ≡ false
-occurs_not xs x h = elim (occurs_tells xs x) [ inl p ↦ absurd (h p.1) | inr p ↦ p.0 ]
 
 pub fewer_unbound : (zs : List Variable) (a b : Term) (x : Binding) → AreAmong (variables_of a ++ variables_of b) zs → Narrows (Equal a b) (variables_of a ++ variables_of b) x →
     unbound zs (apply_to (as_substitution (x ∷ [])) a) (apply_to (as_substitution (x ∷ [])) b) < unbound zs a b

@@ -37,6 +37,13 @@ pub occurs_tells : (xs : List Variable) (x : Variable) → ((occurs xs x ≡ tru
 occurs_tells [] x = inr (refl, λ h. not_in_none h)
 occurs_tells (y ∷ ys) x = occurs_cases x y ys (is_variable_tells x y) (occurs_tells ys x)
 
+-- What is in the list occurs, and what is not does not.
+pub occurs_in : (xs : List Variable) (x : Variable) → IsIn x xs → occurs xs x ≡ true
+occurs_in xs x i = elim (occurs_tells xs x) [ inl p ↦ p.0 | inr p ↦ absurd (p.1 i) ]
+
+pub occurs_not : (xs : List Variable) (x : Variable) → (IsIn x xs → ⊥) → occurs xs x ≡ false
+occurs_not xs x h = elim (occurs_tells xs x) [ inl p ↦ absurd (h p.1) | inr p ↦ p.0 ]
+
 -- How many of the variables pass a test.
 abbrev pub count : (Variable → Bool) → List Variable → ℕ
 count p [] = 0

@@ -1,6 +1,6 @@
 use Rattle.std.proofs.Common.{ap, arith, ◌∙◌, ◌≡◌}
 use Rattle.cp_collapse.specs.Partitions.{lowest_before}
-use Rattle.cp_collapse.proofs.ItemsWithProperty.{not_both}
+use Rattle.cp_model.proofs.CarriedParts.{not_both}
 use Rattle.cp_collapse.proofs.Places.{count_own, count_other}
 use Rattle.cp_collapse.proofs.block_places.lowest_within.Goals as goal
 

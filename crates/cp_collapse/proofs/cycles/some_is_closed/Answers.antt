@@ -1,6 +1,7 @@
 use Rattle.std.proofs.Common.{refl, sym, subst}
 use Rattle.cp_collapse.specs.Cycles.{IsClosedAt}
-use Rattle.cp_collapse.proofs.ItemsWithProperty.{not_both, found, next, none}
+use Rattle.cp_model.proofs.CarriedParts.{not_both}
+use Rattle.cp_collapse.proofs.ItemsWithProperty.{found, next, none}
 use Rattle.cp_collapse.proofs.cycles.some_is_closed.Goals as goal
 
 pub returns-then-branch : goal.returns-then-branch

@@ -1,6 +1,6 @@
 use Rattle.std.proofs.lemmas.List.{get_or_default}
 use Rattle.cp_lists.proofs.Items.{item_of_read}
-use Rattle.cp_collapse.proofs.ItemsWithProperty.{not_both}
+use Rattle.cp_model.proofs.CarriedParts.{not_both}
 use Rattle.cp_collapse.proofs.ImagesOnce.{pairs_first, pair_dropped, pair_put, pairs_all}
 use Rattle.cp_collapse.proofs.images.pair_images.Goals as goal
 

@@ -6,7 +6,7 @@ use Rattle.cp_collapse.specs.Property.{Has}
 use Rattle.cp_collapse.proofs.Collected.{all_forward, backward_impossible, cycle_impossible, no_cycle_left}
 use Rattle.cp_collapse.specs.MergedParts.{parts_view, with_listed}
 use Rattle.cp_collapse.proofs.SoundSkeletons.{merged_sound}
-use Rattle.cp_collapse.proofs.ItemsWithProperty.{not_both}
+use Rattle.cp_model.proofs.CarriedParts.{not_both}
 use Rattle.cp_collapse.proofs.merged_skeletons.collapse.Goals as goal
 
 pub returns-then-some_lies_backward : goal.returns-then-some_lies_backward

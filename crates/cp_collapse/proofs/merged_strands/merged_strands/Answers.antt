@@ -4,7 +4,7 @@ use Rattle.cp_unify.specs.Bindings.{as_substitution}
 use Rattle.cp_strand.specs.View.{strand_view}
 use Rattle.cp_skel.specs.View.{skeleton_view}
 use Rattle.cp_collapse.specs.MergedStrands.{IsUnder}
-use Rattle.cp_collapse.proofs.ItemsWithProperty.{not_both}
+use Rattle.cp_model.proofs.CarriedParts.{not_both}
 use Rattle.cp_collapse.proofs.Tallest.{none_alike, alike_passes, alike_puts, tallest_there}
 use Rattle.cp_collapse.proofs.merged_strands.merged_strands.Goals as goal
 

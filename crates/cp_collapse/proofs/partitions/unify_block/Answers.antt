@@ -2,7 +2,7 @@ use Rattle.std.proofs.Common.{rules, ◌≡◌, ◌≤◌, length, sym, subst}
 use Rattle.cp_skel.specs.View.{skeleton_view}
 use Rattle.cp_collapse.specs.FirstPartitions.{IsExactFor, EqualsBlock}
 use Rattle.cp_collapse.proofs.ExactBlocks.{exact_block_first}
-use Rattle.cp_collapse.proofs.ItemsWithProperty.{not_both}
+use Rattle.cp_model.proofs.CarriedParts.{not_both}
 use Rattle.cp_collapse.proofs.Joined.{alike_in_block, block_passed, block_taken, block_never, block_done}
 use Rattle.cp_collapse.proofs.partitions.unify_block.Goals as goal
 

@@ -1,6 +1,6 @@
 use Rattle.std.proofs.Common.{◌≤◌, ◌≡◌, ◌+◌, Some, length, map, ap, sym, subst, ◌∙◌, arith}
 use Rattle.std.proofs.lemmas.List.{length-map}
-use Rattle.cp_term.proofs.CarriedTerms.{not_both}
+use Rattle.cp_model.proofs.CarriedParts.{not_both}
 use Rattle.cp_lists.proofs.Items.{map_of_read}
 use Rattle.cp_lists.specs.Lists.{item_at}
 use Rattle.cp_model.specs.Order.{LeadsTo}

@@ -1,5 +1,5 @@
 use Rattle.std.proofs.Common.{arith}
-use Rattle.cp_term.proofs.CarriedTerms.{not_both}
+use Rattle.cp_model.proofs.CarriedParts.{not_both}
 use Rattle.cp_derive.proofs.BuildSteps.{atom_builds, atom_at_hand, enc_up, enc_parts}
 use Rattle.cp_derive.proofs.built_terms.+builds.Goals as goal
 

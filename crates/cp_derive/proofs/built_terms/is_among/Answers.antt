@@ -1,5 +1,5 @@
 use Rattle.std.proofs.Common.{◌<◌, length, refl, subst, arith}
-use Rattle.cp_term.proofs.CarriedTerms.{not_both}
+use Rattle.cp_model.proofs.CarriedParts.{not_both}
 use Rattle.cp_lists.specs.Lists.{IsIn}
 use Rattle.cp_lists.proofs.Members.{item_is_in, none_left}
 use Rattle.cp_derive.proofs.Listed.{behind_other}

@@ -1,5 +1,5 @@
 use Rattle.std.proofs.Common.{◌<◌, ◌≤◌, length, sym, subst, arith}
-use Rattle.cp_term.proofs.CarriedTerms.{not_both}
+use Rattle.cp_model.proofs.CarriedParts.{not_both}
 use Rattle.cp_lists.proofs.Members.{none_left}
 use Rattle.cp_derive.specs.Buildable.{Builds}
 use Rattle.cp_derive.specs.declared.opened_terms.Locked.{Locked}

@@ -1,4 +1,4 @@
-use Rattle.cp_term.proofs.CarriedTerms.{not_both}
+use Rattle.cp_model.proofs.CarriedParts.{not_both}
 use Rattle.cp_model.specs.Strand.{recv}
 use Rattle.cp_skel.specs.View.{skeleton_view}
 use Rattle.cp_derive.proofs.GivenAtNode.{unrealised_at, realised_at, passed, taken, event_at, all_passed, other_realised, reception_at}

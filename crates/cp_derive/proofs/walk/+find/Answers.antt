@@ -1,5 +1,5 @@
 use Rattle.std.proofs.Common.{◌≡◌, ◌∙◌, ◌++◌, ◌∷◌, [], ap, sym, subst, take, arith}
-use Rattle.cp_term.proofs.CarriedTerms.{not_both}
+use Rattle.cp_model.proofs.CarriedParts.{not_both}
 use Rattle.cp_term.specs.declared.path.Step.TheVariants.{Right}
 use Rattle.cp_derive.specs.Walk.{LeadsOn}
 use Rattle.cp_term.proofs.Behind.{first_kept, turned}

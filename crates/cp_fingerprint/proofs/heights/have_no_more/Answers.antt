@@ -1,7 +1,7 @@
 use Rattle.std.proofs.Common.{◌≤◌, refl}
 use Rattle.std.proofs.lemmas.List.{drop_all}
 use Rattle.cp_lists.proofs.Members.{drop_read}
-use Rattle.cp_term.proofs.CarriedTerms.{not_both}
+use Rattle.cp_model.proofs.CarriedParts.{not_both}
 use Rattle.cp_fingerprint.specs.Heights.{count_from}
 use Rattle.cp_fingerprint.proofs.Listed.{each_next, each_done}
 use Rattle.cp_fingerprint.proofs.NoMore.{from_those_there}

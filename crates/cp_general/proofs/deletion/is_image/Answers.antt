@@ -1,7 +1,8 @@
 use Rattle.std.proofs.Common.{refl, subst}
 use Rattle.cp_lists.specs.Lists.{IsIn}
 use Rattle.cp_lists.proofs.Members.{item_in, none_left}
-use Rattle.cp_general.proofs.FitTests.{not_both, other_next}
+use Rattle.cp_model.proofs.CarriedParts.{not_both}
+use Rattle.cp_general.proofs.FitTests.{other_next}
 use Rattle.cp_general.proofs.deletion.is_image.Goals as goal
 
 pub returns-then-image-strand : goal.returns-then-image-strand

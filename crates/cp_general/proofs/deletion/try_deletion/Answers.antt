@@ -1,6 +1,6 @@
 use Rattle.cp_skel.specs.View.{skeleton_view}
 use Rattle.cp_general.proofs.Deleted.{deleted_alike}
-use Rattle.cp_general.proofs.FitTests.{not_both}
+use Rattle.cp_model.proofs.CarriedParts.{not_both}
 use Rattle.cp_general.proofs.deletion.try_deletion.Goals as goal
 
 pub returns-then-not-branch-clause-none : goal.returns-then-not-branch-clause-none

@@ -7,7 +7,8 @@ use Rattle.cp_skel.specs.Ordered.{ordered_by}
 use Rattle.cp_skel.specs.View.{skeleton_view}
 use Rattle.cp_general.specs.ListedPairs.{is_other_pair}
 use Rattle.cp_general.proofs.Dropped.{keeps_of, of_keeps, sound_of, leaves_of, never_of, never_keeps}
-use Rattle.cp_general.proofs.FitTests.{not_both, if_none, never_none}
+use Rattle.cp_model.proofs.CarriedParts.{not_both}
+use Rattle.cp_general.proofs.FitTests.{if_none, never_none}
 use Rattle.cp_general.proofs.dropped_pair.try_drop.Goals.{After-of-order, After-critical}
 use Rattle.cp_general.proofs.dropped_pair.try_drop.Goals as goal
 

@@ -1,11 +1,11 @@
-use Rattle.std.proofs.Common.{map, refl, ap, ◌∙◌}
-use Rattle.cp_lists.proofs.Members.{item_is_in}
+use Rattle.std.proofs.Common.{◌≡◌, List, map, refl, ap, ◌∙◌, subst}
 use Rattle.cp_skel.specs.Events.{occurrence_view}
 use Rattle.cp_guarding.specs.Sent.{IsGuardedAt}
 use Rattle.cp_guarding.proofs.Each.{each_next, each_last, not_each}
 use Rattle.cp_model.proofs.CarriedParts.{not_both}
+use Rattle.cp_model.specs.declared.node.OrderPair.{OrderPair}
 use Rattle.cp_skel.specs.View.{skeleton_view}
-use Rattle.cp_guarding.proofs.TransmissionsBefore.{nothing_before, listed_one, guarded_by_each, guarded_listed}
+use Rattle.cp_guarding.proofs.TransmissionsBefore.{nothing_before, guarded_by_each, guarded_listed}
 use Rattle.cp_guarding.proofs.sent.send_inside_alone.Goals as goal
 
 pub returns-then-not-branch : goal.returns-then-not-branch
@@ -14,10 +14,9 @@ returns-then-not-branch c = (
   λ _. refl,
 )
 
-pub is_guarded_at-requires-clause-listed : goal.is_guarded_at-requires-clause-listed
-is_guarded_at-requires-clause-listed c =
-    listed_one c.args.patterns.now (skeleton_view c.args.k.now) c.args.node c.args.critical.now c.deref-occurrence-items.result.now (ap (map occurrence_view) c.deref-occurrence-items.ensures.value ∙ c.in_ok-occurrences.ensures.listed) c.occurrence-item.result
-    (item_is_in c.deref-occurrence-items.result.now c.loop-occurrence.occurrence-index c.occurrence-item.result c.loop-occurrence-test.true c.occurrence-item.is)
+pub is_guarded_at-requires-clause-gathered : goal.is_guarded_at-requires-clause-gathered
+is_guarded_at-requires-clause-gathered c =
+    subst (λ (ps : List OrderPair). c.in_ok-leading.leading ≡ record { pairs = ps; node = c.args.node }) (c.pairs.ensures ∙ c.order.ensures) c.in_ok-leading.ensures
 
 pub returns-then-not-branch-2 : goal.returns-then-not-branch-2
 returns-then-not-branch-2 c =

@@ -2,7 +2,7 @@ use Rattle.std.proofs.Common.{List, map, sym, subst₂}
 use Rattle.cp_strand.specs.View.{strand_view}
 use Rattle.cp_skel.specs.View.{skeleton_view}
 use Rattle.cp_strand.specs.Data.{StrandData}
-use Rattle.cp_term.proofs.CarriedTerms.{not_both}
+use Rattle.cp_model.proofs.CarriedParts.{not_both}
 use Rattle.cp_hom.specs.RoleCounts.{HaveRoom}
 use Rattle.cp_hom.proofs.Crowded.{embedding_has_room}
 use Rattle.cp_hom.proofs.embeddings.embed.Goals as goal

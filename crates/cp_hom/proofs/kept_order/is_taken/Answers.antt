@@ -1,7 +1,7 @@
 use Rattle.std.proofs.Common.{map, refl}
 use Rattle.std.proofs.lemmas.List.{get_or_default}
 use Rattle.cp_strand.specs.View.{strand_view}
-use Rattle.cp_term.proofs.CarriedTerms.{not_both}
+use Rattle.cp_model.proofs.CarriedParts.{not_both}
 use Rattle.cp_hom.proofs.Blocked.{taken_here, taken_later, taken_nowhere}
 use Rattle.cp_hom.proofs.kept_order.is_taken.Goals as goal
 

@@ -2,7 +2,7 @@ use Rattle.std.proofs.Common.{map, refl, arith, below_more}
 use Rattle.std.proofs.lemmas.List.{length-map}
 use Rattle.cp_model.specs.Homomorphism.{strand_in}
 use Rattle.cp_strand.specs.View.{strand_view}
-use Rattle.cp_term.proofs.CarriedTerms.{not_both}
+use Rattle.cp_model.proofs.CarriedParts.{not_both}
 use Rattle.cp_hom.proofs.Counterparts.{apart_all, one_meets}
 use Rattle.cp_hom.proofs.kept_order.keeps_apart.Goals as goal
 

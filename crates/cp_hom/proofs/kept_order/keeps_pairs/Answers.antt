@@ -2,7 +2,7 @@ use Rattle.std.proofs.Common.{refl}
 use Rattle.std.proofs.lemmas.List.{drop_all, get_or_default}
 use Rattle.cp_lists.proofs.Members.{drop_read}
 use Rattle.cp_lists.proofs.Items.{item_of_read}
-use Rattle.cp_term.proofs.CarriedTerms.{not_both}
+use Rattle.cp_model.proofs.CarriedParts.{not_both}
 use Rattle.cp_hom.specs.Maps.{map_view}
 use Rattle.cp_hom.specs.Counterparts.{IsKeptBy}
 use Rattle.cp_hom.proofs.Counterparts.{kept_by, by_kept}

@@ -1,6 +1,6 @@
 use Rattle.std.proofs.Common.{arith}
 use Rattle.cp_strand.specs.View.{strand_view}
-use Rattle.cp_term.proofs.CarriedTerms.{not_both}
+use Rattle.cp_model.proofs.CarriedParts.{not_both}
 use Rattle.cp_hom.specs.RoleCounts.{IsOfRole}
 use Rattle.cp_hom.proofs.Crowded.{counted_first, counted_one, counted_none, counted_all}
 use Rattle.cp_hom.proofs.role_counts.count_of_role.Goals as goal

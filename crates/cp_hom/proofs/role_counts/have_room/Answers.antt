@@ -3,7 +3,7 @@ use Rattle.std.proofs.lemmas.List.{drop_all}
 use Rattle.cp_lists.proofs.Members.{drop_read}
 use Rattle.cp_lists.proofs.Items.{map_of_read}
 use Rattle.cp_strand.specs.View.{strand_view}
-use Rattle.cp_term.proofs.CarriedTerms.{not_both}
+use Rattle.cp_model.proofs.CarriedParts.{not_both}
 use Rattle.cp_hom.specs.RoleCounts.{HasRoomFor}
 use Rattle.cp_fingerprint.proofs.Listed.{each_next, each_lost, each_done}
 use Rattle.cp_hom.proofs.role_counts.have_room.Goals as goal

@@ -1,4 +1,4 @@
-use Rattle.cp_collapse.proofs.ItemsWithProperty.{not_both}
+use Rattle.cp_model.proofs.CarriedParts.{not_both}
 use Rattle.cp_normal.proofs.NarrowingRounds.{dropped_place}
 use Rattle.cp_normal.proofs.candidates.narrow.Goals as goal
 

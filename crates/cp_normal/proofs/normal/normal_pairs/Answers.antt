@@ -1,4 +1,4 @@
-use Rattle.cp_collapse.proofs.ItemsWithProperty.{not_both}
+use Rattle.cp_model.proofs.CarriedParts.{not_both}
 use Rattle.cp_normal.proofs.normal.normal_pairs.Goals as goal
 
 pub normal_pairs_among-requires-clause-consistent : goal.normal_pairs_among-requires-clause-consistent

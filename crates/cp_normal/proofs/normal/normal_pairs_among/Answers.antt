@@ -1,7 +1,7 @@
 use Rattle.std.proofs.Common.{ap, inr}
 use Rattle.cp_model.specs.Skeleton.{Assumptions}
 use Rattle.cp_skel.specs.View.{skeleton_view}
-use Rattle.cp_collapse.proofs.ItemsWithProperty.{not_both}
+use Rattle.cp_model.proofs.CarriedParts.{not_both}
 use Rattle.cp_normal.proofs.Normalised.{cycle_if_found, found_if_cycle, consistent}
 use Rattle.cp_normal.proofs.normal.normal_pairs_among.Goals as goal
 

@@ -1,7 +1,8 @@
 use Rattle.std.proofs.Common.{refl}
 use Rattle.cp_model.specs.Realisation.{OriginatesAtTerm}
 use Rattle.cp_skel.specs.View.{skeleton_view}
-use Rattle.cp_collapse.proofs.ItemsWithProperty.{not_both, found, next, none}
+use Rattle.cp_model.proofs.CarriedParts.{not_both}
+use Rattle.cp_collapse.proofs.ItemsWithProperty.{found, next, none}
 use Rattle.cp_normal.proofs.origins.one_loses_origin.Goals as goal
 
 pub returns-then-not-originates : goal.returns-then-not-originates

@@ -1,6 +1,7 @@
 use Rattle.std.proofs.Common.{refl, sym, subst}
 use Rattle.cp_model.specs.Derivable.{IsOnInstance}
-use Rattle.cp_collapse.proofs.ItemsWithProperty.{not_both, is_not, not_is}
+use Rattle.cp_model.proofs.CarriedParts.{not_both}
+use Rattle.cp_collapse.proofs.ItemsWithProperty.{is_not, not_is}
 use Rattle.cp_skel.specs.View.{skeleton_view}
 use Rattle.cp_normal.proofs.Found.{originates_if_found, sent_if_originates, not_before_if_originates}
 use Rattle.cp_normal.proofs.origins.originates.Goals as goal

@@ -1,7 +1,7 @@
 use Rattle.std.proofs.Common.{◌∙◌, sym}
 use Rattle.cp_skel.specs.View.{skeleton_view}
 use Rattle.cp_normal.specs.StrayValues.{Strays}
-use Rattle.cp_collapse.proofs.ItemsWithProperty.{not_both}
+use Rattle.cp_model.proofs.CarriedParts.{not_both}
 use Rattle.cp_normal.proofs.Strayed.{none_next_of, none_of_all, first_found}
 use Rattle.cp_normal.proofs.stray_values.first_at.Goals as goal
 

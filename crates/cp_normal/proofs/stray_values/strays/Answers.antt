@@ -3,7 +3,7 @@ use Rattle.cp_model.specs.Term.{AtomTerm, atom_term, IsCarriedByTerm}
 use Rattle.cp_model.specs.Strand.{payload}
 use Rattle.cp_skel.specs.View.{skeleton_view}
 use Rattle.cp_skel.specs.Events.{occurrence_view}
-use Rattle.cp_collapse.proofs.ItemsWithProperty.{not_both}
+use Rattle.cp_model.proofs.CarriedParts.{not_both}
 use Rattle.cp_normal.proofs.Strayed.{not_carried}
 use Rattle.cp_normal.proofs.stray_values.strays.Goals as goal
 

@@ -2,7 +2,7 @@ use Rattle.std.proofs.Common.{ℕ, List, [], Bool, sym, subst}
 use Rattle.std.specs.Prelude.{Option, Some}
 use Rattle.std.proofs.lemmas.Result.{IfOk-weaker}
 use Rattle.cp_skel.specs.View.{skeleton_view}
-use Rattle.cp_term.proofs.CarriedTerms.{not_both}
+use Rattle.cp_model.proofs.CarriedParts.{not_both}
 use Rattle.cp_search.specs.LeastNumber.{FindsLeast}
 use Rattle.cp_search.specs.MadeLabels.{AreReaching, MayBeSeenIn}
 use Rattle.cp_search.proofs.AllowedCopies.{fingerprints_of, seen_nowhere, seen_in_any, seen_in_others, seen_in_first, seen_at_end}

@@ -1,6 +1,6 @@
 use Rattle.std.proofs.Common.{get_or, ap, ◌∙◌}
 use Rattle.cp_skel.specs.View.{skeleton_view}
-use Rattle.cp_term.proofs.CarriedTerms.{not_both}
+use Rattle.cp_model.proofs.CarriedParts.{not_both}
 use Rattle.cp_search.specs.LabelsByNumber.{with_sharing}
 use Rattle.cp_search.proofs.AllowedCopies.{copies_listed, copies_behind, label_there, none_below, none_left_over, copy_here, no_copy_here, kept_apart, flagged_no_copy}
 use Rattle.cp_search.proofs.copies.first_copy.Goals as goal

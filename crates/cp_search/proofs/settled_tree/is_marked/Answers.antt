@@ -1,5 +1,5 @@
 use Rattle.std.proofs.Common.{refl}
-use Rattle.cp_term.proofs.CarriedTerms.{not_both}
+use Rattle.cp_model.proofs.CarriedParts.{not_both}
 use Rattle.cp_search.proofs.LabelsSoFar.{marked_here, not_here, none_marked}
 use Rattle.cp_search.proofs.settled_tree.is_marked.Goals as goal
 

@@ -1,4 +1,4 @@
-use Rattle.cp_term.proofs.CarriedTerms.{not_both}
+use Rattle.cp_model.proofs.CarriedParts.{not_both}
 use Rattle.cp_tree.specs.Searched.{some_at_step_limit, some_at_strand_limit, none_at_limit}
 use Rattle.cp_search.proofs.settled_tree.outcome_of.Goals as goal
 

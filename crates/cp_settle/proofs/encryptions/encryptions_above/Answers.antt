@@ -1,4 +1,4 @@
-use Rattle.cp_settle.proofs.AllAbove.{all_above}
+use Rattle.cp_guard.proofs.AllAbove.{all_above}
 use Rattle.cp_settle.proofs.encryptions.encryptions_above.Goals as goal
 
 pub returns : goal.returns

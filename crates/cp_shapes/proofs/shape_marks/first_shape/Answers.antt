@@ -1,6 +1,6 @@
 use Rattle.std.proofs.Common.{sym, ◌∙◌}
 use Rattle.std.proofs.lemmas.Grind.{get_or_default_zero}
-use Rattle.cp_term.proofs.CarriedTerms.{not_both}
+use Rattle.cp_model.proofs.CarriedParts.{not_both}
 use Rattle.cp_shapes.specs.Rows.{rows_view}
 use Rattle.cp_shapes.proofs.Found.{row_tells, found_first, not_first, none_left}
 use Rattle.cp_shapes.proofs.shape_marks.first_shape.Goals as goal

@@ -1,5 +1,5 @@
 use Rattle.std.proofs.Common.{[], subst, sym}
-use Rattle.cp_term.proofs.CarriedTerms.{not_both}
+use Rattle.cp_model.proofs.CarriedParts.{not_both}
 use Rattle.cp_skel.specs.Kinds.{IsInFirstAlone}
 use Rattle.cp_skel.specs.Deletion.{LeavesOut, as_it_is, all_left}
 use Rattle.cp_skel.proofs.ListsWithout.{next_gone, next_left, all_taken}

@@ -1,5 +1,5 @@
 use Rattle.std.proofs.Common.{[], subst, sym}
-use Rattle.cp_term.proofs.CarriedTerms.{not_both}
+use Rattle.cp_model.proofs.CarriedParts.{not_both}
 use Rattle.cp_skel.specs.Deletion.{LeavesOut, all_left}
 use Rattle.cp_skel.proofs.ListsWithout.{next_gone, next_left, all_taken}
 use Rattle.cp_skel.proofs.new_numbers.left_without.Goals as goal

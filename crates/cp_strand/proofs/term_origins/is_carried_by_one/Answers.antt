@@ -1,7 +1,7 @@
 use Rattle.std.proofs.Common.{refl, subst, sym}
 use Rattle.cp_model.specs.Term.{IsCarriedByTerm, apply_to}
 use Rattle.cp_model.specs.Homomorphism.{substitution_by}
-use Rattle.cp_term.proofs.CarriedTerms.{not_both}
+use Rattle.cp_model.proofs.CarriedParts.{not_both}
 use Rattle.cp_strand.specs.View.{event_view}
 use Rattle.cp_strand.proofs.Origins.{carried_behind, carried_by_item, carried_by_none}
 use Rattle.cp_strand.proofs.term_origins.is_carried_by_one.Goals as goal

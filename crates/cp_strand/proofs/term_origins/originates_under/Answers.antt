@@ -3,7 +3,7 @@ use Rattle.std.proofs.lemmas.List.{take-map}
 use Rattle.cp_lists.specs.Lists.{item_at}
 use Rattle.cp_model.specs.Homomorphism.{substitution_by}
 use Rattle.cp_model.specs.Strand.{send, recv}
-use Rattle.cp_term.proofs.CarriedTerms.{not_both}
+use Rattle.cp_model.proofs.CarriedParts.{not_both}
 use Rattle.cp_strand.specs.View.{event_view}
 use Rattle.cp_strand.specs.Origins.{IsCarriedByOne}
 use Rattle.cp_strand.proofs.Origins.{not_received, originates_carried, originates_first}

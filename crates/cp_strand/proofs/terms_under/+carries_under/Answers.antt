@@ -1,7 +1,8 @@
 use Rattle.std.proofs.Common.{refl, ap, arith}
 use Rattle.cp_model.specs.Term.{apply_to}
 use Rattle.cp_model.specs.Homomorphism.{substitution_by}
-use Rattle.cp_term.proofs.CarriedTerms.{not_both, same_carries, left_carries, pair_rest, plaintext_rest}
+use Rattle.cp_model.proofs.CarriedParts.{not_both}
+use Rattle.cp_term.proofs.CarriedTerms.{same_carries, left_carries, pair_rest, plaintext_rest}
 use Rattle.cp_strand.proofs.terms_under.+carries_under.Goals as goal
 
 pub returns-then-same_under : goal.returns-then-same_under

@@ -1,7 +1,8 @@
 use Rattle.std.proofs.Common.{◌≡◌, refl, sym, ap, ◌∙◌, arith}
 use Rattle.cp_model.specs.Term.{pair_term, enc_term}
 use Rattle.cp_term.specs.Layer.{term_of_node}
-use Rattle.cp_term.proofs.CarriedTerms.{not_both, same_carries, left_carries, pair_rest, plaintext_rest}
+use Rattle.cp_model.proofs.CarriedParts.{not_both}
+use Rattle.cp_term.proofs.CarriedTerms.{same_carries, left_carries, pair_rest, plaintext_rest}
 use Rattle.cp_term.proofs.position.+carries.Goals as goal
 
 pub returns-then-same : goal.returns-then-same

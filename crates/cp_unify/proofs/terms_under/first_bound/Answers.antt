@@ -1,7 +1,7 @@
 use Rattle.std.proofs.Common.{Some, ap, sym, ◌∙◌}
 use Rattle.std.specs.Option.{option_map}
 use Rattle.cp_model.specs.Term.{AtomTerm, atom_term}
-use Rattle.cp_term.proofs.CarriedTerms.{not_both}
+use Rattle.cp_model.proofs.CarriedParts.{not_both}
 use Rattle.cp_unify.proofs.Looked.{variable_is_term, yet_to_find, found_here, found_exactly, found_later, found_nowhere}
 use Rattle.cp_unify.proofs.terms_under.first_bound.Goals as goal
 

@@ -1,5 +1,5 @@
 use Rattle.std.proofs.Common.{◌≡◌, ◌↔◌, ◌≤◌, List, true, false, refl, arith, subst₂}
-use Rattle.cp_term.proofs.CarriedTerms.{not_both}
+use Rattle.cp_model.proofs.CarriedParts.{not_both}
 use Rattle.cp_fingerprint.specs.Heights.{HaveNoMore}
 use Rattle.cp_fingerprint.specs.Fingerprints.{Traits, MayEmbed}
 use Rattle.cp_fingerprint.specs.declared.heights.RoleHeight.{RoleHeight}
