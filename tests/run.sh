@@ -303,6 +303,12 @@ END
 run "$dir/input" analyse
 labels 'a message of 300,000 items under values'
 
+# The program may have any name.
+ln -s "$program" "$dir/any"
+status=0
+"$dir/any" analyse --limit 0 <reports/whole_session/input.scm >"$dir/output" 2>"$dir/error" || status=$?
+judge 'a program of another name' 0 reports/whole_session/output.scm ''
+
 # Streams that fail: a folder cannot be read, and a full device takes nothing.
 run / analyse --limit 0
 judge 'a folder is read' 4 "$dir/nothing" 'read fault'

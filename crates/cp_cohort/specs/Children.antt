@@ -4,7 +4,7 @@ use Rattle.cp_lists.specs.Lists.{item_at}
 use Rattle.cp_model.specs.Term.{Term, atom_term, atom_of_variable}
 use Rattle.cp_model.specs.Strand.{send, payload, Declaration, Role}
 use Rattle.cp_model.specs.declared.node.Node.{Node}
-use Rattle.cp_model.specs.Skeleton.{term_event_at, Skeleton}
+use Rattle.cp_model.specs.Skeleton.{term_event_at, listener, Skeleton}
 use Rattle.cp_model.specs.Tree.{Operation}
 use Rattle.cp_term.specs.declared.path.Step.{Step}
 use Rattle.cp_term.specs.Positions.{term_at}
@@ -22,6 +22,10 @@ use Rattle.cp_answers.specs.Fresh.{fresh_terms}
 use Rattle.cp_covering.specs.GatheredLists.{EachGives}
 use Rattle.cp_covering.specs.Children.{Child, child, declarations_of, IsSentBefore, HasGrown}
 use Rattle.cp_covering.specs.Cohort.{Question, positions, Contracts, Releases, release_at}
+
+-- A listener on the term is added as strand number s, and its transmission is put before the node.
+abbrev pub ListensBefore : Question → Term → ℕ → Skeleton → Type 0
+ListensBefore q t s new = new ≡ put_before (record { strand = s; index = 1 }) q.node (record q.skeleton { strands = q.skeleton.strands ++ listener t ∷ [] })
 
 -- These are the normal forms of a skeleton with these variables, as children.
 pub record AreForms (variables : List Declaration) (operation : Operation) (path : List Step) (k : Skeleton) (children : List Child) : Type 0 where

@@ -1,5 +1,5 @@
 // Children of a test.
-ghost use Rattle.std.specs.Prelude.{◌≡◌, ◌++◌, ◌∷◌, [], map, OnOk};
+ghost use Rattle.std.specs.Prelude.{◌≡◌, ◌++◌, ◌∷◌, [], map, IfOk, OnOk};
 ghost use Rattle.cp_skel.specs.Data.{SkeletonData};
 ghost use Rattle.cp_skel.specs.Trees.{operation_view};
 ghost use Rattle.cp_cohort.specs.Views.{child_view, made_view, child_of};
@@ -41,6 +41,18 @@ impl Made {
     }
 }
 
+/// A skeleton as a child. The error is that memory ran out.
+fn as_child(skeleton: Skeleton, made: Made, path: &Path) -> Result<Child, AllocError>
+    ensures { IfOk result (λ c. child_view c ≡ child_of (made_view made) path.now skeleton) }
+{
+    let path = path.copy()?;
+    Ok(Child {
+        skeleton,
+        operation: made.operation(),
+        path,
+    })
+}
+
 /// Puts a skeleton behind others as a child.
 fn put_child(
     skeleton: Skeleton,
@@ -50,13 +62,8 @@ fn put_child(
 ) -> Result<(), AllocError>
     ensures { OnOk result (map child_view children.new.items ≡ map child_view children.old.items ++ child_of (made_view made) path.now skeleton ∷ []) }
 {
-    let operation = made.operation();
-    let path = path.copy()?;
-    children.push(Child {
-        skeleton,
-        operation,
-        path,
-    })?;
+    let child = as_child(skeleton, made, path)?;
+    children.push(child)?;
     Ok(())
 }
 

@@ -1,5 +1,7 @@
 // Contracted children: the term at a position of what was sent before is made the critical one.
-ghost use Rattle.std.specs.Prelude.{OnOk};
+ghost use Rattle.std.specs.Prelude.{◌↔◌, IsTrue, IfOk, OnOk};
+ghost use Rattle.cp_guard.specs.Inside.{IsInside};
+ghost use Rattle.cp_model.specs.Identity.{unchanged};
 ghost use Rattle.cp_model.specs.Skeleton.{IsNodeOf};
 ghost use Rattle.cp_model.specs.Strand.{payload};
 ghost use Rattle.cp_skel.specs.Events.{occurrence_view};
@@ -15,7 +17,7 @@ use cp_covering::is_sent_before;
 use cp_match::{is_inside, positions_for, unifier};
 use cp_normal::{normalise, under};
 use cp_skel::{Occurrence, Skeleton};
-use cp_term::{Path, at};
+use cp_term::{Path, Term, at};
 use cp_unify::Subst;
 use std::alloc::{AllocError, Global};
 
@@ -33,6 +35,19 @@ pub(crate) fn put_forms(
     put_children(forms, made, path, children)
 }
 
+/// Whether a position of a message is inside the question's patterns. The error is that memory ran out.
+fn is_guarded(
+    alloc: Global,
+    question: &Question,
+    message: &Term,
+    path: &Path,
+) -> Result<bool, AllocError>
+    ensures { IfOk result (λ answer. IsTrue answer ↔ IsInside (question_view question.now).patterns unchanged message.now path.now) }
+{
+    let nothing = Subst::new(alloc);
+    is_inside(alloc, question.patterns, &nothing, message, path.as_slice())
+}
+
 /// Puts what a position of a transmission before the node gives behind others.
 fn contract_at(
     alloc: Global,
@@ -45,8 +60,7 @@ fn contract_at(
     ensures { OnOk result (PutsChildren (Contracts (question_view question.now) (occurrence_view occurrence.now) path.now) children.old.items children.new.items) }
 {
     let message = occurrence.event.payload();
-    let nothing = Subst::new(alloc);
-    if is_inside(alloc, question.patterns, &nothing, message, path.as_slice())? {
+    if is_guarded(alloc, question, message, path)? {
         return Ok(());
     }
     let Some(term) = at(message, path) else {

@@ -14,8 +14,7 @@ use crate::grown_skeletons::with_events;
 use crate::question::Question;
 use crate::releases::release;
 use crate::transmissions::is_sent;
-use cp_covering::comes_before;
-use cp_skel::{Instance, Node, Strand, StrandShape};
+use cp_skel::{Instance, Node, Strand, StrandShape, comes_before};
 use std::alloc::{AllocError, Global};
 
 /// Puts what an event of the role of the instance on this strand gives behind others.

@@ -2,10 +2,12 @@
 ghost use Rattle.std.specs.Prelude.{◌≡◌, ◌++◌, ◌≤◌, ℕ, suc, length, map, IfOk, OnOk};
 ghost use Rattle.cp_model.specs.Strand.{IsHeight, variables_of_trace};
 ghost use Rattle.cp_skel.specs.Trees.{variables_view};
-ghost use Rattle.cp_strand.specs.PrefixVariables.{is_added, added_variables};
+ghost use Rattle.cp_skel.specs.Extensions.{AddsStrand};
+ghost use Rattle.cp_skel.specs.View.{skeleton_view};
+ghost use Rattle.cp_strand.specs.PrefixVariables.{is_added, added_variables, prefix_variables};
 ghost use Rattle.cp_strand.specs.View.{sort_view, declaration_view, event_view};
 ghost use Rattle.cp_answers.specs.Fresh.{fresh_terms};
-ghost use Rattle.cp_covering.specs.Children.{declarations_of};
+ghost use Rattle.cp_covering.specs.Children.{declarations_of, HasGrown};
 ghost use Rattle.cp_cohort.specs.Children.{Declares, IsThere, IsGrown, IsAdded};
 ghost use Rattle.cp_cohort.specs.Views.{question_view};
 
@@ -64,6 +66,60 @@ fn declare_added(
     Ok(values)
 }
 
+/// Lets the instance on this strand of a skeleton grow to this height, where it is lower. The error is that memory ran out.
+fn grow(
+    alloc: Global,
+    strand: usize,
+    instance: &Instance,
+    height: usize,
+    k: &mut Skeleton,
+) -> Result<(), AllocError>
+    requires there { IsThere (skeleton_view k.old) strand instance.now }
+    requires reached { height ≤ length instance.now.role.trace }
+    ensures { OnOk result ((j : ℕ) → height ≡ suc j
+        → HasGrown strand instance.now.role instance.now.height j (variables_view k.old.variables) (skeleton_view k.old) (variables_view k.new.variables) (skeleton_view k.new)) }
+{
+    let before = instance.height();
+    if height <= before {
+        return Ok(());
+    }
+    let values = declare_added(alloc, instance.role(), before, height, k)?;
+    k.extend(alloc, strand, height, &values)
+}
+
+/// Adds a strand of the role of this height to a skeleton, with new variables. The error is that memory ran out.
+fn add_instance(
+    alloc: Global,
+    role: &Rc<Role>,
+    height: usize,
+    k: &mut Skeleton,
+) -> Result<(), AllocError>
+    requires height { IsHeight role.now.value height }
+    ensures adds { OnOk result (AddsStrand role.now.value height (fresh_terms (length k.old.variables) (prefix_variables role.now.value height)) (skeleton_view k.old) (skeleton_view k.new)) }
+    ensures variables { OnOk result (variables_view k.new.variables ≡ variables_view k.old.variables ++ declarations_of role.now.value (prefix_variables role.now.value height)) }
+{
+    let values = declare_added(alloc, role, 0, height, k)?;
+    let _ = k.add_strand(alloc, role, height, &values)?;
+    Ok(())
+}
+
+/// A skeleton, where the instance on this strand is at least of this height. The error is that memory ran out.
+fn grown_to(
+    alloc: Global,
+    strand: usize,
+    instance: &Instance,
+    height: usize,
+    mut k: Skeleton,
+) -> Result<Skeleton, AllocError>
+    requires there { IsThere (skeleton_view k) strand instance.now }
+    requires reached { height ≤ length instance.now.role.trace }
+    ensures { IfOk result (λ l. (j : ℕ) → height ≡ suc j
+        → HasGrown strand instance.now.role instance.now.height j (variables_view k.variables) (skeleton_view k) (variables_view l.variables) (skeleton_view l)) }
+{
+    grow(alloc, strand, instance, height, &mut k)?;
+    Ok(k)
+}
+
 /// The skeleton, where the instance on this strand is at least of this height.
 pub(crate) fn with_events(
     alloc: Global,
@@ -76,14 +132,23 @@ pub(crate) fn with_events(
     requires reached { height ≤ length instance.now.role.trace }
     ensures { IfOk result (λ k. (j : ℕ) → height ≡ suc j → IsGrown (question_view question.now) strand instance.now.role instance.now.height j k) }
 {
-    let mut grown = question.skeleton.copy(alloc)?;
-    let before = instance.height();
-    if height <= before {
-        return Ok(grown);
-    }
-    let values = declare_added(alloc, instance.role(), before, height, &mut grown)?;
-    grown.extend(alloc, strand, height, &values)?;
-    Ok(grown)
+    let copied = question.skeleton.copy(alloc)?;
+    grown_to(alloc, strand, instance, height, copied)
+}
+
+/// A skeleton with a strand of the role of this height. The error is that memory ran out.
+fn with_instance(
+    alloc: Global,
+    role: &Rc<Role>,
+    height: usize,
+    mut k: Skeleton,
+) -> Result<Skeleton, AllocError>
+    requires height { IsHeight role.now.value height }
+    ensures { IfOk result (λ l. AddsStrand role.now.value height (fresh_terms (length k.variables) (prefix_variables role.now.value height)) (skeleton_view k) (skeleton_view l)
+        × (variables_view l.variables ≡ variables_view k.variables ++ declarations_of role.now.value (prefix_variables role.now.value height))) }
+{
+    add_instance(alloc, role, height, &mut k)?;
+    Ok(k)
 }
 
 /// The skeleton with a strand of the role of this height.
@@ -96,8 +161,6 @@ pub(crate) fn with_strand(
     requires height { IsHeight role.now.value height }
     ensures { IfOk result (λ k. (j : ℕ) → height ≡ suc j → IsAdded (question_view question.now) role.now.value j k) }
 {
-    let mut grown = question.skeleton.copy(alloc)?;
-    let values = declare_added(alloc, role, 0, height, &mut grown)?;
-    let _ = grown.add_strand(alloc, role, height, &values)?;
-    Ok(grown)
+    let copied = question.skeleton.copy(alloc)?;
+    with_instance(alloc, role, height, copied)
 }

@@ -1,17 +1,20 @@
 // Children with a listener added, on what may set the critical term free and on what opens the patterns.
-ghost use Rattle.std.specs.Prelude.{◌∷◌, [], IfOk, OnOk};
+ghost use Rattle.std.specs.Prelude.{◌≡◌, ◌∷◌, [], length, IfOk, OnOk};
 ghost use Rattle.cp_guard.specs.Critical.{IsTest};
 ghost use Rattle.cp_covering.specs.Cohort.{Listens, OpensPattern, AreListeners};
+ghost use Rattle.cp_cohort.specs.Children.{ListensBefore};
 ghost use Rattle.cp_cohort.specs.HeardTerms.{FreesOnto, AreHeard};
 ghost use Rattle.cp_cohort.specs.Views.{question_view, PutsChildren};
 ghost use Rattle.cp_model.specs.Skeleton.{IsNodeOf};
+ghost use Rattle.cp_skel.specs.Trees.{variables_view};
+ghost use Rattle.cp_skel.specs.View.{skeleton_view};
 
 use crate::child::{Child, Made};
 use crate::contracted::put_forms;
 use crate::question::Question;
 use cp_covering::add_term;
 use cp_derive::{buildable, known};
-use cp_skel::Node;
+use cp_skel::{Node, Skeleton};
 use cp_term::{Path, Pattern, Shape, Term, invert};
 use std::alloc::{AllocError, Global};
 
@@ -58,6 +61,47 @@ fn heard(alloc: Global, question: &Question) -> Result<Vec<Term>, AllocError>
     Ok(terms)
 }
 
+/// Adds a listener on the term to a copy of the question's skeleton, puts its transmission before the node, and answers its
+/// number. The error is that memory ran out.
+fn add_before(
+    alloc: Global,
+    question: &Question,
+    term: &Term,
+    k: &mut Skeleton,
+) -> Result<usize, AllocError>
+    requires test { IsTest (question_view question.now).skeleton (question_view question.now).node (question_view question.now).critical }
+    requires copied { k.old ≡ question.now.skeleton.now }
+    ensures number { IfOk result (λ s. s ≡ length (question_view question.now).skeleton.strands) }
+    ensures put { IfOk result (λ s. ListensBefore (question_view question.now) term.now s (skeleton_view k.new)) }
+    ensures variables { OnOk result (variables_view k.new.variables ≡ (question_view question.now).variables) }
+{
+    k.is_sound();
+    let message = term.copy()?;
+    let strand = k.add_listener(alloc, message)?;
+    let sent = Node { strand, index: 1 };
+    if !k.add_order(alloc, sent, question.node)? {
+        unreachable!();
+    }
+    Ok(strand)
+}
+
+/// Puts what a listener on the term gives in a copy of the question's skeleton behind others. The error is that memory ran out.
+fn listen_in(
+    alloc: Global,
+    question: &Question,
+    term: &Term,
+    mut k: Skeleton,
+    children: &mut Vec<Child>,
+) -> Result<(), AllocError>
+    requires test { IsTest (question_view question.now).skeleton (question_view question.now).node (question_view question.now).critical }
+    requires copied { k ≡ question.now.skeleton.now }
+    ensures { OnOk result (PutsChildren (Listens (question_view question.now) term.now) children.old.items children.new.items) }
+{
+    let strand = add_before(alloc, question, term, &mut k)?;
+    let path = Path::new(alloc);
+    put_forms(alloc, k, Made::AddedListener(strand), &path, children)
+}
+
 /// Puts what a listener on the term gives behind others.
 fn listen_to(
     alloc: Global,
@@ -68,16 +112,8 @@ fn listen_to(
     requires { IsTest (question_view question.now).skeleton (question_view question.now).node (question_view question.now).critical }
     ensures { OnOk result (PutsChildren (Listens (question_view question.now) term.now) children.old.items children.new.items) }
 {
-    let mut k = question.skeleton.copy(alloc)?;
-    k.is_sound();
-    let message = term.copy()?;
-    let strand = k.add_listener(alloc, message)?;
-    let sent = Node { strand, index: 1 };
-    if !k.add_order(alloc, sent, question.node)? {
-        unreachable!();
-    }
-    let path = Path::new(alloc);
-    put_forms(alloc, k, Made::AddedListener(strand), &path, children)
+    let k = question.skeleton.copy(alloc)?;
+    listen_in(alloc, question, term, k, children)
 }
 
 /// Puts the children with a listener added behind others.

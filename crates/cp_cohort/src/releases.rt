@@ -92,6 +92,26 @@ fn release_each(
     Ok(())
 }
 
+/// Puts a node of a grown skeleton before the question's, and what the positions of the message that is sent there give behind
+/// others: nothing, where that closes a cycle. The error is that memory ran out.
+fn release_before(
+    alloc: Global,
+    question: &Question,
+    grown: &mut Skeleton,
+    node: Node,
+    made: Made,
+    children: &mut Vec<Child>,
+) -> Result<(), AllocError>
+    requires { IsOrderPair (skeleton_view grown.old) (record { earlier = node; later = (question_view question.now).node }) }
+    ensures { OnOk result (PutsChildren (ReleasesEach (question_view question.now) (variables_view grown.old.variables) (made_view made) node (skeleton_view grown.old)) children.old.items children.new.items) }
+{
+    if !grown.add_order(alloc, node, question.node)? {
+        return Ok(());
+    }
+    let message = message_at(alloc, grown, node)?;
+    release_each(alloc, question, grown, node, &message, made, children)
+}
+
 /// Puts what the positions of the message that is sent at a node of a grown skeleton give behind others.
 pub(crate) fn release(
     alloc: Global,
@@ -105,9 +125,5 @@ pub(crate) fn release(
     ensures { OnOk result (PutsChildren (ReleasesEach (question_view question.now) (variables_view grown.variables) (made_view made) node (skeleton_view grown)) children.old.items children.new.items) }
 {
     let mut put = grown;
-    if !put.add_order(alloc, node, question.node)? {
-        return Ok(());
-    }
-    let message = message_at(alloc, &put, node)?;
-    release_each(alloc, question, &put, node, &message, made, children)
+    release_before(alloc, question, &mut put, node, made, children)
 }

@@ -1,5 +1,5 @@
 // The cohort of a test.
-ghost use Rattle.std.specs.Prelude.{◌≡◌, [], map, IfOk};
+ghost use Rattle.std.specs.Prelude.{◌≡◌, [], map, IfOk, OnOk};
 ghost use Rattle.cp_guard.specs.Critical.{IsTest};
 ghost use Rattle.cp_guard.specs.Guards.{Guards};
 ghost use Rattle.cp_lists.specs.Lists.{IsIn};
@@ -13,7 +13,7 @@ ghost use Rattle.cp_covering.specs.Sound.{IsSoundChild};
 ghost use Rattle.cp_covering.specs.Released.{IsAsSaid};
 ghost use Rattle.cp_covering.specs.Through.{GoesThroughChild};
 ghost use Rattle.cp_cohort.specs.Asked.{IsAskedOver};
-ghost use Rattle.cp_cohort.specs.Views.{child_view, question_of};
+ghost use Rattle.cp_cohort.specs.Views.{child_view, question_of, question_view, KnowsWhatLeads};
 
 use crate::added::add;
 use crate::child::Child;
@@ -28,6 +28,40 @@ use std::alloc::{AllocError, Global};
 
 /// For how many children there is room from the start: few tests have more, and a list that grows is moved.
 const ROOM: usize = 8;
+
+/// Puts the children of a test into an empty list: contracted, displaced, with a strand added, with a listener added. The error
+/// is that memory ran out.
+fn put_all(
+    alloc: Global,
+    protocol: &Protocol,
+    question: &Question,
+    children: &mut Vec<Child>,
+) -> Result<(), AllocError>
+    requires test { IsTest (question_view question.now).skeleton (question_view question.now).node (question_view question.now).critical }
+    requires gathered { KnowsWhatLeads question.now }
+    requires empty { children.old.items ≡ [] }
+    ensures { OnOk result (IsCohort protocol.now (question_view question.now) (map child_view children.new.items)) }
+{
+    contract(alloc, question, children)?;
+    displace(alloc, question, children)?;
+    add(alloc, protocol, question, children)?;
+    listen(alloc, question, children)
+}
+
+/// The children of a test. The error is that memory ran out.
+fn children_of(
+    alloc: Global,
+    protocol: &Protocol,
+    question: &Question,
+) -> Result<Vec<Child>, AllocError>
+    requires test { IsTest (question_view question.now).skeleton (question_view question.now).node (question_view question.now).critical }
+    requires gathered { KnowsWhatLeads question.now }
+    ensures { IfOk result (λ cs. IsCohort protocol.now (question_view question.now) (map child_view cs.items)) }
+{
+    let mut children = Vec::with_capacity(alloc, ROOM)?;
+    put_all(alloc, protocol, question, &mut children)?;
+    Ok(children)
+}
 
 /// The children of a test under patterns that guard it, all of them, in their order: contracted, displaced, with a strand added,
 /// with a listener added; within these by strand or role, then by event, then by position, in preorder.
@@ -77,10 +111,5 @@ pub fn cohort(
         critical,
         patterns,
     };
-    let mut children = Vec::with_capacity(alloc, ROOM)?;
-    contract(alloc, &question, &mut children)?;
-    displace(alloc, &question, &mut children)?;
-    add(alloc, protocol, &question, &mut children)?;
-    listen(alloc, &question, &mut children)?;
-    Ok(children)
+    children_of(alloc, protocol, &question)
 }

@@ -2,7 +2,7 @@
 use Rattle.std.proofs.Common.{◌≡◌, ◌≢◌, ◌⊎◌, inl, inr, ℕ, ◌<◌, ◌≤◌, List, ◌∷◌, Some, refl, sym, ap, ◌∙◌, subst, subst₂, eq-or-lt_of_le}
 use native.Mathlib.Decide.{ℕ_discrete}
 use Rattle.cp_lists.specs.Lists.{item_at, IsIn, here, there, one_step}
-use Rattle.cp_model.specs.Message.{Message, tag}
+use Rattle.cp_model.specs.Message.{Message}
 use Rattle.cp_model.specs.Strand.{Event, send, recv, Role, Protocol}
 use Rattle.cp_model.specs.Term.{Substitution}
 use Rattle.cp_model.specs.Bundle.{node_at, event_at, Bundle, Precedes, IsBundle}
@@ -12,9 +12,9 @@ use Rattle.cp_model.specs.Standing.{Standing, image_of, StandsIn, StandsApart}
 use Rattle.cp_model.specs.Homomorphism.{Covers, IsCompleteList}
 use Rattle.cp_lists.proofs.Items.{item_below}
 use Rattle.cp_lists.proofs.Reached.{steps_append}
-use Rattle.cp_model.proofs.LawMessages.{dec_message}
 use Rattle.cp_model.proofs.LawOrigins.{never_before_itself}
 use Rattle.cp_model.proofs.LawStandings.{strand_of_event, bundle_climb}
+use Rattle.cp_model.proofs.LawMessages.{dec_list}
 use Rattle.cp_completeness.proofs.Images.{image_event_at}
 use Rattle.cp_collapse.specs.Partitions.{finest, place_in}
 use Rattle.cp_collapse.specs.Collapses.{LiesOnOne, IsImpossible, IsCollapse, AreCollapsesBy, no_collapses, collapse_by, AreCollapses, StandsThroughCollapse}
@@ -34,13 +34,6 @@ never_backward protocol b s i j e is ev l r = by (eq-or-lt_of_le l)
     by (inr less) = never_before_itself protocol b (node_at s i) is (steps_append r (bundle_climb b s j i e ev less))
 
 -- ---- lists
-
-dec_numbers : (xs ys : List ℕ) → Dec (xs ≡ ys)
-dec_numbers xs ys = by (dec_message (tag xs) (tag ys))
-  where
-    by : Dec (tag xs ≡ tag ys) → Dec (xs ≡ ys)
-    by (yes e) = yes (cc)
-    by (no n) = no (λ e. n (ap tag e))
 
 collapse_of : (k : Skeleton) (p : List ℕ) {ps : List (List ℕ)} {ls : List Skeleton} → AreCollapsesBy k ps ls → IsIn p ps → (l : Skeleton) × IsIn l ls × IsCollapse k p l
 collapse_of k p no_collapses i = elim i [ ]
@@ -145,8 +138,8 @@ module _ (protocol : Protocol) (k : Skeleton) (b : Bundle) (h : Standing) (sk : 
       by (inr never) = absurd (possible never)
 
 pub collapses_are_complete : (protocol : Protocol) (k : Skeleton) (ls : List Skeleton) → IsSkeleton protocol k → AreCollapses k ls → IsCompleteList protocol k (k ∷ ls)
-collapses_are_complete protocol k ls sk are b h is stands = covers_at protocol k b h sk is stands ls are (dec_numbers (partition k h) (finest k))
+collapses_are_complete protocol k ls sk are b h is stands = covers_at protocol k b h sk is stands ls are (dec_list (partition k h) (finest k))
 
 pub standings_go_through : (protocol : Protocol) (k : Skeleton) (ls : List Skeleton) (b : Bundle) (h : Standing) → IsSkeleton protocol k → AreCollapses k ls → IsBundle protocol b → StandsIn k b h →
     StandsApart k h ⊎ StandsThroughCollapse k ls b h
-standings_go_through protocol k ls b h sk are is stands = through_at protocol k b h sk is stands ls are (dec_numbers (partition k h) (finest k))
+standings_go_through protocol k ls b h sk are is stands = through_at protocol k b h sk is stands ls are (dec_list (partition k h) (finest k))

@@ -1,5 +1,6 @@
 -- Which items of a list have a property, and loops over them.
 use Rattle.std.proofs.Common.{ℕ, ◌+◌, ◌<◌, ◌≤◌, List, ◌≡◌, ◌↔◌, ◌⊎◌, inl, inr, Bool, true, false, not, length, get_or, drop, map, refl, sym, subst}
+use Rattle.std.proofs.lemmas.Bool.{not_from_false, false_from_ne_true}
 use Rattle.cp_lists.specs.Lists.{IsIn, here, there}
 use Rattle.cp_lists.proofs.Members as members
 use Rattle.cp_model.specs.Term.{Term, IsCarriedByTerm}
@@ -9,12 +10,8 @@ use Rattle.cp_collapse.specs.Property.{Has}
 pub is_not : {b : Bool} → not b ≡ true → b ≡ true → ⊥
 is_not p q = cc
 
-not_true : (b : Bool) → (b ≡ true → ⊥) → not b ≡ true
-not_true true p = absurd (p refl)
-not_true false p = refl
-
 pub not_is : {b : Bool} → (b ≡ true → ⊥) → not b ≡ true
-not_is {b} p = not_true b p
+not_is {b} p = not_from_false b (false_from_ne_true b p)
 
 -- An item that has the property is found.
 pub found : {A : Type 0} (has : A → Type 0) (xs : List A) (i : ℕ) (x : A) → i < length xs → x ≡ get_or xs i x → has x → Has has xs

@@ -1,7 +1,7 @@
 -- Of two most general substitutions that bind later variables to earlier ones each does what the other does.
 use Rattle.std.proofs.Common.{◌≡◌, ◌⊎◌, inl, inr, ℕ, ◌<◌, Bool, true, false, if◌then◌else◌, nat_eq, List, [], ◌∷◌, refl, sym, ap, ap₂, ◌∙◌, subst, arith, eqb-true}
 use Rattle.cp_model.specs.Term.{Sort, text_sort, datum_sort, name_sort, skey_sort, akey_sort, SymmetricTerm, skey_variable, ltk_term, PairTerm, akey_variable, pubk_term, symmetric_term, asymmetric_term, AtomTerm, text_variable, datum_variable, name_variable, key_term, atom_of_variable, Term, atom_term, Assignment, value_of_atom, value_of, after, Substitution, flag_of, apply_to_symmetric, apply_to_half, apply_to_atom, apply_to}
-use Rattle.cp_model.proofs.LawTerms.{atom_after, value_after}
+use Rattle.cp_model.proofs.LawTerms.{atom_after, value_after, flag_last}
 use Rattle.cp_model.proofs.LawAgreement.{agree_term}
 use Rattle.cp_unify.specs.Bindings.{Binding, put, put_term, as_substitution}
 use Rattle.cp_unify.specs.Unifiers.{IsBeforeSymmetric, IsBeforePair, IsBefore, AreLaterToEarlier}
@@ -64,10 +64,6 @@ number_in (atom_term (datum_variable n)) = n
 number_in (atom_term (name_variable n)) = n
 number_in t = 0
 
-flag_alone : (f : Bool) → flag_of f false ≡ f
-flag_alone true = refl
-flag_alone false = refl
-
 module _ (s t : Substitution) (first : Lowers s) (second : Lowers t) where
   one_symmetric : (u w : SymmetricTerm) → apply_to_symmetric t u ≡ w → apply_to_symmetric s w ≡ u → u ≡ w
   one_symmetric (skey_variable a) (skey_variable b) e f = by (second.skeys a) (first.skeys b)
@@ -92,8 +88,8 @@ module _ (s t : Substitution) (first : Lowers s) (second : Lowers t) where
   one_half f (akey_variable a) g (akey_variable b) e h = by (second.akeys a) (first.akeys b)
     where
       by : IsOrBeforePair a (t.akeys a) → IsOrBeforePair b (s.akeys b) → (f ≡ g) × (akey_variable a ≡ akey_variable b)
-      by (inl p) q = (sym (flag_alone f) ∙ ap (λ (k : Bool × PairTerm). flag_of f k.0) (sym p) ∙ ap (λ (k : Bool × PairTerm). k.0) e, ap (λ (k : Bool × PairTerm). k.1) (sym p) ∙ ap (λ (k : Bool × PairTerm). k.1) e)
-      by (inr p) (inl q) = (sym (sym (flag_alone g) ∙ ap (λ (k : Bool × PairTerm). flag_of g k.0) (sym q) ∙ ap (λ (k : Bool × PairTerm). k.0) h), sym (ap (λ (k : Bool × PairTerm). k.1) (sym q) ∙ ap (λ (k : Bool × PairTerm). k.1) h))
+      by (inl p) q = (sym (flag_last f) ∙ ap (λ (k : Bool × PairTerm). flag_of f k.0) (sym p) ∙ ap (λ (k : Bool × PairTerm). k.0) e, ap (λ (k : Bool × PairTerm). k.1) (sym p) ∙ ap (λ (k : Bool × PairTerm). k.1) e)
+      by (inr p) (inl q) = (sym (sym (flag_last g) ∙ ap (λ (k : Bool × PairTerm). flag_of g k.0) (sym q) ∙ ap (λ (k : Bool × PairTerm). k.0) h), sym (ap (λ (k : Bool × PairTerm). k.1) (sym q) ∙ ap (λ (k : Bool × PairTerm). k.1) h))
       by (inr p) (inr q) =
           let l : b < a = subst (λ (k : PairTerm). IsBeforePair k a) (ap (λ (k : Bool × PairTerm). k.1) e) p in
           let m : a < b = subst (λ (k : PairTerm). IsBeforePair k b) (ap (λ (k : Bool × PairTerm). k.1) h) q in

@@ -8,7 +8,7 @@ use Rattle.cp_model.specs.declared.node.Node.{Node}
 use Rattle.cp_model.specs.Skeleton.{instance, term_event_at, UniqueAt, Skeleton, IsSkeleton}
 use Rattle.cp_model.specs.declared.node.OrderPair.{OrderPair}
 use Rattle.cp_model.specs.Problem.{IsDeclared}
-use Rattle.cp_model.specs.PointOfView.{IsPointOfView}
+use Rattle.cp_model.specs.PointOfView.{StatesItself}
 use Rattle.cp_model.specs.Homomorphism.{SkeletonMap, substitution_by, number_or, strand_in, map_from_problem, CarriesHomomorphism}
 use Rattle.cp_model.specs.Stated.{unique_image, pair_image, IsImageOfOne, KeepsStated}
 use Rattle.cp_lists.proofs.Items.{item_below, map_of_item}
@@ -21,7 +21,7 @@ use Rattle.cp_collapse.proofs.CollapsedFromProblem.{own_of, in_range_in, own_non
 use Rattle.cp_collapse.proofs.Lowest.{numbers_at}
 
 -- The strands of a problem's recorded origins and pairs are there.
-module _ (protocol : Protocol) (variables : List Declaration) (problem : Skeleton) (sk : IsSkeleton protocol problem) (own : IsPointOfView variables problem) where
+module _ (protocol : Protocol) (variables : List Declaration) (problem : Skeleton) (sk : IsSkeleton protocol problem) (own : StatesItself variables problem) where
   pub node_below : (n : Node) (e : Event Term) → term_event_at problem.strands n ≡ Some e → n.strand < length problem.strands
   node_below n e at = let r = strand_of_event problem.strands n e at in item_below problem.strands n.strand r.0 r.1
 
@@ -33,7 +33,7 @@ module _ (protocol : Protocol) (variables : List Declaration) (problem : Skeleto
       let o = sk.order_pairs q (subst (IsIn q) own.pairs i) in
       (node_below q.earlier (send o.sent) o.transmission, node_below q.later (recv o.received) o.reception)
 
-module _ (protocol : Protocol) (variables : List Declaration) (problem k l : Skeleton) (p : List ℕ) (sp : IsSkeleton protocol problem) (own : IsPointOfView variables problem) (sk : IsSkeleton protocol k)
+module _ (protocol : Protocol) (variables : List Declaration) (problem k l : Skeleton) (p : List ℕ) (sp : IsSkeleton protocol problem) (own : StatesItself variables problem) (sk : IsSkeleton protocol k)
     (carries : CarriesHomomorphism problem k) (c : IsCollapsed k p l) (keeps : KeepsStated problem k) where
   abbrev f : Substitution
   f = c.unifier
@@ -49,7 +49,7 @@ module _ (protocol : Protocol) (variables : List Declaration) (problem k l : Ske
   goes : (s : ℕ) → s < length problem.strands → last.strands s ≡ place_in p (first.strands s)
   goes s less =
       let z : 0 + s ≡ s = omega arith in
-      let a : item_at problem.from_problem.strands s ≡ Some s = ap (λ (ns : List ℕ). item_at ns s) own.strands ∙ numbers_at 0 problem.strands s less ∙ ap Some z in
+      let a : item_at problem.from_problem.strands s ≡ Some s = ap (λ (ns : List ℕ). item_at ns s) own.maps.strands ∙ numbers_at 0 problem.strands s less ∙ ap Some z in
       let b : item_at k.from_problem.strands s ≡ Some (first.strands s) =
       ap (λ (ns : List ℕ). item_at ns s) (sym carries.strands) ∙ map_of_item first.strands problem.from_problem.strands s s a in
       ap (λ (ns : List ℕ). strand_in ns s) c.from_problem.strands ∙ ap (number_or s) (map_of_item (place_in p) k.from_problem.strands s (first.strands s) b)

@@ -8,7 +8,7 @@ ghost use Rattle.cp_model.specs.Given.{listed};
 ghost use Rattle.cp_model.specs.Skeleton.{Skeleton, IsSkeleton};
 ghost use Rattle.cp_model.specs.Standing.{Standing, StandsIn, StandsApart};
 ghost use Rattle.cp_model.specs.Homomorphism.{CarriesHomomorphism, IsHomomorphism, IsCompleteList};
-ghost use Rattle.cp_model.specs.PointOfView.{IsPointOfView, HasDeclaredVariables};
+ghost use Rattle.cp_model.specs.PointOfView.{StatesItself, HasDeclaredVariables};
 ghost use Rattle.cp_model.specs.Stated.{KeepsStated};
 ghost use Rattle.cp_collapse.specs.Collapses.{onto_blocks, IsCollapsed, HasNoCycle, IsImpossible, IsCollapse, AreCollapses, StandsThroughCollapse};
 ghost use Rattle.cp_collapse.specs.Partitions.{IsPartition};
@@ -40,7 +40,7 @@ pub fn collapses_are_determined()
 /// A skeleton whose strands are merged by a partition keeps what a problem states itself, where the skeleton does and
 /// carries a homomorphism from the problem.
 pub fn collapses_keep_what_is_stated()
-    ensures { (protocol : Protocol) (variables : List Declaration) (problem k l : Skeleton) (p : List ℕ) → IsSkeleton protocol problem → IsPointOfView variables problem → IsSkeleton protocol k → CarriesHomomorphism problem k → IsCollapsed k p l → KeepsStated problem k → KeepsStated problem l }
+    ensures { (protocol : Protocol) (variables : List Declaration) (problem k l : Skeleton) (p : List ℕ) → IsSkeleton protocol problem → StatesItself variables problem → IsSkeleton protocol k → CarriesHomomorphism problem k → IsCollapsed k p l → KeepsStated problem k → KeepsStated problem l }
 {}
 
 /// Collapses bring in no variables.

@@ -7,13 +7,12 @@ use Rattle.cp_model.specs.Strand.{Declaration}
 use Rattle.cp_model.specs.Skeleton.{UniqueAt, Skeleton}
 use Rattle.cp_model.specs.declared.node.OrderPair.{OrderPair}
 use Rattle.cp_model.specs.Problem.{variables_of_strands, variables_of_atoms, variables_of_uniques, IsDeclared}
-use Rattle.cp_model.specs.PointOfView.{IsPointOfView}
+use Rattle.cp_model.specs.PointOfView.{StatesItself}
 use Rattle.cp_model.specs.Homomorphism.{mapped, substitution_by, map_from_problem, CarriesHomomorphism}
 use Rattle.cp_model.specs.Stated.{unique_image, HasOwnAssumptions, KeepsStated}
 use Rattle.cp_lists.proofs.Members.{in_append_left, in_append_right}
 use Rattle.cp_model.proofs.LawTerms.{atom_composed}
 use Rattle.cp_model.proofs.Images.{images_then, mapped_images, images_within}
-use Rattle.cp_model.proofs.SingleMaps.{itself}
 use Rattle.cp_model.proofs.StatedStays.{stated_stays}
 use Rattle.cp_completeness.specs.Normal.{with_pairs, strand_under, unique_under, skeleton_under}
 use Rattle.cp_model.proofs.OccurringVariables.{in_atoms, in_uniques}
@@ -21,20 +20,20 @@ use Rattle.cp_model.proofs.LawAgreement.{agree_atom}
 use Rattle.cp_completeness.proofs.Mapped.{agree_declared, before_under, before_more}
 
 -- The variables of what a problem states itself are declared.
-module _ (variables : List Declaration) (problem : Skeleton) (own : IsPointOfView variables problem) where
+module _ (variables : List Declaration) (problem : Skeleton) (own : StatesItself variables problem) where
   pub non_declared : (v : AtomTerm) → IsIn v problem.from_problem.assumptions.non_originating → (x : Variable) → IsIn x (variables_of_atom v) → IsDeclared variables x
   non_declared v i x j =
-      own.closed x (in_append_right (variables_of_strands problem.strands) (in_append_left (variables_of_uniques problem.assumptions.uniquely_originating)
+      own.maps.closed x (in_append_right (variables_of_strands problem.strands) (in_append_left (variables_of_uniques problem.assumptions.uniquely_originating)
       (in_append_left (variables_of_atoms problem.assumptions.penetrator_non_originating) (in_atoms problem.assumptions.non_originating v x (own.assumed.non v i) j))))
 
   pub penetrator_non_declared : (v : AtomTerm) → IsIn v problem.from_problem.assumptions.penetrator_non_originating → (x : Variable) → IsIn x (variables_of_atom v) → IsDeclared variables x
   penetrator_non_declared v i x j =
-      own.closed x (in_append_right (variables_of_strands problem.strands) (in_append_left (variables_of_uniques problem.assumptions.uniquely_originating)
+      own.maps.closed x (in_append_right (variables_of_strands problem.strands) (in_append_left (variables_of_uniques problem.assumptions.uniquely_originating)
       (in_append_right (variables_of_atoms problem.assumptions.non_originating) (in_atoms problem.assumptions.penetrator_non_originating v x (own.assumed.penetrator_non v i) j))))
 
   pub unique_declared : (u : UniqueAt) → IsIn u problem.from_problem.assumptions.uniquely_originating → (x : Variable) → IsIn x (variables_of_atom u.value) → IsDeclared variables x
   unique_declared u i x j =
-      own.closed x (in_append_right (variables_of_strands problem.strands) (in_append_right (variables_of_atoms problem.assumptions.non_originating ++ variables_of_atoms problem.assumptions.penetrator_non_originating)
+      own.maps.closed x (in_append_right (variables_of_strands problem.strands) (in_append_right (variables_of_atoms problem.assumptions.non_originating ++ variables_of_atoms problem.assumptions.penetrator_non_originating)
       (in_uniques problem.assumptions.uniquely_originating u x (own.assumed.unique u i) j)))
 
 -- The assumptions that the problem states itself are among the skeleton's under a substitution too.
@@ -50,7 +49,7 @@ assumed_under s k own =
           (mapped_images (unique_under s) had.uniquely_originating) (mapped_images (unique_under s) k.assumptions.uniquely_originating) own.unique;
     }
 
-module _ (variables : List Declaration) (problem k : Skeleton) (s : Substitution) (own : IsPointOfView variables problem) (carries : CarriesHomomorphism problem k) where
+module _ (variables : List Declaration) (problem k : Skeleton) (s : Substitution) (own : StatesItself variables problem) (carries : CarriesHomomorphism problem k) where
   abbrev before : Substitution
   before = substitution_by k.from_problem.values
 
@@ -59,7 +58,7 @@ module _ (variables : List Declaration) (problem k : Skeleton) (s : Substitution
 
   -- The terms of the map, under the substitution, are those of the new map.
   pub value_under : (v : AtomTerm) → ((x : Variable) → IsIn x (variables_of_atom v) → IsDeclared variables x) → apply_to_atom after_all v ≡ apply_to_atom s (apply_to_atom before v)
-  value_under v declared = sym (agree_atom (composed before s) after_all v (λ x i. agree_declared variables problem k s (itself own) carries x (declared x i))) ∙ atom_composed before s v
+  value_under v declared = sym (agree_atom (composed before s) after_all v (λ x i. agree_declared variables problem k s own.maps carries x (declared x i))) ∙ atom_composed before s v
 
   unique_goes : (u : UniqueAt) → ((x : Variable) → IsIn x (variables_of_atom u.value) → IsDeclared variables x) → unique_image (map_from_problem (skeleton_under s k)) u ≡ unique_under s (unique_image (map_from_problem k) u)
   unique_goes u declared = λ i. record { value = value_under u.value declared i; origin = mapped (map_from_problem k) u.origin }

@@ -1,5 +1,6 @@
 -- The authentication test: where the first transmission of a message outside can be.
 use Rattle.std.proofs.Common.{◌≡◌, ℕ, zero, suc, ◌<◌, List, [], ◌∷◌, Option, Some, None, Bool, true, false, refl, sym, ap, ◌∙◌, subst, ◌⊎◌, inl, inr, ⊎_elim, arith}
+use Rattle.std.proofs.lemmas.Bool.{true_from_ne_false}
 use Rattle.cp_lists.specs.Lists.{item_at}
 use Rattle.cp_model.specs.Message.{Key, inverse, Atom, Message, tag, atom, pair, enc}
 use Rattle.cp_model.specs.Strand.{Event, send, recv, payload, Protocol, Penetrator, create_tag, create_atom, pairing, splitting, encryption, decryption, hearing, penetrator_trace, Strand, regular, penetrator}
@@ -75,10 +76,6 @@ is_encrypted : (protects : Message → Key → Bool) (c x : Message) (k : Key) �
 is_encrypted protects c x k none (inl e) = e
 is_encrypted protects c x k none (inr p) = absurd (none 1 (recv x) (omega arith) refl p.1)
 
-is_protecting : (x : Bool) → (x ≡ false → ⊥) → x ≡ true
-is_protecting true n = refl
-is_protecting false n = absurd (n refl)
-
 -- What is sent there.
 sent_is : {protects : Message → Key → Bool} {c x t : Message} → Some (send x) ≡ Some (send t) → IsOutside protects c t → IsOutside protects c x
 sent_is {protects = protects} {c = c} {x = x} {t = t} e o = let same : t ≡ x = cc in subst (IsOutside protects c) same o
@@ -106,7 +103,7 @@ makes protects c np (decryption x k) (suc zero) t at o none = absurd (cc)
 makes protects c np (decryption x k) (suc (suc zero)) t at o none =
     let inside : IsOutside protects c x = sent_is at o in
     let not : IsOutside protects c (enc x k) → ⊥ = none 1 (recv (enc x k)) (omega arith) refl in
-    (is_protecting (protects x k) (λ e. not (outside_plaintext e inside)), inside, not)
+    (true_from_ne_false (protects x k) (λ e. not (outside_plaintext e inside)), inside, not)
 makes protects c np (decryption x k) (suc (suc (suc i))) t at o none = absurd (cc)
 makes protects c np (hearing x) zero t at o none = absurd (cc)
 makes protects c np (hearing x) (suc i) t at o none = absurd (cc)

@@ -9,7 +9,7 @@ ghost use Rattle.cp_model.specs.Skeleton.{UniqueAt, Skeleton, Before, IsSkeleton
 ghost use Rattle.cp_model.specs.declared.node.OrderPair.{OrderPair};
 ghost use Rattle.cp_model.specs.Standing.{Standing, StandsIn, StandsApart};
 ghost use Rattle.cp_model.specs.Homomorphism.{CarriesHomomorphism, FactorsThrough, Covers};
-ghost use Rattle.cp_model.specs.PointOfView.{IsPointOfView, MapsToItself};
+ghost use Rattle.cp_model.specs.PointOfView.{MapsToItself, StatesItself};
 ghost use Rattle.cp_model.specs.Realisation.{OriginatesAtTerm};
 ghost use Rattle.cp_model.specs.Stated.{KeepsStated};
 ghost use Rattle.cp_completeness.specs.Normal.{IsCarriedAt, with_pairs, AddOnlyOriginPairs, skeleton_under, LosesNoStanding, AreBranches, SaysNoMore};
@@ -66,6 +66,6 @@ pub fn homomorphisms_stay()
 
 /// A skeleton that keeps what its problem states keeps it under a substitution, and with more pairs.
 pub fn what_is_stated_stays()
-    ensures substitution { (variables : List Declaration) (problem k : Skeleton) (s : Substitution) → IsPointOfView variables problem → CarriesHomomorphism problem k → KeepsStated problem k → KeepsStated problem (skeleton_under s k) }
+    ensures substitution { (variables : List Declaration) (problem k : Skeleton) (s : Substitution) → StatesItself variables problem → CarriesHomomorphism problem k → KeepsStated problem k → KeepsStated problem (skeleton_under s k) }
     ensures pairs { (problem k : Skeleton) (pairs : List OrderPair) → ((p : OrderPair) → IsIn p k.pairs → IsIn p pairs) → KeepsStated problem k → KeepsStated problem (with_pairs k pairs) }
 {}

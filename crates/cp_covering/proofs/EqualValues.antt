@@ -1,5 +1,5 @@
 -- Assignments that give a term one value agree on its variables.
-use Rattle.std.proofs.Common.{◌≡◌, ℕ, suc, List, [], ◌∷◌, map, Some, Bool, true, false, refl, sym, ap, ◌∙◌, ⊎_elim}
+use Rattle.std.proofs.Common.{◌≡◌, ℕ, suc, List, [], ◌∷◌, map, Some, refl, sym, ap, ◌∙◌, ⊎_elim}
 use Rattle.cp_lists.specs.Lists.{item_at, here, there}
 use Rattle.cp_lists.proofs.Members.{not_in_none, in_append, in_append_left, in_append_right}
 use Rattle.cp_model.specs.Message.{asymmetric, name, key}
@@ -7,14 +7,9 @@ use Rattle.cp_model.specs.Term.{skey_variable, ltk_term, akey_variable, pubk_ter
 use Rattle.cp_model.specs.Strand.{Event, send, recv, payload, event_map, variables_of_trace}
 use Rattle.cp_model.specs.Skeleton.{SkeletonStrand, skeleton_trace}
 use Rattle.cp_model.specs.Problem.{variables_of_strands}
-use Rattle.cp_model.proofs.LawTerms.{value_after}
+use Rattle.cp_model.proofs.LawTerms.{value_after, flag_same}
 use Rattle.cp_model.proofs.LawAgreement.{agree_value}
-use Rattle.cp_unify.proofs.Found.{swap}
 use Rattle.cp_completeness.specs.Normal.{variables_of_terms}
-
-flag_same : (f a b : Bool) → flag_of f a ≡ flag_of f b → a ≡ b
-flag_same true a b e = swap true true a b e
-flag_same false a b e = e
 
 key_agreed : (g h : Assignment) (k : KeyTerm) → value_of_key g k ≡ value_of_key h k → AgreeOn (variables_of_key k) g h
 key_agreed g h (symmetric_term (skey_variable n)) e x here = ap key e

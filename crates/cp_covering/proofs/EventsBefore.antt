@@ -1,9 +1,10 @@
 -- Skeletons with an event put before a node: those that have grown, and those with a listener.
 use Rattle.std.proofs.Common.{◌≡◌, ℕ, zero, suc, ◌+◌, ◌<◌, List, [], ◌∷◌, ◌++◌, length, Option, Some, None, true, refl, sym, ap, ◌∙◌, subst, ⊎_elim, arith}
 use Rattle.std.specs.Prelude.{◌≢◌}
-use Rattle.cp_lists.specs.Lists.{item_at, IsIn, here, there, Steps, one_step, more_steps}
+use Rattle.cp_lists.specs.Lists.{item_at, IsIn, here, there, one_step, more_steps}
 use Rattle.cp_lists.proofs.Items.{item_below, item_behind}
 use Rattle.cp_lists.proofs.Members.{in_pushed, head_or_behind, at_head}
+use Rattle.cp_lists.proofs.Reached.{steps_alike}
 use Rattle.cp_model.specs.Term.{Sort, Term, text_sort, datum_sort, name_sort, skey_sort, akey_sort, Variable, atom_term, atom_of_variable, variables_of}
 use Rattle.cp_model.specs.Strand.{Event, send, recv, Declaration, Role, Protocol}
 use Rattle.cp_model.specs.Bundle.{node_at}
@@ -22,10 +23,6 @@ use Rattle.cp_covering.specs.Children.{declaration_onto, declarations_of}
 use Rattle.cp_covering.proofs.OpenedPatterns.{variable, only_itself}
 
 -- ---- orders
-
-steps_map : {A : Type 0} {step step' : A → A → Type 0} → ((x y : A) → step x y → step' x y) → {x y : A} → Steps step x y → Steps step' x y
-steps_map f {x} {y} (one_step s) = one_step (f x y s)
-steps_map f {x} {y = z} (more_steps {y = y} s p) = more_steps (f x y s) (steps_map f p)
 
 other_pairs : (k : Skeleton) (ps qs : List OrderPair) → ((p : OrderPair) → IsIn p ps → IsIn p qs) → (x y : Node) → OrderStep (ordered_by k ps) x y → OrderStep (ordered_by k qs) x y
 other_pairs k ps qs all x y (along_strand_of ev) = along_strand_of ev
@@ -55,7 +52,7 @@ module _ (protocol : Protocol) (k : Skeleton) (sk : IsSkeleton protocol k) (m n 
   pub put_closes_no_cycle : (Before k n m → ⊥) → (y : Node) → Before (put_before m n k) y y → ⊥
   put_closes_no_cycle none y before =
       (pair_stays_skeleton protocol k pair sk is_pair none).no_cycle y
-      (steps_map (other_pairs k pairs (pair ∷ k.pairs) (λ p i. ⊎_elim (λ j. there j) (λ e. at_head (sym e)) (in_pushed k.pairs pair p i))) before)
+      (steps_alike (other_pairs k pairs (pair ∷ k.pairs) (λ p i. ⊎_elim (λ j. there j) (λ e. at_head (sym e)) (in_pushed k.pairs pair p i))) before)
 
 -- ---- a new listener
 

@@ -8,7 +8,7 @@ use Rattle.cp_model.specs.declared.node.OrderPair.{OrderPair}
 use Rattle.cp_model.specs.Skeleton.{Skeleton}
 use Rattle.cp_model.proofs.StatedStays.{stated_stays}
 use Rattle.cp_completeness.specs.Normal.{skeleton_under}
-use Rattle.cp_model.proofs.SingleMaps.{itself}
+use Rattle.cp_model.proofs.SingleMaps.{itself, states_itself}
 use Rattle.cp_completeness.proofs.Mapped.{carried_under, carried_with_pairs}
 use Rattle.cp_completeness.proofs.StatedSteps.{stated_under, stated_with_pairs}
 use Rattle.cp_collapse.specs.SameSkeletons.{SaysTheSame}
@@ -37,13 +37,13 @@ keeps_then k l m first second variables problem own carries =
     (b.0, λ stated. b.1 (a.1 stated))
 
 pub keeps_under : (s : Substitution) (k : Skeleton) → KeepsProblems k (skeleton_under s k)
-keeps_under s k variables problem own carries = (carried_under variables problem k s (itself own) carries, λ stated. stated_under variables problem k s own carries stated)
+keeps_under s k variables problem own carries = (carried_under variables problem k s (itself own) carries, λ stated. stated_under variables problem k s (states_itself own) carries stated)
 
 pub keeps_alike : (k l : Skeleton) → SaysTheSame k l → KeepsProblems k l
 keeps_alike k l same variables problem own carries = (same_carries problem k l same carries, λ stated. stated_stays problem k l same.from_problem (as_many same.strands) (same_assumptions k l same) (λ x y b. same_before k l same b) stated)
 
 pub keeps_form : (k r : Skeleton) → IsNormalFormOf k r → KeepsProblems k r
-keeps_form k r form variables problem own carries = (form_carries variables problem (itself own) k r form carries, λ stated. form_keeps variables problem own k r form carries stated)
+keeps_form k r form variables problem own carries = (form_carries variables problem (itself own) k r form carries, λ stated. form_keeps variables problem (states_itself own) k r form carries stated)
 
 pub keeps_forms : (k : Skeleton) (rs : List Skeleton) → HasForms k rs → (r : Skeleton) → IsIn r rs → KeepsProblems k r
 keeps_forms k rs has r i = keeps_form k r (are_normal_forms has r i)

@@ -11,5 +11,5 @@ mod trials;
 pub use cohorts::{children_are_sound, cohorts_cover, operations_are_true};
 pub use examples::heard_encryption_has_one_child;
 pub use once::add_term;
-pub use sent::{comes_before, is_sent_before};
+pub use sent::is_sent_before;
 pub use trials::settling_is_trying;

@@ -1,22 +1,11 @@
-// What is before a node, and what role strands send there.
+// What role strands send before a node.
 ghost use Rattle.std.specs.Prelude.{◌≡◌, ◌↔◌, IsTrue};
-ghost use Rattle.cp_model.specs.Skeleton.{IsNodeOf, Before};
+ghost use Rattle.cp_model.specs.Skeleton.{IsNodeOf};
 ghost use Rattle.cp_skel.specs.Events.{occurrence_view};
 ghost use Rattle.cp_skel.specs.View.{skeleton_view};
 ghost use Rattle.cp_covering.specs.Children.{IsSentBefore};
 
-use cp_skel::{Event, Leading, Node, Occurrence, Skeleton};
-
-/// Whether n is before m in the skeleton's order, by the nodes that lead to m along its pairs, which were gathered. The node m
-/// has to be there.
-pub fn comes_before(k: &Skeleton, leading: &Leading<'_>, n: Node, m: Node) -> bool
-    requires there { IsNodeOf (skeleton_view k.now).strands m }
-    requires gathered { leading.now ≡ record { pairs = k.now.order; node = m } }
-    ensures { IsTrue result ↔ Before (skeleton_view k.now) n m }
-{
-    k.is_sound();
-    n != m && leading.has(n)
-}
+use cp_skel::{Event, Leading, Node, Occurrence, Skeleton, comes_before};
 
 /// Whether an event is a transmission of a role strand before the node, by the nodes that lead to this along the skeleton's
 /// pairs, which were gathered. The node has to be there.

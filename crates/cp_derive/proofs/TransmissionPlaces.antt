@@ -6,6 +6,7 @@ use Rattle.std.proofs.Math.Seq.{drop-cons}
 use Rattle.cp_lists.proofs.Items.{item_below, same_item}
 use Rattle.cp_lists.proofs.Members.{in_cases}
 use Rattle.cp_lists.specs.Lists.{item_at, IsIn, here, there}
+use Rattle.cp_lists.proofs.Least.{less_or_same}
 use Rattle.cp_model.specs.Term.{Term}
 use Rattle.cp_model.specs.declared.node.Node.{Node}
 use Rattle.cp_model.specs.declared.node.OrderPair.{OrderPair}
@@ -20,16 +21,12 @@ pub record ArePlacesBelow (pairs : List OrderPair) (n : Node) (ts : List Transmi
   pub each : (p : ℕ) (t : Transmission) → p < bound → item_at ts p ≡ Some t → LeadsToOther pairs t.node n → IsIn p places
   pub only : (p : ℕ) (t : Transmission) → item_at ts p ≡ Some t → IsIn p places → LeadsToOther pairs t.node n
 
--- p is below a bound or the bound itself
-below_or_at : (p b : ℕ) → p < b + 1 → (p < b) ⊎ (p ≡ b)
-below_or_at p b h = grind arith
-
 pub placed : (pairs : List OrderPair) (n : Node) (ts : List Transmission) (b : ℕ) (t : Transmission) (old new : List ℕ) → item_at ts b ≡ Some t → LeadsToOther pairs t.node n →
     new ≡ old ++ (b ∷ []) → ArePlacesBelow pairs n ts b old → ArePlacesBelow pairs n ts (b + 1) new
 placed pairs n ts b t old new at leads e h =
     let p : IsPushed old b new = pushed old b new e in
     record {
-      each = λ q u below i l. elim (below_or_at q b below) [ inl less ↦ p.more q (h.each q u less i l) | inr same ↦ subst (λ x. IsIn x new) (sym same) p.itself ];
+      each = λ q u below i l. elim (less_or_same q b (omega (arith, below))) [ inl less ↦ p.more q (h.each q u less i l) | inr same ↦ subst (λ x. IsIn x new) (sym same) p.itself ];
       only = λ q u i j.
           elim (p.only q j) [
             | inl old_one ↦ h.only q u i old_one
@@ -41,7 +38,7 @@ pub not_placed : (pairs : List OrderPair) (n : Node) (ts : List Transmission) (b
     ArePlacesBelow pairs n ts b places → ArePlacesBelow pairs n ts (b + 1) places
 not_placed pairs n ts b t places at none h = record {
   each = λ q u below i l.
-      elim (below_or_at q b below) [
+      elim (less_or_same q b (omega (arith, below))) [
         | inl less ↦ h.each q u less i l
         | inr same ↦ absurd (none (subst (λ (x : Transmission). LeadsToOther pairs x.node n) (same_item ts q b u t same i at) l))
       ];

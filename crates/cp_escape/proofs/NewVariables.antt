@@ -1,6 +1,6 @@
 -- The variables of an encryption that a skeleton does not use, found in a table of declared ones.
 use Rattle.std.proofs.Common.{◌≡◌, ℕ, zero, suc, ◌+◌, ◌<◌, ◌≤◌, ◌==◌, Bool, true, false, not, if◌then◌else◌, List, [], ◌∷◌, map, Some, refl, sym, ap, ap₂, ◌∙◌, subst, ⊎_elim, arith, eqb-true, eq-eqb}
-use Rattle.std.proofs.lemmas.Bool.{and_parts, and_from}
+use Rattle.std.proofs.lemmas.Bool.{and_parts, and_from, not-true}
 use Rattle.cp_lists.specs.Lists.{item_at, IsIn, here, there}
 use Rattle.cp_lists.proofs.Members.{head_or_behind, not_in_none, in_if_behind}
 use Rattle.cp_model.proofs.CarriedParts.{not_both}
@@ -83,10 +83,6 @@ all_found vs (x ∷ xs) among sort =
 
 -- ---- the new variables
 
-not_false : (b : Bool) → not b ≡ true → b ≡ false
-not_false true e = absurd (not_both refl e)
-not_false false e = refl
-
 module _ (k : Skeleton) (e : Term) (ds : List Declaration) (declared : (x : Variable) → IsIn x (variables_of e) → IsDeclared ds x) where
   abbrev new : List Variable
   new = variables_where (is_new_in e (used_variables k)) 0 ds
@@ -98,7 +94,7 @@ module _ (k : Skeleton) (e : Term) (ds : List Declaration) (declared : (x : Vari
   unused_new : (x : Variable) → IsIn x new → IsIn x (used_variables k) → ⊥
   unused_new x i u =
       let unused = (and_parts (has_variable (variables_of e) x) (not (has_variable (used_variables k) x)) ((all_pass (is_new_in e (used_variables k)) 0 ds x i).passes)).1 in
-      not_both (not_false (has_variable (used_variables k) x) unused) (in_has_variable (used_variables k) x u)
+      not_both (not-true (has_variable (used_variables k) x) unused) (in_has_variable (used_variables k) x u)
 
   false_where_none : (x : Variable) (b : Bool) → has_variable (used_variables k) x ≡ b → (IsIn x (used_variables k) → ⊥) → not b ≡ true
   false_where_none x true h none = absurd (none (variable_in (used_variables k) x h))

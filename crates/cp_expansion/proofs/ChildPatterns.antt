@@ -1,7 +1,8 @@
 -- Children that give patterns.
-use Rattle.std.proofs.Common.{◌≡◌, ℕ, suc, ◌+◌, ◌<◌, ◌≤◌, List, length, map, get_or, Option, Some, None, Result, Ok, Err, IfOk, IfNone, zero, refl, sym, subst, ◌⊎◌, inl, inr, ⊎_elim, ap, arith}
+use Rattle.std.proofs.Common.{◌≡◌, ℕ, ◌+◌, ◌<◌, ◌≤◌, List, length, map, get_or, Option, Some, None, Result, Ok, Err, IfOk, IfNone, sym, subst, ◌⊎◌, ⊎_elim, arith}
 use Rattle.cp_lists.specs.Lists.{item_at, IsIn}
 use Rattle.cp_lists.proofs.Items.{place_of, at_place, item_below, item_of_map, map_of_read}
+use Rattle.cp_lists.proofs.Least.{less_or_same}
 use Rattle.cp_model.specs.Skeleton.{Skeleton}
 use Rattle.cp_model.specs.Tree.{Pattern}
 use Rattle.cp_covering.specs.Children.{Child}
@@ -22,19 +23,13 @@ NoneGives k cs n = (i : ℕ) (c : Child) (q : Pattern) → i < n → item_at (ma
 pub none_at_first : (k : Skeleton) (cs : List program.Child) → NoneGives k cs 0
 none_at_first k cs i c q below at gives = absurd (omega (arith, below))
 
-below_or_same : (i n : ℕ) → i < suc n → (i < n) ⊎ (i ≡ n)
-below_or_same zero zero h = inr refl
-below_or_same zero (suc n) h = inl (omega arith)
-below_or_same (suc i) zero h = absurd (omega (arith, h))
-below_or_same (suc i) (suc n) h = ⊎_elim (λ l. inl (omega (arith, l))) (λ e. inr (ap suc e)) (below_or_same i n (omega (arith, h)))
-
 pub none_next : (k : Skeleton) (cs : List program.Child) (n : ℕ) (child : program.Child) → n < length cs → child ≡ get_or cs n child → ((q : Pattern) → GivesPattern k (child_view child) q → ⊥) → NoneGives k cs n → NoneGives k cs (n + 1)
 none_next k cs n child below is none before i c q under at gives =
     ⊎_elim (λ less. before i c q less at gives)
     (λ same. let here : item_at (map child_view cs) n ≡ Some (child_view child) = map_of_read child_view cs n child below is in
     let there : item_at (map child_view cs) n ≡ Some c = rw same at at in
     let e : child_view child ≡ c = cc in none q (subst (λ d. GivesPattern k d q) (sym e) gives))
-    (below_or_same i n (omega (arith, under)))
+    (less_or_same i n (omega (arith, under)))
 
 pub none_at_last : (k : Skeleton) (cs : List program.Child) (n : ℕ) → length cs ≤ n → NoneGives k cs n → (c : Child) (q : Pattern) → IsIn c (map child_view cs) → GivesPattern k c q → ⊥
 none_at_last k cs n whole none c q listed gives =

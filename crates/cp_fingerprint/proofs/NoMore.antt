@@ -4,6 +4,7 @@ use Rattle.std.specs.Prelude.{Some}
 use Rattle.std.specs.Bool.{Decides}
 use Rattle.std.proofs.lemmas.Bool.{leb-true, le-leb, cases_lt, and_parts, and_from}
 use Rattle.std.proofs.lemmas.Bool.Decides.{same_from_decides}
+use Rattle.std.proofs.Math.Bool.{and-true}
 use Rattle.cp_lists.specs.Lists.{item_at, IsIn, here, there}
 use Rattle.cp_lists.proofs.Items.{map_of_item}
 use Rattle.cp_model.specs.Skeleton.{SkeletonStrand, instance, listener, Skeleton}
@@ -35,14 +36,10 @@ count_is n name height (x ∷ xs) = step (λ k. count_is k name height xs) (is_a
 count_sum : (name : List ℕ) (height : ℕ) (xs : List RoleHeight) → count_from 0 name height xs ≡ sum_of (unit name height) xs
 count_sum name height xs = let h : count_from 0 name height xs ≡ 0 + sum_of (unit name height) xs = count_is 0 name height xs in omega (arith, h)
 
-and_true : (b : Bool) → (b && true) ≡ b
-and_true true = refl
-and_true false = refl
-
 pub found_high : (name other : List ℕ) (height own : ℕ) (r : Bool) → height ≤ own → Decides r (other ≡ name) → r ≡ is_as_high name height (record { name = other; height = own })
 found_high name other height own r le told =
     let same : same_text other name ≡ r = same_from_decides (same_text other name) r (text_is other name, is_text other name) told in
-    sym (ap₂ ◌&&◌ same (le-leb height own le) ∙ and_true r)
+    sym (ap₂ ◌&&◌ same (le-leb height own le) ∙ and-true r)
 
 fewer : (p q : Bool) → (p ≡ true → q ≡ true) → one_if p ≤ one_if q
 fewer true true on = omega arith

@@ -1,5 +1,6 @@
 -- The forms of the program, level by level.
 use Rattle.std.proofs.Common.{◌≡◌, ℕ, List, [], ◌∷◌, map, Vec, Global, Some, None, refl, sym, ap, ◌∙◌, subst, rules}
+use Rattle.std.proofs.lemmas.Option.{same_Some}
 use Rattle.cp_base.specs.declared.place.Place.{Place}
 use Rattle.cp_sexpr.specs.Syntax.{Form, symbol, string, number, list, Forms, none, more, forms_of}
 use Rattle.cp_sexpr.specs.View.{view, views}
@@ -20,11 +21,8 @@ pub forms_of-items_of : (fs : Forms) → forms_of (items_of fs) ≡ fs
 forms_of-items_of none = refl
 forms_of-items_of (more f fs) = ap (more f) (forms_of-items_of fs)
 
-pub same_value : {A : Type 0} (x y : A) → Some x ≡ Some y → x ≡ y
-same_value x y e = cc
-
 pub symbol_is : (f : Form) (t : List ℕ) → symbol_in f ≡ Some t → f ≡ symbol (place_of f) t
-symbol_is (symbol at s) t e = ap (symbol at) (same_value s t e)
+symbol_is (symbol at s) t e = ap (symbol at) (same_Some s t e)
 symbol_is (string at s) t e = absurd (cc)
 symbol_is (number at n) t e = absurd (cc)
 symbol_is (list at fs) t e = absurd (cc)
@@ -62,7 +60,7 @@ pub record IsHeaded (f : Form) (h : Headed) : Type 0 where
 headed_list : (at p : Place) (t : List ℕ) (fs : Forms) (h : Headed) → Some (record { at = at; head = t; items = items_of fs }) ≡ Some h → IsHeaded (list at (more (symbol p t) fs)) h
 headed_list at p t fs h e =
     let P : Headed → Type 0 = λ k. IsHeaded (list at (more (symbol p t) fs)) k in
-    subst P (same_value (record { at = at; head = t; items = items_of fs }) h e) (record { head_at = p; whole = ap (λ gs. list at (more (symbol p t) gs)) (sym (forms_of-items_of fs)) })
+    subst P (same_Some (record { at = at; head = t; items = items_of fs }) h e) (record { head_at = p; whole = ap (λ gs. list at (more (symbol p t) gs)) (sym (forms_of-items_of fs)) })
 
 pub headed_is : (f : Form) (h : Headed) → headed f ≡ Some h → IsHeaded f h
 headed_is (symbol at t) h e = absurd (cc)

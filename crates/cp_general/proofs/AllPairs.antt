@@ -6,7 +6,7 @@ use Rattle.cp_model.specs.declared.node.Node.{Node}
 use Rattle.cp_model.specs.declared.node.OrderPair.{OrderPair}
 use Rattle.cp_skel.specs.Data.{SkeletonData}
 use Rattle.cp_skel.specs.View.{skeleton_view}
-use Rattle.cp_skel.specs.Ordered.{IsOrdered, ordered_by, ChangesOrderOnly}
+use Rattle.cp_skel.specs.Ordered.{IsOrdered, ordered_by}
 use Rattle.cp_skel.specs.Sound.{IsSound}
 use Rattle.cp_skel.proofs.SoundSkeletons.{sound_ordered, reordered_sound}
 use Rattle.cp_general.specs.ListedPairs.{ListsOrder}
@@ -53,8 +53,8 @@ module _ (k : Skeleton) (sound : IsSound k) (ps : List OrderPair) (lists : Lists
 
 -- ---- as the program makes it
 
-pub sound_by : (closed : SkeletonData) (ps order : List OrderPair) → IsSound (skeleton_view closed) → ListsOrder (skeleton_view closed) ps → order ≡ ps → IsSound (ordered_by (skeleton_view closed) order)
-sound_by closed ps order sound lists same = subst (λ qs. IsSound (ordered_by (skeleton_view closed) qs)) (sym same) (whole_sound (skeleton_view closed) sound ps lists)
+pub sound_by : (k : SkeletonData) (ps order : List OrderPair) → IsSound (skeleton_view k) → ListsOrder (skeleton_view k) ps → order ≡ ps → IsSound (ordered_by (skeleton_view k) order)
+sound_by k ps order sound lists same = subst (λ qs. IsSound (ordered_by (skeleton_view k) qs)) (sym same) (whole_sound (skeleton_view k) sound ps lists)
 
 -- The skeleton, and the same with all pairs of its order.
 pub record HasAllPairs (k h : SkeletonData) : Type 0 where
@@ -62,34 +62,16 @@ pub record HasAllPairs (k h : SkeletonData) : Type 0 where
   pub before : (x y : Node) → Before (skeleton_view h) x y ↔ Before (skeleton_view k) x y
   pub lists : ListsOrder (skeleton_view h) h.order
 
-module _ (k copy closed h : SkeletonData) (ps order : List OrderPair) (copied : copy ≡ k) (changes : ChangesOrderOnly copy closed)
-    (before : (x y : Node) → Before (skeleton_view closed) x y ↔ Before (skeleton_view copy) x y) (sound : IsSound (skeleton_view closed)) (lists : ListsOrder (skeleton_view closed) ps) (same : order ≡ ps)
-    (made : h ≡ record closed { order = order }) where
-  to_whole : skeleton_view h ≡ ordered_by (skeleton_view closed) ps
-  to_whole = ap skeleton_view made ∙ ap (ordered_by (skeleton_view closed)) same
+module _ (k h : SkeletonData) (ps order : List OrderPair) (sound : IsSound (skeleton_view k)) (lists : ListsOrder (skeleton_view k) ps) (same : order ≡ ps) (made : h ≡ record k { order = order }) where
+  order_is : h.order ≡ order
+  order_is = ap (λ (d : SkeletonData). d.order) made
 
-  order_is : h.order ≡ ps
-  order_is = ap (λ (d : SkeletonData). d.order) made ∙ same
-
-  made_same : h ≡ record k { order = h.order }
-  made_same =
-      let variables = ap (λ (d : SkeletonData). d.variables) made ∙ changes.variables ∙ ap (λ (d : SkeletonData). d.variables) copied in
-      let strands = ap (λ (d : SkeletonData). d.strands) made ∙ changes.strands ∙ ap (λ (d : SkeletonData). d.strands) copied in
-      let assumptions = ap (λ (d : SkeletonData). d.assumptions) made ∙ changes.assumptions ∙ ap (λ (d : SkeletonData). d.assumptions) copied in
-      let from_problem = ap (λ (d : SkeletonData). d.from_problem) made ∙ changes.from_problem ∙ ap (λ (d : SkeletonData). d.from_problem) copied in
-      λ i. record { variables = variables i; strands = strands i; order = h.order; assumptions = assumptions i; from_problem = from_problem i }
-
-  made_before : (x y : Node) → Before (skeleton_view h) x y ↔ Before (skeleton_view k) x y
-  made_before x y =
-      let w : Before (skeleton_view h) x y ↔ Before (skeleton_view closed) x y =
-      subst (λ (z : Skeleton). Before z x y ↔ Before (skeleton_view closed) x y) (sym to_whole) (whole_before (skeleton_view closed) sound ps lists x y) in
-      let c : Before (skeleton_view closed) x y ↔ Before (skeleton_view k) x y = subst (λ (d : SkeletonData). Before (skeleton_view closed) x y ↔ Before (skeleton_view d) x y) copied (before x y) in
-      (λ b. c.0 (w.0 b), λ b. w.1 (c.1 b))
-
-  made_lists : ListsOrder (skeleton_view h) h.order
-  made_lists =
-      subst (ListsOrder (skeleton_view h)) (sym order_is)
-      (subst (λ (z : Skeleton). ListsOrder z ps) (sym to_whole) (whole_lists (skeleton_view closed) sound ps lists))
+  to_whole : skeleton_view h ≡ ordered_by (skeleton_view k) ps
+  to_whole = ap skeleton_view made ∙ ap (ordered_by (skeleton_view k)) same
 
   pub made_whole : HasAllPairs k h
-  made_whole = record { same = made_same; before = made_before; lists = made_lists }
+  made_whole = record {
+    same = made ∙ ap (λ (qs : List OrderPair). record k { order = qs }) (sym order_is);
+    before = λ x y. subst (λ (z : Skeleton). Before z x y ↔ Before (skeleton_view k) x y) (sym to_whole) (whole_before (skeleton_view k) sound ps lists x y);
+    lists = subst (ListsOrder (skeleton_view h)) (sym (order_is ∙ same)) (subst (λ (z : Skeleton). ListsOrder z ps) (sym to_whole) (whole_lists (skeleton_view k) sound ps lists));
+  }

@@ -2,7 +2,7 @@
 use Rattle.std.proofs.Common.{◌≡◌, ◌≢◌, ◌↔◌, ◌⊎◌, inl, inr, ℕ, ◌<◌, ◌≤◌, List, [], ◌∷◌, ◌++◌, Bool, true, ◌&&◌, map, refl, sym, ap, ◌∙◌, subst, arith}
 use Rattle.std.specs.Prelude.{◌==◌, nat_lt, Some}
 use Rattle.std.specs.List.{filter}
-use Rattle.std.proofs.lemmas.Bool.{or_cases, or_left, or_right, cases_lt}
+use Rattle.std.proofs.lemmas.Bool.{or_cases, or_left, or_right, cases_lt, cases_eq}
 use Rattle.std.proofs.lemmas.Bool.Decides.{nat_tests}
 use Rattle.cp_lists.specs.Lists.{IsIn, here, there}
 use Rattle.cp_lists.proofs.Members.{in_append_left, in_last, in_pushed, into_map, from_map, into_filter, from_filter}
@@ -18,7 +18,7 @@ use Rattle.cp_model.proofs.SameTests.{node_is, is_node}
 use Rattle.cp_skel.specs.Ordered.{IsOrdered}
 use Rattle.cp_general.specs.Steps.{IsPairOfOrder}
 use Rattle.cp_general.specs.CoveringPairs.{led_to, leading_to, is_below, is_below_one, some_is_below, is_covered}
-use Rattle.cp_general.proofs.Ways.{same_or_not, along, rises, arrives, departs}
+use Rattle.cp_general.proofs.Ways.{along, rises, arrives, departs}
 
 -- ---- nodes that are gathered
 
@@ -142,7 +142,7 @@ module _ (k : Skeleton) (ordered : IsOrdered k) (pairs : List OrderPair) (each :
     strict : (node.index < n.index) ⊎ ((t : Term) × (term_event_at k.strands node ≡ Some (recv t)))
 
   row : (n : Node) → Before k p.earlier n → Row n
-  row n b = of (same_or_not p.earlier.strand n.strand)
+  row n b = of (cases_eq p.earlier.strand n.strand)
     where
       of : (p.earlier.strand ≡ n.strand) ⊎ (p.earlier.strand ≢ n.strand) → Row n
       of (inl s) =
@@ -160,7 +160,7 @@ module _ (k : Skeleton) (ordered : IsOrdered k) (pairs : List OrderPair) (each :
     strict : (n.index < node.index) ⊎ ((t : Term) × (term_event_at k.strands node ≡ Some (send t)))
 
   column : (n : Node) → Before k n p.later → Column n
-  column n b = of (same_or_not n.strand p.later.strand)
+  column n b = of (cases_eq n.strand p.later.strand)
     where
       of : (n.strand ≡ p.later.strand) ⊎ (n.strand ≢ p.later.strand) → Column n
       of (inl s) =

@@ -1,5 +1,6 @@
 -- What is left without a strand is fit or not, however its pairs are listed.
 use Rattle.std.proofs.Common.{◌≡◌, ◌≢◌, ◌⊎◌, inl, inr, ℕ, List, [], ◌∷◌, ◌++◌, refl, sym, ap, ◌∙◌, subst}
+use Rattle.std.proofs.lemmas.Bool.{cases_eq}
 use Rattle.cp_model.specs.Bundle.{node_at}
 use Rattle.cp_model.specs.declared.node.Node.{Node}
 use Rattle.cp_model.specs.declared.node.OrderPair.{OrderPair}
@@ -13,7 +14,6 @@ use Rattle.cp_general.specs.Fit.{IsFit}
 use Rattle.cp_general.specs.Steps.{Deletes}
 use Rattle.cp_general.specs.Generalisation.{DeletesNone}
 use Rattle.cp_general.proofs.Alike.{fit_alike}
-use Rattle.cp_general.proofs.Ways.{same_or_not}
 
 -- ---- what is left is one list
 
@@ -59,7 +59,7 @@ deleted_alike d k h g no_cycle p q =
 -- ---- no strand can be deleted once pairs are gone, where none could before
 
 on_or_not : (d : ℕ) (p : OrderPair) → IsPairOn d p ⊎ (IsPairOn d p → ⊥)
-on_or_not d p = of (same_or_not p.earlier.strand d) (same_or_not p.later.strand d)
+on_or_not d p = of (cases_eq p.earlier.strand d) (cases_eq p.later.strand d)
   where
     neither : p.earlier.strand ≢ d → p.later.strand ≢ d → IsPairOn d p → ⊥
     neither e l (inl h) = e h

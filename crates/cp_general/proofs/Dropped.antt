@@ -2,7 +2,7 @@
 use Rattle.std.proofs.Common.{if◌then◌else◌, ◌≡◌, ◌≢◌, ◌↔◌, ◌⊎◌, inl, inr, suc, ◌<◌, ◌≤◌, List, [], ◌∷◌, Bool, true, false, length, refl, sym, ap, ◌∙◌, subst, arith}
 use Rattle.std.specs.Prelude.{not, Some}
 use Rattle.std.specs.List.{filter}
-use Rattle.std.proofs.lemmas.Bool.{and_from, and_parts}
+use Rattle.std.proofs.lemmas.Bool.{and_from, and_parts, false_from_ne_true, cases_eq}
 use Rattle.cp_lists.specs.Lists.{IsIn, here, there, one_step, more_steps}
 use Rattle.cp_lists.proofs.Members.{into_filter, from_filter}
 use Rattle.cp_lists.proofs.Reached.{steps_append}
@@ -23,6 +23,7 @@ use Rattle.cp_skel.specs.Ordered.{IsOrdered, ordered_by}
 use Rattle.cp_skel.specs.Sound.{IsSound}
 use Rattle.cp_skel.proofs.CarriedHomomorphisms.{reordered_stays_skeleton}
 use Rattle.cp_skel.proofs.SoundSkeletons.{sound_ordered}
+use Rattle.cp_collapse.proofs.ItemsWithProperty.{not_is, is_not}
 use Rattle.cp_normal.specs.Findings.{IsAddedPair}
 use Rattle.cp_normal.specs.OwnPairs.{AllLead}
 use Rattle.cp_normal.proofs.NormalSkeletons.{closes_none}
@@ -34,7 +35,7 @@ use Rattle.cp_general.proofs.Alike.{assume_the_same, derivable, normal, was_adde
 use Rattle.cp_general.proofs.Deleted.{deletes_none_still}
 use Rattle.cp_general.specs.CoveringPairs.{is_covered}
 use Rattle.cp_general.proofs.Covered.{covered_between, between_covered}
-use Rattle.cp_general.proofs.Ways.{same_or_not, along, rises, ends}
+use Rattle.cp_general.proofs.Ways.{along, rises, ends}
 
 -- ---- the test of pairs
 
@@ -48,22 +49,14 @@ same_pair_is p q e =
 pub same_pair_itself : (p : OrderPair) → is_same_pair p p ≡ true
 same_pair_itself p = and_from (same_node p.earlier p.earlier) (same_node p.later p.later) (is_node p.earlier p.earlier refl) (is_node p.later p.later refl)
 
-not_true : (b : Bool) → (b ≡ true → ⊥) → not b ≡ true
-not_true true h = absurd (h refl)
-not_true false h = refl
-
-not_is : (b : Bool) → not b ≡ true → b ≡ true → ⊥
-not_is true e h = cc
-not_is false e h = cc
-
 not_is_true : false ≡ true → ⊥
 not_is_true e = cc
 
 other_pair : (p q : OrderPair) → q ≢ p → is_other_pair p q ≡ true
-other_pair p q h = not_true (is_same_pair p q) (λ e. h (sym (same_pair_is p q e)))
+other_pair p q h = not_is {b = is_same_pair p q} (λ e. h (sym (same_pair_is p q e)))
 
 pair_other : (p q : OrderPair) → is_other_pair p q ≡ true → q ≢ p
-pair_other p q h e = not_is (is_same_pair p q) h (subst (λ r. is_same_pair p r ≡ true) (sym e) (same_pair_itself p))
+pair_other p q h e = is_not {b = is_same_pair p q} h (subst (λ r. is_same_pair p r ≡ true) (sym e) (same_pair_itself p))
 
 pub among : (p : OrderPair) (ps : List OrderPair) → (any_pair (is_same_pair p) ps ≡ true) ↔ IsIn p ps
 among p ps = (
@@ -102,14 +95,10 @@ filter_rises f (p ∷ ps) r = of (f p) (λ q m. r.0 q (from_filter f ps m).0) (f
     of true h s = (h, s)
     of false h s = s
 
-is_false : (b : Bool) → (b ≡ true → ⊥) → b ≡ false
-is_false true h = absurd (h refl)
-is_false false h = refl
-
 -- ---- nodes
 
 same_node_or_not : (x y : Node) → (x ≡ y) ⊎ (x ≢ y)
-same_node_or_not x y = of (same_or_not x.strand y.strand) (same_or_not x.index y.index)
+same_node_or_not x y = of (cases_eq x.strand y.strand) (cases_eq x.index y.index)
   where
     of : (x.strand ≡ y.strand) ⊎ (x.strand ≢ y.strand) → (x.index ≡ y.index) ⊎ (x.index ≢ y.index) → (x ≡ y) ⊎ (x ≢ y)
     of (inl s) (inl t) = inl (λ i. record { strand = s i; index = t i })
@@ -149,7 +138,7 @@ module _ (k : Skeleton) (sound : IsSound k) (lists : ListsOrder k k.pairs) (p : 
 
   -- from a transmission to a reception the order stays, but for the pair
   sent_still : (m n : Node) (s t : Term) → term_event_at k.strands m ≡ Some (send s) → term_event_at k.strands n ≡ Some (recv t) → record { earlier = m; later = n } ≢ p → Before k m n → Before less m n
-  sent_still m n s t e f h b = of (same_or_not m.strand n.strand)
+  sent_still m n s t e f h b = of (cases_eq m.strand n.strand)
     where
       of : (m.strand ≡ n.strand) ⊎ (m.strand ≢ n.strand) → Before less m n
       of (inl same) = along less less_ordered m n same (rises k ordered m n same b) (recv t, f)
@@ -177,7 +166,7 @@ module _ (k : Skeleton) (sound : IsSound k) (lists : ListsOrder k k.pairs) (p : 
   less_lists = record { each = less_each; rising = filter_rises (is_other_pair p) k.pairs lists.rising }
 
   fewer : length kept < length k.pairs
-  fewer = filter_shorter (is_other_pair p) p k.pairs ((lists.each p).1 may.covering.of_order) (is_false (is_other_pair p p) (λ e. pair_other p p e refl))
+  fewer = filter_shorter (is_other_pair p) p k.pairs ((lists.each p).1 may.covering.of_order) (false_from_ne_true (is_other_pair p p) (λ e. pair_other p p e refl))
 
   -- ---- what the problem states
 
@@ -316,10 +305,10 @@ may_not_added p k added b are e t = (λ f. absurd (not_is_true f), λ m. absurd 
 
 module _ (p : OrderPair) (k : Skeleton) (ordered : IsOrdered k) (lists : ListsOrder k k.pairs) (listed : IsIn p k.pairs) where
   uncovered : (covered : Bool) → covered ≡ is_covered k.pairs p → not covered ≡ true → (n : Node) → Before k p.earlier n → Before k n p.later → ⊥
-  uncovered covered e t n a b = not_is covered t (e ∙ between_covered k ordered k.pairs lists.each p listed n a b)
+  uncovered covered e t n a b = is_not {b = covered} t (e ∙ between_covered k ordered k.pairs lists.each p listed n a b)
 
   covers : (covered : Bool) → covered ≡ is_covered k.pairs p → IsCoveringPair k p → not covered ≡ true
-  covers covered e c = not_true covered (λ t. let r = covered_between k ordered k.pairs lists.each p listed (sym e ∙ t) in c.none_between r.node r.after_first r.before_last)
+  covers covered e c = not_is {b = covered} (λ t. let r = covered_between k ordered k.pairs lists.each p listed (sym e ∙ t) in c.none_between r.node r.after_first r.before_last)
 
   pub may_if : (own added pairs : List OrderPair) (a b covered : Bool) → own ≡ k.from_problem.pairs → a ≡ any_pair (is_same_pair p) own → a ≡ false → ((q : OrderPair) → IsIn q added ↔ IsAddedPair k q)
       → b ≡ any_pair (is_same_pair p) added → b ≡ false → pairs ≡ k.pairs → covered ≡ is_covered pairs p → (not covered ≡ true) ↔ MayDrop p k

@@ -1,6 +1,7 @@
 -- What the tests of a skeleton say.
-use Rattle.std.proofs.Common.{◌≡◌, ◌↔◌, ◌⊎◌, inl, inr, ℕ, ◌+◌, ◌<◌, List, [], ◌∷◌, length, get_or, drop, Bool, true, false, refl, ◌∙◌, subst, arith}
-use Rattle.std.specs.Prelude.{◌==◌, Option, Some, None, IsNone}
+use Rattle.std.proofs.Common.{◌≡◌, ◌↔◌, ◌⊎◌, inl, inr, ℕ, ◌+◌, ◌<◌, List, [], ◌∷◌, length, get_or, drop, Bool, true, false, refl, sym, subst, ◌∙◌, arith}
+use Rattle.std.specs.Prelude.{◌==◌, not, Option, Some, None, IsNone, IfSome, IfNone, Result, Ok, Err, IfOk}
+use Rattle.std.specs.Bool.{then_some}
 use Rattle.std.proofs.lemmas.Bool.Decides.{nat_tests}
 use Rattle.std.proofs.lemmas.List.{get_or_default}
 use Rattle.cp_lists.specs.Lists.{IsIn, here}
@@ -8,18 +9,13 @@ use Rattle.cp_lists.proofs.Members.{next_or_rest}
 use Rattle.cp_model.specs.Term.{Term}
 use Rattle.cp_model.specs.declared.node.Node.{Node}
 use Rattle.cp_model.specs.declared.node.OrderPair.{OrderPair}
-use Rattle.cp_model.specs.Order.{LeadsTo}
 use Rattle.cp_model.specs.Skeleton.{Skeleton}
 use Rattle.cp_model.specs.Derivable.{DerivableAt}
 use Rattle.cp_model.specs.Realisation.{AllDerivable}
-use Rattle.cp_order.specs.LeadingNodes.{Target}
+use Rattle.cp_model.proofs.CarriedParts.{not_both}
 use Rattle.cp_derive.specs.Unrealised.{ListsUnrealised}
 use Rattle.cp_normal.specs.NormalForms.{IsNormal}
-use Rattle.cp_normal.proofs.OwnPairs.{leads_as_asked}
 use Rattle.cp_general.specs.Fit.{IsFit}
-
-pub not_both : {b : Bool} → b ≡ false → b ≡ true → ⊥
-not_both e f = cc
 
 -- ---- realised
 
@@ -46,11 +42,6 @@ unfit_if k b h f = (λ e. absurd (not_both refl e), λ fit. absurd (not_both f (
 abbrev pub no_pair : OrderPair
 no_pair = record { earlier = record { strand = 0; index = 0 }; later = record { strand = 0; index = 0 } }
 
--- ---- pairs in an order
-
-pub leads_if : (order own : List OrderPair) (p : OrderPair) (l : Target) (b : Bool) → own ≡ order → l ≡ record { pairs = own; node = p.later } → (b ≡ true) ↔ LeadsTo l.pairs p.earlier l.node → (b ≡ true) ↔ LeadsTo order p.earlier p.later
-leads_if order own p l b same e h = subst (λ (ps : List OrderPair). (b ≡ true) ↔ LeadsTo ps p.earlier p.later) same (leads_as_asked own p.earlier p.later l b e h)
-
 -- ---- numbers in a list
 
 pub other_next : (xs : List ℕ) (i x : ℕ) → i < length xs → (get_or xs i 0 ≡ x → ⊥) → (IsIn x xs → IsIn x (drop i xs)) → IsIn x xs → IsIn x (drop (i + 1) xs)
@@ -69,3 +60,23 @@ if_none (Some a) e = absurd (cc)
 pub never_none : {A : Type 0} (o : Option A) (a : A) → o ≡ Some a → IsNone o → ⊥
 never_none None a e h = absurd (cc)
 never_none (Some b) a e h = cc
+
+-- ---- what there is only where a test says so
+
+pub some_if : {A : Type 0} (b : Bool) (x : A) (o : Option A) (P : A → Type 0) → o ≡ then_some b x → (b ≡ true → P x) → IfSome o P
+some_if true x o P same h = subst (λ r. IfSome r P) (sym same) (h refl)
+some_if false x o P same h = subst (λ r. IfSome r P) (sym same) tt
+
+pub none_if : {A : Type 0} (b : Bool) (x : A) (o : Option A) (Q : Type 0) → o ≡ then_some b x → (b ≡ false → Q) → IfNone o Q
+none_if true x o Q same h = subst (λ r. IfNone r Q) (sym same) tt
+none_if false x o Q same h = subst (λ r. IfNone r Q) (sym same) (h refl)
+
+-- what is found is so in two ways
+pub both_some : {A E : Type 0} (r : Result (Option A) E) (P Q R : A → Type 0) → ((x : A) → P x → Q x → R x) → IfOk r (λ o. IfSome o P) → IfOk r (λ o. IfSome o Q) → IfOk r (λ o. IfSome o R)
+both_some (Ok (Some x)) P Q R f p q = f x p q
+both_some (Ok None) P Q R f p q = tt
+both_some (Err e) P Q R f p q = tt
+
+pub was_true : (b : Bool) → not b ≡ false → b ≡ true
+was_true true e = refl
+was_true false e = absurd (not_both e refl)

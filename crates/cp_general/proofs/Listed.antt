@@ -2,7 +2,7 @@
 use Rattle.std.proofs.Common.{◌≡◌, ◌≢◌, ◌↔◌, ◌⊎◌, inl, inr, ℕ, List, [], ◌∷◌, ◌++◌, map, Bool, true, false, if◌then◌else◌, refl, sym, ap, ◌∙◌, subst, arith}
 use Rattle.std.specs.Prelude.{◌==◌, not, Some, length}
 use Rattle.std.proofs.lemmas.Bool.{and_from, and_parts}
-use Rattle.std.proofs.lemmas.Bool.Decides.{nat_tests}
+use Rattle.std.proofs.lemmas.Bool.Decides.{nat_tests, same_from_decides}
 use Rattle.cp_lists.specs.Lists.{IsIn, here, there}
 use Rattle.cp_lists.proofs.Members.{in_append, in_append_left, in_append_right, into_map, from_map, in_if_here, in_if_behind}
 use Rattle.cp_model.specs.Term.{Term}
@@ -21,8 +21,9 @@ use Rattle.cp_skel.specs.Ordered.{IsOrdered}
 use Rattle.cp_skel.proofs.EventLists.{listed_event, occurrence_at, listed_at}
 use Rattle.cp_derive.specs.Unrealised.{IsListedBefore, AreRising}
 use Rattle.cp_derive.proofs.PickedReceptions.{node_of, all_rise}
+use Rattle.cp_general.specs.declared.pairs.Reception.{Reception}
 use Rattle.cp_general.specs.Steps.{IsPairOfOrder, IsLowerPair}
-use Rattle.cp_general.specs.ListedPairs.{AreRisingPairs, ListsOrder, is_transmission, is_reception, nodes_where, leads_across, pairs_from, pairs_between}
+use Rattle.cp_general.specs.ListedPairs.{AreRisingPairs, ListsOrder, is_transmission, is_reception, nodes_where, gathered, leads_across, pairs_from, pairs_between}
 
 -- ---- nodes of events
 
@@ -75,19 +76,25 @@ rise_both (p ∷ ps) qs r s apart = (
 )
 
 module _ (order : List OrderPair) where
-  in_from : (x y : Node) (ys : List Node) → IsIn y ys → leads_across order x y ≡ true → IsIn (record { earlier = x; later = y }) (pairs_from order x ys)
+  abbrev to : Node → Reception
+  to = gathered order
+
+  abbrev all_to : List Node → List Reception
+  all_to = map to
+
+  in_from : (x y : Node) (ys : List Node) → IsIn y ys → leads_across x (to y) ≡ true → IsIn (record { earlier = x; later = y }) (pairs_from x (all_to ys))
   in_from x y [] m e = elim m [ ]
-  in_from x y (z ∷ ys) here e = in_if_here (leads_across order x y) (record { earlier = x; later = y }) (pairs_from order x ys) e
-  in_from x y (z ∷ ys) (there m) e = in_if_behind (leads_across order x z) (record { earlier = x; later = z }) (record { earlier = x; later = y }) (pairs_from order x ys) (in_from x y ys m e)
+  in_from x y (z ∷ ys) here e = in_if_here (leads_across x (to y)) (record { earlier = x; later = y }) (pairs_from x (all_to ys)) e
+  in_from x y (z ∷ ys) (there m) e = in_if_behind (leads_across x (to z)) (record { earlier = x; later = z }) (record { earlier = x; later = y }) (pairs_from x (all_to ys)) (in_from x y ys m e)
 
   record IsFrom (x : Node) (ys : List Node) (q : OrderPair) : Type 0 where
     first : x ≡ q.earlier
     listed : IsIn q.later ys
-    leads : leads_across order x q.later ≡ true
+    leads : leads_across x (to q.later) ≡ true
 
-  of_from : (x : Node) (ys : List Node) (q : OrderPair) → IsIn q (pairs_from order x ys) → IsFrom x ys q
+  of_from : (x : Node) (ys : List Node) (q : OrderPair) → IsIn q (pairs_from x (all_to ys)) → IsFrom x ys q
   of_from x [] q m = elim m [ ]
-  of_from x (y ∷ ys) q m = elim (of_if (leads_across order x y) (record { earlier = x; later = y }) q (pairs_from order x ys) m) as (λ _. IsFrom x (y ∷ ys) q) [
+  of_from x (y ∷ ys) q m = elim (of_if (leads_across x (to y)) (record { earlier = x; later = y }) q (pairs_from x (all_to ys)) m) as (λ _. IsFrom x (y ∷ ys) q) [
     | inl h ↦
         subst (λ (z : OrderPair). IsFrom x (y ∷ ys) z) h.1 (record { first = refl; listed = here; leads = h.0 })
     | inr i ↦ let r = of_from x ys q i in record { first = r.first; listed = there r.listed; leads = r.leads }
@@ -97,65 +104,62 @@ module _ (order : List OrderPair) where
   rise_if_from true p ps f r = (f, r)
   rise_if_from false p ps f r = r
 
-  from_rises : (x : Node) (ys : List Node) → AreRising ys → AreRisingPairs (pairs_from order x ys)
+  from_rises : (x : Node) (ys : List Node) → AreRising ys → AreRisingPairs (pairs_from x (all_to ys))
   from_rises x [] r = tt
   from_rises x (y ∷ ys) r =
-      rise_if_from (leads_across order x y) (record { earlier = x; later = y }) (pairs_from order x ys)
+      rise_if_from (leads_across x (to y)) (record { earlier = x; later = y }) (pairs_from x (all_to ys))
       (λ q i. let f = of_from x ys q i in inr (f.first, r.0 q.later f.listed)) (from_rises x ys r.1)
 
-  in_between : (x y : Node) (xs ys : List Node) → IsIn x xs → IsIn y ys → leads_across order x y ≡ true → IsIn (record { earlier = x; later = y }) (pairs_between order xs ys)
+  in_between : (x y : Node) (xs ys : List Node) → IsIn x xs → IsIn y ys → leads_across x (to y) ≡ true → IsIn (record { earlier = x; later = y }) (pairs_between xs (all_to ys))
   in_between x y [] ys m n e = elim m [ ]
-  in_between x y (z ∷ xs) ys here n e = in_append_left (pairs_between order xs ys) (in_from x y ys n e)
-  in_between x y (z ∷ xs) ys (there m) n e = in_append_right (pairs_from order z ys) (in_between x y xs ys m n e)
+  in_between x y (z ∷ xs) ys here n e = in_append_left (pairs_between xs (all_to ys)) (in_from x y ys n e)
+  in_between x y (z ∷ xs) ys (there m) n e = in_append_right (pairs_from z (all_to ys)) (in_between x y xs ys m n e)
 
   record IsBetweenThese (xs ys : List Node) (q : OrderPair) : Type 0 where
     first : IsIn q.earlier xs
     last : IsIn q.later ys
-    leads : leads_across order q.earlier q.later ≡ true
+    leads : leads_across q.earlier (to q.later) ≡ true
 
-  of_between : (xs ys : List Node) (q : OrderPair) → IsIn q (pairs_between order xs ys) → IsBetweenThese xs ys q
+  of_between : (xs ys : List Node) (q : OrderPair) → IsIn q (pairs_between xs (all_to ys)) → IsBetweenThese xs ys q
   of_between [] ys q m = elim m [ ]
-  of_between (x ∷ xs) ys q m = elim (in_append (pairs_from order x ys) (pairs_between order xs ys) m) as (λ _. IsBetweenThese (x ∷ xs) ys q) [
+  of_between (x ∷ xs) ys q m = elim (in_append (pairs_from x (all_to ys)) (pairs_between xs (all_to ys)) m) as (λ _. IsBetweenThese (x ∷ xs) ys q) [
     | inl i ↦
         let f = of_from x ys q i in
         record {
           first = subst (λ (z : Node). IsIn z (x ∷ xs)) f.first here;
           last = f.listed;
-          leads = subst (λ (z : Node). leads_across order z q.later ≡ true) f.first f.leads;
+          leads = subst (λ (z : Node). leads_across z (to q.later) ≡ true) f.first f.leads;
         }
     | inr i ↦ let r = of_between xs ys q i in record { first = there r.first; last = r.last; leads = r.leads }
   ]
 
-  between_rises : (xs ys : List Node) → AreRising xs → AreRising ys → AreRisingPairs (pairs_between order xs ys)
+  between_rises : (xs ys : List Node) → AreRising xs → AreRising ys → AreRisingPairs (pairs_between xs (all_to ys))
   between_rises [] ys r s = tt
   between_rises (x ∷ xs) ys r s =
-      rise_both (pairs_from order x ys) (pairs_between order xs ys) (from_rises x ys s) (between_rises xs ys r.1 s)
+      rise_both (pairs_from x (all_to ys)) (pairs_between xs (all_to ys)) (from_rises x ys s) (between_rises xs ys r.1 s)
       (λ p q i j.
       let f : x ≡ p.earlier = (of_from x ys p i).first in
       inl (subst (λ (z : Node). IsListedBefore z q.earlier) f (r.0 q.earlier (of_between xs ys q j).first)))
 
-  -- what the test says
-  across_says : (x y : Node) → leads_across order x y ≡ true → (x.strand ≢ y.strand) × LeadsTo order x y
-  across_says x y e =
-      let both = and_parts (not (x.strand == y.strand)) (reaches (length order) order x y) e in
-      (apart x.strand y.strand both.0, (bounded_search (length order) order x y refl).0 both.1)
-    where
-      apart : (s t : ℕ) → not (s == t) ≡ true → s ≢ t
-      apart s t h same = grind (arith, nat_tests)
+-- what the test says
+across_says : (x : Node) (y : Reception) → leads_across x y ≡ true → (x.strand ≢ y.node.strand) × LeadsTo y.leading.pairs x y.leading.node
+across_says x y e =
+    let both = and_parts (not (x.strand == y.node.strand)) (reaches (length y.leading.pairs) y.leading.pairs x y.leading.node) e in
+    (apart x.strand y.node.strand both.0, (bounded_search (length y.leading.pairs) y.leading.pairs x y.leading.node refl).0 both.1)
+  where
+    apart : (s t : ℕ) → not (s == t) ≡ true → s ≢ t
+    apart s t h same = grind (arith, nat_tests)
 
-  says_across : (x y : Node) → x.strand ≢ y.strand → LeadsTo order x y → leads_across order x y ≡ true
-  says_across x y h l = and_from (not (x.strand == y.strand)) (reaches (length order) order x y) (apart x.strand y.strand h) ((bounded_search (length order) order x y refl).1 l)
-    where
-      apart : (s t : ℕ) → s ≢ t → not (s == t) ≡ true
-      apart s t ne = grind (arith, nat_tests)
+says_across : (x : Node) (y : Reception) → x.strand ≢ y.node.strand → LeadsTo y.leading.pairs x y.leading.node → leads_across x y ≡ true
+says_across x y h l =
+    and_from (not (x.strand == y.node.strand)) (reaches (length y.leading.pairs) y.leading.pairs x y.leading.node) (apart x.strand y.node.strand h)
+    ((bounded_search (length y.leading.pairs) y.leading.pairs x y.leading.node refl).1 l)
+  where
+    apart : (s t : ℕ) → s ≢ t → not (s == t) ≡ true
+    apart s t ne = grind (arith, nat_tests)
 
-  pub leads_as_test : (x y : Node) (leads : Bool) → x.strand ≢ y.strand → (leads ≡ true) ↔ LeadsTo order x y → leads ≡ leads_across order x y
-  leads_as_test x y leads h l = by_test leads (leads_across order x y) (λ e. says_across x y h (l.0 e)) (λ e. l.1 (across_says x y e).1)
-    where
-      by_test : (a b : Bool) → (a ≡ true → b ≡ true) → (b ≡ true → a ≡ true) → a ≡ b
-      by_test true b f g = sym (f refl)
-      by_test false true f g = g refl
-      by_test false false f g = refl
+pub leads_as_test : (x : Node) (y : Reception) (leads : Bool) → x.strand ≢ y.node.strand → (leads ≡ true) ↔ LeadsTo y.leading.pairs x y.leading.node → leads ≡ leads_across x y
+leads_as_test x y leads h l = same_from_decides leads (leads_across x y) l (λ e. (across_says x y e).1, says_across x y h)
 
 -- ---- all pairs of the order
 
@@ -174,8 +178,8 @@ module _ (k : Skeleton) (ordered : IsOrdered k) (os : List Occurrence) (all : ma
   abbrev received : List Node
   received = nodes_where is_reception os
 
-  abbrev gathered : List OrderPair
-  gathered = pairs_between k.pairs sent received
+  abbrev listed : List OrderPair
+  listed = pairs_between sent (map (gathered k.pairs) received)
 
   event_of : (o : Occurrence) → IsIn o os → term_event_at k.strands o.node ≡ Some (event_view o.event)
   event_of o i = listed_event k (occurrence_view o) (subst (IsIn (occurrence_view o)) all (into_map occurrence_view i))
@@ -202,35 +206,36 @@ module _ (k : Skeleton) (ordered : IsOrdered k) (os : List Occurrence) (all : ma
   is_before x y h (inl e) = absurd (h (ap (λ (n : Node). n.strand) e))
   is_before x y h (inr b) = b
 
-  of_order : (q : OrderPair) → IsIn q gathered → IsPairOfOrder k q
+  of_order : (q : OrderPair) → IsIn q listed → IsPairOfOrder k q
   of_order q i =
       let b = of_between k.pairs sent received q i in
       let s = node_sent q.earlier b.first in
       let r = node_received q.later b.last in
-      let a = across_says k.pairs q.earlier q.later b.leads in
+      let a = across_says q.earlier (gathered k.pairs q.later) b.leads in
       record {
         pair = record { sent = s.0; received = r.0; transmission = s.1; reception = r.1; between_strands = a.0 };
         ordered = is_before q.earlier q.later a.0 (leads_before k ordered.order_pairs q.earlier q.later (recv r.0, r.1) a.1);
       }
 
-  order_of : (q : OrderPair) → IsPairOfOrder k q → IsIn q gathered
+  order_of : (q : OrderPair) → IsPairOfOrder k q → IsIn q listed
   order_of q h =
       in_between k.pairs q.earlier q.later sent received (found is_transmission q.earlier (send h.pair.sent) h.pair.transmission refl)
       (found is_reception q.later (recv h.pair.received) h.pair.reception refl)
-      (says_across k.pairs q.earlier q.later h.pair.between_strands (before_leads k q.earlier q.later h.ordered))
+      (says_across q.earlier (gathered k.pairs q.later) h.pair.between_strands (before_leads k q.earlier q.later h.ordered))
 
   events_rise : AreRising (map node_of (map occurrence_view os))
   events_rise = subst (λ es. AreRising (map node_of es)) (sym all) (all_rise 0 k.strands)
 
-  pub lists_order : ListsOrder k gathered
+  pub lists_order : ListsOrder k listed
   lists_order = record {
     each = λ q. (of_order q, order_of q);
     rising = between_rises k.pairs sent received (nodes_rise is_transmission os events_rise) (nodes_rise is_reception os events_rise);
   }
 
 -- The same of what the program gathers.
-pub lists_gathered : (k : Skeleton) (ordered : IsOrdered k) (os : List Occurrence) → map occurrence_view os ≡ events_of k → (order pairs : List OrderPair) (froms tos : List Node) → order ≡ k.pairs
-    → froms ≡ nodes_where is_transmission os → tos ≡ nodes_where is_reception os → pairs ≡ pairs_between order froms tos → ListsOrder k pairs
+pub lists_gathered : (k : Skeleton) (ordered : IsOrdered k) (os : List Occurrence) → map occurrence_view os ≡ events_of k → (order pairs : List OrderPair) (froms : List Node) (tos : List Reception) → order ≡ k.pairs
+    → froms ≡ nodes_where is_transmission os → tos ≡ map (gathered order) (nodes_where is_reception os) → pairs ≡ pairs_between froms tos → ListsOrder k pairs
 lists_gathered k ordered os all order pairs froms tos o f t p =
-    let same : pairs ≡ pairs_between k.pairs (nodes_where is_transmission os) (nodes_where is_reception os) = p ∙ (λ i. pairs_between (o i) (f i) (t i)) in
+    let all_received : tos ≡ map (gathered k.pairs) (nodes_where is_reception os) = t ∙ (λ i. map (gathered (o i)) (nodes_where is_reception os)) in
+    let same : pairs ≡ pairs_between (nodes_where is_transmission os) (map (gathered k.pairs) (nodes_where is_reception os)) = p ∙ (λ i. pairs_between (f i) (all_received i)) in
     subst (ListsOrder k) (sym same) (lists_order k ordered os all)

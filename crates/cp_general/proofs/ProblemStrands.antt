@@ -8,6 +8,7 @@ use Rattle.cp_model.specs.declared.node.Node.{Node}
 use Rattle.cp_model.specs.Skeleton.{Skeleton, OrderStep, along_strand_of, along_pair, Before, IsSkeleton}
 use Rattle.cp_model.specs.Homomorphism.{map_from_problem, CarriesHomomorphism}
 use Rattle.cp_model.specs.PointOfView.{IsPointOfView}
+use Rattle.cp_model.proofs.SingleMaps.{states_itself}
 use Rattle.cp_model.proofs.StatedItself.{numbers_below}
 use Rattle.cp_collapse.proofs.Lowest.{numbers_at}
 use Rattle.cp_collapse.proofs.StatedCollapse.{node_below, pair_below}
@@ -31,9 +32,9 @@ module _ (variables : List Declaration) (problem : Skeleton) (own : IsPointOfVie
 module _ (protocol : Protocol) (variables : List Declaration) (problem : Skeleton) (sp : IsSkeleton protocol problem) (own : IsPointOfView variables problem) where
   step_below : {x y : Node} → OrderStep problem x y → (x.strand < length problem.strands) × (y.strand < length problem.strands)
   step_below (along_strand_of {s = s} {i = i} {e = e} at) =
-      let below : s < length problem.strands = node_below protocol variables problem sp own (node_at s (suc i)) e at in
+      let below : s < length problem.strands = node_below protocol variables problem sp (states_itself own) (node_at s (suc i)) e at in
       (below, below)
-  step_below (along_pair {p = p} i) = pair_below protocol variables problem sp own p (subst (IsIn p) (sym own.pairs) i)
+  step_below (along_pair {p = p} i) = pair_below protocol variables problem sp (states_itself own) p (subst (IsIn p) (sym own.pairs) i)
 
   pub before_below : {x y : Node} → Before problem x y → (x.strand < length problem.strands) × (y.strand < length problem.strands)
   before_below (one_step s) = step_below s

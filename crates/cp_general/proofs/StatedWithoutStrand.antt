@@ -13,6 +13,7 @@ use Rattle.cp_model.specs.Skeleton.{instance, listener, UniqueAt, Skeleton, Befo
 use Rattle.cp_model.specs.Homomorphism.{SkeletonMap, mapped, GoesToInstance, substitution_by, number_or, strand_in, map_from_problem, CarriesHomomorphism}
 use Rattle.cp_model.specs.PointOfView.{IsPointOfView}
 use Rattle.cp_model.specs.Stated.{unique_image, pair_image, IsImageOfOne, AreImages, KeepsStated}
+use Rattle.cp_model.proofs.SingleMaps.{states_itself}
 use Rattle.cp_skel.specs.Deletion.{renumbered, node_renumbered, unique_renumbered, pair_renumbered, IsOriginOn, IsPairOn}
 use Rattle.cp_skel.proofs.NumbersWithout.{renumbered_apart}
 use Rattle.cp_skel.proofs.PairsWithout.{in_left, was_left}
@@ -48,11 +49,11 @@ module _ (protocol : Protocol) (variables : List Declaration) (problem k h : Ske
   node_goes n below i = node_at (goes n.strand below i) n.index
 
   unique_goes : (u : UniqueAt) → IsIn u problem.from_problem.assumptions.uniquely_originating → unique_image last u ≡ unique_renumbered d (unique_image first u)
-  unique_goes u i j = record { value = apply_to_atom (sym same_terms j) u.value; origin = node_goes u.origin (origin_below protocol variables problem sp own u i) j }
+  unique_goes u i j = record { value = apply_to_atom (sym same_terms j) u.value; origin = node_goes u.origin (origin_below protocol variables problem sp (states_itself own) u i) j }
 
   pair_goes : (p : OrderPair) → IsIn p problem.from_problem.pairs → pair_image last p ≡ pair_renumbered d (pair_image first p)
   pair_goes p i j =
-      let below = pair_below protocol variables problem sp own p i in
+      let below = pair_below protocol variables problem sp (states_itself own) p i in
       record { earlier = node_goes p.earlier below.0 j; later = node_goes p.later below.1 j }
 
   -- ---- what the problem states
@@ -69,7 +70,7 @@ module _ (protocol : Protocol) (variables : List Declaration) (problem k h : Ske
     λ r. let there = (keeps.unique (unique_image first r.item)).1 (record { item = r.item; listed = r.listed; image = refl }) in
         subst (λ (w : UniqueAt). IsIn w h.from_problem.assumptions.uniquely_originating) (sym (unique_goes r.item r.listed) ∙ r.image)
         (in_left (IsOriginOn d) (unique_renumbered d) k.from_problem.assumptions.uniquely_originating h.from_problem.assumptions.uniquely_originating (unique_image first r.item) del.from_problem.unique there
-        (off r.item.origin.strand (origin_below protocol variables problem sp own r.item r.listed))),
+        (off r.item.origin.strand (origin_below protocol variables problem sp (states_itself own) r.item r.listed))),
   )
 
   -- The pair lies between different strands.
@@ -87,7 +88,7 @@ module _ (protocol : Protocol) (variables : List Declaration) (problem k h : Ske
   pair_stays : (q : OrderPair) → IsImageOfOne (pair_image last) problem.from_problem.pairs q → IsBetween q → IsIn q h.from_problem.pairs
   pair_stays q o between =
       let was : OrderPair = pair_image first o.item in
-      let below = pair_below protocol variables problem sp own o.item o.listed in
+      let below = pair_below protocol variables problem sp (states_itself own) o.item o.listed in
       let same : pair_renumbered d was ≡ q = sym (pair_goes o.item o.listed) ∙ o.image in
       let apart : IsBetween (pair_renumbered d was) = subst IsBetween (sym same) between in
       let there : IsIn was k.from_problem.pairs = (keeps.pairs was).1 (record { item = o.item; listed = o.listed; image = refl }, λ e. apart (ap (renumbered d) e)) in

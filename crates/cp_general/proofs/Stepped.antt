@@ -1,5 +1,6 @@
 -- Steps of generalising, one after the other.
 use Rattle.std.proofs.Common.{◌≡◌, ◌↔◌, ◌⊎◌, inl, inr, ℕ, zero, suc, ◌+◌, ◌-◌, ◌<◌, ◌≤◌, List, [], ◌∷◌, Bool, true, false, length, get_or, drop, sym, ap, ◌∙◌, subst, arith}
+use Rattle.std.specs.Prelude.{Option, Some, None, IfNone}
 use Rattle.std.specs.List.{remove}
 use Rattle.cp_lists.specs.Lists.{IsIn}
 use Rattle.cp_lists.proofs.Members.{drop_read, in_cases, none_left}
@@ -29,9 +30,6 @@ NoneFrom n k = (e : ℕ) → n ≤ e → NeverDeletes e k
 
 pub none_beyond : (k : Skeleton) (n : ℕ) → n ≡ length k.strands → NoneFrom n k
 none_beyond k n same e l h d f = let w = d.within in omega arith
-
-pub at_most : {m n : ℕ} → m ≡ n → m ≤ n
-at_most e = omega (arith, e)
 
 pub one_below : (n m : ℕ) → 0 < n → n ≤ m → n - 1 < m
 one_below n m l h = omega (arith, l, h)
@@ -196,6 +194,10 @@ unfit_drops_none k b no_cycle h e p g d f = false_and_true e (h.1 (fit_before k 
   where
     false_and_true : b ≡ false → b ≡ true → ⊥
     false_and_true x y = cc
+
+pub if_none_then : {A : Type 0} (found : Option A) {P Q : Type 0} → IfNone found P → (P → Q) → IfNone found Q
+if_none_then None h f = f h
+if_none_then (Some x) h f = tt
 
 pub then_goes_on : (k h g : Skeleton) → ComesBySteps k h → GeneralisesTo h g → GeneralisesTo k g
 then_goes_on k h g c t = c.onward g t

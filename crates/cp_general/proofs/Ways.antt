@@ -1,8 +1,7 @@
 -- Ways from strand to strand.
-use Rattle.std.proofs.Common.{◌≡◌, ◌≢◌, ◌⊎◌, inl, inr, ℕ, suc, ◌<◌, ◌≤◌, Bool, true, false, refl, sym, ap, subst, arith}
-use Rattle.std.specs.Prelude.{◌==◌, Some}
-use Rattle.std.proofs.lemmas.Bool.{cases_lt}
-use Rattle.std.proofs.lemmas.Bool.Decides.{nat_tests}
+use Rattle.std.proofs.Common.{◌≡◌, ◌≢◌, ◌⊎◌, inl, inr, suc, ◌<◌, ◌≤◌, refl, sym, ap, subst, arith}
+use Rattle.std.specs.Prelude.{Some}
+use Rattle.std.proofs.lemmas.Bool.{cases_lt, cases_eq}
 use Rattle.cp_lists.specs.Lists.{IsIn, one_step, more_steps}
 use Rattle.cp_lists.proofs.Items.{item_before}
 use Rattle.cp_lists.proofs.Reached.{steps_append}
@@ -15,13 +14,6 @@ use Rattle.cp_model.specs.Order.{IsAtOrAfter, on_strand}
 use Rattle.cp_model.specs.Skeleton.{term_event_at, skeleton_trace_or_none, IsNodeOf, Skeleton, along_strand_of, along_pair, Before}
 use Rattle.cp_model.proofs.LawOrder.{leads_before}
 use Rattle.cp_skel.specs.Ordered.{IsOrdered}
-
-pub same_or_not : (s t : ℕ) → (s ≡ t) ⊎ (s ≢ t)
-same_or_not s t = by_test (s == t) refl
-  where
-    by_test : (b : Bool) → (s == t) ≡ b → (s ≡ t) ⊎ (s ≢ t)
-    by_test true e = inl (grind (arith, nat_tests))
-    by_test false e = inr (λ h. grind (arith, nat_tests))
 
 module _ (k : Skeleton) (ordered : IsOrdered k) where
   -- ---- nodes of a way
@@ -79,7 +71,7 @@ module _ (k : Skeleton) (ordered : IsOrdered k) where
   arrives x y apart (more_steps (along_strand_of {s = s} {i = i} e) r) =
       let a = arrives (node_at s (suc i)) y apart r in
       record { node = a.node; message = a.message; event = a.event; holds = (a.holds.0, more_steps (along_strand_of e) a.holds.1) }
-  arrives x y apart (more_steps (along_pair {p = p} m) r) = of (same_or_not p.later.strand y.strand) (λ h. arrives p.later y h r)
+  arrives x y apart (more_steps (along_pair {p = p} m) r) = of (cases_eq p.later.strand y.strand) (λ h. arrives p.later y h r)
     where
       of : (p.later.strand ≡ y.strand) ⊎ (p.later.strand ≢ y.strand) → (p.later.strand ≢ y.strand → Arrives p.later y) → Arrives p.earlier y
       of (inl s) more = let l : p.later.index < y.index = rises p.later y s r in by_pair p m y (s, omega (arith, l))

@@ -10,6 +10,7 @@ use Rattle.cp_model.specs.OrderTests.{reaches}
 use Rattle.cp_model.specs.Skeleton.{Skeleton}
 use Rattle.cp_strand.specs.View.{event_view}
 use Rattle.cp_skel.specs.declared.events.Occurrence as program
+use Rattle.cp_general.specs.declared.pairs.Reception.{Reception}
 use Rattle.cp_general.specs.Steps.{IsPairOfOrder, IsLowerPair}
 
 -- Each pair stands before all that are higher, and once.
@@ -38,19 +39,23 @@ abbrev pub nodes_where : (Event Term → Bool) → List program.Occurrence → L
 nodes_where test [] = []
 nodes_where test (o ∷ os) = if test (event_view o.event) then o.node ∷ nodes_where test os else nodes_where test os
 
--- The first node leads to the second, which is on another strand.
-abbrev pub leads_across : List OrderPair → Node → Node → Bool
-leads_across order x y = not (x.strand == y.strand) && reaches (length order) order x y
+-- The reception at a node, with the nodes that lead to it along these pairs.
+abbrev pub gathered : List OrderPair → Node → Reception
+gathered order y = record { node = y; leading = record { pairs = order; node = y } }
 
--- The pairs from a node to those of these nodes, on other strands, to which it leads.
-abbrev pub pairs_from : List OrderPair → Node → List Node → List OrderPair
-pairs_from order x [] = []
-pairs_from order x (y ∷ ys) = if leads_across order x y then record { earlier = x; later = y } ∷ pairs_from order x ys else pairs_from order x ys
+-- The node leads to the reception, which is on another strand.
+abbrev pub leads_across : Node → Reception → Bool
+leads_across x y = not (x.strand == y.node.strand) && reaches (length y.leading.pairs) y.leading.pairs x y.leading.node
+
+-- The pairs from a node to those of these receptions, on other strands, to which it leads.
+abbrev pub pairs_from : Node → List Reception → List OrderPair
+pairs_from x [] = []
+pairs_from x (y ∷ ys) = if leads_across x y then record { earlier = x; later = y.node } ∷ pairs_from x ys else pairs_from x ys
 
 -- The same from each of several nodes.
-abbrev pub pairs_between : List OrderPair → List Node → List Node → List OrderPair
-pairs_between order [] ys = []
-pairs_between order (x ∷ xs) ys = pairs_from order x ys ++ pairs_between order xs ys
+abbrev pub pairs_between : List Node → List Reception → List OrderPair
+pairs_between [] ys = []
+pairs_between (x ∷ xs) ys = pairs_from x ys ++ pairs_between xs ys
 
 -- ---- pairs that are the same
 

@@ -47,10 +47,8 @@ fn try_deletion(alloc: Global, k: &Skeleton, strand: usize) -> Result<Option<Ske
         return Ok(None);
     }
     let left = without_strand(alloc, k, strand)?;
-    if !is_fit(alloc, &left)? {
-        return Ok(None);
-    }
-    Ok(Some(left))
+    let fit = is_fit(alloc, &left)?;
+    Ok(fit.then_some(left))
 }
 
 /// The step that deletes a strand, of those that can be the one of the highest number; the assumptions of what is left stand in the

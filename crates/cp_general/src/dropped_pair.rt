@@ -1,9 +1,15 @@
 // The dropping of a pair.
-ghost use Rattle.std.specs.Prelude.{◌≡◌, ◌↔◌, drop, IsTrue, IfOk, IfSome, IfNone};
+ghost use Rattle.std.specs.Prelude.{◌≡◌, ◌↔◌, drop, IsTrue, Some, IfOk, IfSome, IfNone};
 ghost use Rattle.std.specs.List.{filter};
 ghost use Rattle.cp_lists.specs.Lists.{IsIn};
 ghost use Rattle.cp_model.specs.declared.node.OrderPair.{OrderPair as Plain};
 ghost use Rattle.cp_model.specs.OrderTests.{any_pair};
+ghost use Rattle.cp_model.specs.Term.{Term};
+ghost use Rattle.cp_model.specs.Strand.{recv};
+ghost use Rattle.cp_model.specs.Skeleton.{IsNodeOf, term_event_at};
+ghost use Rattle.cp_model.specs.Derivable.{DerivableAt};
+ghost use Rattle.cp_skel.specs.Ordered.{ordered_by};
+ghost use Rattle.cp_skel.specs.Sound.{IsSound};
 ghost use Rattle.cp_skel.specs.View.{skeleton_view};
 ghost use Rattle.cp_collapse.specs.Property.{Has};
 ghost use Rattle.cp_normal.specs.Findings.{IsAddedPair};
@@ -16,8 +22,8 @@ ghost use Rattle.cp_general.specs.ProgramSteps.{NeverDrops, MayDrop, HasFreePair
 use crate::covering_pairs::{is_covered, is_same_node};
 use crate::pairs::reordered;
 use cp_derive::critical;
-use cp_normal::added_pairs;
-use cp_skel::{Leading, Order, OrderPair, Skeleton};
+use cp_normal::{added_pairs, all_lead};
+use cp_skel::{Node, Order, OrderPair, Skeleton};
 use std::alloc::{AllocError, Global};
 
 /// Whether the two pairs are the same.
@@ -128,18 +134,46 @@ fn may_drop(
     Ok(!covered)
 }
 
-/// Whether each of the pairs is in the order. The error is that memory ran out.
-fn all_lead(alloc: Global, order: &Order, pairs: &[OrderPair]) -> Result<bool, AllocError>
-    ensures { IfOk result (λ all. IsTrue all ↔ AllLead order.now pairs.now) }
+/// The order of the skeleton without this pair, if it keeps what the problem states. The error is that memory ran out.
+fn order_without(alloc: Global, k: &Skeleton, pair: OrderPair) -> Result<Option<Order>, AllocError>
+    ensures order { IfOk result (λ found. IfSome found (λ o. o ≡ filter (is_other_pair pair) k.now.order)) }
+    ensures keeps { IfOk result (λ found. IfSome found (λ o. AllLead o (skeleton_view k.now).from_problem.pairs)) }
+    ensures none { IfOk result (λ found. IfNone found (AllLead (filter (is_other_pair pair) k.now.order) (skeleton_view k.now).from_problem.pairs → ⊥)) }
 {
-    let own = order.pairs();
-    for pair in pairs {
-        let leading = Leading::new(alloc, own, pair.later)?;
-        if !leading.has(pair.earlier) {
-            return Ok(false);
-        }
-    }
-    Ok(true)
+    let pairs = others(alloc, k.order().pairs(), pair)?;
+    let order = Order::of(pairs);
+    let keeps = all_lead(alloc, order.pairs(), k.from_problem().pairs())?;
+    Ok(keeps.then_some(order))
+}
+
+/// Whether what this reception receives can be derived there. The error is that memory ran out.
+fn is_derived(alloc: Global, k: &Skeleton, node: Node) -> Result<bool, AllocError>
+    requires { IsNodeOf (skeleton_view k.now).strands node }
+    ensures { IfOk result (λ derived. (t : Term) → term_event_at (skeleton_view k.now).strands node ≡ Some (recv t) → IsTrue derived ↔ DerivableAt (skeleton_view k.now) node t) }
+{
+    let found = critical(alloc, k, node)?;
+    Ok(found.is_none())
+}
+
+/// The skeleton with another order, with which it has to be sound, if what this reception receives can be derived there. The error
+/// is that memory ran out.
+fn derived_in_order(
+    alloc: Global,
+    k: &Skeleton,
+    order: Order,
+    node: Node,
+) -> Result<Option<Skeleton>, AllocError>
+    requires sound { IsSound (ordered_by (skeleton_view k.now) order) }
+    requires there { IsNodeOf (skeleton_view k.now).strands node }
+    ensures exact { IfOk result (λ found. IfSome found (λ h. h ≡ record (k.now) { order = order })) }
+    ensures derived { IfOk result (λ found. IfSome found (λ _. (t : Term) → term_event_at (skeleton_view k.now).strands node ≡ Some (recv t)
+        → DerivableAt (ordered_by (skeleton_view k.now) order) node t)) }
+    ensures none { IfOk result (λ found. IfNone found ((t : Term) → term_event_at (skeleton_view k.now).strands node ≡ Some (recv t)
+        → DerivableAt (ordered_by (skeleton_view k.now) order) node t → ⊥)) }
+{
+    let less = reordered(alloc, k, order)?;
+    let derived = is_derived(alloc, &less, node)?;
+    Ok(derived.then_some(less))
 }
 
 /// The skeleton without a pair that may be dropped, if what is left keeps what the problem states and is fit: of the receptions only
@@ -153,15 +187,9 @@ fn try_drop(alloc: Global, k: &Skeleton, pair: OrderPair) -> Result<Option<Skele
     ensures variables { IfOk result (λ found. IfSome found (λ h. h.variables ≡ k.now.variables)) }
 {
     k.is_sound();
-    let pairs = others(alloc, k.order().pairs(), pair)?;
-    let order = Order::of(pairs);
-    if !all_lead(alloc, &order, k.from_problem().pairs())? {
-        return Ok(None);
-    }
-    let less = reordered(alloc, k, order)?;
-    match critical(alloc, &less, pair.later)? {
-        Some(_) => Ok(None),
-        None => Ok(Some(less)),
+    match order_without(alloc, k, pair)? {
+        Some(order) => derived_in_order(alloc, k, order, pair.later),
+        None => Ok(None),
     }
 }
 

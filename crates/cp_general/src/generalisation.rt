@@ -1,10 +1,12 @@
 // Generalising a skeleton, step by step.
-ghost use Rattle.std.specs.Prelude.{◌≡◌, IfOk, IfSome, IfNone};
+ghost use Rattle.std.specs.Prelude.{◌≡◌, IfOk, OnOk, IfSome, IfNone};
 ghost use Rattle.cp_model.specs.Homomorphism.{Embeds};
+ghost use Rattle.cp_model.specs.Skeleton.{Skeleton as Plain};
 ghost use Rattle.cp_skel.specs.View.{skeleton_view};
 ghost use Rattle.cp_general.specs.Fit.{IsFit};
 ghost use Rattle.cp_general.specs.Generalisation.{DeletesNone, DropsNone, IsMostGeneral, GeneralisesTo, IsGeneralisationOf};
-ghost use Rattle.cp_general.specs.ProgramSteps.{ComesBySteps};
+ghost use Rattle.cp_general.specs.ListedPairs.{ListsOrder};
+ghost use Rattle.cp_general.specs.ProgramSteps.{ComesBySteps, DropsFirst, IsOnTheWay};
 
 use crate::deletion::first_deletion;
 use crate::dropped_pair::{first_drop, some_may_drop};
@@ -13,6 +15,18 @@ use crate::pairs::with_all_pairs;
 use cp_skel::Skeleton;
 use std::alloc::{AllocError, Global};
 
+/// Deletes strands as long as one can be. The error is that memory ran out.
+fn delete_strands(alloc: Global, k: &mut Skeleton) -> Result<(), AllocError>
+    ensures comes { OnOk result ((first : Plain) → ComesBySteps first (skeleton_view k.old) → ComesBySteps first (skeleton_view k.new)) }
+    ensures last { OnOk result (DeletesNone (skeleton_view k.new)) }
+    ensures variables { OnOk result (k.new.variables ≡ k.old.variables) }
+{
+    while let Some(next) = first_deletion(alloc, k)? {
+        *k = next;
+    }
+    Ok(())
+}
+
 /// What is left when strands are deleted as long as one can be; none where none can. The error is that memory ran out.
 fn deleted(alloc: Global, k: &Skeleton) -> Result<Option<Skeleton>, AllocError>
     ensures some { IfOk result (λ found. IfSome found (λ h. ComesBySteps (skeleton_view k.now) (skeleton_view h))) }
@@ -20,14 +34,59 @@ fn deleted(alloc: Global, k: &Skeleton) -> Result<Option<Skeleton>, AllocError>
     ensures none { IfOk result (λ found. IfNone found (DeletesNone (skeleton_view k.now))) }
     ensures variables { IfOk result (λ found. IfSome found (λ h. h.variables ≡ k.now.variables)) }
 {
-    let Some(first) = first_deletion(alloc, k)? else {
-        return Ok(None);
-    };
-    let mut last = first;
-    while let Some(next) = first_deletion(alloc, &last)? {
-        last = next;
+    match first_deletion(alloc, k)? {
+        Some(mut left) => {
+            delete_strands(alloc, &mut left)?;
+            Ok(Some(left))
+        }
+        None => Ok(None),
     }
-    Ok(Some(last))
+}
+
+/// Drops pairs of a skeleton that is fit and lists all pairs of its order, as long as one can be. The error is that memory ran out.
+fn drop_pairs(alloc: Global, k: &mut Skeleton) -> Result<(), AllocError>
+    requires lists { ListsOrder (skeleton_view k.old) k.old.order }
+    requires fit { IsFit (skeleton_view k.old) }
+    ensures leads { OnOk result ((first : Plain) → IsOnTheWay first (skeleton_view k.old) → GeneralisesTo first (skeleton_view k.new)) }
+    ensures variables { OnOk result (k.new.variables ≡ k.old.variables) }
+{
+    while let Some(next) = first_drop(alloc, k)? {
+        *k = next;
+    }
+    Ok(())
+}
+
+/// What is left of a skeleton when pairs are dropped as long as one can be; none where none can. It is fit and lists all pairs of its
+/// order, and no strand of it can be deleted. The error is that memory ran out.
+fn dropped_of_all(alloc: Global, all: &Skeleton) -> Result<Option<Skeleton>, AllocError>
+    requires lists { ListsOrder (skeleton_view all.now) all.now.order }
+    requires fit { IsFit (skeleton_view all.now) }
+    ensures some { IfOk result (λ found. IfSome found (λ g. (k : Plain)
+        → ((h : Plain) → DropsFirst (skeleton_view all.now) h → IsOnTheWay k h) → GeneralisesTo k (skeleton_view g))) }
+    ensures none { IfOk result (λ found. IfNone found (DropsNone (skeleton_view all.now))) }
+    ensures variables { IfOk result (λ found. IfSome found (λ g. g.variables ≡ all.now.variables)) }
+{
+    match first_drop(alloc, all)? {
+        Some(mut left) => {
+            drop_pairs(alloc, &mut left)?;
+            Ok(Some(left))
+        }
+        None => Ok(None),
+    }
+}
+
+/// What is left when pairs are dropped as long as one can be, where the skeleton is fit and no strand can be deleted; none where no
+/// pair can be dropped. The error is that memory ran out.
+fn dropped_where_fit(alloc: Global, k: &Skeleton) -> Result<Option<Skeleton>, AllocError>
+    requires none { DeletesNone (skeleton_view k.now) }
+    requires fit { IsFit (skeleton_view k.now) }
+    ensures some { IfOk result (λ found. IfSome found (λ g. GeneralisesTo (skeleton_view k.now) (skeleton_view g))) }
+    ensures none { IfOk result (λ found. IfNone found (DropsNone (skeleton_view k.now))) }
+    ensures variables { IfOk result (λ found. IfSome found (λ g. g.variables ≡ k.now.variables)) }
+{
+    k.is_sound();
+    let all = with_all_pairs(alloc, k)?;
+    dropped_of_all(alloc, &all)
 }
 
 /// What is left when pairs are dropped as long as one can be, where no strand can be deleted: that stays so. None where no pair can
@@ -45,15 +104,22 @@ fn dropped(alloc: Global, k: &Skeleton) -> Result<Option<Skeleton>, AllocError>
     if !is_fit(alloc, k)? {
         return Ok(None);
     }
-    let all = with_all_pairs(alloc, k)?;
-    let Some(first) = first_drop(alloc, &all)? else {
-        return Ok(None);
-    };
-    let mut last = first;
-    while let Some(next) = first_drop(alloc, &last)? {
-        last = next;
+    dropped_where_fit(alloc, k)
+}
+
+/// Drops pairs as long as one can be, where no strand can be deleted. The error is that memory ran out.
+fn drop_further(alloc: Global, k: &mut Skeleton) -> Result<(), AllocError>
+    requires { DeletesNone (skeleton_view k.old) }
+    ensures leads { OnOk result ((first : Plain) → ComesBySteps first (skeleton_view k.old) → GeneralisesTo first (skeleton_view k.new)) }
+    ensures variables { OnOk result (k.new.variables ≡ k.old.variables) }
+{
+    match dropped(alloc, k)? {
+        Some(freer) => {
+            *k = freer;
+            Ok(())
+        }
+        None => Ok(()),
     }
-    Ok(Some(last))
 }
 
 /// What a skeleton generalises to by one step or more; none exactly where no step applies to it. A step deletes a strand to which
@@ -66,10 +132,10 @@ pub fn generalised(alloc: Global, k: &Skeleton) -> Result<Option<Skeleton>, Allo
     ensures variables { IfOk result (λ found. IfSome found (λ g. g.variables ≡ k.now.variables)) }
 {
     match deleted(alloc, k)? {
-        Some(fewer) => match dropped(alloc, &fewer)? {
-            Some(freer) => Ok(Some(freer)),
-            None => Ok(Some(fewer)),
-        },
+        Some(mut left) => {
+            drop_further(alloc, &mut left)?;
+            Ok(Some(left))
+        }
         None => dropped(alloc, k),
     }
 }

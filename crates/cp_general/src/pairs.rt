@@ -1,15 +1,22 @@
 // All pairs of a skeleton's order.
-ghost use Rattle.std.specs.Prelude.{◌≡◌, ◌↔◌, ◌++◌, IfOk, OnOk};
+ghost use Rattle.std.specs.Prelude.{◌≡◌, ◌↔◌, ◌++◌, map, IfOk, OnOk};
 ghost use Rattle.cp_model.specs.declared.node.Node.{Node as Plain};
 ghost use Rattle.cp_model.specs.Skeleton.{Before};
 ghost use Rattle.cp_strand.specs.View.{event_view};
 ghost use Rattle.cp_skel.specs.Ordered.{ordered_by};
 ghost use Rattle.cp_skel.specs.Sound.{IsSound};
 ghost use Rattle.cp_skel.specs.View.{skeleton_view};
-ghost use Rattle.cp_general.specs.ListedPairs.{ListsOrder, is_transmission, is_reception, nodes_where, leads_across, pairs_from, pairs_between};
+ghost use Rattle.cp_general.specs.ListedPairs.{ListsOrder, is_transmission, is_reception, nodes_where, gathered, leads_across, pairs_from, pairs_between};
 
-use cp_skel::{Event, Node, Occurrence, Order, OrderPair, Skeleton};
+use cp_skel::{Event, Leading, Node, Occurrence, Order, OrderPair, Skeleton, SortedPairs};
 use std::alloc::{AllocError, Global};
+
+/// The node of a reception, and the nodes that lead to it.
+#[derive(Drop)]
+struct Reception<'a> {
+    node: Node,
+    leading: Leading<'a>,
+}
 
 /// Whether the event is a transmission.
 fn is_transmission(event: &Event) -> bool
@@ -39,60 +46,64 @@ fn transmissions(alloc: Global, occurrences: &[Occurrence]) -> Result<Vec<Node>,
     Ok(nodes)
 }
 
-/// The nodes of the receptions among these events.
-fn receptions(alloc: Global, occurrences: &[Occurrence]) -> Result<Vec<Node>, AllocError>
-    ensures { IfOk result (λ ns. ns.items ≡ nodes_where is_reception occurrences.now) }
+/// The receptions among these events, each with the nodes that lead to it along the pairs.
+fn receptions<'a>(
+    alloc: Global,
+    sorted: &SortedPairs<'a>,
+    occurrences: &[Occurrence],
+) -> Result<Vec<Reception<'a>>, AllocError>
+    ensures { IfOk result (λ rs. rs.items ≡ map (gathered sorted.now) (nodes_where is_reception occurrences.now)) }
 {
-    let mut nodes = Vec::new(alloc);
+    let mut receptions = Vec::new(alloc);
     for occurrence in occurrences {
         if !is_reception(&occurrence.event) {
             continue;
         }
-        nodes.push(occurrence.node)?;
+        let node = occurrence.node;
+        let leading = sorted.leading_to(alloc, node)?;
+        receptions.push(Reception { node, leading })?;
     }
-    Ok(nodes)
+    Ok(receptions)
 }
 
-/// Whether a node leads to another one, which is on another strand.
-fn leads_across(order: &Order, from: Node, to: Node) -> bool
-    ensures { result ≡ leads_across order.now from to }
+/// Whether a node leads to the reception, which is on another strand.
+fn leads_across(from: Node, to: &Reception<'_>) -> bool
+    ensures { result ≡ leads_across from to.now }
 {
-    from.strand != to.strand && order.leads_to(from, to)
+    from.strand != to.node.strand && to.leading.has(from)
 }
 
-/// Puts the pairs from a node to those of these nodes to which it leads behind others.
+/// Puts the pairs from a node to those of these receptions to which it leads behind others.
 fn add_pairs_from(
-    order: &Order,
     from: Node,
-    tos: &[Node],
+    tos: &[Reception<'_>],
     pairs: &mut Vec<OrderPair>,
 ) -> Result<(), AllocError>
-    ensures { OnOk result (pairs.new.items ≡ pairs.old.items ++ pairs_from order.now from tos.now) }
+    ensures { OnOk result (pairs.new.items ≡ pairs.old.items ++ pairs_from from tos.now) }
 {
     for to in tos {
-        if !leads_across(order, from, *to) {
+        if !leads_across(from, to) {
             continue;
         }
         pairs.push(OrderPair {
             earlier: from,
-            later: *to,
+            later: to.node,
         })?;
     }
     Ok(())
 }
 
-/// The pairs from each of these nodes to those of others to which it leads.
+/// The pairs from each of these nodes to those of the receptions to which it leads.
 fn pairs_between(
     alloc: Global,
-    order: &Order,
     froms: &[Node],
-    tos: &[Node],
+    tos: &[Reception<'_>],
 ) -> Result<Vec<OrderPair>, AllocError>
-    ensures { IfOk result (λ ps. ps.items ≡ pairs_between order.now froms.now tos.now) }
+    ensures { IfOk result (λ ps. ps.items ≡ pairs_between froms.now tos.now) }
 {
     let mut pairs = Vec::new(alloc);
     for from in froms {
-        add_pairs_from(order, *from, tos, &mut pairs)?;
+        add_pairs_from(*from, tos, &mut pairs)?;
     }
     Ok(pairs)
 }
@@ -105,8 +116,9 @@ fn pairs_of_order(alloc: Global, k: &Skeleton) -> Result<Vec<OrderPair>, AllocEr
     k.is_sound();
     let occurrences = k.events(alloc)?;
     let sent = transmissions(alloc, &occurrences)?;
-    let received = receptions(alloc, &occurrences)?;
-    pairs_between(alloc, k.order(), &sent, &received)
+    let sorted = SortedPairs::new(alloc, k.order().pairs())?;
+    let received = receptions(alloc, &sorted, &occurrences)?;
+    pairs_between(alloc, &sent, &received)
 }
 
 /// The skeleton with another order, with which it has to be sound. The error is that memory ran out.
@@ -129,10 +141,8 @@ pub(crate) fn with_all_pairs(alloc: Global, k: &Skeleton) -> Result<Skeleton, Al
     ensures before { IfOk result (λ h. (x y : Plain) → Before (skeleton_view h) x y ↔ Before (skeleton_view k.now) x y) }
     ensures lists { IfOk result (λ h. ListsOrder (skeleton_view h) h.order) }
 {
-    let mut closed = k.copy(alloc)?;
-    closed.order_close(alloc)?;
-    closed.is_sound();
-    let pairs = pairs_of_order(alloc, &closed)?;
+    k.is_sound();
+    let pairs = pairs_of_order(alloc, k)?;
     let order = Order::of(pairs);
-    reordered(alloc, &closed, order)
+    reordered(alloc, k, order)
 }

@@ -1,10 +1,11 @@
 -- The atoms that a message has in the places of a term's variables.
-use Rattle.std.proofs.Common.{◌≡◌, ℕ, List, [], ◌∷◌, ◌++◌, map, Option, Some, None, Bool, true, false, refl, sym, ap, ap₂, ◌∙◌}
+use Rattle.std.proofs.Common.{◌≡◌, ℕ, List, [], ◌∷◌, ◌++◌, map, Option, Some, None, Bool, refl, sym, ap, ap₂, ◌∙◌}
 use Rattle.std.specs.Prelude.{◌&&◌, ◌==◌, if◌then◌else◌}
 use Rattle.std.proofs.lemmas.List.{map-append}
 use Rattle.cp_model.specs.Message.{SymmetricKey, skey, ltk, KeyPair, akey, pubk, Key, symmetric, asymmetric, Atom, name, key, Message, atom, pair, enc}
 use Rattle.cp_model.specs.Term.{Sort, text_sort, datum_sort, name_sort, skey_sort, akey_sort, Variable, SymmetricTerm, skey_variable, ltk_term, PairTerm, akey_variable, pubk_term, KeyTerm, symmetric_term, asymmetric_term, AtomTerm, text_variable, datum_variable, name_variable, key_term, Term, tag_term, atom_term, pair_term, enc_term, atom_of_variable, variables_of_symmetric, variables_of_pair, variables_of_key, variables_of_atom, variables_of, Assignment, flag_of, value_of_symmetric, value_of_half, value_of_key, value_of_atom, value_of}
 use Rattle.cp_model.specs.Same.{same_sort}
+use Rattle.cp_model.proofs.LawTerms.{flag_twice}
 
 -- A variable with the atom that stands in its place.
 abbrev pub Reading : Type 0
@@ -45,11 +46,6 @@ readings _ _ = []
 -- A variable with its value.
 abbrev pub valued : Assignment → Variable → Reading
 valued f x = (x, value_of_atom f (atom_of_variable x))
-
-flag_twice : (a b : Bool) → flag_of a (flag_of a b) ≡ b
-flag_twice true true = refl
-flag_twice true false = refl
-flag_twice false b = refl
 
 of_symmetric : (f : Assignment) (k : SymmetricTerm) → read_symmetric k (value_of_symmetric f k) ≡ map (valued f) (variables_of_symmetric k)
 of_symmetric f (skey_variable n) = refl

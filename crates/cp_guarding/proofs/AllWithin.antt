@@ -1,6 +1,7 @@
 -- Variables among others.
 use Rattle.std.proofs.Common.{◌≡◌, ◌↔◌, ◌⊎◌, inl, inr, ⊎_elim, ℕ, List, [], ◌∷◌, ◌++◌, Bool, true, false, ◌&&◌, ◌||◌, refl, sym, ap, ◌∙◌}
 use Rattle.std.proofs.lemmas.Bool.{and_parts, and_from, or_cases, or_left, or_right}
+use Rattle.std.proofs.Math.Bool.{and-true, and-false}
 use Rattle.cp_lists.specs.Lists.{IsIn, here, there}
 use Rattle.cp_lists.proofs.Members.{not_in_none, of_each}
 use Rattle.cp_model.specs.Term.{Variable, KeyTerm, Term, pair_term, enc_term, variables_of, variables_of_key}
@@ -13,14 +14,6 @@ use Rattle.cp_guarding.specs.Within.{has_all_but}
 and_assoc : (a b c : Bool) → (a && (b && c)) ≡ ((a && b) && c)
 and_assoc true b c = refl
 and_assoc false b c = refl
-
-and_false : (b : Bool) → (b && false) ≡ false
-and_false true = refl
-and_false false = refl
-
-and_true : (b : Bool) → (b && true) ≡ b
-and_true true = refl
-and_true false = refl
 
 module _ (numbers : List ℕ) (xs : List Variable) where
   abbrev has_all : List Variable → Bool
@@ -60,10 +53,10 @@ module _ (numbers : List ℕ) (xs : List Variable) where
         ∙ sym (ap (λ t. has_all (variables_of t)) f) ∙ h
 
     pub not_key : (body key : Term) → ((k : KeyTerm) × (key ≡ key_as_term k) × (term ≡ enc_term body k)) → false ≡ has_all (variables_of key) → false ≡ has_all (variables_of whole)
-    not_key body key w f = sym (and_false (has_all (variables_of body))) ∙ ap (λ b. has_all (variables_of body) && b) f ∙ encrypted body key w
+    not_key body key w f = sym (and-false (has_all (variables_of body))) ∙ ap (λ b. has_all (variables_of body) && b) f ∙ encrypted body key w
 
     pub key_too : (body key : Term) → ((k : KeyTerm) × (key ≡ key_as_term k) × (term ≡ enc_term body k)) → true ≡ has_all (variables_of key) → has_all (variables_of body) ≡ has_all (variables_of whole)
-    key_too body key w f = sym (and_true (has_all (variables_of body))) ∙ ap (λ b. has_all (variables_of body) && b) f ∙ encrypted body key w
+    key_too body key w f = sym (and-true (has_all (variables_of body))) ∙ ap (λ b. has_all (variables_of body) && b) f ∙ encrypted body key w
 
 no_number : (xs : List Variable) (x : Variable) → (false ≡ true) ⊎ IsIn x xs → IsIn x xs
 no_number xs x (inl f) = absurd (cc)

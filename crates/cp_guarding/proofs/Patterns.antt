@@ -1,6 +1,6 @@
 -- Patterns that may guard tests.
-use Rattle.std.proofs.Common.{◌≡◌, ◌⊎◌, ⊎_elim, inl, inr, ℕ, List, [], ◌∷◌, Bool, true, false, ◌||◌, refl, sym, ◌∙◌, subst}
-use Rattle.std.proofs.lemmas.Bool.{or_cases, or_left}
+use Rattle.std.proofs.Common.{◌≡◌, ◌⊎◌, ⊎_elim, inl, inr, ℕ, List, [], ◌∷◌, Bool, true, false, refl, sym, ◌∙◌, subst}
+use Rattle.std.proofs.lemmas.Bool.{or_cases, or_left, or_parts}
 use Rattle.cp_lists.specs.Lists.{IsIn, here, there}
 use Rattle.cp_lists.proofs.Members.{not_in_none, of_each, in_append_right}
 use Rattle.cp_model.proofs.CarriedParts.{not_both}
@@ -18,11 +18,7 @@ none_numbered numbers [] e x i h = not_in_none i
 none_numbered numbers (y ∷ ys) e x i h =
     of_each (λ (z : Variable). is_number_of numbers z.number ≡ true → ⊥)
     (λ t. not_both e (or_left (is_number_of numbers y.number) (has_numbered numbers ys) t))
-    (none_numbered numbers ys (by_test (is_number_of numbers y.number) (has_numbered numbers ys) e) x) i h
-  where
-    by_test : (a b : Bool) → (a || b) ≡ false → b ≡ false
-    by_test true b f = absurd (cc)
-    by_test false b f = f
+    (none_numbered numbers ys (or_parts (is_number_of numbers y.number) (has_numbered numbers ys) e).1 x) i h
 
 some_numbered : (numbers : List ℕ) (xs : List Variable) → has_numbered numbers xs ≡ true → (x : Variable) × IsIn x xs × (is_number_of numbers x.number ≡ true)
 some_numbered numbers [] e = absurd (cc)

@@ -1,27 +1,16 @@
 // What role strands send before a node.
 ghost use Rattle.std.specs.Prelude.{◌≡◌, ◌↔◌, IsTrue, IfOk};
-ghost use Rattle.cp_model.specs.Skeleton.{IsNodeOf, Before};
+ghost use Rattle.cp_model.specs.Skeleton.{IsNodeOf};
 ghost use Rattle.cp_skel.specs.Events.{occurrence_view};
 ghost use Rattle.cp_skel.specs.View.{skeleton_view};
 ghost use Rattle.cp_guarding.specs.Sent.{IsGuardedAt, SendInsideAlone};
 
 use crate::test_terms::event_at;
 use cp_match::first_outside;
-use cp_skel::{Event, Leading, Node, Occurrence, Skeleton};
+use cp_skel::{Event, Leading, Node, Occurrence, Skeleton, comes_before};
 use cp_term::{Pattern, Term};
 use cp_unify::Subst;
 use std::alloc::{AllocError, Global};
-
-/// Whether n is before m in the skeleton's order, by the nodes that lead to m along its pairs, which were gathered. The node m
-/// has to be there.
-fn comes_before(k: &Skeleton, leading: &Leading<'_>, n: Node, m: Node) -> bool
-    requires there { IsNodeOf (skeleton_view k.now).strands m }
-    requires gathered { leading.now ≡ record { pairs = k.now.order; node = m } }
-    ensures { IsTrue result ↔ Before (skeleton_view k.now) n m }
-{
-    k.is_sound();
-    n != m && leading.has(n)
-}
 
 /// Whether the event, where a role strand sends it before the node, carries the critical term inside the patterns alone, by the
 /// nodes that lead to that node along the skeleton's pairs, which were gathered. The node has to be there.

@@ -1,17 +1,12 @@
 -- Events that are made others, and substitutions that agree on their variables.
-use Rattle.std.proofs.Common.{◌≡◌, Bool, true, false, List, [], ◌∷◌, ◌⊎◌, inl, inr, sym, ap, ◌∙◌}
+use Rattle.std.proofs.Common.{◌≡◌, List, [], ◌∷◌, ◌⊎◌, inl, inr, sym, ap, ◌∙◌}
 use Rattle.cp_lists.specs.Lists.{IsIn, here, there}
 use Rattle.cp_model.specs.Term.{Variable, skey_variable, ltk_term, akey_variable, pubk_term, KeyTerm, symmetric_term, asymmetric_term, AtomTerm, text_variable, datum_variable, name_variable, key_term, Term, tag_term, atom_term, pair_term, enc_term, atom_of_variable, flag_of, variables_of_key, variables_of_atom, variables_of, Substitution, apply_to_key, apply_to_atom, apply_to, composed, AgreeOnTerms}
 use Rattle.cp_model.specs.Strand.{Event, payload, variables_of_trace}
 use Rattle.cp_lists.proofs.Members.{in_append, in_append_left, in_append_right}
-use Rattle.cp_model.proofs.LawTerms.{term_composed}
+use Rattle.cp_model.proofs.LawTerms.{term_composed, flag_same}
 use Rattle.cp_model.proofs.LawAgreement.{agree_term}
-use Rattle.cp_unify.proofs.Found.{swap}
 use Rattle.cp_hom.specs.Counterparts.{MakesEvents}
-
-flag_same : (f a b : Bool) → flag_of f a ≡ flag_of f b → a ≡ b
-flag_same true a b e = swap true true a b e
-flag_same false a b e = e
 
 -- Substitutions that give a term one term agree on its variables.
 key_agreed : (s t : Substitution) (k : KeyTerm) → apply_to_key s k ≡ apply_to_key t k → AgreeOnTerms (variables_of_key k) s t

@@ -1,9 +1,9 @@
 -- What is in a list, and in lists that are made of others.
-use Rattle.std.proofs.Common.{◌≡◌, ◌⊎◌, inl, inr, ◌∙◌, ℕ, zero, suc, ◌+◌, ◌<◌, ◌≤◌, List, [], ◌∷◌, ◌++◌, Bool, true, false, if◌then◌else◌, map, length, get_or, drop, refl, sym, ap, subst, add-one, arith}
+use Rattle.std.proofs.Common.{◌≡◌, ◌⊎◌, inl, inr, ◌∙◌, ℕ, zero, suc, ◌+◌, ◌<◌, ◌≤◌, List, [], ◌∷◌, ◌++◌, Bool, true, false, if◌then◌else◌, map, length, get_or, drop, refl, sym, ap, subst, add-one, arith, ⊎_elim}
 use Rattle.std.specs.Prelude.{reverse}
 use Rattle.std.specs.List.{filter}
 use Rattle.std.proofs.Math.Seq.{drop-cons}
-use Rattle.std.proofs.lemmas.List.{drop_all, reverse-append}
+use Rattle.std.proofs.lemmas.List.{drop_all, drop_more, reverse-append}
 use Rattle.cp_lists.specs.Lists.{IsIn, here, there}
 
 -- ---- one item after another
@@ -29,6 +29,16 @@ head_or_behind (there h) = inr h
 
 pub at_head : {A : Type 0} {x y : A} {xs : List A} → x ≡ y → IsIn x (y ∷ xs)
 at_head {x = x} {xs = xs} e = subst (λ z. IsIn x (z ∷ xs)) e here
+
+-- Where it can be told whether two items are one, it can be told whether one is in a list.
+pub in_or_not : {A : Type 0} → ((x y : A) → (x ≡ y) ⊎ (x ≡ y → ⊥)) → (xs : List A) (x : A) → IsIn x xs ⊎ (IsIn x xs → ⊥)
+in_or_not told [] x = inr not_in_none
+in_or_not told (y ∷ ys) x = one_more (told x y) (in_or_not told ys x)
+  where
+    one_more : (x ≡ y) ⊎ (x ≡ y → ⊥) → IsIn x ys ⊎ (IsIn x ys → ⊥) → IsIn x (y ∷ ys) ⊎ (IsIn x (y ∷ ys) → ⊥)
+    one_more (inl e) rest = inl (at_head e)
+    one_more (inr other) (inl i) = inl (there i)
+    one_more (inr other) (inr none) = inr (λ i. ⊎_elim other none (head_or_behind i))
 
 -- What holds of the first item and of each of the rest holds of each item.
 pub of_each : {A : Type 0} {x y : A} {xs : List A} (P : A → Type 0) → P y → (IsIn x xs → P x) → IsIn x (y ∷ xs) → P x
@@ -146,6 +156,11 @@ in_rest (y ∷ xs) (suc i) h = there (in_rest xs i h)
 
 pub drop_read : {A : Type 0} (xs : List A) (i : ℕ) (x : A) → i < length xs → x ≡ get_or xs i x → drop i xs ≡ x ∷ drop (i + 1) xs
 drop_read xs i x h e = drop-cons xs i x h ∙ rw (← e) (ap (λ ys. x ∷ ys) (rw add-one))
+
+-- What is left from a place within the list on begins with an item.
+pub first_left : {A : Type 0} (xs : List A) (i : ℕ) → i < length xs → (x : A) × (drop i xs ≡ x ∷ drop (i + 1) xs)
+first_left [] i h = absurd (omega (arith, h))
+first_left (x ∷ xs) i h = (get_or (x ∷ xs) i x, drop_more (x ∷ xs) i x h)
 
 -- An item of what is left is the next one or behind it.
 pub next_or_rest : {A : Type 0} (xs : List A) (i : ℕ) (x y : A) → i < length xs → y ≡ get_or xs i y → IsIn x (drop i xs) → (y ≡ x) ⊎ IsIn x (drop (i + 1) xs)

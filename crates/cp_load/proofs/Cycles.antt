@@ -1,8 +1,8 @@
 -- The faults of pairs, part by part.
 use Rattle.std.proofs.Common.{◌≡◌, ℕ, ◌+◌, ◌-◌, ◌<◌, ◌≤◌, List, [], ◌∷◌, ◌++◌, length, get_or, map, take, drop, Bool, true, false, ◌&&◌, refl, sym, ap, ◌∙◌, subst, arith}
 use Rattle.std.specs.Prelude.{◌↔◌, ◌==◌, Option, Some, None, is_none, nat_le, if◌then◌else◌}
-use Rattle.std.proofs.lemmas.Bool.{cond-false}
-use Rattle.std.proofs.lemmas.Bool.Decides.{nat_tests}
+use Rattle.std.proofs.lemmas.Bool.{cond-false, false_from_ne_true}
+use Rattle.std.proofs.lemmas.Bool.Decides.{nat_tests, same_from_decides}
 use Rattle.std.proofs.lemmas.List.{take_all, append_assoc}
 use Rattle.cp_lists.proofs.Members.{drop_read}
 use Rattle.cp_base.specs.declared.place.Place.{Place}
@@ -31,17 +31,11 @@ use Rattle.cp_load.specs.Behind.{is_behind_fault}
 
 -- ---- cycles
 
-pub same_bool : (b c : Bool) → (b ≡ true → c ≡ true) → (c ≡ true → b ≡ true) → b ≡ c
-same_bool true c f g = sym (f refl)
-same_bool false true f g = g refl
-same_bool false false f g = refl
-
 -- what a search of the order found is what the order is
 pub order-searched : (pairs : List OrderPair) (x y : Node) (l : Target) (b : Bool) → l ≡ record { pairs = pairs; node = y } → (b ≡ true) ↔ LeadsTo l.pairs x l.node → b ≡ reaches (length pairs) pairs x y
 order-searched pairs x y l b is h =
     let leads : (b ≡ true) ↔ LeadsTo pairs x y = subst (λ (t : Target). (b ≡ true) ↔ LeadsTo t.pairs x t.node) is h in
-    let law = reaches_all pairs x y in
-    same_bool b (reaches (length pairs) pairs x y) (λ e. law.1 (leads.0 e)) (λ e. leads.1 (law.0 e))
+    same_from_decides b (reaches (length pairs) pairs x y) leads (reaches_all pairs x y)
 
 pub cycle-searched : (before : List OrderPair) (p : OrderPair) (l : Target) (b : Bool) → on_one_strand p ≡ false → l ≡ record { pairs = before; node = p.earlier } → (b ≡ true) ↔ LeadsTo l.pairs p.later l.node → b ≡ closes_cycle before p
 cycle-searched before p l b other is h =
@@ -68,8 +62,9 @@ one_strand s t i j other a = grind (arith, nat_tests)
 
 no_way : (before : List OrderPair) (p : OrderPair) → on_one_strand p ≡ false → (LeadsTo before p.later p.earlier → IsAtOrAfter p.later p.earlier) → false ≡ closes_cycle before p
 no_way before p other stays =
-    same_bool false (reaches (length before) before p.later p.earlier) (λ e. absurd (cc))
-    (λ e. absurd (one_strand p.earlier.strand p.later.strand p.earlier.index p.later.index other (stays ((reaches_all before p.later p.earlier).0 e))))
+    sym
+    (false_from_ne_true (reaches (length before) before p.later p.earlier)
+    (λ e. one_strand p.earlier.strand p.later.strand p.earlier.index p.later.index other (stays ((reaches_all before p.later p.earlier).0 e))))
     ∙ sym (cond-false (on_one_strand p) (nat_le p.later.index p.earlier.index) (reaches (length before) before p.later p.earlier) other)
 
 pub no-way-from : (before : List OrderPair) (p : OrderPair) → on_one_strand p ≡ false → any_pair (λ q. at_or_after p.later q.earlier) before ≡ false → false ≡ closes_cycle before p

@@ -1,8 +1,8 @@
 -- Pairs that have no cycle.
-use Rattle.std.proofs.Common.{◌≡◌, ◌⊎◌, inl, inr, ℕ, zero, suc, ◌+◌, ◌<◌, ◌≤◌, List, [], ◌∷◌, ◌++◌, length, get_or, map, take, drop, Bool, true, false, ◌||◌, if◌then◌else◌, length-append, refl, sym, ap, ◌∙◌, subst, arith}
+use Rattle.std.proofs.Common.{◌≡◌, ◌⊎◌, inl, inr, ℕ, zero, suc, ◌+◌, ◌<◌, ◌≤◌, List, [], ◌∷◌, ◌++◌, length, get_or, map, take, drop, Bool, true, false, ◌||◌, if◌then◌else◌, length-append, sym, ap, ◌∙◌, subst, arith}
 use Rattle.std.specs.Prelude.{Option, None, Some, nat_le, nat_lt}
 use Rattle.std.specs.List.Sorted.{IsPermutation}
-use Rattle.std.proofs.lemmas.Bool.{cond-false, ltb-true}
+use Rattle.std.proofs.lemmas.Bool.{cond-false, ltb-true, false_from_ne_true}
 use Rattle.std.proofs.lemmas.List.{append-nil, drop_all, append_assoc, get_or_default}
 use Rattle.cp_lists.proofs.Permuted.{in_permuted}
 use Rattle.cp_lists.proofs.Members.{drop_read, in_append_left, in_append_right, from_map, into_map}
@@ -20,7 +20,7 @@ use Rattle.cp_order.specs.LeadingNodes.{Tops, is_below}
 use Rattle.cp_order.proofs.AlongPairs.{leads_within_more}
 use Rattle.cp_load.specs.Acyclic.{IsAcyclic, IsAcyclicIf, IsAcyclicUpTo, IsSwept, pair_in, pairs_under, pairs_stated}
 use Rattle.cp_model.proofs.BoundedSearch.{none_in}
-use Rattle.cp_load.proofs.Cycles.{same_bool, not_after, stays_behind}
+use Rattle.cp_load.proofs.Cycles.{not_after, stays_behind}
 
 -- ---- some of the pairs
 
@@ -98,8 +98,9 @@ all-listed xs k h done whole e = sym (append-nil done) ∙ sym (ap (λ ys. done 
 pub known-acyclic : (before : List OrderPair) (p : OrderPair) (b : Bool) → on_one_strand p ≡ false → b ≡ true → IsAcyclicIf b (before ++ between_strands (Some p)) → false ≡ closes_cycle before p
 known-acyclic before p b other e h =
     let all : IsAcyclicIf b (before ++ p ∷ []) = subst (λ c. IsAcyclicIf b (before ++ (if c then [] else p ∷ []))) other h in
-    same_bool false (reaches (length before) before p.later p.earlier) (λ e. absurd (cc))
-    (λ r. absurd (all e p (in_append_right before here) (leads_within_more before (before ++ p ∷ []) (λ q m. in_append_left (p ∷ []) m) p.later p.earlier ((reaches_all before p.later p.earlier).0 r))))
+    sym
+    (false_from_ne_true (reaches (length before) before p.later p.earlier)
+    (λ r. all e p (in_append_right before here) (leads_within_more before (before ++ p ∷ []) (λ q m. in_append_left (p ∷ []) m) p.later p.earlier ((reaches_all before p.later p.earlier).0 r))))
     ∙ sym (cond-false (on_one_strand p) (nat_le p.later.index p.earlier.index) (reaches (length before) before p.later p.earlier) other)
 
 -- the pair of the first two items

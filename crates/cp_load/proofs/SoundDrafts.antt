@@ -3,6 +3,7 @@ use Rattle.std.proofs.Common.{◌≡◌, ℕ, ◌<◌, List, [], ◌∷◌, leng
 use Rattle.std.specs.Prelude.{Option, Some, option_map}
 use Rattle.cp_lists.proofs.Members.{into_map, in_cases, item_is_in}
 use Rattle.cp_lists.specs.Lists.{IsIn, here, there}
+use Rattle.cp_model.proofs.SingleMaps.{states_itself}
 use Rattle.cp_model.proofs.StatedItself.{keeps_its_own}
 use Rattle.cp_sexpr.specs.View.{view, views}
 use Rattle.cp_sexpr.specs.declared.form.Form as program
@@ -29,7 +30,7 @@ drafts_sound fs ds none same d m =
     let entered = subst (λ gs. IsIn found.0 (entries_from [] gs)) (sym (items_of-forms_of (map view fs))) found.1 in
     let problem = draft_view d in
     let skeleton = are_skeletons (views fs) found.0 problem none entered found.2 in
-    let kept = keeps_its_own problem.protocol problem.variables problem.skeleton skeleton (map_to_themselves (views fs) found.0 problem none entered found.2) in
+    let kept = keeps_its_own problem.protocol problem.variables problem.skeleton skeleton (states_itself (map_to_themselves (views fs) found.0 problem none entered found.2)) in
     record {
       protocol = problem.protocol;
       declared = λ role i. (roles_are_well_formed (views fs) found.0 problem role none entered found.2 i).trace;

@@ -1,7 +1,7 @@
 -- Bindings of a pattern's variables, and the substitutions that agree with them.
 use Rattle.std.proofs.Common.{◌≡◌, ◌⊎◌, ⊎_elim, inl, inr, ℕ, ◌+◌, ◌<◌, ◌≤◌, Bool, true, false, if◌then◌else◌, ◌==◌, List, [], ◌∷◌, map, length, get_or, drop, refl, sym, ap, ap₂, ◌∙◌, subst}
 use Rattle.std.specs.Prelude.{◌↔◌}
-use Rattle.std.proofs.lemmas.Bool.{eqb-true, eq-eqb, or_cases, or_left, or_right}
+use Rattle.std.proofs.lemmas.Bool.{eqb-true, eq-eqb, or_cases, or_left, or_right, false_from_ne_true}
 use Rattle.std.proofs.lemmas.List.{drop_all}
 use Rattle.cp_lists.specs.Lists.{IsIn, here, there}
 use Rattle.cp_lists.proofs.Members.{in_cases, not_in_none, only_item, in_append, drop_read}
@@ -10,6 +10,7 @@ use Rattle.cp_model.specs.Pattern.{IsPattern}
 use Rattle.cp_model.specs.Tree.{Pattern}
 use Rattle.cp_model.proofs.LawAgreement.{agree_term}
 use Rattle.cp_model.proofs.CarriedParts.{not_both}
+use Rattle.cp_model.proofs.LawTerms.{flag_same}
 use Rattle.cp_unify.specs.Beside.{Agrees, MatchesBeside}
 use Rattle.cp_unify.specs.Bindings.{Binding, variable_of}
 use Rattle.cp_unify.specs.Matches.{is_number_of}
@@ -20,13 +21,6 @@ use Rattle.cp_match.specs.Ready.{AgreesBut, IsAsSaid}
 
 abbrev pub SameFor : Substitution → Substitution → Variable → Type 0
 SameFor s t x = apply_to_atom s (atom_of_variable x) ≡ apply_to_atom t (atom_of_variable x)
-
-flag_back : (f a b : Bool) → flag_of f a ≡ flag_of f b → a ≡ b
-flag_back true true true e = refl
-flag_back true true false e = let no : false ≡ true = e in absurd (cc)
-flag_back true false true e = let no : true ≡ false = e in absurd (cc)
-flag_back true false false e = refl
-flag_back false a b e = e
 
 module _ (s t : Substitution) where
   one_same : (x y : Variable) → SameFor s t y → IsIn x (y ∷ []) → SameFor s t x
@@ -40,7 +34,7 @@ module _ (s t : Substitution) where
   akey_same flag n e =
       let e0 : flag_of flag (s.akeys n).0 ≡ flag_of flag (t.akeys n).0 = cc in
       let e1 : (s.akeys n).1 ≡ (t.akeys n).1 = cc in
-      ap₂ (λ (f : Bool) (k : PairTerm). key_term (asymmetric_term f k)) (flag_back flag (s.akeys n).0 (t.akeys n).0 e0) e1
+      ap₂ (λ (f : Bool) (k : PairTerm). key_term (asymmetric_term f k)) (flag_same flag (s.akeys n).0 (t.akeys n).0 e0) e1
 
   atom_same : (u : AtomTerm) → apply_to_atom s u ≡ apply_to_atom t u → (x : Variable) → IsIn x (variables_of_atom u) → SameFor s t x
   atom_same (text_variable n) e x i = one_same x _ e i
@@ -127,13 +121,9 @@ module _ (locals : List ℕ) (f s : Substitution) where
   first_agrees [] h = tt
   first_agrees (b ∷ bs) h = (λ e. sym (first_at (is_number_of locals) f s (variable_of b).sort b.number e) ∙ h.0, first_agrees bs h.1)
 
-false_or : (b : Bool) → (b ≡ true → ⊥) → b ≡ false
-false_or true n = absurd (n refl)
-false_or false n = refl
-
 -- A variable of the pattern that is no local has the number of none.
 other_number : (p : Pattern) → IsPattern p → (x : Variable) → IsFreeIn x p → is_number_of (numbers p.locals) x.number ≡ false
-other_number p is x free = false_or (is_number_of (numbers p.locals) x.number) (λ e.
+other_number p is x free = false_from_ne_true (is_number_of (numbers p.locals) x.number) (λ e.
     let r = numbered p.locals x.number e in
     let sort : (r.0).sort ≡ x.sort = is.one_sort r.0 x (is.locals_occur r.0 r.1) free.occurs r.2 in
     free.no_local (subst (λ (y : Variable). IsIn y p.locals) (ap₂ (λ (k : Sort) (n : ℕ). record { sort = k; number = n }) sort r.2) r.1))

@@ -19,7 +19,7 @@ dec_bool false false = yes refl
 dec_bool true false = no (λ e. cc)
 dec_bool false true = no (λ e. cc)
 
-dec_list : (xs ys : List ℕ) → Dec (xs ≡ ys)
+pub dec_list : (xs ys : List ℕ) → Dec (xs ≡ ys)
 dec_list [] [] = yes refl
 dec_list [] (y ∷ ys) = no (λ e. cc)
 dec_list (x ∷ xs) [] = no (λ e. cc)

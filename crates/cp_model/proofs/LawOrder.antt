@@ -1,10 +1,9 @@
 -- The order of a skeleton by strands and pairs alone.
 use Rattle.std.proofs.Common.{Some, ◌≡◌, ◌↔◌, ◌⊎◌, inl, inr, ℕ, zero, suc, ◌<◌, List, refl, sym, ◌∙◌, subst, arith}
-use Rattle.std.specs.Prelude.{nat_lt, Bool, true, false}
-use Rattle.std.proofs.lemmas.Bool.Decides.{nat_tests}
 use Rattle.cp_lists.specs.Lists.{item_at, IsIn, one_step, more_steps}
 use Rattle.cp_lists.proofs.Items.{item_before}
 use Rattle.cp_lists.proofs.Reached.{steps_append}
+use Rattle.cp_lists.proofs.Least.{less_or_same}
 use Rattle.cp_model.specs.Strand.{send}
 use Rattle.cp_model.specs.Bundle.{node_at}
 use Rattle.cp_model.specs.declared.node.Node.{Node}
@@ -27,13 +26,6 @@ before_leads k x y (one_step s) = step_leads k x y y s (on_strand (refl, omega a
 before_leads k x z (more_steps {y} s l) = step_leads k x y z s (before_leads k y z l)
 
 -- ---- what leads there is before
-
-less_or_same : (i j : ℕ) → i < suc j → (i < j) ⊎ (i ≡ j)
-less_or_same i j l = by_test (nat_lt i j) refl
-  where
-    by_test : (b : Bool) → nat_lt i j ≡ b → (i < j) ⊎ (i ≡ j)
-    by_test true e = inl (grind (arith, nat_tests))
-    by_test false e = inr (grind (arith, nat_tests))
 
 -- up a strand to an event
 along : (k : Skeleton) (s i j : ℕ) → i < j → IsNodeOf k.strands (node_at s j) → Before k (node_at s i) (node_at s j)

@@ -15,6 +15,15 @@ pub flag_last : (a : Bool) → flag_of a false ≡ a
 flag_last true = refl
 flag_last false = refl
 
+-- Added twice, a flag is gone; so a sum tells what was added to it.
+pub flag_twice : (a b : Bool) → flag_of a (flag_of a b) ≡ b
+flag_twice true true = refl
+flag_twice true false = refl
+flag_twice false b = refl
+
+pub flag_same : (f a b : Bool) → flag_of f a ≡ flag_of f b → a ≡ b
+flag_same f a b e = sym (flag_twice f a) ∙ ap (flag_of f) e ∙ flag_twice f b
+
 -- The value of a half under a flag that is a sum.
 half_flags : (g : Assignment) (a b : Bool) (k : PairTerm) → value_of_half g (flag_of a b) k ≡ (flag_of a (value_of_half g b k).0, (value_of_half g b k).1)
 half_flags g a b (akey_variable n) = ap (λ (f : Bool). (f, (g.akeys n).1)) (sym (flags a b (g.akeys n).0))

@@ -6,7 +6,7 @@ use Rattle.cp_model.specs.Identity.{unchanged}
 use Rattle.cp_model.specs.Strand.{Declaration}
 use Rattle.cp_model.specs.Skeleton.{Skeleton}
 use Rattle.cp_model.specs.Problem.{numbers_from, variable_terms}
-use Rattle.cp_model.specs.PointOfView.{MapsToItself, IsPointOfView}
+use Rattle.cp_model.specs.PointOfView.{MapsToItself, StatesItself, IsPointOfView}
 use Rattle.cp_model.specs.Homomorphism.{SkeletonMap, IsHomomorphism, CarriesHomomorphism, text_in, datum_in, name_in, skey_in, akey_in, substitution_by, number_or, strand_in, map_from_problem}
 use Rattle.cp_lists.proofs.Mapped.{map_same}
 use Rattle.cp_model.proofs.LawTerms.{term_unchanged}
@@ -69,6 +69,10 @@ own_substitution ds = λ i. record {
 -- A point-of-view skeleton maps its strands and variables to themselves.
 pub itself : {variables : List Declaration} {k : Skeleton} → IsPointOfView variables k → MapsToItself variables k
 itself own = record { strands = own.strands; values = own.values; closed = own.closed }
+
+-- It states itself.
+pub states_itself : {variables : List Declaration} {k : Skeleton} → IsPointOfView variables k → StatesItself variables k
+states_itself own = record { maps = itself own; assumed = own.assumed; pairs = own.pairs }
 
 pub own_map : (variables : List Declaration) (k : Skeleton) → MapsToItself variables k → map_from_problem k ≡ same_map
 own_map variables k own =

@@ -26,6 +26,13 @@ pub record MapsToItself (variables : List Declaration) (k : Skeleton) : Type 0 w
   pub values : k.from_problem.values ≡ variable_terms 0 variables
   pub closed : (x : Variable) → IsIn x (variables_of_skeleton k) → IsDeclared variables x
 
+-- The skeleton is its own problem: it maps to itself, the assumptions that the problem states itself are among its
+-- assumptions, and the pairs that the problem states are its pairs.
+pub record StatesItself (variables : List Declaration) (k : Skeleton) : Type 0 where
+  pub maps : MapsToItself variables k
+  pub assumed : HasOwnAssumptions k
+  pub pairs : k.from_problem.pairs ≡ k.pairs
+
 -- A point-of-view skeleton (CPSA Primer, "Input"): the skeleton of a problem with these variables. It maps each of its
 -- strands and each of its variables to itself; all variables that occur in it are among them; it assumes what the problem
 -- states itself and what its strands' roles give, and no more; and the pairs that the problem states are its own.

@@ -5,7 +5,7 @@ use Rattle.cp_model.specs.Term.{Sort, Variable, AtomTerm, atom_of_variable, Term
 use Rattle.cp_model.specs.Strand.{Declaration, variables_of_trace}
 use Rattle.cp_model.specs.Skeleton.{SkeletonStrand, skeleton_trace, UniqueAt, Assumptions, Skeleton}
 
--- The variables that occur in strands.
+-- The variables that occur in strands, in values of atom sorts, in terms, and in unique values.
 abbrev pub variables_of_strands : List SkeletonStrand → List Variable
 variables_of_strands [] = []
 variables_of_strands (s ∷ ss) = variables_of_trace (skeleton_trace s) ++ variables_of_strands ss

@@ -3,7 +3,7 @@
 ghost use Rattle.std.specs.Prelude.{◌≡◌, ℕ, List, [], ◌∷◌};
 ghost use Rattle.cp_model.specs.Example.{example_protocol, example_role, example_skeleton};
 ghost use Rattle.cp_model.specs.Homomorphism.{CarriesHomomorphism, IsCompleteList};
-ghost use Rattle.cp_model.specs.PointOfView.{IsPointOfView, MapsToItself};
+ghost use Rattle.cp_model.specs.PointOfView.{IsPointOfView, MapsToItself, StatesItself};
 ghost use Rattle.cp_model.specs.Single.{IsOneSendingStrand};
 ghost use Rattle.cp_model.specs.Skeleton.{IsSkeleton, Skeleton, instance};
 ghost use Rattle.cp_model.specs.Standing.{IsRealised};
@@ -29,9 +29,9 @@ pub fn skeleton_maps_from_itself()
     ensures { (variables : List Declaration) (k : Skeleton) → MapsToItself variables k → CarriesHomomorphism k k }
 {}
 
-/// The law that the skeleton of a problem keeps what it states itself.
+/// The law that a skeleton that is its own problem keeps what it states.
 pub fn skeleton_keeps_what_it_states()
-    ensures { (protocol : Protocol) (variables : List Declaration) (k : Skeleton) → IsSkeleton protocol k → IsPointOfView variables k → KeepsStated k k }
+    ensures { (protocol : Protocol) (variables : List Declaration) (k : Skeleton) → IsSkeleton protocol k → StatesItself variables k → KeepsStated k k }
 {}
 
 /// The law that a skeleton meets the premises of the laws above: an instance of a role that sends a text under a

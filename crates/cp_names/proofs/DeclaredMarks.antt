@@ -10,6 +10,7 @@ use Rattle.cp_model.specs.Same.{same_sort, has_variable}
 use Rattle.cp_language.specs.Printed.{variable}
 use Rattle.cp_names.specs.Marks.{is_of_sort, met_variable, met_variables, AreMarksAmong}
 use Rattle.std.proofs.lemmas.List.{length-replicate, get_or-replicate}
+use Rattle.std.proofs.Math.Bool.{and-true, and-false, or-false}
 
 marked_here : (b : Bool) (marks : List Bool) (j n : ℕ) → j ≡ n → n < length marks → get_or (if b then set marks j true else marks) n false ≡ (b || get_or marks n false)
 marked_here true marks j n e h = get_or-set_at marks j n true false (sym e) (omega arith)
@@ -19,14 +20,6 @@ marked_elsewhere : (b : Bool) (marks : List Bool) (j n : ℕ) → n ≢ j → ge
 marked_elsewhere true marks j n e = get_or-set_other marks j n true false e
 marked_elsewhere false marks j n e = refl
 
-and_true : (b : Bool) → (b && true) ≡ b
-and_true true = refl
-and_true false = refl
-
-and_false : (b : Bool) → (b && false) ≡ false
-and_false true = refl
-and_false false = refl
-
 met_one : (ds : List Declaration) (x : Variable) (marks : List Bool) (n : ℕ) (d : Declaration) → item_at ds n ≡ Some d → length marks ≡ length ds
     → get_or (met_variable ds x marks) n false ≡ ((same_sort x.sort d.sort && (x.number == n)) || get_or marks n false)
 met_one ds x marks n d here long =
@@ -35,11 +28,11 @@ met_one ds x marks n d here long =
     elim (eqb_tells x.number n) [
       | inl w ↦
           marked_here b marks x.number n w.1 in_marks
-          ∙ ap (λ c. c || get_or marks n false) (ap (λ j. is_of_sort (item_at ds j) x.sort) w.1 ∙ ap (λ o. is_of_sort o x.sort) here ∙ sym (and_true (same_sort x.sort d.sort)) ∙ ap (λ c. same_sort x.sort d.sort && c) (sym w.0))
+          ∙ ap (λ c. c || get_or marks n false) (ap (λ j. is_of_sort (item_at ds j) x.sort) w.1 ∙ ap (λ o. is_of_sort o x.sort) here ∙ sym (and-true (same_sort x.sort d.sort)) ∙ ap (λ c. same_sort x.sort d.sort && c) (sym w.0))
       | inr w ↦
           let differ = w.1 in
           marked_elsewhere b marks x.number n (λ e. differ (sym e))
-          ∙ ap (λ c. c || get_or marks n false) (sym (ap (λ c. same_sort x.sort d.sort && c) w.0 ∙ and_false (same_sort x.sort d.sort)))
+          ∙ ap (λ c. c || get_or marks n false) (sym (ap (λ c. same_sort x.sort d.sort && c) w.0 ∙ and-false (same_sort x.sort d.sort)))
     ]
 
 length-met : (ds : List Declaration) (x : Variable) (marks : List Bool) → length (met_variable ds x marks) ≡ length marks
@@ -67,10 +60,6 @@ met_all ds (x ∷ xs) marks n d here long =
     ∙ ap (λ b. has_variable xs (variable d.sort n) || b) (met_one ds x marks n d here long)
     ∙ or_turn (has_variable xs (variable d.sort n)) (same_sort x.sort d.sort && (x.number == n)) (get_or marks n false)
 
-or_none : (b : Bool) → (b || false) ≡ b
-or_none true = refl
-or_none false = refl
-
 none_met : (ds : List Declaration) (n : ℕ) (d : Declaration) → item_at ds n ≡ Some d → get_or (replicate (length ds) false) n false ≡ false
 none_met ds n d here = get_or-replicate (length ds) n false false (item_below ds n d here)
 
@@ -78,7 +67,7 @@ pub among_mean : (ds : List Declaration) (xs : List Variable) (marks : List Bool
 among_mean ds xs marks e = record {
   counted = ap length e ∙ length-all ds xs (replicate (length ds) false) ∙ length-replicate (length ds) false;
   each = λ n d here. ap (λ ms. get_or ms n false) e ∙ met_all ds xs (replicate (length ds) false) n d here (length-replicate (length ds) false)
-      ∙ ap (λ b. has_variable xs (variable d.sort n) || b) (none_met ds n d here) ∙ or_none (has_variable xs (variable d.sort n));
+      ∙ ap (λ b. has_variable xs (variable d.sort n) || b) (none_met ds n d here) ∙ or-false (has_variable xs (variable d.sort n));
 }
 
 pub met_past : (ds : List Declaration) (x : Variable) (marks : List Bool) → length ds ≤ x.number → met_variable ds x marks ≡ marks

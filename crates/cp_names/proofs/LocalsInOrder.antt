@@ -1,6 +1,7 @@
 -- The locals of a pattern in the order in which they occur.
 use Rattle.std.proofs.Common.{◌≡◌, ℕ, ◌==◌, ◌&&◌, ◌||◌, List, [], ◌∷◌, ◌++◌, Bool, true, false, refl, sym, ap, ap₂, ◌∙◌, if◌then◌else◌, append_assoc}
 use Rattle.std.proofs.lemmas.Bool.{and_parts, eqb-true}
+use Rattle.std.proofs.Math.Bool.{or_assoc}
 use Rattle.cp_model.specs.Term.{Sort, Variable}
 use Rattle.cp_model.specs.Same.{same_sort, has_variable}
 use Rattle.cp_model.proofs.SameTests.{sort_is}
@@ -19,10 +20,6 @@ has-again seen x y h = by_test (same_sort x.sort y.sort && (x.number == y.number
     by_test : (b : Bool) → (same_sort x.sort y.sort && (x.number == y.number)) ≡ b → (b || has_variable seen y) ≡ has_variable seen y
     by_test true e = sym (sym (ap (has_variable seen) (same_variable x y e)) ∙ h)
     by_test false e = refl
-
-or_assoc : (a b c : Bool) → ((a || b) || c) ≡ (a || (b || c))
-or_assoc true b c = refl
-or_assoc false b c = refl
 
 or_last : (a b : Bool) → (a || b) ≡ (b || (a || false))
 or_last true true = refl

@@ -1,5 +1,5 @@
 -- Rounds of narrowing: what takes the place of each candidate.
-use Rattle.std.proofs.Common.{◌≡◌, ◌↔◌, ◌⊎◌, inl, inr, List, [], ◌∷◌, ◌++◌, map, reverse, refl, sym, ap, ◌∙◌, subst}
+use Rattle.std.proofs.Common.{Bool, true, false, ◌≡◌, ◌↔◌, ◌⊎◌, inl, inr, List, [], ◌∷◌, ◌++◌, map, reverse, refl, sym, ap, ◌∙◌, subst}
 use Rattle.std.proofs.lemmas.List.{reverse-append, reverse-reverse, map-append, append-nil}
 use Rattle.cp_lists.specs.Lists.{IsIn, here}
 use Rattle.cp_lists.proofs.Items.{at_place}
@@ -54,6 +54,12 @@ same_place k old new e = record { added = Settled k ∷ []; behind = e; takes_pl
 
 pub settled_stays : (c : Candidate) (k : Form) (old new : List Candidate) → c ≡ Settled k → new ≡ old ++ Settled k ∷ [] → Puts c old new
 settled_stays c k old new is e = subst (λ (d : Candidate). Puts d old new) (sym is) (same_place k old new e)
+
+-- A test finds whether a skeleton stays; where it does not, what takes its place is put before, and nothing after.
+pub tested_place : (c : Candidate) (old between new : List Candidate) (stays : Bool) → (stays ≡ true → between ≡ old) → (stays ≡ false → Puts c old between) → (stays ≡ true → Puts c between new) → (stays ≡ false → new ≡ between) →
+    Puts c old new
+tested_place c old between new true same before after nothing = subst (λ (cs : List Candidate). Puts c cs new) (same refl) (after refl)
+tested_place c old between new false same before after nothing = subst (Puts c old) (sym (nothing refl)) (before refl)
 
 -- ---- a round
 

@@ -38,12 +38,14 @@ closes_none k before no_cycle c = no_cycle c.node (way_within k before c.pairs c
 
 -- ---- what the tests say
 
-pub not_refuted : (k : Skeleton) → IsRefuted k → (false ≡ true) ↔ IsNormal k
-not_refuted k r = (λ e. absurd (not_both refl e), λ n. absurd (n.consistent (contradictory k r)))
+-- A skeleton that is refuted, or in which a unique value strays, is not normal.
+pub refuted_not_normal : (k : Skeleton) → IsRefuted k → (false ≡ true) ↔ IsNormal k
+refuted_not_normal k r = (λ e. absurd (not_both refl e), λ n. absurd (n.consistent (contradictory k r)))
 
-pub not_stray : (k : Skeleton) → (IsSettled k → ⊥) → (false ≡ true) ↔ IsNormal k
-not_stray k stray = (λ e. absurd (not_both refl e), λ n. absurd (stray n.no_stray))
+pub stray_not_normal : (k : Skeleton) → (IsSettled k → ⊥) → (false ≡ true) ↔ IsNormal k
+stray_not_normal k stray = (λ e. absurd (not_both refl e), λ n. absurd (stray n.no_stray))
 
+-- Any other is normal exactly where its order has the pairs that are added.
 pub normal_if : (k : Skeleton) (own added : List OrderPair) (all : Bool) → IsSound k → own ≡ k.pairs → (IsRefuted k → ⊥) → IsSettled k → ((p : OrderPair) → IsIn p added ↔ IsAddedPair k p)
     → (all ≡ true) ↔ AllLead own added → (all ≡ true) ↔ IsNormal k
 normal_if k own added all sound same refuted settled are h = (λ e. normal (each (h.0 e)), λ n. h.1 (lead n))

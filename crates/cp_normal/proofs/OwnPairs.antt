@@ -1,6 +1,8 @@
 -- Pairs that are looked up among a skeleton's own.
 use Rattle.std.proofs.Common.{◌≡◌, ◌↔◌, ◌⊎◌, inl, inr, ℕ, suc, ◌+◌, ◌<◌, ◌≤◌, ◌==◌, ◌&&◌, ◌||◌, cond, not, Bool, true, false, List, [], ◌∷◌, ◌++◌, length, get_or, drop, refl, sym, ap, subst, ◌∙◌, add-one, arith}
+use Rattle.std.proofs.Math.Bool.{or-false}
 use Rattle.std.proofs.Math.Seq.{drop-cons}
+use Rattle.std.proofs.lemmas.Bool.{or_cases}
 use Rattle.std.proofs.lemmas.List.{drop_all}
 use Rattle.std.proofs.lemmas.Bool.Decides.{Decides-eqb, Decides-and}
 use Rattle.std.specs.HashSet.{HashSet, contains}
@@ -14,7 +16,7 @@ use Rattle.cp_model.specs.Order.{LeadsTo, on_strand, over_pair}
 use Rattle.cp_order.specs.LeadingNodes.{Target}
 use Rattle.cp_skel.proofs.EventLists.{moved}
 use Rattle.cp_normal.specs.Findings.{IsAddedPair, AreNormalPairs}
-use Rattle.cp_normal.specs.OwnPairs.{Key, key_of, is_same_key, has_key, AreKeysOf, is_other}
+use Rattle.cp_normal.specs.OwnPairs.{Key, key_of, is_same_key, has_key, AreKeysOf, is_other, AllLead}
 
 -- ---- the loops
 
@@ -22,10 +24,6 @@ or_on : (a b rest : Bool) → (cond a true b || rest) ≡ (b || (a || rest))
 or_on true true rest = refl
 or_on true false rest = refl
 or_on false b rest = refl
-
-or_false : (b : Bool) → (b || false) ≡ b
-or_false true = refl
-or_false false = refl
 
 module _ {S : Type 0} (ps : List OrderPair) (i : ℕ) (old : HashSet Key S) where
   pub next_key : (d : OrderPair) (new : HashSet Key S) → i < length ps → (k : Key) → k ≡ key_of (get_or ps i d) → ((q : Key) → contains is_same_key new q ≡ cond (is_same_key k q) true (contains is_same_key old q)) →
@@ -40,7 +38,7 @@ module _ {S : Type 0} (ps : List OrderPair) (i : ℕ) (old : HashSet Key S) wher
 
   pub all_keys : length ps ≤ i → ((q : Key) → (contains is_same_key old q || has_key (drop i ps) q) ≡ has_key ps q) → AreKeysOf old ps
   all_keys l inv q =
-      sym (ap (λ (xs : List OrderPair). contains is_same_key old q || has_key xs q) (drop_all i ps l) ∙ or_false (contains is_same_key old q)) ∙ inv q
+      sym (ap (λ (xs : List OrderPair). contains is_same_key old q || has_key xs q) (drop_all i ps l) ∙ or-false (contains is_same_key old q)) ∙ inv q
 
 module _ {A : Type 0} (f : A → Bool) (xs : List A) (i : ℕ) (old whole : List A) (l : i < length xs) (inv : old ++ filter f (drop i xs) ≡ whole) where
   next_kept : (d : A) (b : Bool) → f (get_or xs i d) ≡ b → filter f (drop i xs) ≡ cond b (get_or xs i d ∷ filter f (drop (suc i) xs)) (filter f (drop (suc i) xs))
@@ -61,24 +59,32 @@ same_key p r e =
     (Decides-and (p.later.strand == r.later.strand) (p.later.index == r.later.index) (Decides-eqb p.later.strand r.later.strand) (Decides-eqb p.later.index r.later.index))).0 e in
     λ i. record { earlier = record { strand = h.0.0 i; index = h.0.1 i }; later = record { strand = h.1.0 i; index = h.1.1 i } }
 
-either_true : (a b : Bool) → (a || b) ≡ true → (a ≡ true) ⊎ (b ≡ true)
-either_true true b e = inl refl
-either_true false b e = inr e
-
 key_found : (ps : List OrderPair) (r : OrderPair) → has_key ps (key_of r) ≡ true → IsIn r ps
 key_found [] r e = absurd (cc)
-key_found (p ∷ ps) r e = elim (either_true (is_same_key (key_of p) (key_of r)) (has_key ps (key_of r)) e) as (λ _. IsIn r (p ∷ ps)) [
+key_found (p ∷ ps) r e = elim (or_cases (is_same_key (key_of p) (key_of r)) (has_key ps (key_of r)) e) as (λ _. IsIn r (p ∷ ps)) [
   | inl h ↦ subst (λ x. IsIn r (x ∷ ps)) (sym (same_key p r h)) here
   | inr h ↦ there (key_found ps r h)
 ]
 
--- What leads to the later node is what leads there in the order.
-pub leads_as_asked : (own : List OrderPair) (x y : Node) (l : Target) (b : Bool) → l ≡ record { pairs = own; node = y } → (b ≡ true) ↔ LeadsTo l.pairs x l.node → (b ≡ true) ↔ LeadsTo own x y
-leads_as_asked own x y l b e = subst (λ (t : Target). (b ≡ true) ↔ LeadsTo t.pairs x t.node) e
+-- What leads to the later node along the sorted pairs is what leads there in the order.
+pub leads_among : (own sorted : List OrderPair) (x y : Node) (l : Target) (b : Bool) → sorted ≡ own → l ≡ record { pairs = sorted; node = y } → (b ≡ true) ↔ LeadsTo l.pairs x l.node → (b ≡ true) ↔ LeadsTo own x y
+leads_among own sorted x y l b same e h = subst (λ (ps : List OrderPair). (b ≡ true) ↔ LeadsTo ps x y) same (subst (λ (t : Target). (b ≡ true) ↔ LeadsTo t.pairs x t.node) e h)
 
 -- A pair whose key is found leads in the order.
 pub own_leads : {S : Type 0} (keys : HashSet Key S) (ps : List OrderPair) (p : OrderPair) → AreKeysOf keys ps → contains is_same_key keys (key_of p) ≡ true → LeadsTo ps p.earlier p.later
 own_leads keys ps p are e = over_pair (key_found ps p (sym (are (key_of p)) ∙ e)) (refl, omega arith) (on_strand (refl, omega arith))
+
+-- Where each pair that is not found leads, each leads.
+pub others_decide : {S : Type 0} (keys : HashSet Key S) (own pairs others : List OrderPair) (all : Bool) → AreKeysOf keys own → others ≡ filter (λ p. is_other keys p) pairs →
+    (all ≡ true) ↔ AllLead own others → (all ≡ true) ↔ AllLead own pairs
+others_decide keys own pairs others all are is h = (λ e p m. found_or_other (h.0 e) p (contains is_same_key keys (key_of p)) refl m, λ lead. h.1 (others_lead lead))
+  where
+    found_or_other : AllLead own others → (p : OrderPair) (b : Bool) → contains is_same_key keys (key_of p) ≡ b → IsIn p pairs → LeadsTo own p.earlier p.later
+    found_or_other lead p true e m = own_leads keys own p are e
+    found_or_other lead p false e m = lead p (subst (IsIn p) (sym is) (into_filter (λ q. is_other keys q) pairs m (ap not e)))
+
+    others_lead : AllLead own pairs → AllLead own others
+    others_lead lead p m = lead p (from_filter (λ q. is_other keys q) pairs (subst (IsIn p) is m)).0
 
 -- ---- own pairs, and the others that are added
 

@@ -5,12 +5,12 @@ use Rattle.cp_model.specs.Term.{Sort, text_sort, datum_sort, name_sort, skey_sor
 use Rattle.cp_model.specs.Identity.{unchanged}
 use Rattle.cp_model.specs.Skeleton.{FromProblem, Skeleton}
 use Rattle.cp_model.specs.Problem.{variables_of_skeleton}
-use Rattle.cp_lists.proofs.Members.{in_append, in_append_left, in_append_right, only_item}
+use Rattle.cp_lists.proofs.Members.{in_append, in_append_left, in_append_right, only_item, in_or_not}
 use Rattle.cp_model.proofs.LawTerms.{atom_composed, term_composed, atom_unchanged, term_unchanged}
 use Rattle.cp_completeness.specs.Normal.{variables_of_terms, skeleton_under}
 use Rattle.cp_unify.specs.Unifiers.{AreAmong}
-use Rattle.cp_unify.proofs.VariableTests.{occurs_tells}
 use Rattle.cp_unify.proofs.VariablesUnder.{Leaves, leaves_variables_of, leaves_atom, given_atom, given_term}
+use Rattle.cp_unify.proofs.VariableTests.{is_variable_tells}
 use Rattle.cp_collapse.specs.SameSkeletons.{SaysTheSame}
 use Rattle.cp_normal.specs.BySubstitution.{all_variables, StaysWithin}
 use Rattle.cp_collapse.specs.Directed.{IsMostGeneralFor}
@@ -19,8 +19,8 @@ use Rattle.cp_collapse.proofs.NoNewVariables.{unifier_none_new, unifier_leaves}
 
 -- ---- variables of terms
 
-in_or_not : (xs : List Variable) (x : Variable) → IsIn x xs ⊎ (IsIn x xs → ⊥)
-in_or_not xs x = elim (occurs_tells xs x) [ inl p ↦ inl p.1 | inr p ↦ inr p.1 ]
+variable_or_other : (x y : Variable) → (x ≡ y) ⊎ (x ≡ y → ⊥)
+variable_or_other x y = elim (is_variable_tells x y) [ inl p ↦ inl p.1 | inr p ↦ inr p.1 ]
 
 of_variable : (s : Sort) (n : ℕ) (y : Variable) → IsIn y (variables_of_atom (atom_of_variable (record { sort = s; number = n }))) → y ≡ record { sort = s; number = n }
 of_variable text_sort n y i = only_item i
@@ -75,14 +75,14 @@ module _ (s : Substitution) (k l : Skeleton) (w : StaysWithin k s) (same : SaysT
     -- What the second gives a variable that the first leaves is left by the first, and of k.
     then_kept : (x y : Variable) → IsKept x → IsIn y (variables_of_atom (apply_to_atom t (atom_of_variable x))) → IsKept y
     then_kept x y own i =
-        elim (in_or_not (all_variables l) x) [
+        elim (in_or_not variable_or_other (all_variables l) x) [
           | inl p ↦ kept y (v.within x y p i)
           | inr never ↦ subst IsKept (sym (left_alone t x y (v.leaves x never) i)) own
         ]
 
     then_left : (x y : Variable) → Leaves s x → IsIn y (variables_of_atom (apply_to_atom t (atom_of_variable x))) → Leaves s y
     then_left x y own i =
-        elim (in_or_not (all_variables l) x) [
+        elim (in_or_not variable_or_other (all_variables l) x) [
           | inl p ↦ (kept y (v.within x y p i)).0
           | inr never ↦ subst (Leaves s) (sym (left_alone t x y (v.leaves x never) i)) own
         ]
@@ -131,6 +131,6 @@ module _ (k : Skeleton) (a b : AtomTerm) (s : Substitution) (of_a : (x : Variabl
   pub unifier_stays_within : StaysWithin k s
   unifier_stays_within = record {
     idempotent = m.directed.idempotent;
-    within = unifier_none_new (λ x. IsIn x (all_variables k)) (in_or_not (all_variables k)) a b s of_a of_b m;
-    leaves = unifier_leaves (λ x. IsIn x (all_variables k)) (in_or_not (all_variables k)) a b s of_a of_b m;
+    within = unifier_none_new (λ x. IsIn x (all_variables k)) (in_or_not variable_or_other (all_variables k)) a b s of_a of_b m;
+    leaves = unifier_leaves (λ x. IsIn x (all_variables k)) (in_or_not variable_or_other (all_variables k)) a b s of_a of_b m;
   }

@@ -1,4 +1,4 @@
--- Pairs that are looked up by their nodes among the skeleton's own.
+-- Pairs that are looked up by their nodes among the skeleton's own, and pairs that its order has.
 use Rattle.std.specs.Prelude.{◌≡◌, ◌==◌, ◌&&◌, ℕ, List, Bool, not}
 use Rattle.std.specs.List.{list_any}
 use Rattle.std.specs.HashSet.{HashSet, contains}

@@ -1,5 +1,5 @@
 // Skeletons on the way to normal forms, and rounds of narrowing.
-ghost use Rattle.std.specs.Prelude.{◌≡◌, ◌↔◌, ◌++◌, map, IsTrue, IfOk, OnOk};
+ghost use Rattle.std.specs.Prelude.{◌≡◌, ◌↔◌, ◌++◌, map, false, IsTrue, IfOk, OnOk};
 ghost use Rattle.cp_skel.specs.Events.{occurrence_view, events_of};
 ghost use Rattle.cp_normal.specs.Branches.{IsSettled};
 ghost use Rattle.cp_normal.specs.Candidates.{IsOpen, Puts, IsRound};
@@ -78,19 +78,75 @@ fn put_settled(
     }
 }
 
+/// Whether a skeleton, where these are its events, stays: its assumptions do not contradict what its nodes carry, and no
+/// unique value strays in it. Where one strays, its branches are put behind others. The error is that memory ran out.
+fn stays(
+    alloc: Global,
+    form: &Form,
+    occurrences: &[Occurrence],
+    next: &mut Vec<Candidate>,
+) -> Result<bool, AllocError>
+    requires listed { map occurrence_view occurrences.now ≡ events_of (form_view form.now) }
+    ensures consistent { IfOk result (λ stays. IsTrue stays → IsRefuted (form_view form.now) → ⊥) }
+    ensures settled { IfOk result (λ stays. IsTrue stays → IsSettled (form_view form.now)) }
+    ensures same { IfOk result (λ stays. IsTrue stays → next.new.items ≡ next.old.items) }
+    ensures put { IfOk result (λ stays. stays ≡ false → Puts (variants.Open form.now) next.old.items next.new.items) }
+{
+    if is_refuted(&form.skeleton, occurrences) {
+        return Ok(false);
+    }
+    match first_stray(alloc, &form.skeleton, occurrences)? {
+        Some(stray) => {
+            put_branches(alloc, form, occurrences, &stray, next)?;
+            Ok(false)
+        }
+        None => Ok(true),
+    }
+}
+
+/// Puts a skeleton behind others where it stays, and nothing where it does not, where these are its events. The error is that
+/// memory ran out.
+fn put_staying(
+    alloc: Global,
+    form: Form,
+    stays: bool,
+    occurrences: &[Occurrence],
+    next: &mut Vec<Candidate>,
+) -> Result<(), AllocError>
+    requires listed { map occurrence_view occurrences.now ≡ events_of (form_view form) }
+    requires consistent { IsTrue stays → IsRefuted (form_view form) → ⊥ }
+    requires settled { IsTrue stays → IsSettled (form_view form) }
+    ensures staying { OnOk result (IsTrue stays → Puts (variants.Open form) next.old.items next.new.items) }
+    ensures another { stays ≡ false → next.new.items ≡ next.old.items }
+{
+    if stays {
+        put_settled(alloc, form, occurrences, next)
+    } else {
+        Ok(())
+    }
+}
+
+/// Puts what takes the place of a skeleton, where these are its events, behind others. The error is that memory ran out.
+fn narrow_among(
+    alloc: Global,
+    form: Form,
+    occurrences: &[Occurrence],
+    next: &mut Vec<Candidate>,
+) -> Result<(), AllocError>
+    requires listed { map occurrence_view occurrences.now ≡ events_of (form_view form) }
+    ensures { OnOk result (Puts (variants.Open form) next.old.items next.new.items) }
+{
+    let stays = stays(alloc, &form, occurrences, next)?;
+    put_staying(alloc, form, stays, occurrences, next)
+}
+
 /// Puts what a skeleton in which unique values may stray leads to behind others: nothing where it contradicts itself, its
 /// branches where a unique value strays, and else itself. Its events are listed here, and nowhere else.
 fn narrow(alloc: Global, form: Form, next: &mut Vec<Candidate>) -> Result<(), AllocError>
     ensures { OnOk result (Puts (variants.Open form) next.old.items next.new.items) }
 {
     let occurrences = form.skeleton.events(alloc)?;
-    if is_refuted(&form.skeleton, &occurrences) {
-        return Ok(());
-    }
-    match first_stray(alloc, &form.skeleton, &occurrences)? {
-        Some(stray) => put_branches(alloc, &form, &occurrences, &stray, next),
-        None => put_settled(alloc, form, &occurrences, next),
-    }
+    narrow_among(alloc, form, &occurrences, next)
 }
 
 /// Puts what takes the place of a candidate behind others.

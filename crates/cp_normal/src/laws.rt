@@ -7,7 +7,7 @@ ghost use Rattle.cp_model.specs.Skeleton.{Skeleton, IsSkeleton};
 ghost use Rattle.cp_model.specs.declared.node.OrderPair.{OrderPair};
 ghost use Rattle.cp_model.specs.Standing.{Standing, StandsIn};
 ghost use Rattle.cp_model.specs.Homomorphism.{CarriesHomomorphism};
-ghost use Rattle.cp_model.specs.PointOfView.{IsPointOfView, MapsToItself};
+ghost use Rattle.cp_model.specs.PointOfView.{MapsToItself, StatesItself};
 ghost use Rattle.cp_model.specs.Stated.{KeepsStated};
 ghost use Rattle.cp_model.specs.Realisation.{KeepsAssumptions};
 ghost use Rattle.cp_completeness.specs.Normal.{skeleton_under, AddOnlyOriginPairs, LosesNoStanding};
@@ -31,7 +31,7 @@ pub fn normal_forms_keep_what_is_stated()
     ensures skeleton { (protocol : Protocol) (k r : Skeleton) → IsNormalFormOf k r → IsSkeleton protocol k → IsSkeleton protocol r }
     ensures itself { (k r : Skeleton) → IsNormalFormOf k r → IsNormalFormOf r r }
     ensures homomorphism { (variables : List Declaration) (problem k r : Skeleton) → MapsToItself variables problem → IsNormalFormOf k r → CarriesHomomorphism problem k → CarriesHomomorphism problem r }
-    ensures stated { (variables : List Declaration) (problem k r : Skeleton) → IsPointOfView variables problem → IsNormalFormOf k r → CarriesHomomorphism problem k → KeepsStated problem k → KeepsStated problem r }
+    ensures stated { (variables : List Declaration) (problem k r : Skeleton) → StatesItself variables problem → IsNormalFormOf k r → CarriesHomomorphism problem k → KeepsStated problem k → KeepsStated problem r }
     ensures assumptions { (protocol : Protocol) (k : Skeleton) → IsSkeleton protocol k → IsNormal k → KeepsAssumptions k }
     ensures substitution { (k l : Skeleton) → NarrowsTo k l → (s : Substitution) × SaysTheSame (skeleton_under s k) l }
     ensures standing { (k l : Skeleton) (b : Bundle) (h : Standing) → NarrowsTo k l → StandsIn k b h → StandsIn l b h → (s : Substitution) × SaysTheSame (skeleton_under s k) l × ((t : Term) → value_of (after h.values s) t ≡ value_of h.values t) }

@@ -33,6 +33,7 @@ pub use laws::{contradictory_skeletons_stand_nowhere, normal_forms_keep_what_is_
 pub use normal::{is_normal, normal_pairs};
 pub use normal_forms::{normalise, normalise_beside};
 pub use origins::{has_two_origins, loses_origin};
+pub use own_pairs::all_lead;
 pub use pairs::added_pairs;
 pub use variables_laws::{
     normal_forms_have_declared_variables, substitutions_keep_declared_variables,

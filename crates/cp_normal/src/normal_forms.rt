@@ -1,5 +1,5 @@
 // Normal forms of a skeleton.
-ghost use Rattle.std.specs.Prelude.{◌≡◌, map, IfOk, OnOk};
+ghost use Rattle.std.specs.Prelude.{◌≡◌, [], ◌∷◌, map, IfOk, OnOk};
 ghost use Rattle.cp_lists.specs.Lists.{IsIn};
 ghost use Rattle.cp_model.specs.Skeleton.{Skeleton as Plain, IsSkeleton};
 ghost use Rattle.cp_model.specs.Strand.{Protocol};
@@ -12,6 +12,7 @@ ghost use Rattle.cp_normal.specs.Candidates.{form_of, IsOpen, PutsForm, AreForms
 ghost use Rattle.cp_normal.specs.Exact.{HasForms};
 ghost use Rattle.cp_normal.specs.Formed.{AreFormsBeside};
 ghost use Rattle.cp_normal.specs.NormalForms.{IsNormalFormOf};
+ghost use Rattle.cp_normal.specs.declared.candidates.Candidate.TheVariants as variants;
 
 use crate::candidates::{Candidate, round, some_is_open};
 use crate::form::Form;
@@ -47,6 +48,26 @@ fn forms_of(alloc: Global, candidates: Vec<Candidate>) -> Result<Vec<Form>, Allo
     Ok(forms)
 }
 
+/// A skeleton in which unique values may stray, alone. The error is that memory ran out.
+fn alone(alloc: Global, form: Form) -> Result<Vec<Candidate>, AllocError>
+    ensures { IfOk result (λ candidates. candidates.items ≡ variants.Open form ∷ []) }
+{
+    let mut candidates = Vec::with_capacity(alloc, 1)?;
+    candidates.push(Candidate::Open(form))?;
+    Ok(candidates)
+}
+
+/// The normal forms of a skeleton, each with what its substitution has become. The error is that memory ran out.
+fn narrowed(alloc: Global, form: Form) -> Result<Vec<Form>, AllocError>
+    ensures { IfOk result (λ fs. AreFormsBeside form.skeleton form.substitution fs.items) }
+{
+    let mut candidates = alone(alloc, form)?;
+    while some_is_open(&candidates) {
+        candidates = round(alloc, candidates)?;
+    }
+    forms_of(alloc, candidates)
+}
+
 /// The normal forms of a skeleton, in the order in which `normalise` gives them, each with what a substitution has become:
 /// the given one, followed by the one by which the normal form comes from the skeleton, whatever the bundle that this stands
 /// in. So terms that the given substitution makes terms of the skeleton are made terms of the normal form.
@@ -60,13 +81,7 @@ pub fn normalise_beside(alloc: Global, k: Skeleton, beside: &Subst) -> Result<Ve
         skeleton: k,
         substitution,
     };
-    let mut alone = Vec::with_capacity(alloc, 1)?;
-    alone.push(Candidate::Open(first))?;
-    let mut candidates = alone;
-    while some_is_open(&candidates) {
-        candidates = round(alloc, candidates)?;
-    }
-    forms_of(alloc, candidates)
+    narrowed(alloc, first)
 }
 
 /// The skeletons of forms, in their order.

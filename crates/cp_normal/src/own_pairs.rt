@@ -1,9 +1,9 @@
-// A skeleton's own pairs, among which others are looked up.
-ghost use Rattle.std.specs.Prelude.{◌≡◌, ◌↔◌, ◌++◌, map, IsTrue, IfOk, OnOk};
+// Pairs that are looked up among those of an order.
+ghost use Rattle.std.specs.Prelude.{◌≡◌, ◌↔◌, ◌++◌, IsTrue, IfOk, OnOk};
 ghost use Rattle.std.specs.List.{filter};
 ghost use Rattle.cp_normal.specs.OwnPairs.{key_of, AreKeysOf, is_other, AllLead};
 
-use cp_skel::{Leading, OrderPair};
+use cp_skel::{OrderPair, SortedPairs};
 use std::alloc::{AllocError, Global};
 use std::collections::HashSet;
 
@@ -46,23 +46,35 @@ pub(crate) fn add_others(
     Ok(())
 }
 
-/// Whether each of the pairs is in the order that a skeleton's own give, among which most stand.
-pub(crate) fn all_lead(
-    alloc: Global,
-    own: &[OrderPair],
-    pairs: &[OrderPair],
-) -> Result<bool, AllocError>
-    ensures { IfOk result (λ all. IsTrue all ↔ AllLead own.now pairs.now) }
+/// Whether the earlier node of each of the pairs leads to the later one along strands and the pairs of an order. The error is
+/// that memory ran out.
+fn lead_along(alloc: Global, order: &[OrderPair], pairs: &[OrderPair]) -> Result<bool, AllocError>
+    ensures { IfOk result (λ all. IsTrue all ↔ AllLead order.now pairs.now) }
 {
-    let keys = keys_of(alloc, own)?;
+    if pairs.is_empty() {
+        return Ok(true);
+    }
+    let sorted = SortedPairs::new(alloc, order)?;
     for pair in pairs {
-        if keys.contains(&key_of(*pair)) {
-            continue;
-        }
-        let leading = Leading::new(alloc, own, pair.later)?;
+        let leading = sorted.leading_to(alloc, pair.later)?;
         if !leading.has(pair.earlier) {
             return Ok(false);
         }
     }
     Ok(true)
+}
+
+/// Whether the earlier node of each of the pairs leads to the later one along strands and the pairs of an order. Pairs that are
+/// among those of the order are looked up; what leads to the later nodes of the rest is gathered. The error is that memory
+/// ran out.
+pub fn all_lead(alloc: Global, order: &[OrderPair], pairs: &[OrderPair]) -> Result<bool, AllocError>
+    ensures { IfOk result (λ all. IsTrue all ↔ AllLead order.now pairs.now) }
+{
+    if pairs.is_empty() {
+        return Ok(true);
+    }
+    let keys = keys_of(alloc, order)?;
+    let mut others = Vec::new(alloc);
+    add_others(pairs, &keys, &mut others)?;
+    lead_along(alloc, order, &others)
 }

@@ -1,7 +1,7 @@
 // Skeletons in which no unique value strays, each with the pairs of its normal form.
-ghost use Rattle.std.specs.Prelude.{◌≡◌, map, IfOk, MatchOption};
+ghost use Rattle.std.specs.Prelude.{◌≡◌, map, option_map, IfOk, MatchOption};
 ghost use Rattle.cp_skel.specs.Events.{occurrence_view, events_of};
-ghost use Rattle.cp_normal.specs.Findings.{IsContradictory};
+ghost use Rattle.cp_normal.specs.Findings.{IsContradictory, IsNormalised};
 ghost use Rattle.cp_normal.specs.Branches.{IsSettled};
 ghost use Rattle.cp_normal.specs.Candidates.{IsFormOf};
 ghost use Rattle.cp_normal.specs.Exact.{IsRefuted};
@@ -40,6 +40,21 @@ impl Model for Settled {
 }
 
 impl Settled {
+    /// A skeleton in which no unique value strays, with its substitution, beside the pairs of its normal form: none where it
+    /// has none.
+    fn beside(form: Form, pairs: Option<Vec<OrderPair>>) -> Option<Settled>
+        requires settled { IsSettled (form_view form) }
+        requires normalised { IsNormalised (form_view form) (option_map (λ pairs. pairs.items) pairs) }
+        ensures { MatchOption result
+            (IsContradictory (form_view form))
+            (λ s. s ≡ form) }
+    {
+        match pairs {
+            Some(pairs) => Some(Settled { form, pairs }),
+            None => None,
+        }
+    }
+
     /// A skeleton in which no unique value strays, with its substitution, where these are its events and its assumptions do
     /// not contradict what its nodes carry; none where it contradicts itself all the same. The error is that memory ran out.
     pub(crate) fn new(
@@ -54,10 +69,8 @@ impl Settled {
             (IsContradictory (form_view form))
             (λ s. s ≡ form)) }
     {
-        match normal_pairs_among(alloc, &form.skeleton, occurrences)? {
-            Some(pairs) => Ok(Some(Settled { form, pairs })),
-            None => Ok(None),
-        }
+        let pairs = normal_pairs_among(alloc, &form.skeleton, occurrences)?;
+        Ok(Settled::beside(form, pairs))
     }
 
     /// Its normal form. The error is that memory ran out.

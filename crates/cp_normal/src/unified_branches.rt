@@ -1,5 +1,10 @@
 // One step of narrowing.
-ghost use Rattle.std.specs.Prelude.{IfOk};
+ghost use Rattle.std.specs.Prelude.{◌≡◌, IfOk};
+ghost use Rattle.cp_model.specs.Term.{Term, apply_to};
+ghost use Rattle.cp_completeness.specs.Normal.{skeleton_under};
+ghost use Rattle.cp_unify.specs.Bindings.{as_substitution};
+ghost use Rattle.cp_collapse.specs.SameSkeletons.{SaysTheSame};
+ghost use Rattle.cp_normal.specs.FormView.{form_view};
 ghost use Rattle.cp_normal.specs.Branched.{AreBranchesOf};
 
 use crate::form::Form;
@@ -7,6 +12,22 @@ use cp_collapse::under;
 use cp_skel::Atom;
 use cp_unify::{Subst, compose, unify};
 use std::alloc::{AllocError, Global};
+
+/// The skeleton under a substitution, and its own substitution followed by that one. The error is that memory ran out.
+fn branch_by(alloc: Global, form: &Form, s: &Subst) -> Result<Form, AllocError>
+    ensures same { IfOk result (λ l. SaysTheSame (skeleton_under (as_substitution s.now) (form_view form.now)) (form_view l)) }
+    ensures variables { IfOk result (λ l. l.skeleton.variables ≡ form.now.skeleton.variables) }
+    ensures followed { IfOk result (λ l. (t : Term)
+        → apply_to (as_substitution l.substitution) t
+        ≡ apply_to (as_substitution s.now) (apply_to (as_substitution form.now.substitution) t)) }
+{
+    let skeleton = under(alloc, &form.skeleton, s)?;
+    let substitution = compose(alloc, &form.substitution, s)?;
+    Ok(Form {
+        skeleton,
+        substitution,
+    })
+}
 
 /// The skeleton under the most general unifier of a value and an atom, and its substitution followed by the unifier, for each
 /// of the atoms that unifies with the value, in their order.
@@ -25,12 +46,7 @@ pub(crate) fn branches(
             Some(s) => s,
             None => continue,
         };
-        let skeleton = under(alloc, &form.skeleton, &s)?;
-        let substitution = compose(alloc, &form.substitution, &s)?;
-        branches.push(Form {
-            skeleton,
-            substitution,
-        })?;
+        branches.push(branch_by(alloc, form, &s)?)?;
     }
     Ok(branches)
 }

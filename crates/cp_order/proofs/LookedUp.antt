@@ -1,9 +1,11 @@
 -- What leads to which node along one of closed pairs: what is found in rows, and rows as they are made.
-use Rattle.std.proofs.Common.{if◌then◌else◌, ◌≡◌, ◌↔◌, ◌⊎◌, inl, inr, ℕ, suc, ◌+◌, ◌-◌, ◌<◌, ◌≤◌, List, [], ◌∷◌, ◌++◌, length, get_or, map, drop, Bool, true, false, ◌&&◌, ◌||◌, refl, sym, ap, ◌∙◌, subst, arith}
+use Rattle.std.proofs.Common.{if◌then◌else◌, ◌≡◌, ◌↔◌, ◌⊎◌, inl, inr, ℕ, suc, ◌+◌, ◌-◌, ◌<◌, ◌≤◌, List, [], ◌∷◌, ◌++◌, length, get_or, map, drop, Bool, true, false, ◌&&◌, ◌||◌, refl, sym, ap, ◌∙◌, subst, arith, le-leb, eqb-true}
 use Rattle.std.specs.Prelude.{◌==◌, nat_le, nat_eq, Option, Some, None, is_some, cond, slice_get}
 use Rattle.std.proofs.lemmas.Bool.Decides.{nat_tests}
 use Rattle.std.proofs.lemmas.List.{length-map, map_push, get_or_default}
 use Rattle.std.specs.List.{filter}
+use Rattle.std.proofs.lemmas.Bool.{and_right}
+use Rattle.std.proofs.Math.Bool.{and-false}
 use Rattle.cp_lists.specs.Lists.{IsIn, here, there, item_at}
 use Rattle.cp_lists.proofs.Members.{into_filter, next_or_rest, none_left}
 use Rattle.cp_lists.proofs.Items.{item_below, item_there, item_of_push, map_of_item, slice_get_item}
@@ -38,15 +40,12 @@ no_later t s j i h = by_test (t == s) refl
 as_far : (t s k i j : ℕ) → (t ≡ s → k ≤ i) → i ≤ j → ((t == s) && nat_le k i) ≡ ((t == s) && nat_le k j)
 as_far t s k i j h l = by_test (t == s) refl
   where
-    within : (m n : ℕ) → m ≤ n → nat_le m n ≡ true
-    within m n a = grind (arith, nat_tests)
-
     by_test : (b : Bool) → (t == s) ≡ b → (b && nat_le k i) ≡ (b && nat_le k j)
     by_test false e = refl
     by_test true e =
         let same : t ≡ s = grind (arith, nat_tests) in
         let a : k ≤ i = h same in
-        within k i a ∙ sym (within k j (omega (arith, a, l)))
+        le-leb k i a ∙ sym (le-leb k j (omega (arith, a, l)))
 
 not_at : (t s k i j : ℕ) → j ≡ suc i → ((t == s) && (k == j)) ≡ false → ((t == s) && nat_le k i) ≡ ((t == s) && nat_le k j)
 not_at t s k i j e h = by_test (t == s) refl
@@ -65,11 +64,7 @@ module _ (pairs : List OrderPair) (s : ℕ) where
   between_alike i j h x = some_alike (is_between x (at i)) (is_between x (at j)) pairs (λ p m. ap (λ b. at_or_after x p.earlier && b) (h p m))
 
   none_between : (i : ℕ) → ((p : OrderPair) → IsIn p pairs → p.later.strand ≡ s → ⊥) → (x : Node) → any_pair (is_between x (at i)) pairs ≡ false
-  none_between i h x = none_passes (is_between x (at i)) pairs (λ p m. never (at_or_after x p.earlier) (at_or_after p.later (at i)) (no_later p.later.strand s p.later.index i (h p m)))
-    where
-      never : (b c : Bool) → c ≡ false → (b && c) ≡ false
-      never true c e = e
-      never false c e = refl
+  none_between i h x = none_passes (is_between x (at i)) pairs (λ p m. and_right (at_or_after x p.earlier) (at_or_after p.later (at i)) (no_later p.later.strand s p.later.index i (h p m)))
 
   module _ (rows : List Tops) (r : AreRowsOn pairs s rows) (x : Node) where
     found_last : (i : ℕ) → length rows ≤ i → (last : Option Tops) → item_at rows (length rows - 1) ≡ last → is_in_last last x ≡ any_pair (is_between x (at i)) pairs
@@ -162,11 +157,7 @@ some_kept f test (p ∷ ps) h = first_kept f test p (filter test ps) ps (test p)
 
 module _ (pairs : List OrderPair) (s : ℕ) where
   elsewhere : (x : Node) (i : ℕ) (p : OrderPair) → ends_on s p ≡ false → is_between x (at pairs s i) p ≡ false
-  elsewhere x i p e = ap (λ b. at_or_after x p.earlier && (b && nat_le p.later.index i)) e ∙ never (at_or_after x p.earlier)
-    where
-      never : (b : Bool) → (b && false) ≡ false
-      never true = refl
-      never false = refl
+  elsewhere x i p e = ap (λ b. at_or_after x p.earlier && (b && nat_le p.later.index i)) e ∙ and-false (at_or_after x p.earlier)
 
   ends_there : (p : OrderPair) → p.later.strand ≡ s → ends_on s p ≡ true
   ends_there p e = grind (arith, nat_tests)
@@ -242,11 +233,8 @@ module _ {V : Type 0} (pairs : List OrderPair) (show : V → List Tops) where
         same_strand : (n : ℕ) → nat_eq n n ≡ true
         same_strand n = grind (arith, nat_tests)
 
-        strand_is : (m n : ℕ) → nat_eq m n ≡ true → m ≡ n
-        strand_is m n e = grind (arith, nat_tests)
-
         each_by : (s : ℕ) (w : V) (b : Bool) → nat_eq next.later.strand s ≡ b → cond b (Some v) (old s) ≡ Some w → AreRowsOn pairs s (show w)
-        each_by s w true e f = let same : v ≡ w = cc in subst (λ (n : ℕ). AreRowsOn pairs n (show w)) (strand_is next.later.strand s e) (subst (λ (u : V). AreRowsOn pairs next.later.strand (show u)) same on)
+        each_by s w true e f = let same : v ≡ w = cc in subst (λ (n : ℕ). AreRowsOn pairs n (show w)) (eqb-true next.later.strand s e) (subst (λ (u : V). AreRowsOn pairs next.later.strand (show u)) same on)
         each_by s w false e f = h.each s w f
 
   pub rows_all : (rows : ℕ → Option V) (i : ℕ) → length pairs ≤ i → SoFar (drop i pairs) rows → (s : ℕ) → AreRowsOn pairs s (shown (rows s) show)

@@ -1,5 +1,5 @@
 -- Pairs in the order of their later nodes: those that are reached stand together.
-use Rattle.std.proofs.Common.{◌≡◌, ℕ, zero, suc, ◌-◌, ◌<◌, ◌≤◌, List, [], ◌∷◌, length, get_or, take, drop, Bool, true, false, not, ◌&&◌, ◌||◌, if◌then◌else◌, refl, sym, ap, ◌∙◌, arith, Less, Equal, Greater}
+use Rattle.std.proofs.Common.{◌≡◌, ℕ, zero, suc, ◌-◌, ◌<◌, ◌≤◌, List, [], ◌∷◌, length, get_or, take, drop, Bool, true, false, not, ◌&&◌, ◌||◌, if◌then◌else◌, refl, sym, ap, ◌∙◌, arith, Less, Equal, Greater, le_of_eq}
 use Rattle.std.specs.Prelude.{◌==◌, nat_le, nat_lt, Option, Some, None, cond}
 use Rattle.std.specs.List.Sorted.{IsPermutation, IsSortedByKey, IsPartitionedBy, IsPartitionPoint}
 use Rattle.std.specs.Ordering.{nat_cmp, ordering_then, is_lt}
@@ -83,14 +83,11 @@ module _ (top : Option ℕ) (n : Node) where
       ap (λ c. if c then p.earlier ∷ xs else xs) (reach_false p.later.strand n.strand p.later.index n.index (is_within top p.later.index) (f 0 p (omega arith)))
       ∙ together k ps (λ i j d l m. up (suc i) (suc j) d (omega (arith, l)) (omega (arith, m))) (λ i d l. f (suc i) d (omega (arith, l))) (λ i d l m. g (suc i) d (omega (arith, l)) (omega (arith, m)))
 
-le_same : {m n : ℕ} → m ≡ n → m ≤ n
-le_same e = omega (arith, e)
-
 pub reached-together : (top : Option ℕ) (n : Node) (ps : List OrderPair) → AreSorted ps → (k : ℕ)
     → IsPartitionPoint (λ p. is_passed top n.strand p.later ≡ true) (λ p. is_passed top n.strand p.later ≡ false) ps k
     → first_nodes n (take (length ps - k) (drop k ps)) ≡ reached top n ps
 reached-together top n ps up k point =
-    ap (λ qs. first_nodes n qs) (take_all (length ps - k) (drop k ps) (le_same (length-drop k ps)))
+    ap (λ qs. first_nodes n qs) (take_all (length ps - k) (drop k ps) (le_of_eq (length-drop k ps)))
     ∙ sym (together top n k ps up (λ i d l. point.0 i d (omega arith) l) (λ i d l m. point.1 i d l m))
 
 -- ---- what sorting gives

@@ -3,6 +3,7 @@ use Rattle.std.proofs.Common.{◌≡◌, ◌↔◌, ℕ, zero, suc, ◌&&◌, �
 use Rattle.std.specs.Prelude.{not}
 use Rattle.std.proofs.lemmas.Bool.{eqb-true}
 use Rattle.std.proofs.lemmas.List.{nil_from_length}
+use Rattle.std.proofs.lemmas.Bool.Decides.{same_from_decides}
 use Rattle.cp_model.specs.declared.node.Node.{Node}
 use Rattle.cp_model.specs.declared.node.OrderPair.{OrderPair}
 use Rattle.cp_model.specs.Order.{LeadsTo}
@@ -14,16 +15,9 @@ use Rattle.cp_language.proofs.BoundedSearch.{reaches_all}
 use Rattle.cp_print.proofs.CoveringPairs.{none_cover}
 use Rattle.cp_print.specs.Order.{OrderedNode, marks_before, in_order, any_between, covers, covered, all_covered}
 
-same_bool : (b c : Bool) → (b ≡ true → c ≡ true) → (c ≡ true → b ≡ true) → b ≡ c
-same_bool true c f g = sym (f refl)
-same_bool false true f g = g refl
-same_bool false false f g = refl
-
 -- the search for what leads to a node finds what is reached
 pub leads : (pairs : List OrderPair) (x y : Node) (b : Bool) → (b ≡ true) ↔ LeadsTo pairs x y → b ≡ reaches (length pairs) pairs x y
-leads pairs x y b h =
-    let law = reaches_all pairs x y in
-    same_bool b (reaches (length pairs) pairs x y) (λ e. law.1 (h.0 e)) (λ e. h.1 (law.0 e))
+leads pairs x y b h = same_from_decides b (reaches (length pairs) pairs x y) h (reaches_all pairs x y)
 
 -- ---- the marks of a node
 

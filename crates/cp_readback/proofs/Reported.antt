@@ -3,6 +3,7 @@ use Rattle.std.proofs.Common.{◌≡◌, ℕ, zero, suc, List, [], ◌∷◌, �
 use Rattle.std.specs.Prelude.{Option, Some, None, option_map, Ok, Err}
 use Rattle.std.proofs.lemmas.List.{length-map}
 use Rattle.cp_lists.specs.Lists.{item_at}
+use Rattle.cp_lists.proofs.Appended.{none_in_both}
 use Rattle.cp_base.specs.declared.place.Place.{Place}
 use Rattle.cp_base.specs.declared.place.Refusal.{Refusal}
 use Rattle.cp_model.specs.Strand.{Protocol}
@@ -26,7 +27,6 @@ use Rattle.cp_variables.specs.FirstMisfit.{first_onto, merged}
 use Rattle.cp_report.specs.Misfits.{stands_before}
 use Rattle.cp_forms.proofs.FirstOf.{first_then, none_found}
 use Rattle.cp_variables.proofs.Firsts.{first_found}
-use Rattle.cp_stated.proofs.NoMisfits.{none_in_both}
 use Rattle.cp_readback.specs.Sections.{section_view}
 use Rattle.cp_readback.specs.declared.sections.Section as of_program
 use Rattle.cp_readback.specs.Reports.{forms_in, problems_stated, drafts_view, problem_at, trees_by, HaveTrees}

@@ -1,6 +1,7 @@
 -- All items of a label form, one after another.
 use Rattle.std.proofs.Common.{◌≡◌, ℕ, ◌&&◌, Bool, List, [], ◌∷◌, ◌++◌, ◌==◌, length, map, refl, sym, ap, ◌∙◌}
 use Rattle.std.specs.Prelude.{Option, Some, None, codes, if◌then◌else◌}
+use Rattle.cp_lists.proofs.Appended.{none_before, none_behind}
 use Rattle.cp_base.specs.declared.place.Place.{Place}
 use Rattle.cp_sexpr.specs.Syntax.{Form}
 use Rattle.cp_sexpr.specs.View.{view}
@@ -112,14 +113,6 @@ numbered-read p tree i f entries g rest its at o q r split are stands items by_n
     ∙ sym (ap (λ es. first_onto o (numbered_misfits p tree i (place_of f) es)) opened)
 
 -- ---- what fits where there is no misfit
-
-none_before : (xs ys : List Place) → xs ++ ys ≡ [] → xs ≡ []
-none_before [] ys e = refl
-none_before (x ∷ xs) ys e = absurd (cc)
-
-none_behind : (xs ys : List Place) → xs ++ ys ≡ [] → ys ≡ []
-none_behind [] ys e = e
-none_behind (x ∷ xs) ys e = absurd (cc)
 
 unless_none : (rs others : List Place) → unless_misfit rs others ≡ [] → rs ≡ []
 unless_none [] others e = refl

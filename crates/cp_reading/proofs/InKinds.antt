@@ -1,7 +1,8 @@
 -- The entries of a list, each of the next kind.
-use Rattle.std.proofs.Common.{◌≡◌, ℕ, ◌+◌, ◌<◌, ◌≤◌, List, [], ◌∷◌, length, get_or, map, drop, refl, sym, ap, ◌∙◌, arith}
+use Rattle.std.proofs.Common.{◌≡◌, ℕ, ◌+◌, ◌<◌, ◌≤◌, List, [], ◌∷◌, length, get_or, map, drop, refl, sym, ap, ◌∙◌}
 use Rattle.std.specs.Prelude.{Option}
 use Rattle.std.proofs.lemmas.List.{drop_all, drop_more, nil_from_length}
+use Rattle.cp_lists.proofs.Members.{first_left}
 use Rattle.cp_base.specs.declared.place.Place.{Place}
 use Rattle.cp_sexpr.specs.Syntax.{Form}
 use Rattle.cp_sexpr.specs.View.{view}
@@ -9,10 +10,6 @@ use Rattle.cp_sexpr.specs.declared.form.Form as program
 use Rattle.cp_report.specs.Misfits.{misfit, entries_misfits}
 use Rattle.cp_variables.specs.FirstMisfit.{first_onto}
 use Rattle.cp_variables.proofs.InOrder.{entry-missing, entry-taken}
-
-one_left : {K : Type 0} (kinds : List K) (k : ℕ) → k < length kinds → (kind : K) × (drop k kinds ≡ kind ∷ drop (k + 1) kinds)
-one_left [] k h = absurd (omega arith)
-one_left (kind ∷ kinds) k h = (get_or (kind ∷ kinds) k kind, drop_more (kind ∷ kinds) k kind h)
 
 module _ {K : Type 0} (asked : K → Form → List Place) (kinds : List K) (k : ℕ) (at : Place) (fs : List program.Form) (o all : Option Place)
     (so_far : first_onto o (entries_misfits (map asked (drop k kinds)) at (map view fs)) ≡ all) where
@@ -27,7 +24,7 @@ module _ {K : Type 0} (asked : K → Form → List Place) (kinds : List K) (k : 
 
   pub kind-missing : k < length kinds → length fs ≡ 0 → (p : Option Place) → p ≡ first_onto o (misfit at) → p ≡ all
   kind-missing h none p g =
-      let one = one_left kinds k h in
+      let one = first_left kinds k h in
       entry-missing (asked one.0) (map asked (drop (k + 1) kinds)) at fs o p (nil_from_length fs none) g ∙ sym (ap from one.1) ∙ so_far
 
   pub kinds-done : length kinds ≤ k → (p : Option Place) → p ≡ first_onto o (entries_misfits [] at (map view fs)) → p ≡ all

@@ -3,6 +3,7 @@ use Rattle.std.proofs.Common.{◌≡◌, ℕ, suc, ◌==◌, List, [], ◌∷◌
 use Rattle.std.specs.Prelude.{Option, Some}
 use Rattle.cp_base.specs.declared.place.Place.{Place}
 use Rattle.cp_lists.specs.Lists.{IsIn, here, there}
+use Rattle.cp_lists.proofs.Appended.{none_in_both}
 use Rattle.cp_model.specs.Tree.{Outcome, Label, Tree}
 use Rattle.cp_sexpr.specs.Syntax.{Form}
 use Rattle.cp_language.specs.Faults.{place_of}
@@ -11,7 +12,6 @@ use Rattle.cp_report.specs.Misfits.{number_misfits}
 use Rattle.cp_report.specs.Heads.{entries_of}
 use Rattle.cp_report.specs.Labels.{behind_number, items_of_label, items_misfits, numbered_misfits, label_misfits, label_of}
 use Rattle.cp_report.specs.ReadBack.{labels_misfits, if_whole, ending_misfits, labels_in_front, behind_labels, tree_misfits, tree_of}
-use Rattle.cp_stated.proofs.NoMisfits.{none_in_both}
 use Rattle.cp_reading.specs.Counts.{outcome_in}
 use Rattle.cp_reading.specs.Items.{HasFitting}
 use Rattle.cp_reading.proofs.AllItems.{has-fitting}

@@ -4,6 +4,7 @@ use Rattle.std.specs.Prelude.{Option, Some, None, nat_eq}
 use Rattle.std.specs.HashSet.{HashSet, contains}
 use Rattle.std.proofs.lemmas.Bool.Decides.{nat_tests}
 use Rattle.std.proofs.lemmas.List.{drop_all}
+use Rattle.std.proofs.Math.Bool.{or-false}
 use Rattle.cp_lists.specs.Lists.{item_at}
 use Rattle.cp_lists.proofs.Members.{drop_read}
 use Rattle.cp_base.specs.declared.place.Place.{Place}
@@ -16,10 +17,6 @@ use Rattle.cp_report.specs.Labels.{is_among, is_number, stated_number, numbers_o
 use Rattle.cp_variables.specs.FirstMisfit.{first_onto}
 use Rattle.cp_forms.proofs.FirstOf.{first_onto-append}
 use Rattle.cp_reading.specs.Families.{AreNumbers, is_same_child, names_child, child_from, AreChildren, parent_in}
-
-or_false : (b : Bool) → (b || false) ≡ b
-or_false true = refl
-or_false false = refl
 
 cond_or : (a b : Bool) → cond a true b ≡ (a || b)
 cond_or true b = refl
@@ -146,7 +143,7 @@ child_none k i (f ∷ fs) = ap (λ b. (b && is_among i (stated_children f)) || c
 
 child_at : (fs : List Form) (n i : ℕ) → child_from 0 fs (n, i) ≡ has_child i (item_at fs n)
 child_at [] n i = refl
-child_at (f ∷ fs) zero i = ap (λ b. is_among i (stated_children f) || b) (child_none 0 i fs) ∙ or_false (is_among i (stated_children f))
+child_at (f ∷ fs) zero i = ap (λ b. is_among i (stated_children f) || b) (child_none 0 i fs) ∙ or-false (is_among i (stated_children f))
 child_at (f ∷ fs) (suc n) i = ap (λ b. (b && is_among i (stated_children f)) || child_from 1 fs (suc n, i)) (no_zero n) ∙ child_shift 0 n i fs ∙ child_at fs n i
 
 pub children_at : {S : Type 0} (fs : List Form) (set : HashSet (ℕ × ℕ) S) → ((q : ℕ × ℕ) → contains is_same_child set q ≡ child_from 0 fs q) → AreChildren fs set

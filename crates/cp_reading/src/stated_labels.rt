@@ -1,15 +1,21 @@
 // The labels that label forms are.
-ghost use Rattle.std.specs.Prelude.{◌≡◌, map, drop, codes, IfOk};
+ghost use Rattle.std.specs.Prelude.{◌≡◌, [], ◌∷◌, map, option_map, drop, codes, Some, IfOk};
 ghost use Rattle.cp_lists.specs.Lists.{IsIn};
 ghost use Rattle.cp_sexpr.specs.Syntax.{Form as Syntax};
 ghost use Rattle.cp_sexpr.specs.View.{view};
+ghost use Rattle.cp_language.specs.Problems.{option_node, number_of};
 ghost use Rattle.cp_load.specs.Drafts.{draft_view};
 ghost use Rattle.cp_strand.specs.View.{declaration_view};
-ghost use Rattle.cp_report.specs.Heads.{entries_under};
-ghost use Rattle.cp_report.specs.Skeletons.{problem_variables};
-ghost use Rattle.cp_report.specs.Labels.{items_of_label, word_of_label, operation_by, label_of};
-ghost use Rattle.cp_skel.specs.Trees.{operation_view, label_view};
+ghost use Rattle.cp_report.specs.Misfits.{each_misfits};
+ghost use Rattle.cp_report.specs.Heads.{item_with, entries_under, mark_heads};
+ghost use Rattle.cp_report.specs.Spelled.{pattern_misfits, pattern_of};
+ghost use Rattle.cp_report.specs.Skeletons.{declarations_of_label, scope_of, node_or_first, problem_variables, skeleton_stated};
+ghost use Rattle.cp_report.specs.Labels.{items_of_label, word_of_label, operation_by, number_in_front, test_of, label_by, label_of};
+ghost use Rattle.cp_skel.specs.Trees.{variables_view, operation_view, test_view, mark_view, label_view};
+ghost use Rattle.cp_skel.specs.View.{skeleton_view};
+ghost use Rattle.cp_spelled.specs.Views.{scope_view};
 ghost use Rattle.cp_reading.specs.Items.{HasFitting};
+ghost use Rattle.cp_reading.specs.Parts.{mark_of_item};
 
 use crate::items::word_of_label;
 use crate::marks::mark_of;
@@ -20,9 +26,10 @@ use cp_items::{
 };
 use cp_load::Draft;
 use cp_sexpr::Form;
-use cp_skel::{Operation, TreeNode};
+use cp_skel::{Node, Operation, Skeleton, Test, TreeNode};
 use cp_spelled::Scope;
 use cp_stated::{item_with, skeleton_stated, strands_of};
+use cp_term::Pattern;
 use cp_variables::{Locals, Variables, declarations_of_label, entries_under};
 use std::alloc::{AllocError, Global};
 
@@ -32,6 +39,113 @@ fn operation_stated(alloc: Global, items: &[Form]) -> Result<Operation, AllocErr
 {
     let behind = later_items(entries_under(items, b"by"), 1);
     operation_by(alloc, word_of_label(items), behind)
+}
+
+/// How a label is expanded: its unrealised nodes, its test, the patterns that guard it, and its children.
+#[derive(Drop)]
+struct Expansion {
+    unrealised: Vec<Node>,
+    test: Option<Test>,
+    patterns: Vec<Pattern>,
+    children: Vec<usize>,
+}
+
+/// How the label is expanded, as the items of its form state it. The scope has the variables that they declare. The error
+/// is that memory ran out.
+fn expansion_stated(
+    alloc: Global,
+    scope: Scope<'_>,
+    items: &[Form],
+) -> Result<Expansion, AllocError>
+    requires { each_misfits (pattern_misfits (scope_view scope).variables) (entries_under (codes "escape") (map view items.now)) ≡ [] }
+    ensures unrealised { IfOk result (λ e. e.unrealised.items ≡ map (λ f. node_or_first (option_node (Some f))) (entries_under (codes "unrealised") (map view items.now))) }
+    ensures test { IfOk result (λ e. option_map test_view e.test ≡ test_of (scope_view scope.entry) (item_with (codes "test" ∷ []) (map view items.now))) }
+    ensures patterns { IfOk result (λ e. e.patterns.items ≡ map (pattern_of (scope_view scope.entry).variables) (entries_under (codes "escape") (map view items.now))) }
+    ensures children { IfOk result (λ e. e.children.items ≡ map number_of (entries_under (codes "children") (map view items.now))) }
+{
+    let unrealised = nodes_of(alloc, entries_under(items, b"unrealised"))?;
+    let children = numbers_of(alloc, entries_under(items, b"children"))?;
+    let patterns = patterns_of(alloc, scope.variables, entries_under(items, b"escape"))?;
+    let test = test_of(alloc, scope, item_with(items, b"test"))?;
+    Ok(Expansion {
+        unrealised,
+        test,
+        patterns,
+        children,
+    })
+}
+
+/// The skeleton that the items of a label form state, where they fit, for the problem, whose variables have these names
+/// in a report. The scope has the variables that the items declare. The error is that memory ran out.
+fn skeleton_of(
+    alloc: Global,
+    problem: &Draft,
+    names: &Variables,
+    scope: Scope<'_>,
+    items: &[Form],
+) -> Result<Skeleton, AllocError>
+    requires names { map declaration_view names.now ≡ problem_variables (draft_view problem.now) }
+    requires scope { scope_view scope ≡ scope_of (map view items.now) }
+    requires fits { HasFitting (draft_view problem.now) (map view items.now) }
+    ensures skeleton { IfOk result (λ k. skeleton_view k ≡ skeleton_stated (draft_view problem.now) (map view items.now)) }
+    ensures variables { IfOk result (λ k. variables_view k.variables ≡ declarations_of_label (map view items.now)) }
+{
+    let strands = strands_of(alloc, problem.protocol.roles(), scope, items)?;
+    skeleton_stated(alloc, problem, names, scope, strands, items)
+}
+
+/// The label with the parent and the mark that items state, this operation and this skeleton, expanded like this.
+fn label_with(
+    items: &[Form],
+    operation: Operation,
+    skeleton: Skeleton,
+    expansion: Expansion,
+) -> TreeNode
+    ensures parent { result.parent ≡ number_in_front (entries_under (codes "parent") (map view items.now)) }
+    ensures operation { result.operation ≡ operation }
+    ensures skeleton { result.skeleton ≡ skeleton }
+    ensures unrealised { result.unrealised ≡ expansion.unrealised }
+    ensures test { result.test ≡ expansion.test }
+    ensures patterns { result.patterns ≡ expansion.patterns }
+    ensures children { result.children ≡ expansion.children }
+    ensures mark { option_map mark_view result.mark ≡ mark_of_item (item_with mark_heads (map view items.now)) }
+{
+    let Expansion {
+        unrealised,
+        test,
+        patterns,
+        children,
+    } = expansion;
+    TreeNode {
+        parent: number_in_front(entries_under(items, b"parent")),
+        operation,
+        skeleton,
+        unrealised,
+        test,
+        patterns,
+        children,
+        mark: mark_of(mark_item(items)),
+    }
+}
+
+/// The label that items state, where they fit, of a tree for the problem, whose variables have these names in a report.
+/// The scope has the variables that the items declare. The error is that memory ran out.
+fn label_by(
+    alloc: Global,
+    problem: &Draft,
+    names: &Variables,
+    scope: Scope<'_>,
+    items: &[Form],
+) -> Result<TreeNode, AllocError>
+    requires names { map declaration_view names.now ≡ problem_variables (draft_view problem.now) }
+    requires scope { scope_view scope ≡ scope_of (map view items.now) }
+    requires fits { HasFitting (draft_view problem.now) (map view items.now) }
+    ensures { IfOk result (λ l. label_view l ≡ label_by (draft_view problem.now) (map view items.now)) }
+{
+    let operation = operation_stated(alloc, items)?;
+    let expansion = expansion_stated(alloc, scope, items)?;
+    let skeleton = skeleton_of(alloc, problem, names, scope, items)?;
+    Ok(label_with(items, operation, skeleton, expansion))
 }
 
 /// The label that a label form is, of a tree for the problem, whose variables have these names in a report.
@@ -53,23 +167,7 @@ fn label_of(
         in_pattern: false,
         locals: &locals,
     };
-    let strands = strands_of(alloc, problem.protocol.roles(), scope, items)?;
-    let operation = operation_stated(alloc, items)?;
-    let skeleton = skeleton_stated(alloc, problem, names, scope, strands, items)?;
-    let unrealised = nodes_of(alloc, entries_under(items, b"unrealised"))?;
-    let test = test_of(alloc, scope, item_with(items, b"test"))?;
-    let patterns = patterns_of(alloc, &variables, entries_under(items, b"escape"))?;
-    let children = numbers_of(alloc, entries_under(items, b"children"))?;
-    Ok(TreeNode {
-        parent: number_in_front(entries_under(items, b"parent")),
-        operation,
-        skeleton,
-        unrealised,
-        test,
-        patterns,
-        children,
-        mark: mark_of(mark_item(items)),
-    })
+    label_by(alloc, problem, names, scope, items)
 }
 
 /// The labels that these label forms are, of a tree for the problem, whose variables have these names in a report. The

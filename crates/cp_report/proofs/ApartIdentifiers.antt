@@ -2,6 +2,7 @@
 use Rattle.std.proofs.Common.{◌≡◌, inl, inr, ℕ, zero, suc, List, [], ◌∷◌, Bool, true, false, refl, sym, ap, ◌∙◌, subst, arith, if◌then◌else◌}
 use Rattle.std.specs.Prelude.{Some}
 use Rattle.std.proofs.lemmas.Bool.{false_from_ne_true}
+use Rattle.std.proofs.Math.Nat.{suc_inj}
 use Rattle.cp_lists.specs.Lists.{item_at, IsIn, here, there}
 use Rattle.cp_lists.proofs.Members.{head_or_behind, at_head}
 use Rattle.cp_model.specs.Term.{Variable}
@@ -37,11 +38,8 @@ identifier_place (d ∷ ds) t (there m) = let r = identifier_place ds t m in (su
 
 apart_of_placed : (ds : List Declaration) → OncePlaced ds → AreApart (identifiers_in ds)
 apart_of_placed [] once = tt
-apart_of_placed (d ∷ ds) once = (fresh, apart_of_placed ds (λ i j c e p q same. less (once (suc i) (suc j) c e p q same)))
+apart_of_placed (d ∷ ds) once = (fresh, apart_of_placed ds (λ i j c e p q same. suc_inj (once (suc i) (suc j) c e p q same)))
   where
-    less : {a b : ℕ} → suc a ≡ suc b → a ≡ b
-    less h = omega arith
-
     fresh : IsIn d.identifier (identifiers_in ds) → ⊥
     fresh m =
         let r = identifier_place ds d.identifier m in

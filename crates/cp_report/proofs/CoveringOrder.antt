@@ -1,7 +1,7 @@
 -- The covering pairs of an order without cycles are among its pairs, and generate the same order between nodes.
 use Rattle.std.proofs.Common.{◌≡◌, ◌⊎◌, inl, inr, ℕ, zero, suc, ◌<◌, ◌≤◌, ◌&&◌, ◌==◌, List, [], ◌∷◌, length, Bool, true, false, refl, sym, ap, ◌∙◌, subst, arith, if◌then◌else◌}
 use Rattle.std.specs.Prelude.{not, nat_le, ◌||◌}
-use Rattle.std.proofs.lemmas.Bool.{false_from_ne_true, both_ways, cases_Bool, and_parts, and_from, or_cases, eq-eqb, eqb-true}
+use Rattle.std.proofs.lemmas.Bool.{false_from_ne_true, both_ways, cases_Bool, and_parts, and_from, or_cases, eq-eqb, eqb-true, not-true}
 use Rattle.std.proofs.lemmas.Bool.Decides.{nat_tests}
 use Rattle.cp_lists.specs.Lists.{IsIn, here, there}
 use Rattle.cp_model.specs.declared.node.Node.{Node}
@@ -77,10 +77,6 @@ pub all_three : (a b c : Bool) → a ≡ true → b ≡ true → c ≡ true → 
 all_three true true c p q r = r
 all_three true false c p q r = absurd (cc)
 all_three false b c p q r = absurd (cc)
-
-pub not_true : (b : Bool) → not b ≡ true → b ≡ false
-not_true true h = absurd (cc)
-not_true false h = refl
 
 -- ---- an order without cycles
 
@@ -191,7 +187,7 @@ module _ (pairs : List OrderPair) (nodes : List Node) (antisymmetric : IsAntisym
   covering_leads x y h = (before_parts x y (three_parts (not (x.strand == y.strand)) (is_before pairs x y) (not (any_node (is_between x y) nodes)) h).1).0
 
   pub covering_apart : (x y : Node) → is_covering pairs nodes x y ≡ true → (x.strand == y.strand) ≡ false
-  covering_apart x y h = not_true (x.strand == y.strand) (three_parts (not (x.strand == y.strand)) (is_before pairs x y) (not (any_node (is_between x y) nodes)) h).0
+  covering_apart x y h = not-true (x.strand == y.strand) (three_parts (not (x.strand == y.strand)) (is_before pairs x y) (not (any_node (is_between x y) nodes)) h).0
 
   -- ---- a covering pair is one of the pairs
 
@@ -203,7 +199,7 @@ module _ (pairs : List OrderPair) (nodes : List Node) (antisymmetric : IsAntisym
         differ e = both_ways (x.strand == y.strand) (covering_apart x y h) (eq-eqb x.strand y.strand e)
 
         none : any_node (is_between x y) nodes ≡ false
-        none = not_true (any_node (is_between x y) nodes) (three_parts (not (x.strand == y.strand)) (is_before pairs x y) (not (any_node (is_between x y) nodes)) h).2
+        none = not-true (any_node (is_between x y) nodes) (three_parts (not (x.strand == y.strand)) (is_before pairs x y) (not (any_node (is_between x y) nodes)) h).2
 
         -- no other node stands on the way
         nothing : (z : Node) → LeadsTo pairs x z → LeadsTo pairs z y → (x ≡ z → ⊥) → (z ≡ y → ⊥) → ⊥

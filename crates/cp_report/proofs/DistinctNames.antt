@@ -4,6 +4,7 @@ use Rattle.std.specs.Prelude.{Some}
 use Rattle.std.proofs.lemmas.Bool.{both_ways, cases_lt}
 use Rattle.std.proofs.lemmas.Fmt.{decimal_injective}
 use Rattle.std.proofs.lemmas.List.{length-append, append_cancel_left}
+use Rattle.std.proofs.Math.Nat.{suc_inj}
 use Rattle.cp_lists.specs.Lists.{item_at, IsIn, here, there}
 use Rattle.cp_lists.proofs.Items.{at_place, item_in_front, place_of as place_in, item_behind}
 use Rattle.cp_lists.proofs.Members.{in_append, in_append_left, in_last}
@@ -108,10 +109,7 @@ both_different (x ∷ xs) ys p q new zero zero t e f = refl
 both_different (x ∷ xs) ys p q new zero (suc j) t e f = absurd (first_once x xs ys p new t e (in_append xs ys (at_place (xs ++ ys) j t f)))
 both_different (x ∷ xs) ys p q new (suc i) zero t e f = absurd (first_once x xs ys p new t f (in_append xs ys (at_place (xs ++ ys) i t e)))
 both_different (x ∷ xs) ys p q new (suc i) (suc j) t e f =
-    ap suc (both_different xs ys (λ a b u g h. less (p (suc a) (suc b) u g h)) q (λ k u g m. new k u g (there m)) i j t e f)
-  where
-    less : {a b : ℕ} → suc a ≡ suc b → a ≡ b
-    less h = omega arith
+    ap suc (both_different xs ys (λ a b u g h. suc_inj (p (suc a) (suc b) u g h)) q (λ k u g m. new k u g (there m)) i j t e f)
 
 -- ---- the names of a problem
 

@@ -1,7 +1,8 @@
 -- A label form as it is printed fits.
-use Rattle.std.proofs.Common.{◌≡◌, ◌≢◌, ℕ, suc, ◌<◌, List, [], ◌∷◌, ◌++◌, length, Bool, true, false, refl, ap, ◌∙◌, subst, arith}
+use Rattle.std.proofs.Common.{◌≡◌, ◌≢◌, ℕ, suc, ◌<◌, List, [], ◌∷◌, ◌++◌, length, true, false, refl, ap, ◌∙◌, subst, arith}
 use Rattle.std.specs.Prelude.{Option, Some, None, map, drop, not, codes, ◌&&◌, ◌||◌, ◌==◌}
-use Rattle.std.proofs.lemmas.Bool.{eq-eqb, eqb-true, or_from, false_from_ne_true}
+use Rattle.std.proofs.lemmas.Bool.{eq-eqb, eqb-true, or_from, false_from_ne_true, or_right}
+use Rattle.std.proofs.Math.Nat.{suc_inj}
 use Rattle.cp_base.specs.declared.place.Place.{Place}
 use Rattle.cp_lists.specs.Lists.{item_at, IsIn, here, there}
 use Rattle.cp_lists.proofs.Items.{place_of}
@@ -56,12 +57,9 @@ are_once : (before ns : List ℕ) → ((a b n : ℕ) → item_at ns a ≡ Some n
 are_once before [] once new = tt
 are_once before (m ∷ ns) once new = (
   new m here,
-  are_once (m ∷ before) ns (λ a b n e f. less (once (suc a) (suc b) n e f)) (λ n i. or_from (m == n) (is_among n before) (other n i) (new n (there i))),
+  are_once (m ∷ before) ns (λ a b n e f. suc_inj (once (suc a) (suc b) n e f)) (λ n i. or_from (m == n) (is_among n before) (other n i) (new n (there i))),
 )
   where
-    less : {a b : ℕ} → suc a ≡ suc b → a ≡ b
-    less e = omega (arith, e)
-
     other : (n : ℕ) → IsIn n ns → (m == n) ≡ false
     other n i = false_from_ne_true (m == n) (λ e.
         let same : m ≡ n = eqb-true m n e in
@@ -98,10 +96,6 @@ no_children_known (n ∷ ns) h = absurd (cc)
 mark_known : (m : Mark) → is_known (item_with mark_heads (mark_items (Some m))) ≡ true
 mark_known (seen n) = refl
 mark_known _ = refl
-
-pub second_true : (a b : Bool) → b ≡ true → (a || b) ≡ true
-second_true true b e = refl
-second_true false b e = e
 
 -- a label with a parent is no root
 not_root : (labels : List Label) (i : ℕ) (o : Operation) (n : ℕ) → IsParentOf labels i o (Some n) → makes_root (word_for o) ≡ false
@@ -233,13 +227,13 @@ module _ (under : IsUnder) (whole : AppliesWhole) (p : Problem) (l : Label) (h :
     where
       by_mark : (o : Option Mark) → HasMarkOrChildren labels o l.children → item_with mark_heads (items p l) ≡ item_with mark_heads (mark_items o) → (has_children (items p l) || has_mark (items p l)) ≡ true
       by_mark None g e = ap (λ b. b || has_mark (items p l)) (ap is_known (children_found (of_problem p) (names p l) l) ∙ children_known l.children g)
-      by_mark (Some m) g e = second_true (has_children (items p l)) (has_mark (items p l)) (ap is_known e ∙ mark_known m)
+      by_mark (Some m) g e = or_right (has_children (items p l)) (has_mark (items p l)) (ap is_known e ∙ mark_known m)
 
       by_parent : (o : Option ℕ) → IsParentOf labels i l.operation o → item_with (codes "parent" ∷ []) (items p l) ≡ item_with (codes "parent" ∷ []) (parent_items o)
           → (not (wants_parent (items p l)) || is_known (item_with (codes "parent" ∷ []) (items p l))) ≡ true
       by_parent None g e = ap (λ w. not (is_operation w && not (makes_root w)) || is_known (item_with (codes "parent" ∷ []) (items p l))) word_is
           ∙ ap (λ b. not b || is_known (item_with (codes "parent" ∷ []) (items p l))) (is_root labels i l.operation g)
-      by_parent (Some n) g e = second_true (not (wants_parent (items p l))) (is_known (item_with (codes "parent" ∷ []) (items p l))) (ap is_known e)
+      by_parent (Some n) g e = or_right (not (wants_parent (items p l))) (is_known (item_with (codes "parent" ∷ []) (items p l))) (ap is_known e)
 
   -- ---- the label form
 

@@ -1,7 +1,7 @@
 -- The items of a label form as it is printed stand in order, and each is found by its head.
 use Rattle.std.proofs.Common.{◌≡◌, ◌⊎◌, inl, inr, ℕ, List, [], ◌∷◌, ◌++◌, Bool, true, false, refl, sym, ap, ◌∙◌, if◌then◌else◌, append_assoc}
 use Rattle.std.specs.Prelude.{Option, Some, None, map, not, codes, ◌&&◌}
-use Rattle.std.proofs.lemmas.Bool.{and_parts}
+use Rattle.std.proofs.lemmas.Bool.{and_parts, not-true}
 use Rattle.std.proofs.lemmas.List.{append-nil}
 use Rattle.cp_lists.specs.Lists.{IsIn, here, there}
 use Rattle.cp_lists.proofs.Members.{in_append, head_or_behind}
@@ -20,7 +20,6 @@ use Rattle.cp_language.specs.Report.{occurring, item_unless_empty, named_by, nod
 use Rattle.cp_language.proofs.ValidTests.{one_of, is_one}
 use Rattle.cp_report.specs.Misfits.{misfit_unless}
 use Rattle.cp_report.specs.Heads.{has_head, entries_of, item_with, items_with, entries_under, Line, once, strand_heads, mark_heads, heads_behind_strands, up_to_strands, lines_of_label, lines_from, lines_behind, order_misfits}
-use Rattle.cp_report.proofs.CoveringOrder.{not_true}
 use Rattle.cp_report.proofs.PrintedStrands.{items_back}
 
 -- ---- items in groups
@@ -82,7 +81,7 @@ are_apart (g ∷ gs) = all_other g.line.heads gs && are_apart gs
 
 other_head : (heads hs : List (List ℕ)) (h : List ℕ) → are_other heads hs ≡ true → IsIn h hs → is_one_of h heads ≡ false
 other_head heads [] h e m = elim m [ ]
-other_head heads (g ∷ hs) h e here = not_true (is_one_of h heads) (and_parts (not (is_one_of h heads)) (are_other heads hs) e).0
+other_head heads (g ∷ hs) h e here = not-true (is_one_of h heads) (and_parts (not (is_one_of h heads)) (are_other heads hs) e).0
 other_head heads (g ∷ hs) h e (there m) = other_head heads hs h (and_parts (not (is_one_of g heads)) (are_other heads hs) e).1 m
 
 has_its_head : (heads : List (List ℕ)) (f : Form) → IsHeadedBy heads f → has_head heads f ≡ true

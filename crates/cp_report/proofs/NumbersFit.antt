@@ -1,7 +1,6 @@
 -- The nodes, operations and numbers of labels of a label form as it is printed fit.
-use Rattle.std.proofs.Common.{◌≡◌, ℕ, suc, ◌+◌, ◌<◌, ◌≤◌, List, [], ◌∷◌, ◌++◌, length, true, refl, ap, ◌∙◌, arith}
-use Rattle.std.specs.Prelude.{Option, Some, None, map, drop, ◌&&◌, nat_lt, nat_le}
-use Rattle.std.proofs.lemmas.Bool.Decides.{nat_tests}
+use Rattle.std.proofs.Common.{◌≡◌, ℕ, suc, ◌+◌, ◌<◌, ◌≤◌, List, [], ◌∷◌, ◌++◌, length, true, refl, ap, ◌∙◌, arith, lt-ltb, le-leb}
+use Rattle.std.specs.Prelude.{Option, Some, None, map, drop, ◌&&◌, nat_lt}
 use Rattle.std.proofs.lemmas.Bool.{eq-eqb}
 use Rattle.cp_base.specs.declared.place.Place.{Place}
 use Rattle.cp_lists.specs.Lists.{item_at, IsIn, here, there}
@@ -46,12 +45,6 @@ strand_there strands n e = by (item_at strands n.strand) refl e.1
 abbrev pub word_for : Operation → OperationWord
 word_for o = operation_word (name_in_front (operation_words o))
 
-lowest_test : (n i : ℕ) → n ≤ i → nat_le n i ≡ true
-lowest_test n i p = grind (arith, nat_tests)
-
-pub less_test : (n m : ℕ) → n < m → nat_lt n m ≡ true
-less_test n m p = grind (arith, nat_tests)
-
 -- The entries of a partition fit, the first of these being number i.
 blocks_fit : (ns : List ℕ) (i : ℕ) (ks : List SkeletonStrand) (ps : List ℕ) (at : Place) → length ps ≡ length ks → ((j n : ℕ) → item_at ps j ≡ Some n → (n ≤ i + j) × (item_at ns n ≡ Some n))
     → entries_misfits (blocks ns i ks) at (map numeral ps) ≡ []
@@ -63,7 +56,7 @@ blocks_fit ns i (k ∷ ks) (p ∷ ps) at e h =
     let low : p ≤ i = omega (arith, first.0) in
     let left : length ps ≡ length ks = omega (arith, e) in
     none_and _ _
-    (ap (λ b. misfit_unless (b && is_number p (item_at ns p)) no_place) (lowest_test p i low) ∙ ap (λ o. misfit_unless (is_number p o) no_place) first.1 ∙ ap (λ b. misfit_unless b no_place) (eq-eqb p p refl))
+    (ap (λ b. misfit_unless (b && is_number p (item_at ns p)) no_place) (le-leb p i low) ∙ ap (λ o. misfit_unless (is_number p o) no_place) first.1 ∙ ap (λ b. misfit_unless b no_place) (eq-eqb p p refl))
     (blocks_fit ns (suc i) ks ps at left (λ j n q. let r = h (suc j) n q in (omega (arith, r.0), r.1)))
 
 -- An operation as it is printed fits,
@@ -79,7 +72,7 @@ operation_fits p k at (by_added_listener s) h = refl
 operation_fits p k at by_generalising h = refl
 
 node_named : (strands : List SkeletonStrand) (n : Node) → IsNodeOf strands n → misfit_unless (nat_lt n.strand (length strands)) no_place ++ misfit_unless (is_known (term_event_at strands n)) no_place ≡ []
-node_named strands n e = none_and _ _ (ap (λ t. misfit_unless t no_place) (less_test n.strand (length strands) (strand_there strands n e))) (ap (λ t. misfit_unless t no_place) (known (term_event_at strands n) e))
+node_named strands n e = none_and _ _ (ap (λ t. misfit_unless t no_place) (lt-ltb n.strand (length strands) (strand_there strands n e))) (ap (λ t. misfit_unless t no_place) (known (term_event_at strands n) e))
 
 -- The strand or the node that an operation names is there.
 abbrev pub IsThere : List SkeletonStrand → Operation → Type 0
@@ -97,6 +90,6 @@ operation_there strands by_problem h = refl
 operation_there strands (by_collapse ps) h = refl
 operation_there strands (by_contraction n) h = node_named strands n h
 operation_there strands (by_displacement n) h = node_named strands n h
-operation_there strands (by_added_strand s) h = ap (λ t. misfit_unless t no_place) (less_test s (length strands) h)
-operation_there strands (by_added_listener s) h = ap (λ t. misfit_unless t no_place) (less_test s (length strands) h)
+operation_there strands (by_added_strand s) h = ap (λ t. misfit_unless t no_place) (lt-ltb s (length strands) h)
+operation_there strands (by_added_listener s) h = ap (λ t. misfit_unless t no_place) (lt-ltb s (length strands) h)
 operation_there strands by_generalising h = refl

@@ -2,7 +2,7 @@
 use Rattle.std.proofs.Common.{◌≡◌, ℕ, zero, suc, List, [], ◌∷◌, Bool, true, false, refl, sym, ap, ◌∙◌, subst}
 use Rattle.std.specs.Prelude.{Some, map, not, length}
 use Rattle.std.specs.List.{filter}
-use Rattle.std.proofs.lemmas.Bool.{both_ways, false_from_ne_true, eq-eqb, eqb-true}
+use Rattle.std.proofs.lemmas.Bool.{both_ways, false_from_ne_true, eq-eqb, eqb-true, not-true}
 use Rattle.cp_lists.specs.Lists.{item_at, IsIn}
 use Rattle.cp_lists.proofs.Items.{map_of_item}
 use Rattle.cp_lists.proofs.Members.{into_map, from_map, into_filter, from_filter}
@@ -25,7 +25,7 @@ use Rattle.cp_language.specs.Problems.{is_known, on_one_strand}
 use Rattle.cp_report.specs.FittingTrees.{sort_of_atom, HasSortOf}
 use Rattle.cp_report.specs.Skeletons.{map_by, images_among, is_in_order}
 use Rattle.cp_report.specs.UpToNames.{unique_renamed, AreSameAssumptions}
-use Rattle.cp_report.proofs.CoveringOrder.{three_parts, all_three, not_true}
+use Rattle.cp_report.proofs.CoveringOrder.{three_parts, all_three}
 use Rattle.cp_report.proofs.PrintedVariables.{declared_there}
 use Rattle.cp_report.proofs.PrintedStrands.{sort_kept, value_taken}
 
@@ -149,7 +149,7 @@ own_pairs_back problem k keeps strands pairs values ordered y = (forth, back)
         let kept = from_filter (is_in_order strands pairs) (map image problem.from_problem.pairs) i in
         let one = from_map image problem.from_problem.pairs kept.0 in
         let three = three_parts (not (on_one_strand y)) (is_known (term_event_at strands y.later)) (reaches (length pairs) pairs y.earlier y.later) kept.1 in
-        record { item = y; listed = (keeps.pairs y).1 (record { item = one.0; listed = one.1; image = one.2 }, apart (not_true (on_one_strand y) three.0)); image = refl }
+        record { item = y; listed = (keeps.pairs y).1 (record { item = one.0; listed = one.1; image = one.2 }, apart (not-true (on_one_strand y) three.0)); image = refl }
 
     back_of : IsIn y k.from_problem.pairs → IsIn y (filter (is_in_order strands pairs) (map image problem.from_problem.pairs))
     back_of i =

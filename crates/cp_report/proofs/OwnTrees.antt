@@ -10,6 +10,7 @@ use Rattle.cp_model.specs.Strand.{Declaration}
 use Rattle.cp_model.specs.Problem.{variable_terms, declared_sort, IsDeclared, variables_of_skeleton}
 use Rattle.cp_model.specs.PointOfView.{IsPointOfView}
 use Rattle.cp_model.specs.Tree.{Label}
+use Rattle.cp_model.proofs.SingleMaps.{states_itself}
 use Rattle.cp_model.proofs.StatedItself.{keeps_its_own}
 use Rattle.cp_model.proofs.Numbers.{numbers_length}
 use Rattle.cp_sexpr.specs.Syntax.{Forms}
@@ -73,7 +74,7 @@ module _ (input : Forms) (well_formed : faults_of input ≡ []) (e : Entry) (lis
       strands = ap length own.strands ∙ numbers_length 0 p.skeleton.strands;
       values = subst (λ ts. ArePaired HasSortOf p.variables ts) (sym own.values) (their_sorts 0 p.variables);
     };
-    stated = keeps_its_own p.protocol p.variables p.skeleton (are_skeletons input e p well_formed listed at) own;
+    stated = keeps_its_own p.protocol p.variables p.skeleton (are_skeletons input e p well_formed listed at) (states_itself own);
     operation = tt;
     parent = refl;
     unrealised = λ n i. elim i [ ];

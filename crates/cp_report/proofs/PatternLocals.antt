@@ -1,7 +1,8 @@
 -- The locals of a pattern as it is printed: they stand in the text in the order in which they occur, and are read back so.
 use Rattle.std.proofs.Common.{◌≡◌, ◌⊎◌, inl, inr, ℕ, zero, suc, ◌+◌, ◌<◌, ◌≤◌, ◌==◌, List, [], ◌∷◌, ◌++◌, length, Bool, true, false, refl, sym, ap, ap₂, ◌∙◌, subst, arith, if◌then◌else◌, append_assoc, append-nil}
 use Rattle.std.specs.Prelude.{Option, Some, None, ◌&&◌, ◌||◌, codes}
-use Rattle.std.proofs.lemmas.Bool.{both_ways, cases_Bool, false_from_ne_true, or_left, or_right, or_from, eq-eqb, eqb-true}
+use Rattle.std.proofs.lemmas.Bool.{both_ways, cases_Bool, false_from_ne_true, or_left, or_right, or_from, eq-eqb, eqb-true, or_parts}
+use Rattle.std.proofs.Math.Bool.{or-false, or_assoc}
 use Rattle.cp_lists.specs.Lists.{item_at, IsIn, here, there}
 use Rattle.cp_lists.proofs.Items.{at_place, place_of as place_in}
 use Rattle.cp_lists.proofs.Members.{head_or_behind, at_head}
@@ -104,15 +105,7 @@ same_itself : (x : Variable) → is_same x x ≡ true
 same_itself x = in_one (in_has_variable (x ∷ []) x here)
   where
     in_one : (is_same x x || false) ≡ true → is_same x x ≡ true
-    in_one h = by (is_same x x) h
-      where
-        by : (b : Bool) → (b || false) ≡ true → b ≡ true
-        by true e = refl
-        by false e = e
-
-or_none : (b : Bool) → (b || false) ≡ b
-or_none true = refl
-or_none false = refl
+    in_one h = sym (or-false (is_same x x)) ∙ h
 
 pub not_placed : (n : ℕ) (xs : List Variable) (x : Variable) → has_variable xs x ≡ false → place_among n xs x ≡ None
 not_placed n [] x e = refl
@@ -158,11 +151,7 @@ module _ (locals : List Variable) where
       New ys = (has_variable locals y ≡ true) × (has_variable ys y ≡ false)
 
       fewer : (has_variable locals y ≡ true) × ((is_same x y || has_variable seen y) ≡ false) → New seen
-      fewer (p, q) = (p, last (is_same x y) (has_variable seen y) q)
-        where
-          last : (a b : Bool) → (a || b) ≡ false → b ≡ false
-          last true b e = absurd (cc)
-          last false b e = e
+      fewer (p, q) = (p, (or_parts (is_same x y) (has_variable seen y) q).1)
 
       first : has_variable locals x ≡ true → has_variable seen x ≡ false → (y ≡ x) ⊎ IsIn y (locals_in_order locals (x ∷ seen) xs) → (IsIn y (locals_in_order locals (x ∷ seen) xs) → New (x ∷ seen)) → New seen
       first p q (inl e) rest = (ap (has_variable locals) e ∙ p, ap (has_variable seen) e ∙ q)
@@ -241,11 +230,7 @@ place_back n (x ∷ xs) (suc j) l =
 
 has_append : (xs ys : List Variable) (y : Variable) → has_variable (xs ++ ys) y ≡ (has_variable xs y || has_variable ys y)
 has_append [] ys y = refl
-has_append (x ∷ xs) ys y = ap (λ (b : Bool). is_same x y || b) (has_append xs ys y) ∙ assoc (is_same x y) (has_variable xs y) (has_variable ys y)
-  where
-    assoc : (a b c : Bool) → (a || (b || c)) ≡ ((a || b) || c)
-    assoc true b c = refl
-    assoc false b c = refl
+has_append (x ∷ xs) ys y = ap (λ (b : Bool). is_same x y || b) (has_append xs ys y) ∙ sym (or_assoc (is_same x y) (has_variable xs y) (has_variable ys y))
 
 front_place : (xs ys : List Variable) (x : Variable) → IsIn x xs → AreApart (xs ++ ys) → (j : ℕ) × (place_among 0 (xs ++ ys) x ≡ Some (0 + j)) × (j < length xs)
 front_place xs ys x m apart =

@@ -1,7 +1,6 @@
 -- The map item as a report prints it fits, and gives strands and terms back.
-use Rattle.std.proofs.Common.{◌≡◌, ℕ, ◌<◌, List, [], ◌∷◌, ◌++◌, length, Bool, true, refl, sym, ap, ◌∙◌, subst, arith}
-use Rattle.std.specs.Prelude.{map, nat_lt}
-use Rattle.std.proofs.lemmas.Bool.Decides.{nat_tests}
+use Rattle.std.proofs.Common.{◌≡◌, ℕ, ◌<◌, List, [], ◌∷◌, ◌++◌, length, Bool, true, refl, sym, ap, ◌∙◌, subst, arith, lt-ltb}
+use Rattle.std.specs.Prelude.{map}
 use Rattle.cp_base.specs.declared.place.Place.{Place}
 use Rattle.cp_lists.specs.Lists.{IsIn, here, there}
 use Rattle.cp_lists.proofs.Members.{in_append_left, in_append_right}
@@ -31,16 +30,13 @@ use Rattle.cp_report.proofs.PrintedStrands.{items_back, sort_kept}
 
 -- ---- strands
 
-number_fits : (m n : ℕ) → m < n → nat_lt m n ≡ true
-number_fits m n l = grind (arith, nat_tests)
-
 numbers_fit : (strands ks : List SkeletonStrand) (ns : List ℕ) (at : Place) → length ns ≡ length ks → ((n : ℕ) → IsIn n ns → n < length strands) → entries_misfits (map (λ k. strand_number_misfits strands) ks) at (map numeral ns) ≡ []
 numbers_fit strands [] [] at e within = refl
 numbers_fit strands [] (n ∷ ns) at e within = absurd (omega (arith, e))
 numbers_fit strands (k ∷ ks) [] at e within = absurd (omega (arith, e))
 numbers_fit strands (k ∷ ks) (n ∷ ns) at e within =
     let less : length ns ≡ length ks = omega (arith, e) in
-    ap (λ (b : Bool). misfit_unless b no_place ++ entries_misfits (map (λ c. strand_number_misfits strands) ks) at (map numeral ns)) (number_fits n (length strands) (within n here))
+    ap (λ (b : Bool). misfit_unless b no_place ++ entries_misfits (map (λ c. strand_number_misfits strands) ks) at (map numeral ns)) (lt-ltb n (length strands) (within n here))
     ∙ numbers_fit strands ks ns at less (λ m i. within m (there i))
 
 -- An entry for each strand of the problem, each of them a strand here, fits.

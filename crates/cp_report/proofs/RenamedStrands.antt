@@ -1,7 +1,6 @@
 -- Strands that are the same under a renaming have the same events under it, and their roles give the same assumptions.
-use Rattle.std.proofs.Common.{◌≡◌, ◌⊎◌, inl, inr, ℕ, zero, suc, ◌<◌, ◌+◌, List, [], ◌∷◌, ◌++◌, Bool, true, false, refl, sym, ap, ◌∙◌, subst, if◌then◌else◌, arith}
+use Rattle.std.proofs.Common.{◌≡◌, ◌⊎◌, inl, inr, ℕ, zero, suc, ◌+◌, List, [], ◌∷◌, ◌++◌, Bool, true, false, refl, sym, ap, ◌∙◌, subst, if◌then◌else◌, arith, ltb-true}
 use Rattle.std.specs.Prelude.{Option, Some, None, map, option_map, nat_lt}
-use Rattle.std.proofs.lemmas.Bool.Decides.{nat_tests}
 use Rattle.cp_lists.specs.Lists.{item_at, IsIn, here, there}
 use Rattle.cp_lists.proofs.Members.{in_append, in_append_left, in_append_right, into_map, head_or_behind}
 use Rattle.cp_lists.proofs.Items.{mapped_item}
@@ -101,9 +100,6 @@ module _ (f : Substitution) where
         by false e i rest = rest i
 
     module _ (s : ℕ) (applies_at : (v : AtomTerm) (i : ℕ) → AppliesAt role height v i → Applies role height v) where
-      below : (i : ℕ) → nat_lt i height ≡ true → i < height
-      below i e = grind (arith, nat_tests)
-
       below_among : (v : AtomTerm) (old : List UniqueAt) → ((i : ℕ) → AppliesAt role height v i → IsIn (record { value = apply_to_atom terms v; origin = node_at s i }) old) → (w : UniqueAt) (o : Option ℕ) → origin_in role.trace (atom_term v) ≡ o
           → IsIn w (unique_if_below height s (apply_to_atom terms' v) o) → IsIn w (map (unique_renamed f) old)
       below_among v old given w None e m = elim m [ ]
@@ -111,7 +107,7 @@ module _ (f : Substitution) where
         where
           one : nat_lt i height ≡ true → (w ≡ record { value = apply_to_atom terms' v; origin = node_at s i }) ⊎ IsIn w [] → IsIn w (map (unique_renamed f) old)
           one l (inl same) =
-              let at : AppliesAt role height v i = (origin_found role.trace (atom_term v) i e, below i l) in
+              let at : AppliesAt role height v i = (origin_found role.trace (atom_term v) i e, ltb-true i height l) in
               let value = value_renamed v (applies_at v i at) in
               subst (λ (u : UniqueAt). IsIn u (map (unique_renamed f) old)) (sym same)
               (subst (λ (x : AtomTerm). IsIn (record { value = x; origin = node_at s i }) (map (unique_renamed f) old)) value (into_map (unique_renamed f) (given i at)))

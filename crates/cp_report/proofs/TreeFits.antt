@@ -1,7 +1,7 @@
 -- The label forms and the status form of a tree as they are printed fit, and are read back as the same tree.
-use Rattle.std.proofs.Common.{◌≡◌, ℕ, zero, suc, ◌+◌, ◌<◌, List, [], ◌∷◌, ◌++◌, length, true, refl, sym, ap, ◌∙◌, subst, arith}
+use Rattle.std.proofs.Common.{◌≡◌, ℕ, zero, suc, ◌+◌, ◌<◌, List, [], ◌∷◌, ◌++◌, length, true, refl, sym, ap, ◌∙◌, subst, arith, lt-ltb}
 use Rattle.std.specs.Prelude.{Option, Some, None, map, codes, ◌==◌, ◌||◌, nat_lt}
-use Rattle.std.proofs.lemmas.Bool.{eq-eqb}
+use Rattle.std.proofs.lemmas.Bool.{eq-eqb, or_right}
 use Rattle.cp_base.specs.declared.place.Place.{Place}
 use Rattle.cp_lists.specs.Lists.{item_at, IsIn, here, there}
 use Rattle.cp_model.specs.Term.{Substitution}
@@ -24,8 +24,7 @@ use Rattle.cp_report.proofs.LabelSkeleton.{PrintedLabel}
 use Rattle.cp_report.proofs.SkeletonFits.{AppliesWhole}
 use Rattle.cp_report.proofs.LabelEntries.{parent_printed, children_printed}
 use Rattle.cp_report.proofs.LabelRead.{label_form_back}
-use Rattle.cp_report.proofs.LabelFits.{AgreesWith, second_true, label_fits}
-use Rattle.cp_report.proofs.NumbersFit.{less_test}
+use Rattle.cp_report.proofs.LabelFits.{AgreesWith, label_fits}
 
 -- ---- label forms by their numbers
 
@@ -46,7 +45,7 @@ as_many of_problem s (l ∷ ls) = ap suc (as_many of_problem (suc s) ls)
 among : (n : ℕ) (ns : List ℕ) → IsIn n ns → is_among n ns ≡ true
 among n [] m = elim m [ ]
 among n (k ∷ ns) here = ap (λ b. b || is_among n ns) (eq-eqb n n refl)
-among n (k ∷ ns) (there m) = second_true (k == n) (is_among n ns) (among n ns m)
+among n (k ∷ ns) (there m) = or_right (k == n) (is_among n ns) (among n ns m)
 
 module _ (of_problem : List (List ℕ)) (labels : List Label) where
   abbrev forms : List Form
@@ -59,7 +58,7 @@ module _ (of_problem : List (List ℕ)) (labels : List Label) where
   parent_there i n m e q = ap (has_parent i) (label_at of_problem 0 labels n m e) ∙ ap (is_number i) (parent_printed of_problem (0 + n) m ∙ q) ∙ eq-eqb i i refl
 
   label_there : (n : ℕ) → n < length labels → nat_lt n (length forms) ≡ true
-  label_there n less = ap (nat_lt n) (as_many of_problem 0 labels) ∙ less_test n (length labels) less
+  label_there n less = ap (nat_lt n) (as_many of_problem 0 labels) ∙ lt-ltb n (length labels) less
 
   parent_named : (i : ℕ) (o : Operation) (n : ℕ) → IsParentOf labels i o (Some n) → HasChild labels i n
   parent_named i by_problem n h = let e = h in absurd (cc)

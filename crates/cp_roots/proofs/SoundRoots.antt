@@ -12,7 +12,7 @@ use Rattle.cp_model.specs.PointOfView.{IsPointOfView}
 use Rattle.cp_model.specs.Stated.{KeepsStated}
 use Rattle.cp_model.specs.Tree.{Operation, by_problem, by_collapse}
 use Rattle.cp_lists.proofs.Members.{in_append, in_append_left, in_append_right, in_cases, into_map, from_map}
-use Rattle.cp_model.proofs.SingleMaps.{itself, own_carries}
+use Rattle.cp_model.proofs.SingleMaps.{itself, states_itself, own_carries}
 use Rattle.cp_model.proofs.StatedItself.{keeps_its_own}
 use Rattle.cp_completeness.proofs.Under.{factors_then}
 use Rattle.cp_normal.specs.NormalForms.{IsNormalFormOf}
@@ -74,7 +74,7 @@ module _ (protocol : Protocol) (variables : List Declaration) (k : Skeleton) (sk
         skeleton = skeleton_listed r protocol sr;
         assumptions = λ e. assumptions_listed r (normal_keeps_assumptions protocol r sr f.normal);
         from_problem = carries_listed r k (form_carries variables k (itself own) l r f carries);
-        stated = stated_listed r k (form_keeps variables k own l r f carries keeps);
+        stated = stated_listed r k (form_keeps variables k (states_itself own) l r f carries keeps);
         nowhere = λ e. not_true e;
       }
 
@@ -88,14 +88,14 @@ module _ (protocol : Protocol) (variables : List Declaration) (k : Skeleton) (sk
     skeleton = sk;
     assumptions = λ e. not_false e;
     from_problem = own_carries variables k (itself own);
-    stated = keeps_its_own protocol variables k sk own;
+    stated = keeps_its_own protocol variables k sk (states_itself own);
     nowhere = λ e b g is stands apart. let a = f.loses_none protocol sk b g is stands apart in elim a.listed [ ];
   }
 
   first_are_sound : (forms : List Skeleton) → AreNormalForms k forms → (root : Root) → IsIn root (first_roots k forms) → IsSoundRoot protocol k root
   first_are_sound [] f root here = dead_is_sound f
   first_are_sound [] f root (there i) = elim i [ ]
-  first_are_sound (r ∷ rs) f root i = forms_are_sound k (r ∷ rs) by_problem sk (own_carries variables k (itself own)) (keeps_its_own protocol variables k sk own) f.forms root i
+  first_are_sound (r ∷ rs) f root i = forms_are_sound k (r ∷ rs) by_problem sk (own_carries variables k (itself own)) (keeps_its_own protocol variables k sk (states_itself own)) f.forms root i
 
   -- ---- the collapses
 
@@ -115,7 +115,7 @@ module _ (protocol : Protocol) (variables : List Declaration) (k : Skeleton) (sk
   each_is_sound (collapse_by {p = p} {l = l} c cs) roots (rs, others, f, rest, e) root i =
       either_is_sound root (roots_of l rs) others
       (forms_are_sound l rs (by_collapse (firsts l.from_problem.strands)) (collapse_is_skeleton p l c) (collapse_carries protocol variables k l p sk own c.collapsed)
-      (collapse_keeps protocol variables k k l p sk own sk (own_carries variables k (itself own)) c.collapsed (keeps_its_own protocol variables k sk own)) f.forms)
+      (collapse_keeps protocol variables k k l p sk (states_itself own) sk (own_carries variables k (itself own)) c.collapsed (keeps_its_own protocol variables k sk (states_itself own))) f.forms)
       (each_is_sound cs others rest) (subst (IsIn root) e i)
 
   -- ---- all roots

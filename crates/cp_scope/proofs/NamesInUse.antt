@@ -6,6 +6,7 @@ use Rattle.std.specs.Cmp.Lexicographic.{nat_list_eq_equiv, bytes_decides}
 use Rattle.std.specs.HashMap.{HashMap, get_by, UpdatesBy}
 use Rattle.std.specs.Map.{IsKeyTest, AreApart, KeepsOthers, lookup}
 use Rattle.std.specs.Str.{bytes_eq}
+use Rattle.std.proofs.lemmas.Bool.{cond-false, cond-true}
 use Rattle.cp_model.specs.Same.{same_text}
 use Rattle.cp_language.specs.Words.{is_one_of}
 use Rattle.cp_scope.specs.Places.{place_from, ArePlacesOf}
@@ -74,14 +75,6 @@ pub some_otherwise : {A : Type 0} (o p : Option A) → is_some o ≡ true → ot
 some_otherwise None p e = absurd (cc)
 some_otherwise (Some x) p e = refl
 
-pub if_true : {A : Type 0} (b : Bool) (x y : A) → b ≡ true → (if b then x else y) ≡ x
-if_true true x y e = refl
-if_true false x y e = absurd (cc)
-
-pub if_false : {A : Type 0} (b : Bool) (x y : A) → b ≡ false → (if b then x else y) ≡ y
-if_false true x y e = absurd (cc)
-if_false false x y e = refl
-
 -- Where the name is a new one.
 module _ {A S X Y : Type 0} (name : List ℕ) (m n : HashMap (Vec ℕ A) X S) (k : Vec ℕ A) (v : X) (seen : Option X → Option Y) (old : List ℕ → Option Y) (test : List ℕ → Bool) (y : Y)
     (same : (t : List ℕ) → test t ≡ bytes_eq name t) (shown : seen (Some v) ≡ Some y) where
@@ -95,9 +88,9 @@ module _ {A S X Y : Type 0} (name : List ℕ) (m n : HashMap (Vec ℕ A) X S) (k
           let is : name ≡ t = (bytes_decides name t).0 e in
           let missing : old t ≡ None = ap old (sym is) ∙ none in
           ap (λ (bs : List ℕ). seen (get_by (λ y. bytes_eq bs y.items) n)) (sym is) ∙ ap seen (found_there name m n k v ek u) ∙ shown
-          ∙ sym (ap (λ o. otherwise o (if test t then Some y else None)) missing ∙ if_true (test t) (Some y) None (same t ∙ e))
+          ∙ sym (ap (λ o. otherwise o (if test t then Some y else None)) missing ∙ cond-true (test t) (Some y) None (same t ∙ e))
       by_text false e =
-          ap seen (kept_elsewhere name m n k v t e ek u) ∙ h t ∙ sym (ap (otherwise (old t)) (if_false (test t) (Some y) None (same t ∙ e)) ∙ otherwise-none (old t))
+          ap seen (kept_elsewhere name m n k v t e ek u) ∙ h t ∙ sym (ap (otherwise (old t)) (cond-false (test t) (Some y) None (same t ∙ e)) ∙ otherwise-none (old t))
 
 -- Where the name stands in the table.
 module _ {Y : Type 0} (name : List ℕ) (old : List ℕ → Option Y) (test : List ℕ → Bool) (y : Y) (same : (t : List ℕ) → test t ≡ bytes_eq name t) where
@@ -106,7 +99,7 @@ module _ {Y : Type 0} (name : List ℕ) (old : List ℕ → Option Y) (test : Li
     where
       by_text : (b : Bool) → bytes_eq name t ≡ b → old t ≡ otherwise (old t) (if test t then Some y else None)
       by_text true e = sym (some_otherwise (old t) (if test t then Some y else None) (ap (λ s. is_some (old s)) (sym ((bytes_decides name t).0 e)) ∙ some))
-      by_text false e = sym (ap (otherwise (old t)) (if_false (test t) (Some y) None (same t ∙ e)) ∙ otherwise-none (old t))
+      by_text false e = sym (ap (otherwise (old t)) (cond-false (test t) (Some y) None (same t ∙ e)) ∙ otherwise-none (old t))
 
 -- ---- names that are found by their places
 

@@ -3,6 +3,7 @@ use Rattle.std.proofs.Common.{◌≡◌, ◌≢◌, ◌⊎◌, ◌↔◌, inl, i
 use Rattle.cp_lists.specs.Lists.{item_at, IsIn, here, there, Steps, one_step, more_steps}
 use Rattle.std.proofs.Math.Logic.{⊎_elim}
 use Rattle.std.proofs.Math.Seq.{take-append_seam}
+use Rattle.std.proofs.lemmas.Bool.{cases_eq}
 use Rattle.cp_lists.proofs.Items.{set_here, set_elsewhere, item_below, at_place}
 use Rattle.cp_lists.proofs.Members.{in_cases, not_in_none}
 use Rattle.cp_search.specs.declared.graph.Edge.{Edge}
@@ -29,9 +30,6 @@ read_item (x ∷ xs) (suc i) d l = read_item xs i d (omega (arith, l))
 pub not_flagged : {A : Type 0} (flags : List Bool) (i : ℕ) (d : Bool) → i < length flags → get_or flags i d ≡ false → IsFlagged flags i → A
 not_flagged flags i d l e h = let r = read_item flags i d l in absurd (cc)
 
-pub apart_or_same : (a b : ℕ) → (a ≡ b) ⊎ (a ≢ b)
-apart_or_same a b = grind arith
-
 -- A flag that is set is one fewer that is not.
 pub set_fewer : (flags : List Bool) (i : ℕ) → item_at flags i ≡ Some false → suc (unflagged (set flags i true)) ≡ unflagged flags
 set_fewer [] i e = absurd (cc)
@@ -46,7 +44,7 @@ set_keeps_of flags i n (inr ne) l h = set_elsewhere flags i true n ne ∙ h
 
 -- What is flagged stays so where one is flagged.
 pub set_keeps : (flags : List Bool) (i n : ℕ) → i < length flags → IsFlagged flags n → IsFlagged (set flags i true) n
-set_keeps flags i n l h = set_keeps_of flags i n (apart_or_same i n) l h
+set_keeps flags i n l h = set_keeps_of flags i n (cases_eq i n) l h
 
 set_says_of : (flags : List Bool) (i n : ℕ) → (i ≡ n) ⊎ (i ≢ n) → IsFlagged (set flags i true) n → (i ≡ n) ⊎ IsFlagged flags n
 set_says_of flags i n (inl e) h = inl e
@@ -54,7 +52,7 @@ set_says_of flags i n (inr ne) h = inr (sym (set_elsewhere flags i true n ne) �
 
 -- What is flagged then was flagged or is this one.
 pub set_says : (flags : List Bool) (i n : ℕ) → IsFlagged (set flags i true) n → (i ≡ n) ⊎ IsFlagged flags n
-set_says flags i n h = set_says_of flags i n (apart_or_same i n) h
+set_says flags i n h = set_says_of flags i n (cases_eq i n) h
 
 -- ---- one edge after the other
 

@@ -1,9 +1,11 @@
 -- The edges of labels.
 use Rattle.std.proofs.Common.{◌≡◌, ◌⊎◌, ◌↔◌, inl, inr, ◌∙◌, ℕ, ◌<◌, ◌≤◌, List, [], ◌∷◌, ◌++◌, length, map, Bool, true, false, Option, Some, None, refl, sym, ap, subst, subst₂, arith}
 use Rattle.std.specs.Prelude.{is_some, not, IsTrue}
-use Rattle.cp_lists.specs.Lists.{item_at, IsIn, Steps, one_step, more_steps}
+use Rattle.std.proofs.lemmas.Bool.{cases_Bool}
+use Rattle.cp_lists.specs.Lists.{item_at, IsIn, one_step, more_steps}
 use Rattle.cp_lists.proofs.Items.{item_below, item_last, item_still, item_of_push, map_of_item, item_of_map}
 use Rattle.cp_lists.proofs.Members.{not_in_none, in_append_left, in_last, in_pushed}
+use Rattle.cp_lists.proofs.Reached.{steps_alike}
 use Rattle.cp_tree.specs.Made.{Way, IsEdge, to_child, to_seen, Reaches, MayPointTo}
 use Rattle.cp_search.specs.declared.made.Made.{Made}
 use Rattle.cp_search.specs.declared.graph.Edge.{Edge}
@@ -106,17 +108,13 @@ module _ (ms : List Made) (edges : List Edge) (are : AreEdgesOf ms edges) where
 
 -- ---- edges are between labels
 
-dead_or_lives : (b : Bool) → (b ≡ true) ⊎ (b ≡ false)
-dead_or_lives true = inl refl
-dead_or_lives false = inr refl
-
 module _ (ms : List Made) (found : AreFound ms) where
   seen_earlier_of : (i j : ℕ) (m : Made) → item_at ms i ≡ Some m → m.seen_in ≡ Some j → (m.dead ≡ true) ⊎ (m.dead ≡ false) → j < i
   seen_earlier_of i j m at e (inl dead) = let none : m.seen_in ≡ None = (found.each i m at).dead_unseen dead in absurd (cc)
   seen_earlier_of i j m at e (inr lives) = (subst (FindsLeast (MayPointTo (map made_way ms) i)) e ((found.each i m at).seen lives)).holds.earlier
 
   pub seen_earlier : (i j : ℕ) (m : Made) → item_at ms i ≡ Some m → m.seen_in ≡ Some j → j < i
-  seen_earlier i j m at e = seen_earlier_of i j m at e (dead_or_lives m.dead)
+  seen_earlier i j m at e = seen_earlier_of i j m at e (cases_Bool m.dead)
 
   pub edge_within : (i j : ℕ) → IsEdge (map made_way ms) i j → (i < length ms) × (j < length ms)
   edge_within i j (to_child {w = w} at parent) =
@@ -139,10 +137,6 @@ module _ (ms : List Made) (found : AreFound ms) where
   reaching_within n p l (inr (more_steps {y = y} e steps)) = (edge_within n y e).0
 
 -- ---- what leads to a label
-
-steps_alike : {A : Type 0} {first second : A → A → Type 0} → ((x y : A) → first x y → second x y) → {x y : A} → Steps first x y → Steps second x y
-steps_alike h {x} {y} (one_step s) = one_step (h x y s)
-steps_alike h {x} {y} (more_steps {y = mid} s rest) = more_steps (h x mid s) (steps_alike h rest)
 
 module _ (ms : List Made) (found : AreFound ms) (edges : List Edge) (all : (i j : ℕ) → HasEdge edges i j ↔ IsEdge (map made_way ms) i j) (p : ℕ) (l : p < length ms) where
   reaches_of : (n : ℕ) → Leads edges n p → Reaches (map made_way ms) n p

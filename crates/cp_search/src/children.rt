@@ -1,14 +1,52 @@
 // The labels of a test's children.
-ghost use Rattle.std.specs.Prelude.{◌≡◌, ◌<◌, length, map, IfOk, OnOk};
+ghost use Rattle.std.specs.Prelude.{◌≡◌, ◌<◌, [], ◌∷◌, ◌++◌, length, map, IfOk, OnOk};
 ghost use Rattle.cp_model.specs.Problem.{numbers_from};
 ghost use Rattle.cp_cohort.specs.Views.{child_view};
 ghost use Rattle.cp_tree.specs.Made.{made_of_child};
-ghost use Rattle.cp_search.specs.MadeLabels.{AreFound, AddMade};
+ghost use Rattle.cp_search.specs.MadeLabels.{AreFound, AddsMade, AddMade};
 
 use crate::labels::Labels;
 use crate::new_labels::make;
 use cp_cohort::Child;
 use std::alloc::{AllocError, Global};
+
+/// Makes the label of a child of a label's test, with its assumptions in the order of a report. The error is that memory ran out.
+fn make_child(
+    alloc: Global,
+    made: &mut Labels,
+    parent: usize,
+    child: Child,
+) -> Result<(), AllocError>
+    requires found { AreFound made.old }
+    requires parent { parent < length made.old }
+    ensures { OnOk result (AddsMade (made_of_child parent (child_view child)) made.old made.new) }
+{
+    let Child {
+        mut skeleton,
+        operation,
+        path: _,
+    } = child;
+    skeleton.list_assumptions(alloc)?;
+    make(alloc, made, Some(parent), operation, skeleton, false)
+}
+
+/// Makes the label of a child of a label's test behind the others, and puts its number behind those of the children before it. The
+/// error is that memory ran out.
+fn add_child(
+    alloc: Global,
+    made: &mut Labels,
+    parent: usize,
+    child: Child,
+    numbers: &mut Vec<usize>,
+) -> Result<(), AllocError>
+    requires found { AreFound made.old }
+    requires parent { parent < length made.old }
+    ensures made { OnOk result (AddsMade (made_of_child parent (child_view child)) made.old made.new) }
+    ensures numbers { OnOk result (numbers.new.items ≡ numbers.old.items ++ length made.old ∷ []) }
+{
+    numbers.push(made.len())?;
+    make_child(alloc, made, parent, child)
+}
 
 /// Makes the labels of the children of a label's test, in their order, each with its assumptions in the order of a report: their
 /// numbers. The error is that memory ran out.
@@ -25,14 +63,7 @@ pub(crate) fn make_children(
 {
     let mut numbers = Vec::with_capacity(alloc, children.len())?;
     for child in children {
-        numbers.push(made.len())?;
-        let Child {
-            mut skeleton,
-            operation,
-            path: _,
-        } = child;
-        skeleton.list_assumptions(alloc)?;
-        make(alloc, made, Some(parent), operation, skeleton, false)?;
+        add_child(alloc, made, parent, child, &mut numbers)?;
     }
     Ok(numbers)
 }

@@ -1,12 +1,20 @@
 // Labels that are settled one after the other.
 ghost use Rattle.std.specs.Prelude.{◌≡◌, ◌≢◌, ◌<◌, ◌≤◌, ◌+◌, ℕ, List, [], length, map, true, false, IfOk, OnOk, Option, Some, None};
 ghost use Rattle.cp_lists.specs.Lists.{item_at};
+ghost use Rattle.cp_model.specs.Problem.{numbers_from};
+ghost use Rattle.cp_model.specs.PointOfView.{HasDeclaredVariables};
+ghost use Rattle.cp_model.specs.Skeleton.{IsSkeleton};
 ghost use Rattle.cp_model.specs.Strand.{Protocol as PlainProtocol};
-ghost use Rattle.cp_skel.specs.Trees.{limits_view};
+ghost use Rattle.cp_skel.specs.Trees.{limits_view, variables_view};
+ghost use Rattle.cp_skel.specs.View.{skeleton_view};
+ghost use Rattle.cp_cohort.specs.Views.{child_view};
+ghost use Rattle.cp_derive.specs.Unrealised.{ListsUnrealised};
+ghost use Rattle.cp_expansion.specs.Expansion.{IsExpansionOf};
+ghost use Rattle.cp_expansion.specs.Views.{expansion_view};
 ghost use Rattle.cp_tree.specs.Made as plain;
 ghost use Rattle.cp_search.specs.declared.made.Made as program;
 ghost use Rattle.cp_search.specs.Roots.{root_made};
-ghost use Rattle.cp_search.specs.MadeLabels.{AreFound};
+ghost use Rattle.cp_search.specs.MadeLabels.{AreFound, AddMade};
 ghost use Rattle.cp_search.specs.GeneralLabels.{SettlesAs};
 ghost use Rattle.cp_search.specs.SettledLabels.{IsLeafOf, IsToExpand, IsNextToExpand, ExpandsLabel, HasSearched, AreSoundMade, AreSoundRoots};
 
@@ -18,7 +26,7 @@ use crate::roots::make_roots;
 use crate::settled::{Expanded, Settled};
 use cp_expansion::{Expansion, expand, test_of};
 use cp_roots::Root;
-use cp_skel::{Limits, Mark, Protocol};
+use cp_skel::{Limits, Mark, Protocol, Test};
 use cp_tree::expansions_are_sound;
 use std::alloc::{AllocError, Global};
 
@@ -93,6 +101,53 @@ fn settle_leaves(alloc: Global, limits: Limits, search: &mut Search) -> Result<b
     Ok(false)
 }
 
+/// The test of a label that is to be expanded, and the expansion of its skeleton by that. The error is that memory ran out.
+fn expansion_of(
+    alloc: Global,
+    protocol: &Protocol,
+    label: &Made,
+) -> Result<(Test, Expansion), AllocError>
+    requires skeleton { IsSkeleton protocol.now (skeleton_view label.now.skeleton) }
+    requires declared { HasDeclaredVariables (variables_view label.now.skeleton.variables) (skeleton_view label.now.skeleton) }
+    requires listed { ListsUnrealised (skeleton_view label.now.skeleton) label.now.unrealised.items }
+    requires unrealised { label.now.unrealised.items ≢ [] }
+    ensures exact { IfOk result (λ r. IsExpansionOf protocol.now (variables_view label.now.skeleton.variables) (skeleton_view label.now.skeleton) (expansion_view r.0 r.1)) }
+    ensures same { IfOk result (λ r. skeleton_view r.1.skeleton ≡ skeleton_view label.now.skeleton) }
+{
+    let Some(test) = test_of(alloc, &label.skeleton, &label.unrealised)? else {
+        unreachable!()
+    };
+    let expansion = expand(alloc, protocol, &label.skeleton, &test)?;
+    Ok((test, expansion))
+}
+
+/// Makes the labels of the children of the expansion of this label by this test behind the others: what the label becomes. The
+/// error is that memory ran out.
+fn expand_to(
+    alloc: Global,
+    made: &mut Labels,
+    number: usize,
+    test: Test,
+    expansion: Expansion,
+) -> Result<Expanded, AllocError>
+    requires found { AreFound made.old }
+    requires there { number < length made.old }
+    ensures { IfOk result (λ e. AddMade (map (plain.made_of_child number) (map child_view expansion.children.items)) made.old made.new × (e.children.items ≡ numbers_from (length made.old) expansion.children.items) × (e.skeleton ≡ expansion.skeleton) × (e.test ≡ test) × (e.patterns.items ≡ expansion.patterns.items)) }
+{
+    let Expansion {
+        skeleton,
+        patterns,
+        children,
+    } = expansion;
+    let children = make_children(alloc, made, number, children)?;
+    Ok(Expanded {
+        skeleton,
+        test,
+        patterns,
+        children,
+    })
+}
+
 /// Expands a label: makes the labels of the children of its test behind the others.
 fn expand_label(
     alloc: Global,
@@ -109,21 +164,8 @@ fn expand_label(
     expansions_are_sound();
     protocol.is_sound();
     let label = made.label(number);
-    let Some(test) = test_of(alloc, &label.skeleton, &label.unrealised)? else {
-        unreachable!()
-    };
-    let Expansion {
-        skeleton,
-        patterns,
-        children,
-    } = expand(alloc, protocol, &label.skeleton, &test)?;
-    let children = make_children(alloc, made, number, children)?;
-    Ok(Expanded {
-        skeleton,
-        test,
-        patterns,
-        children,
-    })
+    let (test, expansion) = expansion_of(alloc, protocol, label)?;
+    expand_to(alloc, made, number, test, expansion)
 }
 
 /// Expands the next label.

@@ -67,6 +67,39 @@ fn latest(number: usize, parent: Option<usize>) -> usize
     }
 }
 
+/// Notes what is looked up of a label that is to be put behind others: it among those that have its number, its edges, and its
+/// parent. The error is that memory ran out.
+fn note(
+    alloc: Global,
+    all: &[Made],
+    alike: &mut HashMap<usize, Vec<usize>>,
+    edges: &mut Vec<Edge>,
+    latest_parent: &mut usize,
+    made: &Made,
+) -> Result<(), AllocError>
+    requires alike { (q : ℕ) → numbers_by alike.old (λ v. v.items) q ≡ with_sharing q 0 all.now }
+    requires edges { AreEdgesOf all.now edges.old.items }
+    requires parents { AreParentsWithin all.now latest_parent.old }
+    ensures alike { OnOk result ((q : ℕ) → numbers_by alike.new (λ v. v.items) q ≡ with_sharing q 0 (all.now ++ made.now ∷ [])) }
+    ensures edges { OnOk result (AreEdgesOf (all.now ++ made.now ∷ []) edges.new.items) }
+    ensures parents { OnOk result (AreParentsWithin (all.now ++ made.now ∷ []) latest_parent.new) }
+{
+    let number = all.len();
+    add_edge(edges, made.parent, Some(number))?;
+    add_edge(edges, Some(number), made.seen_in)?;
+    add_alike(alloc, alike, made.fingerprint.sharing(), number)?;
+    *latest_parent = latest(*latest_parent, made.parent);
+    Ok(())
+}
+
+/// Puts a label behind others. The error is that memory ran out.
+fn append(all: &mut Vec<Made>, made: Made) -> Result<(), AllocError>
+    ensures { OnOk result (all.new.items ≡ all.old.items ++ made ∷ []) }
+{
+    all.push(made)?;
+    Ok(())
+}
+
 /// Puts a label behind others, behind those that have its number, and its edges behind theirs.
 fn put_behind(
     alloc: Global,
@@ -84,13 +117,8 @@ fn put_behind(
     ensures edges { OnOk result (AreEdgesOf all.new.items edges.new.items) }
     ensures parents { OnOk result (AreParentsWithin all.new.items latest_parent.new) }
 {
-    let number = all.len();
-    add_edge(edges, made.parent, Some(number))?;
-    add_edge(edges, Some(number), made.seen_in)?;
-    add_alike(alloc, alike, made.fingerprint.sharing(), number)?;
-    *latest_parent = latest(*latest_parent, made.parent);
-    all.push(made)?;
-    Ok(())
+    note(alloc, all, alike, edges, latest_parent, &made)?;
+    append(all, made)
 }
 
 impl Model for Labels {

@@ -1,6 +1,7 @@
 -- What stands in the place of a candidate that is released inside, whose normal forms are tried again, or that is settled.
-use Rattle.std.proofs.Common.{◌≡◌, List, [], ◌∷◌, ◌++◌, map, sym, ap, ◌∙◌, subst}
+use Rattle.std.proofs.Common.{◌≡◌, Bool, true, false, Option, Some, List, [], ◌∷◌, ◌++◌, map, refl, sym, ap, ◌∙◌, subst}
 use Rattle.std.proofs.lemmas.List.{append-nil}
+use Rattle.std.specs.Bool.{then_some}
 use Rattle.cp_lists.specs.Lists.{IsIn, here, there}
 use Rattle.cp_lists.proofs.Members.{from_map, only_item, not_in_none}
 use Rattle.cp_model.specs.Term.{Substitution, apply_to, composed}
@@ -15,7 +16,7 @@ use Rattle.cp_settle.specs.declared.release.Tried as program
 use Rattle.cp_settle.specs.declared.candidates.Candidate.{Candidate}
 use Rattle.cp_settle.specs.declared.candidates.Candidate.TheVariants.{OnTheWay, Normal, Settled}
 use Rattle.cp_settle.specs.CandidateResults.{LeadTo}
-use Rattle.cp_settle.specs.Candidates.{tried_form, normal_form, OneMatches, ComesFrom, FallsTo, Puts}
+use Rattle.cp_settle.specs.Candidates.{tried_form, normal_form, OneMatches, ComesFrom, FallsTo, Puts, BranchesUnless, IsKept}
 use Rattle.cp_settle.proofs.OccurrenceBranches.{same_trace}
 use Rattle.cp_settle.proofs.FurtherMatches.{one_matches_under}
 
@@ -41,6 +42,23 @@ settled_place r x old new meets e = record {
   behind = e;
   takes_place = record { each = λ d i. subst (FallsTo r (Normal x)) (sym (only_item i)) tt; leads = settled_leads r x meets };
 }
+
+-- ---- kept where both conditions hold
+
+pub kept_so : (r : Release) (x : program.Tried) (met : Bool) (kept : Option program.Tried) (old new : List Candidate) → kept ≡ then_some met x → BranchesUnless met r x old new → IsKept r x old new kept
+kept_so r x true kept old new is unless = subst (IsKept r x old new) (sym is) (refl, unless)
+kept_so r x false kept old new is unless = subst (IsKept r x old new) (sym is) unless
+
+module _ (r : Release) (x y : program.Tried) (old mid new : List Candidate) (kept : IsKept r x old mid (Some y)) where
+  pub normalised_kept : ((s : Release) → MeetsBoth s (tried_view y) → Puts s (OnTheWay y) mid new) → Puts r (OnTheWay x) old new
+  normalised_kept puts =
+      subst (λ (z : program.Tried). Puts r (OnTheWay z) old new) kept.0
+      (subst (λ (ds : List Candidate). Puts r (OnTheWay y) ds new) kept.1.1 (puts r (subst (λ (z : program.Tried). MeetsBoth r (tried_view z)) (sym kept.0) kept.1.0)))
+
+  pub settled_kept : new ≡ mid ++ Settled y ∷ [] → Puts r (Normal x) old new
+  settled_kept behind =
+      settled_place r x old new kept.1.0
+      (behind ∙ ap (λ (ds : List Candidate). ds ++ Settled y ∷ []) kept.1.1 ∙ ap (λ (z : program.Tried). old ++ Settled z ∷ []) kept.0)
 
 -- ---- normal forms
 

@@ -1,5 +1,5 @@
 -- What takes the place of a candidate, and rounds of trying.
-use Rattle.std.specs.Prelude.{◌≡◌, ℕ, ◌<◌, List, [], ◌∷◌, ◌++◌, map, Some}
+use Rattle.std.specs.Prelude.{◌≡◌, ℕ, ◌<◌, Bool, true, false, List, [], ◌∷◌, ◌++◌, map, Option, Some, MatchOption}
 use Rattle.cp_lists.specs.Lists.{item_at, IsIn}
 use Rattle.cp_model.specs.Term.{Term, Substitution, apply_to}
 use Rattle.cp_model.specs.Strand.{Event, payload, event_map}
@@ -12,7 +12,7 @@ use Rattle.cp_normal.specs.declared.form.Form as normal_forms
 use Rattle.cp_guard.specs.Above.{encryptions_above}
 use Rattle.cp_guard.specs.Matches.{Matches}
 use Rattle.cp_match.specs.Unifiers.{UnifiesMostGenerally, NeverEqual}
-use Rattle.cp_settle.specs.Releases.{Release, Tried}
+use Rattle.cp_settle.specs.Releases.{Release, Tried, MeetsBoth}
 use Rattle.cp_settle.specs.Stages.{Choice, pattern_in, branch_of}
 use Rattle.cp_settle.specs.Views.{tried_view}
 use Rattle.cp_settle.specs.CandidateResults.{LeadsTo, LeadTo}
@@ -108,6 +108,15 @@ pub record Puts (r : Release) (c : Candidate) (old new : List Candidate) : Type 
   pub added : List Candidate
   pub behind : new ≡ old ++ added
   pub takes_place : TakesPlace r c added
+
+-- Both conditions hold and nothing was put; or what takes the place of what is tried, whether it is known to be normal or not, is put.
+abbrev pub BranchesUnless : Bool → Release → program.Tried → List Candidate → List Candidate → Type 0
+BranchesUnless true r x old new = MeetsBoth r (tried_view x) × (new ≡ old)
+BranchesUnless false r x old new = Puts r (OnTheWay x) old new × Puts r (Normal x) old new
+
+-- What is tried itself, where both conditions hold and nothing was put; nothing, where what takes its place is put.
+abbrev pub IsKept : Release → program.Tried → List Candidate → List Candidate → Option program.Tried → Type 0
+IsKept r x old new kept = MatchOption kept (BranchesUnless false r x old new) (λ y. (y ≡ x) × BranchesUnless true r x old new)
 
 -- Each of the new candidates falls from one of the old.
 abbrev pub AllFall : Release → List Candidate → List Candidate → Type 0

@@ -3,4 +3,5 @@ pub mod Stages
 pub mod Views
 pub mod Conditions
 pub mod CandidateResults
+pub mod Widened
 pub mod Candidates

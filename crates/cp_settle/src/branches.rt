@@ -1,16 +1,90 @@
 // The branches by an occurrence of the term outside the patterns.
-ghost use Rattle.std.specs.Prelude.{[], ◌∷◌, map, OnOk};
+ghost use Rattle.std.specs.Prelude.{[], ◌∷◌, map, IfOk, OnOk};
+ghost use Rattle.cp_model.specs.Term.{Term as Plain};
+ghost use Rattle.cp_model.specs.Tree.{Pattern as PlainPattern};
+ghost use Rattle.cp_unify.specs.Bindings.{as_substitution};
+ghost use Rattle.cp_match.specs.Unifiers.{UnifiesMostGenerally};
 ghost use Rattle.cp_settle.specs.Stages.{choices};
 ghost use Rattle.cp_settle.specs.Views.{tried_view};
+ghost use Rattle.cp_settle.specs.Widened.{IsWidened, IsTriedUnder};
 ghost use Rattle.cp_settle.specs.Candidates.{choice_of, PutsBranches};
 
 use crate::candidates::Candidate;
 use crate::release::Tried;
 use cp_collapse::under;
 use cp_match::{open_pattern, unifier};
+use cp_skel::Skeleton;
 use cp_term::{Pattern, Term};
-use cp_unify::compose;
+use cp_unify::{Subst, compose};
 use std::alloc::{AllocError, Global};
+
+/// The skeleton of what is tried, with new variables for a pattern's locals, and the pattern as a term of it.
+#[derive(Drop)]
+struct Widened {
+    skeleton: Skeleton,
+    term: Term,
+}
+
+/// What is tried with new variables for a pattern's locals. The error is that memory ran out.
+fn widen(alloc: Global, tried: &Tried, pattern: &Pattern) -> Result<Widened, AllocError>
+    ensures { IfOk result (IsWidened (tried_view tried.now) pattern.now) }
+{
+    let mut skeleton = tried.skeleton.copy(alloc)?;
+    let term = open_pattern(alloc, pattern, &tried.substitution, &mut skeleton)?;
+    Ok(Widened { skeleton, term })
+}
+
+/// What is tried under a unifier, with the new variables. The error is that memory ran out.
+fn tried_under(
+    alloc: Global,
+    tried: &Tried,
+    widened: &Widened,
+    u: &Subst,
+) -> Result<Tried, AllocError>
+    ensures { IfOk result (IsTriedUnder tried.now widened.now (as_substitution u.now)) }
+{
+    let skeleton = under(alloc, &widened.skeleton, u)?;
+    let substitution = compose(alloc, &tried.substitution, u)?;
+    Ok(Tried {
+        skeleton,
+        substitution,
+    })
+}
+
+/// Puts the branch by a unifier behind others. The error is that memory ran out.
+fn put_under(
+    alloc: Global,
+    tried: &Tried,
+    widened: &Widened,
+    u: &Subst,
+    next: &mut Vec<Candidate>,
+) -> Result<(), AllocError>
+    ensures { OnOk result ((e : Plain) (p : PlainPattern) → IsWidened (tried_view tried.now) p widened.now
+        → UnifiesMostGenerally e widened.now.term (as_substitution u.now)
+        → PutsBranches (tried_view tried.now) (choice_of e p ∷ []) next.old.items next.new.items) }
+{
+    let branch = tried_under(alloc, tried, widened, u)?;
+    next.push(Candidate::OnTheWay(branch))?;
+    Ok(())
+}
+
+/// Puts the branch behind others in which an encryption is made to equal the pattern's term, if it can be. The error is that
+/// memory ran out.
+fn put_unified(
+    alloc: Global,
+    tried: &Tried,
+    widened: &Widened,
+    encryption: &Term,
+    next: &mut Vec<Candidate>,
+) -> Result<(), AllocError>
+    ensures { OnOk result ((p : PlainPattern) → IsWidened (tried_view tried.now) p widened.now
+        → PutsBranches (tried_view tried.now) (choice_of encryption.now p ∷ []) next.old.items next.new.items) }
+{
+    match unifier(alloc, encryption, &widened.term)? {
+        Some(u) => put_under(alloc, tried, widened, &u, next),
+        None => Ok(()),
+    }
+}
 
 /// Puts the branch behind others in which an encryption is made to match a pattern, if it can be.
 fn put_branch(
@@ -22,19 +96,8 @@ fn put_branch(
 ) -> Result<(), AllocError>
     ensures { OnOk result (PutsBranches (tried_view tried.now) (choice_of encryption.now pattern.now ∷ []) next.old.items next.new.items) }
 {
-    let mut k = tried.skeleton.copy(alloc)?;
-    let opened = open_pattern(alloc, pattern, &tried.substitution, &mut k)?;
-    let u = match unifier(alloc, encryption, &opened)? {
-        Some(u) => u,
-        None => return Ok(()),
-    };
-    let skeleton = under(alloc, &k, &u)?;
-    let substitution = compose(alloc, &tried.substitution, &u)?;
-    next.push(Candidate::OnTheWay(Tried {
-        skeleton,
-        substitution,
-    }))?;
-    Ok(())
+    let widened = widen(alloc, tried, pattern)?;
+    put_unified(alloc, tried, &widened, encryption, next)
 }
 
 /// Puts the branches behind others in which an encryption is made to match each of the patterns, in order.

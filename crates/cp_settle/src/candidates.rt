@@ -3,7 +3,7 @@ ghost use Rattle.std.specs.Prelude.{◌≡◌, ◌↔◌, ◌++◌, map, IsTrue,
 ghost use Rattle.cp_collapse.specs.Property.{Has};
 ghost use Rattle.cp_settle.specs.Releases.{Release as Plain, IsReleasedInside, IsFirstOutside, MeetsBoth};
 ghost use Rattle.cp_settle.specs.Views.{release_view, tried_view};
-ghost use Rattle.cp_settle.specs.Candidates.{tried_of, normal_form, IsOpen, Puts, IsRound};
+ghost use Rattle.cp_settle.specs.Candidates.{tried_of, normal_form, IsOpen, Puts, BranchesUnless, IsKept, IsRound};
 ghost use Rattle.cp_settle.specs.declared.candidates.Candidate.TheVariants as variants;
 
 use crate::branches::put_branches;
@@ -82,6 +82,42 @@ fn normalise_tried(alloc: Global, tried: Tried, next: &mut Vec<Candidate>) -> Re
     put_normal(forms, next)
 }
 
+/// Whether both conditions hold for a skeleton that is tried. Where one does not, what takes the skeleton's place is put behind
+/// others. The error is that memory ran out.
+fn branch_unless_met(
+    alloc: Global,
+    release: &Release,
+    tried: &Tried,
+    next: &mut Vec<Candidate>,
+) -> Result<bool, AllocError>
+    ensures { IfOk result (λ met. BranchesUnless met (release_view release.now) tried.now next.old.items next.new.items) }
+{
+    if is_released_inside(alloc, release, tried)? {
+        return Ok(false);
+    }
+    match first_outside_before(alloc, release, tried)? {
+        Some(position) => {
+            put_by_position(alloc, release, tried, &position, next)?;
+            Ok(false)
+        }
+        None => Ok(true),
+    }
+}
+
+/// What is tried, if both conditions hold for it. Where one does not, what takes its place is put behind others. The error is
+/// that memory ran out.
+fn kept_if_met(
+    alloc: Global,
+    release: &Release,
+    tried: Tried,
+    next: &mut Vec<Candidate>,
+) -> Result<Option<Tried>, AllocError>
+    ensures { IfOk result (IsKept (release_view release.now) tried next.old.items next.new.items) }
+{
+    let is_met = branch_unless_met(alloc, release, &tried, next)?;
+    Ok(is_met.then_some(tried))
+}
+
 /// Puts what takes the place of a skeleton that may not be normal behind others.
 fn try_first(
     alloc: Global,
@@ -91,12 +127,9 @@ fn try_first(
 ) -> Result<(), AllocError>
     ensures { OnOk result (Puts (release_view release.now) (variants.OnTheWay tried) next.old.items next.new.items) }
 {
-    if is_released_inside(alloc, release, &tried)? {
-        return Ok(());
-    }
-    match first_outside_before(alloc, release, &tried)? {
-        Some(position) => put_by_position(alloc, release, &tried, &position, next),
-        None => normalise_tried(alloc, tried, next),
+    match kept_if_met(alloc, release, tried, next)? {
+        Some(tried) => normalise_tried(alloc, tried, next),
+        None => Ok(()),
     }
 }
 
@@ -109,15 +142,12 @@ fn try_again(
 ) -> Result<(), AllocError>
     ensures { OnOk result (Puts (release_view release.now) (variants.Normal tried) next.old.items next.new.items) }
 {
-    if is_released_inside(alloc, release, &tried)? {
-        return Ok(());
-    }
-    match first_outside_before(alloc, release, &tried)? {
-        Some(position) => put_by_position(alloc, release, &tried, &position, next),
-        None => {
+    match kept_if_met(alloc, release, tried, next)? {
+        Some(tried) => {
             next.push(Candidate::Settled(tried))?;
             Ok(())
         }
+        None => Ok(()),
     }
 }
 

@@ -1,5 +1,6 @@
 -- Below each number there is one that is minimal.
 use Rattle.std.proofs.Common.{◌≡◌, ◌⊎◌, inl, inr, ℕ, zero, suc, ◌<◌, Bool, true, false, refl, subst, ◌∙◌, arith}
+use Rattle.cp_lists.proofs.Least.{less_or_same}
 
 -- Number j is chosen, is below i, and no other of the first n chosen ones is below it.
 pub record IsMinimalBelow (e : ℕ → ℕ → Bool) (r : ℕ → Bool) (n i j : ℕ) : Type 0 where
@@ -10,9 +11,6 @@ pub record IsMinimalBelow (e : ℕ → ℕ → Bool) (r : ℕ → Bool) (n i j :
 -- Of the chosen numbers an order that is given by tests.
 module _ (e : ℕ → ℕ → Bool) (r : ℕ → Bool) (same : (i : ℕ) → r i ≡ true → e i i ≡ true) (then : (i j k : ℕ) → e i j ≡ true → e j k ≡ true → e i k ≡ true)
     (apart : (i j : ℕ) → r i ≡ true → r j ≡ true → e i j ≡ true → e j i ≡ true → i ≡ j) where
-  either : (k n : ℕ) → k < suc n → (k < n) ⊎ (k ≡ n)
-  either k n l = grind arith
-
   -- It stays minimal where the next number is not below it.
   module _ (n i j : ℕ) (m : IsMinimalBelow e r n i j) where
     least_with : (r n ≡ true → e n j ≡ true → n ≡ j) → (k : ℕ) → (k < n) ⊎ (k ≡ n) → r k ≡ true → e k j ≡ true → k ≡ j
@@ -20,7 +18,7 @@ module _ (e : ℕ → ℕ → Bool) (r : ℕ → Bool) (same : (i : ℕ) → r i
     least_with next k (inr q) a b = q ∙ next (subst (λ x. r x ≡ true) q a) (subst (λ x. e x j ≡ true) q b)
 
     kept : (r n ≡ true → e n j ≡ true → n ≡ j) → IsMinimalBelow e r (suc n) i j
-    kept next = record { chosen = m.chosen; below = m.below; least = λ k l. least_with next k (either k n l) }
+    kept next = record { chosen = m.chosen; below = m.below; least = λ k l. least_with next k (less_or_same k n l) }
 
   -- What is minimal below the next number is minimal with it.
   lower : (n i j : ℕ) → r n ≡ true → e n i ≡ true → IsMinimalBelow e r n n j → IsMinimalBelow e r (suc n) i j

@@ -3,6 +3,7 @@ use Rattle.std.proofs.Common.{◌≡◌, ◌↔◌, ◌⊎◌, inl, inr, ℕ, ze
 use Rattle.cp_lists.specs.Lists.{IsIn, here, there}
 use Rattle.cp_model.specs.Skeleton.{Skeleton}
 use Rattle.cp_lists.proofs.Members.{in_append, in_append_left, in_append_right, only_item}
+use Rattle.cp_lists.proofs.Least.{less_or_same}
 use Rattle.cp_shapes.specs.Shapes.{IsInstanceWithin}
 use Rattle.cp_shapes.specs.Rows.{IsRising, IsRowOf}
 
@@ -35,9 +36,6 @@ no_row ks m row e = subst (λ (r : List ℕ). IsRowTo ks m r 0) (sym e) (record 
   rising = tt;
 })
 
-one_more : (k n : ℕ) → k < n + 1 → (k < n) ⊎ (k ≡ n)
-one_more k n l = grind arith
-
 module _ (ks : List Skeleton) (m n : ℕ) (row : List ℕ) (so_far : IsRowTo ks m row n) where
   still_before : (k : ℕ) → (IsInstanceWithin ks m n → ⊥) → (k < n) ⊎ (k ≡ n) → IsInstanceWithin ks m k → IsIn k row
   still_before k not (inl l) h = (so_far.listed k).1 (l, h)
@@ -47,7 +45,7 @@ module _ (ks : List Skeleton) (m n : ℕ) (row : List ℕ) (so_far : IsRowTo ks 
   row_without not = record {
     listed = λ k. (
       λ i. let h = (so_far.listed k).0 i in (let l : k < n = h.0 in omega (arith, l), h.1),
-      λ h. still_before k not (one_more k n h.0) h.1,
+      λ h. still_before k not (less_or_same k n (omega (arith, h.0))) h.1,
     );
     rising = so_far.rising;
   }
@@ -65,7 +63,7 @@ module _ (ks : List Skeleton) (m n : ℕ) (row : List ℕ) (so_far : IsRowTo ks 
     row_with new e = subst (λ (r : List ℕ). IsRowTo ks m r (n + 1)) (sym e) (record {
       listed = λ k. (
         λ i. now_before k (in_append row (n ∷ []) i),
-        λ h. now_listed k (one_more k n h.0) h.1,
+        λ h. now_listed k (less_or_same k n (omega (arith, h.0))) h.1,
       );
       rising = rising_with row n so_far.rising (λ k i. ((so_far.listed k).0 i).0);
     })

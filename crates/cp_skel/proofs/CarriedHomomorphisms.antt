@@ -2,6 +2,7 @@
 -- sound.
 use Rattle.std.proofs.Common.{◌≡◌, ◌≢◌, ◌⊎◌, inl, inr, ℕ, zero, suc, ◌<◌, ◌≤◌, List, [], ◌∷◌, ◌++◌, map, length, refl, sym, ap, ◌∙◌, subst, le_trans, le_refl, lt_of_lt_of_le, arith}
 use Rattle.std.specs.Prelude.{Some}
+use Rattle.std.proofs.lemmas.Bool.{cases_eq}
 use Rattle.cp_lists.specs.Lists.{item_at, IsIn, there, one_step, more_steps}
 use Rattle.cp_model.specs.Term.{AtomTerm, Term, Substitution, apply_to, apply_to_atom, AgreeOnTerms}
 use Rattle.cp_model.specs.Strand.{Role, Protocol, variables_of_prefix}
@@ -150,9 +151,6 @@ strand_says_more role height values old new adds =
       from_problem = adds.from_problem;
     }
 
-same_or_not : (i j : ℕ) → (i ≡ j) ⊎ (i ≢ j)
-same_or_not i j = grind arith
-
 module _ (s height : ℕ) (values : List Term) (old new : Skeleton) (x : Extends s height values old new) where
   module _ (higher : x.before ≤ height) where
     only : (before : ℕ) (role : Role) (terms : Substitution) → item_at old.strands s ≡ Some (instance role before terms) → before ≤ height
@@ -186,8 +184,8 @@ module _ (s height : ℕ) (values : List Term) (old new : Skeleton) (x : Extends
 
     pub extended_says_more : SaysMore old new
     extended_says_more = record {
-      instances = λ t role h ts at. instance_more t role h ts (same_or_not t s) at;
-      listeners = λ t u at. listener_stays t u (same_or_not t s) at;
+      instances = λ t role h ts at. instance_more t role h ts (cases_eq t s) at;
+      listeners = λ t u at. listener_stays t u (cases_eq t s) at;
       ordered = λ n m b. before_too old new (extended-grows s height values old new only x) b;
       non = adds_keeps x.assumptions.non;
       penetrator_non = adds_keeps x.assumptions.penetrator_non;

@@ -1,6 +1,7 @@
 -- Skeletons that are changed have declared variables, where what is added has.
-use Rattle.std.proofs.Common.{◌≡◌, ◌≢◌, ◌⊎◌, inl, inr, ℕ, List, [], ◌∷◌, ◌++◌, length, refl, sym, ap, ◌∙◌, subst, ⊎_elim, arith, Bool, true, false}
+use Rattle.std.proofs.Common.{◌≡◌, ◌≢◌, ◌⊎◌, inl, inr, ℕ, List, [], ◌∷◌, ◌++◌, length, refl, sym, ap, ◌∙◌, subst, ⊎_elim, Bool, true, false}
 use Rattle.std.specs.Prelude.{Some}
+use Rattle.std.proofs.lemmas.Bool.{cases_eq}
 use Rattle.cp_lists.specs.Lists.{item_at, IsIn, here, there}
 use Rattle.cp_model.specs.Term.{Variable, AtomTerm, Term, atom_term, atom_of_variable, variables_of_atom, variables_of, Substitution, apply_to_atom}
 use Rattle.cp_model.specs.Strand.{Declaration, Role, prefix_of, variables_of_trace, variables_of_prefix}
@@ -35,9 +36,6 @@ in_terms : (s : Substitution) (xs : List Variable) (x : Variable) → IsIn x xs 
 in_terms s (y ∷ xs) x here = here
 in_terms s (y ∷ xs) x (there i) = there (in_terms s xs x i)
 in_terms s [] x i = elim i [ ]
-
-same_strand : (i j : ℕ) → (i ≡ j) ⊎ (i ≢ j)
-same_strand i j = grind arith
 
 module _ (ds : List Declaration) where
   abbrev IsOne : Variable → Type 0
@@ -158,7 +156,7 @@ module _ (ds : List Declaration) where
 
     pub extended_declared : HasDeclaredVariables ds new
     extended_declared =
-        by_parts old new h x.from_problem (λ n st at y i. each_strand n st (same_strand n s) at y i)
+        by_parts old new h x.from_problem (λ n st at y i. each_strand n st (cases_eq n s) at y i)
         (grown_assumptions x.role height x.terms each_term s old.assumptions new.assumptions x.assumptions (old_assumptions old new h x.from_problem))
 
   pub ordered_declared : (k : Skeleton) (pairs : List OrderPair) → HasDeclaredVariables ds k → HasDeclaredVariables ds (ordered_by k pairs)

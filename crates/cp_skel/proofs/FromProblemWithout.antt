@@ -1,20 +1,15 @@
 -- What a skeleton has from its problem it keeps without a strand to which no strand of the problem goes.
-use Rattle.std.proofs.Common.{◌≡◌, ◌≢◌, inl, inr, ℕ, ◌<◌, List, [], ◌∷◌, map, length, refl, sym, ap, ◌∙◌, subst}
+use Rattle.std.proofs.Common.{◌≡◌, ◌≢◌, inl, inr, ℕ, ◌<◌, List, length, sym, ap, ◌∙◌, subst}
 use Rattle.std.specs.List.{remove}
-use Rattle.cp_lists.specs.Lists.{item_at, IsIn, here, there}
+use Rattle.cp_lists.specs.Lists.{item_at, IsIn}
 use Rattle.cp_model.specs.Skeleton.{SkeletonStrand, Skeleton, Before}
 use Rattle.cp_model.specs.declared.node.OrderPair.{OrderPair}
 use Rattle.cp_model.specs.Stated.{HasOwnAssumptions}
 use Rattle.cp_lists.proofs.Items.{item_below, item_there}
+use Rattle.cp_lists.proofs.Members.{from_map}
 use Rattle.cp_skel.specs.Deletion.{renumbered, unique_renumbered, pair_renumbered, as_it_is, IsOriginOn, IsPairOn, IsForgottenNon, IsForgottenPenetratorNon, ForgetsAssumptions, KeepsFromProblem, KeepsOrderOfOthers}
 use Rattle.cp_skel.proofs.NumbersWithout.{restored_renumbered, item_without}
 use Rattle.cp_skel.proofs.PairsWithout.{in_left, was_left}
-
--- the number of which this one was made
-number_was : (f : ℕ → ℕ) (ns : List ℕ) (s : ℕ) → IsIn s (map f ns) → (n : ℕ) × IsIn n ns × (f n ≡ s)
-number_was f [] s i = elim i [ ]
-number_was f (n ∷ ns) s here = (n, here, refl)
-number_was f (n ∷ ns) s (there i) = let r = number_was f ns s i in (r.0, there r.1, r.2)
 
 still_there : (strands : List SkeletonStrand) (d s : ℕ) → s ≢ d → s < length strands → renumbered d s < length (remove strands d)
 still_there strands d s other below =
@@ -26,7 +21,7 @@ module _ (d : ℕ) (old new : Skeleton) (from : KeepsFromProblem d old.from_prob
   pub in_range_without : new.strands ≡ remove old.strands d → (IsIn d old.from_problem.strands → ⊥) → ((s : ℕ) → IsIn s old.from_problem.strands → s < length old.strands) →
       (s : ℕ) → IsIn s new.from_problem.strands → s < length new.strands
   in_range_without strands no_image in_range s i =
-      let was = number_was (renumbered d) old.from_problem.strands s (subst (IsIn s) from.strands i) in
+      let was = from_map (renumbered d) old.from_problem.strands (subst (IsIn s) from.strands i) in
       let other : was.0 ≢ d = λ e. no_image (subst (λ n. IsIn n old.from_problem.strands) e was.1) in
       subst (λ n. n < length new.strands) was.2 (subst (λ (ss : List SkeletonStrand). renumbered d was.0 < length ss) (sym strands) (still_there old.strands d was.0 other (in_range was.0 was.1)))
 

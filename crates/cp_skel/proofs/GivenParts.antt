@@ -1,7 +1,7 @@
 -- What atoms of a role give to an instance, as tests find it.
-use Rattle.std.proofs.Common.{◌≡◌, ℕ, ◌<◌, nat_lt, List, [], ◌∷◌, Bool, true, false, if◌then◌else◌, refl, sym, subst, ◌⊎◌, inl, inr, ⊎_elim, arith}
+use Rattle.std.proofs.Common.{◌≡◌, ℕ, nat_lt, List, [], ◌∷◌, Bool, true, false, if◌then◌else◌, refl, sym, subst, ◌⊎◌, inl, inr, ⊎_elim, ltb-true}
 use Rattle.std.specs.Prelude.{Option, Some, None}
-use Rattle.std.proofs.lemmas.Bool.Decides.{nat_tests}
+use Rattle.std.proofs.lemmas.Bool.{lt-ltb}
 use Rattle.std.proofs.lemmas.List.{append-nil}
 use Rattle.cp_lists.specs.Lists.{IsIn, here, there}
 use Rattle.cp_model.specs.Term.{AtomTerm, atom_term, variables_of_atom, Substitution, apply_to_atom}
@@ -63,15 +63,9 @@ module _ (role : Role) (height : ℕ) (terms : Substitution) (s : ℕ) where
   abbrev unique-of : AtomTerm → ℕ → UniqueAt
   unique-of a i = record { value = apply_to_atom terms a; origin = node_at s i }
 
-  below-height : (i : ℕ) → nat_lt i height ≡ true → i < height
-  below-height i h = grind (arith, nat_tests)
-
-  is-below : (i : ℕ) → i < height → nat_lt i height ≡ true
-  is-below i h = grind (arith, nat_tests)
-
   when-below : (a : AtomTerm) (bs : List AtomTerm) (u : UniqueAt) (i : ℕ) (b : Bool) → nat_lt i height ≡ b → OriginatesInTerms role.trace (atom_term a) i
       → IsIn u (if b then unique-of a i ∷ [] else []) → IsOriginFrom (a ∷ bs) role height terms s u
-  when-below a bs u i true e o j = record { atom = a; index = i; listed = here; applies = (o, below-height i e); same = only_item j }
+  when-below a bs u i true e o j = record { atom = a; index = i; listed = here; applies = (o, ltb-true i height e); same = only_item j }
   when-below a bs u i false e o j = absurd (not_in_none j)
 
   at-place : (a : AtomTerm) (bs : List AtomTerm) (u : UniqueAt) (o : Option ℕ) → origin_in role.trace (atom_term a) ≡ o
@@ -89,7 +83,7 @@ module _ (role : Role) (height : ℕ) (terms : Substitution) (s : ℕ) where
   here-unique : (a : AtomTerm) (i : ℕ) → AppliesAt role height a i → IsIn (unique-of a i) (unique_if_below height s (apply_to_atom terms a) (origin_in role.trace (atom_term a)))
   here-unique a i applies =
       subst (λ o. IsIn (unique-of a i) (unique_if_below height s (apply_to_atom terms a) o)) (sym (finds_origin role.trace (atom_term a) i applies.0))
-      (subst (λ b. IsIn (unique-of a i) (if b then unique-of a i ∷ [] else [])) (sym (is-below i applies.1)) here)
+      (subst (λ b. IsIn (unique-of a i) (if b then unique-of a i ∷ [] else [])) (sym (lt-ltb i height applies.1)) here)
 
   applying-unique-in : (stated : List AtomTerm) (a : AtomTerm) (i : ℕ) → IsIn a stated → AppliesAt role height a i → IsIn (unique-of a i) (applying_uniques role height terms s stated)
   applying-unique-in [] a i j applies = elim j [ ]

@@ -1,6 +1,6 @@
 -- A skeleton with more strands or longer ones, and the same pairs: its order has no cycle either.
 use Rattle.std.proofs.Common.{◌≡◌, ℕ, suc, ◌<◌, refl, ◌∙◌, subst, ◌⊎◌, inl, inr, arith}
-use Rattle.std.specs.Prelude.{Option, Some, None}
+use Rattle.std.specs.Prelude.{Some, None}
 use Rattle.cp_lists.specs.Lists.{item_at, IsIn, one_step, more_steps}
 use Rattle.cp_model.specs.Term.{Term, Substitution}
 use Rattle.cp_model.specs.Strand.{Event, send, Role}
@@ -8,7 +8,7 @@ use Rattle.cp_model.specs.Bundle.{node_at}
 use Rattle.cp_model.specs.declared.node.Node.{Node}
 use Rattle.cp_model.specs.Skeleton.{instance, skeleton_trace_or_none, term_event_at, UniqueAt, Skeleton, OrderStep, along_strand_of, along_pair, Before, IsOrderPair, IsOrigin}
 use Rattle.cp_model.specs.declared.node.OrderPair.{OrderPair}
-use Rattle.cp_lists.proofs.Items.{item_before}
+use Rattle.cp_lists.proofs.Items.{item_before, there_or_none}
 
 -- What was there is there, and the instances are of the same roles.
 pub record Grows (old new : Skeleton) : Type 0 where
@@ -16,10 +16,6 @@ pub record Grows (old new : Skeleton) : Type 0 where
   pub instances : (s : ℕ) (role : Role) (height : ℕ) (terms : Substitution) → item_at old.strands s ≡ Some (instance role height terms) →
       (h : ℕ) × (t : Substitution) × (item_at new.strands s ≡ Some (instance role h t))
   pub pairs : new.pairs ≡ old.pairs
-
-there-or-not : {A : Type 0} (o : Option A) → ((x : A) × (o ≡ Some x)) ⊎ (o ≡ None)
-there-or-not (Some x) = inl (x, refl)
-there-or-not None = inr refl
 
 module _ (old new : Skeleton) (grows : Grows old new) (ordered : (p : OrderPair) → IsIn p old.pairs → IsOrderPair old p) where
   was : {p : OrderPair} → IsIn p new.pairs → IsIn p old.pairs
@@ -95,4 +91,4 @@ module _ (old new : Skeleton) (grows : Grows old new) (ordered : (p : OrderPair)
       absurd (omega arith)
 
   pub cycles-stay-out : ((n : Node) → Before old n n → ⊥) → (n : Node) → Before new n n → ⊥
-  cycles-stay-out none n p = no-cycle-at none n (there-or-not (term_event_at old.strands n)) p
+  cycles-stay-out none n p = no-cycle-at none n (there_or_none (term_event_at old.strands n)) p

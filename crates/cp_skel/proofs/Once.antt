@@ -1,18 +1,14 @@
 -- Lists that grow by what is missing in them.
-use Rattle.std.proofs.Common.{◌≡◌, List, [], ◌∷◌, ◌++◌, refl, sym, ap, ◌∙◌, subst, ◌⊎◌, inl, inr, append_assoc}
+use Rattle.std.proofs.Common.{◌≡◌, List, [], ◌∷◌, ◌++◌, refl, sym, ap, ◌∙◌, subst, ◌⊎◌, append_assoc, ⊎_elim}
 use Rattle.std.proofs.lemmas.List.{append-nil}
 use Rattle.cp_lists.specs.Lists.{IsIn, here, there}
 use Rattle.cp_lists.proofs.Members.{in_append, in_append_left, in_append_right, not_in_none, only_item}
 use Rattle.cp_skel.specs.Given.{IsEachOnce, AddsOnce}
 
-either : {A B C : Type 0} → (A → C) → (B → C) → A ⊎ B → C
-either f g (inl a) = f a
-either f g (inr b) = g b
-
 pub once-append : {A : Type 0} (xs ys : List A) → IsEachOnce xs → IsEachOnce ys → ((x : A) → IsIn x xs → IsIn x ys → ⊥) → IsEachOnce (xs ++ ys)
 once-append [] ys p q apart = q
 once-append (x ∷ xs) ys p q apart =
-    ((λ i. either p.0 (apart x here) (in_append xs ys i)), once-append xs ys p.1 q (λ z i. apart z (there i)))
+    ((λ i. ⊎_elim p.0 (apart x here) (in_append xs ys i)), once-append xs ys p.1 q (λ z i. apart z (there i)))
 
 -- Nothing is given, or all that is given is there.
 pub adds-none : {A : Type 0} (given : A → Type 0) (old : List A) → ((x : A) → given x → IsIn x old) → AddsOnce given old old
@@ -44,10 +40,10 @@ pub adds-then : {A : Type 0} (P Q R : A → Type 0) (a b c : List A) → ((x : A
 adds-then P Q R a b c f g h p q = record {
   more = p.more ++ q.more;
   behind = q.behind ∙ ap (λ xs. xs ++ q.more) p.behind ∙ append_assoc a p.more q.more;
-  only_given = λ x i. either (λ j. f x (p.only_given x j)) (λ j. g x (q.only_given x j)) (in_append p.more q.more i);
-  only_missing = λ x i j. either (λ k. p.only_missing x k j) (λ k. q.only_missing x k (in-b x (in_append_left p.more j))) (in_append p.more q.more i);
+  only_given = λ x i. ⊎_elim (λ j. f x (p.only_given x j)) (λ j. g x (q.only_given x j)) (in_append p.more q.more i);
+  only_missing = λ x i j. ⊎_elim (λ k. p.only_missing x k j) (λ k. q.only_missing x k (in-b x (in_append_left p.more j))) (in_append p.more q.more i);
   once = once-append p.more q.more p.once q.once (λ x i j. q.only_missing x j (in-b x (in_append_right a i)));
-  all = λ x r. either (λ k. in-c x (in_append_left q.more (p.all x k))) (λ k. q.all x k) (h x r);
+  all = λ x r. ⊎_elim (λ k. in-c x (in_append_left q.more (p.all x k))) (λ k. q.all x k) (h x r);
 }
   where
     in-b : (x : _) → IsIn x (a ++ p.more) → IsIn x b

@@ -1,9 +1,7 @@
 -- The order of a skeleton without one of its strands is that of the others.
-use Rattle.std.proofs.Common.{◌≡◌, ◌≢◌, ◌↔◌, ◌⊎◌, inl, inr, ℕ, suc, ◌≤◌, List, Some, Bool, true, false, refl, sym, ap, ◌∙◌, subst, arith}
-use Rattle.std.specs.Prelude.{◌==◌}
+use Rattle.std.proofs.Common.{◌≡◌, ◌≢◌, ◌↔◌, ◌⊎◌, inl, inr, ℕ, suc, ◌≤◌, List, Some, refl, sym, ap, ◌∙◌, subst, arith}
 use Rattle.std.specs.List.{remove}
-use Rattle.std.proofs.lemmas.Bool.{cases_lt}
-use Rattle.std.proofs.lemmas.Bool.Decides.{nat_tests}
+use Rattle.std.proofs.lemmas.Bool.{cases_lt, cases_eq}
 use Rattle.cp_lists.specs.Lists.{IsIn, one_step, more_steps}
 use Rattle.cp_model.specs.Bundle.{node_at}
 use Rattle.cp_model.specs.declared.node.Node.{Node}
@@ -23,13 +21,6 @@ use Rattle.cp_skel.proofs.NumbersWithout.{node_restored, node_again, renumbered_
 use Rattle.cp_model.proofs.BoundedSearch.{after_leads}
 use Rattle.cp_skel.proofs.OrderKept.{kept_ordered, kept_before}
 use Rattle.cp_skel.proofs.PairsWithout.{in_left, was_left, in_bridges, of_bridges, IsBridge, WasLeft, through_says, says_through}
-
-same_or_other : (s t : ℕ) → (s ≡ t) ⊎ (s ≢ t)
-same_or_other s t = by_test (s == t) refl
-  where
-    by_test : (b : Bool) → (s == t) ≡ b → (s ≡ t) ⊎ (s ≢ t)
-    by_test true e = inl (grind (arith, nat_tests))
-    by_test false e = inr (λ h. grind (arith, nat_tests))
 
 -- The last node of a way is there.
 pub way_ends : (k : Skeleton) (x y : Node) → ((p : OrderPair) → IsIn p k.pairs → IsOrderPair k p) → Before k x y → IsNodeOf k.strands y
@@ -105,7 +96,7 @@ module _ (old new : Skeleton) (d : ℕ) (strands : new.strands ≡ remove old.st
   step_off : (z y : Node) (q : OrderPair) → IsIn q old.pairs → IsAtOrAfter z q.earlier → z.strand ≢ d → Goes q.later y → LeadsTo new.pairs (node_renumbered d z) (node_renumbered d y)
   step_off z y q m a off rest =
       let there : IsAtOrAfter (node_renumbered d z) (node_renumbered d q.earlier) = (ap (renumbered d) a.0, a.1) in
-      elim (same_or_other q.later.strand d) as (λ _. LeadsTo new.pairs (node_renumbered d z) (node_renumbered d y)) [
+      elim (cases_eq q.later.strand d) as (λ _. LeadsTo new.pairs (node_renumbered d z) (node_renumbered d y)) [
         | inl on ↦ after_leads new.pairs (node_renumbered d z) (node_renumbered d q.earlier) (node_renumbered d y) there (rest.1 on q m on (omega arith))
         | inr other ↦ over_pair (left_in q m (λ e. off (a.0 ∙ e)) other) there (rest.0 other)
       ]
@@ -116,7 +107,7 @@ module _ (old new : Skeleton) (d : ℕ) (strands : new.strands ≡ remove old.st
       let out : q.earlier.strand ≡ d = sym a.0 ∙ on in
       let along : p.later.index ≤ q.earlier.index = omega (arith, a.1) in
       let rest_leads : LeadsTo new.pairs (node_renumbered d q.later) (node_renumbered d y) = rest.0 (later_off q n out) in
-      elim (same_or_other p.earlier.strand q.later.strand) as (λ _. LeadsTo new.pairs (node_renumbered d p.earlier) (node_renumbered d y)) [
+      elim (cases_eq p.earlier.strand q.later.strand) as (λ _. LeadsTo new.pairs (node_renumbered d p.earlier) (node_renumbered d y)) [
         | inl same ↦
             let o = leads_onward p q m n (e ∙ sym out, along) same in
             after_leads new.pairs (node_renumbered d p.earlier) (node_renumbered d q.later) (node_renumbered d y) (ap (renumbered d) o.0, o.1) rest_leads

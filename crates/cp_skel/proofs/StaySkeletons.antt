@@ -1,6 +1,7 @@
 -- Skeletons over a protocol stay so, with a strand more and with a longer strand.
 use Rattle.std.proofs.Common.{◌≡◌, ◌≢◌, ℕ, ◌<◌, ◌≤◌, List, [], ◌∷◌, ◌++◌, length, refl, sym, ap, ◌∙◌, subst, ◌⊎◌, inl, inr, arith}
 use Rattle.std.specs.Prelude.{Option, Some, None}
+use Rattle.std.proofs.lemmas.Bool.{cases_eq}
 use Rattle.cp_lists.specs.Lists.{item_at, IsIn}
 use Rattle.cp_model.specs.Term.{Term, Substitution, apply_to, apply_to_atom}
 use Rattle.cp_model.specs.Strand.{Event, send, event_map, Role, Protocol, prefix_of, IsHeight}
@@ -148,9 +149,6 @@ listener-stays-skeleton protocol t old new is adds = subst (IsSkeleton protocol)
 
 -- ---- a longer strand
 
-compare : (i j : ℕ) → (i ≡ j) ⊎ (i ≢ j)
-compare i j = grind arith
-
 module _ (s height : ℕ) (values : List Term) (old new : Skeleton) (higher : (before : ℕ) (role : Role) (terms : Substitution) → item_at old.strands s ≡ Some (instance role before terms) → before ≤ height) (x : Extends s height values old new) where
   longer : (i : ℕ) (e : Event Term) → item_at (skeleton_trace (instance x.role x.before x.old_terms)) i ≡ Some e → item_at (skeleton_trace (instance x.role height x.terms)) i ≡ Some e
   longer i e ev =
@@ -179,15 +177,15 @@ module _ (s height : ℕ) (values : List Term) (old new : Skeleton) (higher : (b
 
   pub extended-grows : Grows old new
   extended-grows = record {
-    events = λ n e. events-at n e (compare n.strand s);
-    instances = λ t role h ts. instances-at t role h ts (compare t s);
+    events = λ n e. events-at n e (cases_eq n.strand s);
+    instances = λ t role h ts. instances-at t role h ts (cases_eq t s);
     pairs = x.pairs;
   }
 
 pub extended-stays-skeleton : (protocol : Protocol) (s height : ℕ) (values : List Term) (old new : Skeleton) → CanExtend old s height values →
     IsSkeleton protocol old → Extends s height values old new → IsSkeleton protocol new
 extended-stays-skeleton protocol s height values old new can is x =
-    still-skeleton protocol old new is grows x.role height x.terms s x.assumptions x.on_instance (λ t k e. each t k (compare t s) e)
+    still-skeleton protocol old new is grows x.role height x.terms s x.assumptions x.on_instance (λ t k e. each t k (cases_eq t s) e)
   where
     at-most : (before : ℕ) (role : Role) (terms : Substitution) → item_at old.strands s ≡ Some (instance role before terms) → before ≤ height
     at-most before role terms e =

@@ -1,5 +1,5 @@
 -- What the roles of strands give, strand by strand.
-use Rattle.std.proofs.Common.{◌≡◌, ℕ, suc, ◌+◌, ◌<◌, ◌≤◌, nat_lt, List, [], ◌∷◌, ◌++◌, length, get_or, drop, map, refl, sym, ap, ◌∙◌, add-one, arith, Bool, true, false, Option, Some, None, if◌then◌else◌}
+use Rattle.std.proofs.Common.{◌≡◌, ℕ, suc, ◌+◌, ◌<◌, ◌≤◌, nat_lt, List, [], ◌∷◌, ◌++◌, length, get_or, drop, map, refl, sym, ap, ◌∙◌, add-one, arith, Bool, true, false, Option, Some, None, if◌then◌else◌, lt-ltb}
 use Rattle.std.proofs.lemmas.Bool.Decides.{nat_tests}
 use Rattle.std.proofs.lemmas.List.{append-nil}
 use Rattle.cp_lists.proofs.Members.{drop_read}
@@ -27,9 +27,6 @@ no-place role v none = by_place (origin_in role.trace (atom_term v)) refl
 
 at-height : (i height : ℕ) → height ≤ i → nat_lt i height ≡ false
 at-height i height le = grind (arith, nat_tests)
-
-under-height : (i height : ℕ) → i < height → nat_lt i height ≡ true
-under-height i height lt = grind (arith, nat_tests)
 
 -- ---- what the role of an instance gives it
 
@@ -91,7 +88,7 @@ module _ (k : InstanceData) where
     one-originates i o below value e ws g =
         ap (λ xs. uniques_onto xs rest) (g ∙ ap (λ w. uniques_onto us (record { value = w; origin = node_at s i } ∷ [])) e)
         ∙ sym (onto-append uniques us (record { value = apply_to_atom terms v; origin = node_at s i } ∷ []) rest)
-        ∙ below-or-not i true (under-height i height below) o
+        ∙ below-or-not i true (lt-ltb i height below) o
 
 -- ---- strand by strand
 

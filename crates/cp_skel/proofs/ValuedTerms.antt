@@ -2,6 +2,8 @@
 use Rattle.std.proofs.Common.{◌≡◌, ℕ, zero, suc, ◌+◌, ◌≤◌, List, [], ◌∷◌, refl, sym, ap, ◌∙◌, subst, ◌⊎◌, inl, inr, arith, Bool, true, false, ◌&&◌, not, if◌then◌else◌, cond}
 use Rattle.std.specs.Prelude.{Option, Some, None, drop}
 use Rattle.std.specs.List.{filter}
+use Rattle.std.proofs.Math.Bool.{and-true}
+use Rattle.std.proofs.lemmas.Bool.{cases_Bool}
 use Rattle.cp_lists.specs.Lists.{item_at}
 use Rattle.cp_model.specs.Term.{Sort, Variable, Term, atom_of_variable, apply_to_atom, AgreeOnTerms}
 use Rattle.cp_model.specs.Strand.{Declaration, Role, variables_of_prefix}
@@ -14,10 +16,6 @@ use Rattle.cp_strand.specs.PrefixVariables.{declared_variables, prefix_variables
 use Rattle.cp_strand.specs.Valued.{term_or, valued}
 use Rattle.cp_skel.specs.Extensions.{IsClosedPrefix}
 use Rattle.cp_skel.proofs.Placed.{placed, stays}
-
-true-or-false : (b : Bool) → (b ≡ true) ⊎ (b ≡ false)
-true-or-false true = inl refl
-true-or-false false = inr refl
 
 module _ (wanted : Variable → Bool) (old : List Term) (n : ℕ) (d : Declaration) (ds : List Declaration) (vs : List Term) where
   abbrev x : Variable
@@ -109,7 +107,7 @@ no-values (v ∷ vs) h = absurd h
 takes-values : (wanted : Variable → Bool) (old whole : List Term) (n : ℕ) (ds : List Declaration) (vs : List Term) → AreTermsFor (filter wanted (declared_variables n ds)) vs →
     StandFrom n (valued wanted old n ds vs) whole → TakesValues wanted whole n ds vs
 takes-values wanted old whole n [] vs fit stand = no-values vs fit
-takes-values wanted old whole n (d ∷ ds) vs fit stand = either-way (true-or-false (wanted (record { sort = d.sort; number = n }))) (λ ws. takes-values wanted old whole (suc n) ds ws)
+takes-values wanted old whole n (d ∷ ds) vs fit stand = either-way (cases_Bool (wanted (record { sort = d.sort; number = n }))) (λ ws. takes-values wanted old whole (suc n) ds ws)
   where
     either-way : (wanted (record { sort = d.sort; number = n }) ≡ true) ⊎ (wanted (record { sort = d.sort; number = n }) ≡ false) →
         ((ws : List Term) → AreTermsFor (filter wanted (declared_variables (suc n) ds)) ws → StandFrom (suc n) (valued wanted old (suc n) ds ws) whole → TakesValues wanted whole (suc n) ds ws) →
@@ -133,10 +131,6 @@ value-terms wanted old ds vs fit = takes-values wanted old (valued wanted old 0 
 
 -- ---- prefixes
 
-and-true-right : (b : Bool) → (b && true) ≡ b
-and-true-right true = refl
-and-true-right false = refl
-
 filter-alike : (p q : Variable → Bool) (xs : List Variable) → ((x : Variable) → p x ≡ q x) → filter p xs ≡ filter q xs
 filter-alike p q [] h = refl
 filter-alike p q (x ∷ xs) h = ap (λ (b : Bool). cond b (x ∷ filter p xs) (filter p xs)) (h x) ∙ ap (λ ys. cond (q x) (x ∷ ys) ys) (filter-alike p q xs h)
@@ -145,7 +139,7 @@ filter-alike p q (x ∷ xs) h = ap (λ (b : Bool). cond b (x ∷ filter p xs) (f
 pub all-added : (role : Role) (height : ℕ) → added_variables role 0 height ≡ prefix_variables role height
 all-added role height =
     filter-alike (is_added (variables_of_prefix role 0) (variables_of_prefix role height)) (has_variable (variables_of_prefix role height)) (declared_variables 0 role.variables)
-    (λ x. and-true-right (has_variable (variables_of_prefix role height) x))
+    (λ x. and-true (has_variable (variables_of_prefix role height) x))
 
 not-added : (a b : Bool) → b ≡ true → (a && not b) ≡ false
 not-added true b e = ap not e

@@ -42,6 +42,7 @@ pub use laws::{
     listed_assumptions_are_the_same, listener_keeps_skeletons, skeletons_have_declared_prefixes,
     strand_keeps_skeletons, test_of_variables, variables_of_prefixes,
 };
+pub use node_order::comes_before;
 pub use report_order::listed;
 pub use role_assumptions::{has_unique, missing};
 pub use skeleton::{Node, OrderPair, Skeleton};

@@ -1,5 +1,5 @@
 // The order of a skeleton's nodes.
-ghost use Rattle.std.specs.Prelude.{◌≡◌, ◌↔◌, [], ◌∷◌, ◌++◌, map, true, false, IsTrue, IfOk, OnOk, OnErr};
+ghost use Rattle.std.specs.Prelude.{◌≡◌, ◌↔◌, [], ◌∷◌, ◌++◌, true, false, IsTrue, IfOk, OnOk, OnErr};
 ghost use Rattle.cp_model.specs.declared.node.Node.{Node as PlainNode};
 ghost use Rattle.cp_model.specs.Skeleton.{IsNodeOf, Before, IsOrderPair};
 ghost use Rattle.cp_order.specs.Closed.{IsClosed};
@@ -68,4 +68,15 @@ impl Skeleton {
         self.order.add(alloc, OrderPair { earlier, later })?;
         Ok(true)
     }
+}
+
+/// Whether n is before m in the skeleton's order, by the nodes that lead to m along its pairs, which were gathered. The node m
+/// has to be there.
+pub fn comes_before(k: &Skeleton, leading: &Leading<'_>, n: Node, m: Node) -> bool
+    requires there { IsNodeOf (skeleton_view k.now).strands m }
+    requires gathered { leading.now ≡ record { pairs = k.now.order; node = m } }
+    ensures { IsTrue result ↔ Before (skeleton_view k.now) n m }
+{
+    k.is_sound();
+    n != m && leading.has(n)
 }

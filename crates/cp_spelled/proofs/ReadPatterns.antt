@@ -1,6 +1,8 @@
 -- The pattern that a form is, where it fits.
-use Rattle.std.proofs.Common.{◌≡◌, inl, inr, ℕ, zero, suc, ◌+◌, ◌<◌, List, [], ◌∷◌, ◌++◌, length, map, Bool, true, false, ◌==◌, ◌||◌, if◌then◌else◌, eq-eqb, eqb-true, refl, sym, ap, ◌∙◌, subst, arith}
+use Rattle.std.proofs.Common.{◌≡◌, inl, inr, ℕ, zero, suc, ◌+◌, ◌<◌, List, [], ◌∷◌, ◌++◌, length, map, Bool, true, false, ◌==◌, if◌then◌else◌, eq-eqb, eqb-true, refl, sym, ap, ◌∙◌, subst, arith}
 use Rattle.std.specs.Prelude.{Option, Some, None, codes}
+use Rattle.std.proofs.lemmas.Option.{same_Some}
+use Rattle.std.proofs.Math.Bool.{or-false}
 use Rattle.cp_lists.specs.Lists.{item_at, IsIn, here, there}
 use Rattle.cp_lists.proofs.Members.{head_or_behind}
 use Rattle.cp_lists.proofs.Appended.{none_in_both}
@@ -50,9 +52,6 @@ declared n (d ∷ ds) t x e = by_test (same_text d.identifier t) (declared (suc 
 pub differ : false ≡ true → ⊥
 differ e = cc
 
-same_value : {A : Type 0} (x y : A) → Some x ≡ Some y → x ≡ y
-same_value x y e = cc
-
 -- ---- an encryption
 
 encryption : (s : Scope) (f : Form) → has_head (codes "enc" ∷ []) f ≡ true → IsEncryption (term_in s f)
@@ -64,13 +63,9 @@ encryption s (list at (more (string p t) fs)) e = absurd (cc)
 encryption s (list at (more (number p n) fs)) e = absurd (cc)
 encryption s (list at (more (list p gs) fs)) e = absurd (cc)
 encryption s (list at (more (symbol p t) fs)) e =
-    let is : t ≡ codes "enc" = text_is t (codes "enc") (only (same_text t (codes "enc")) e) in
+    let is : t ≡ codes "enc" = text_is t (codes "enc") (sym (or-false (same_text t (codes "enc"))) ∙ e) in
     let P : List ℕ → Type 0 = λ u. IsEncryption (term_in s (list at (more (symbol p u) fs))) in
     subst P (sym is) (record { body = paired (all_but_last (terms_in s fs)); key = as_key (last_of (terms_in s fs)); encrypted = refl })
-  where
-    only : (b : Bool) → (b || false) ≡ true → b ≡ true
-    only true g = refl
-    only false g = g
 
 module _ (ds : List Declaration) (f : Form) (fits : pattern_misfits ds f ≡ []) where
   abbrev term : Term
@@ -93,7 +88,7 @@ module _ (ds : List Declaration) (f : Form) (fits : pattern_misfits ds f ≡ [])
       let first = a.number in
       let second = b.number in
       let places : a.place ≡ b.place = omega (arith, first, second, n) in
-      same_value x.sort y.sort (sym a.sort ∙ ap (sort_at ds) places ∙ b.sort)
+      same_Some x.sort y.sort (sym a.sort ∙ ap (sort_at ds) places ∙ b.sort)
   same-sort x y (named t e) (stated m j g) n =
       let a = declared 0 ds t x e in
       let first = a.number in
@@ -111,7 +106,7 @@ module _ (ds : List Declaration) (f : Form) (fits : pattern_misfits ds f ≡ [])
       let second = ap (λ (z : Variable). z.number) g in
       let places : place_of_local (locals_onto [] (locals_in f)) l.local.number ≡ place_of_local (locals_onto [] (locals_in f)) m.local.number = omega (arith, first, second, n) in
       let locals : l.local ≡ m.local =
-      same_value l.local m.local (sym (each-found (locals_in f) l parts.1 i) ∙ ap (item_at (locals_onto [] (locals_in f))) places ∙ each-found (locals_in f) m parts.1 j) in
+      same_Some l.local m.local (sym (each-found (locals_in f) l parts.1 i) ∙ ap (item_at (locals_onto [] (locals_in f))) places ∙ each-found (locals_in f) m parts.1 j) in
       ap (λ (z : Variable). z.sort) e ∙ ap (λ (k : Local). k.sort) locals ∙ sym (ap (λ (z : Variable). z.sort) g)
 
   one-sort : (x y : Variable) → IsIn x (variables_of term) → IsIn y (variables_of term) → x.number ≡ y.number → x.sort ≡ y.sort

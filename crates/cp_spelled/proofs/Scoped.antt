@@ -1,6 +1,7 @@
 -- What stands where a variable may, and the sorts of terms.
 use Rattle.std.proofs.Common.{◌≡◌, ℕ, List, Bool, true, false, if◌then◌else◌, refl, sym, ap, ◌∙◌}
 use Rattle.std.specs.Prelude.{Option, Some, None, option_map}
+use Rattle.std.proofs.lemmas.Option.{same_Some}
 use Rattle.cp_model.specs.Term.{Sort, Variable}
 use Rattle.cp_model.specs.Same.{same_sort}
 use Rattle.cp_sexpr.specs.Syntax.{Form, symbol, string, number, list}
@@ -8,7 +9,7 @@ use Rattle.cp_language.specs.Words.{term_head}
 use Rattle.cp_language.specs.Roles.{Headed, headed}
 use Rattle.cp_language.specs.Terms.{TermSort, of_atoms, variable_named, sort_of_variable}
 use Rattle.cp_forms.specs.Forms.{symbol_in}
-use Rattle.cp_forms.proofs.Views.{headed_is, same_value}
+use Rattle.cp_forms.proofs.Views.{headed_is}
 use Rattle.cp_report.specs.Heads.{entries_of}
 use Rattle.cp_report.specs.Spelled.{Scope, Local, is_local, local_by, variable_of_local, variable_in, sort_of_head, sort_by_shape, known_or, sort_in, is_of_sort}
 
@@ -16,7 +17,7 @@ use Rattle.cp_report.specs.Spelled.{Scope, Local, is_local, local_by, variable_o
 
 module _ (s : Scope) where
   pub variable-symbol : (f : Form) (t : List ℕ) → Some t ≡ symbol_in f → variable_named s.variables t ≡ variable_in s f
-  variable-symbol (symbol at u) t e = ap (variable_named s.variables) (same_value t u e)
+  variable-symbol (symbol at u) t e = ap (variable_named s.variables) (same_Some t u e)
   variable-symbol (string at u) t e = absurd (cc)
   variable-symbol (number at n) t e = absurd (cc)
   variable-symbol (list at fs) t e = absurd (cc)
@@ -40,7 +41,7 @@ module _ (s : Scope) where
 
 pub of-sort : (r q : Sort) (o : Option Variable) → Some q ≡ option_map (λ x. x.sort) o → same_sort r q ≡ is_of_sort r o
 of-sort r q None e = absurd (cc)
-of-sort r q (Some x) e = ap (same_sort r) (same_value q x.sort e)
+of-sort r q (Some x) e = ap (same_sort r) (same_Some q x.sort e)
 
 pub of-no-sort : (r : Sort) (o : Option Variable) → None ≡ option_map (λ x. x.sort) o → false ≡ is_of_sort r o
 of-no-sort r None e = refl
@@ -53,7 +54,7 @@ shape-headed f h e = sym (ap sort_by_shape (headed_is f h (sym e)).whole)
 
 known_variable : (o : Option Variable) (q : Sort) (other : Option TermSort) → Some q ≡ option_map (λ x. x.sort) o → Some (of_atoms q) ≡ known_or (sort_of_variable o) other
 known_variable None q other e = absurd (cc)
-known_variable (Some x) q other e = ap (λ r. Some (of_atoms r)) (same_value q x.sort e)
+known_variable (Some x) q other e = ap (λ r. Some (of_atoms r)) (same_Some q x.sort e)
 
 known_other : (o : Option Variable) (other : Option TermSort) → None ≡ option_map (λ x. x.sort) o → other ≡ known_or (sort_of_variable o) other
 known_other None other e = refl

@@ -1,6 +1,7 @@
 -- Tests of members, of carried values and of the order, exactly.
 use Rattle.std.proofs.Common.{◌≡◌, ℕ, zero, suc, List, [], ◌∷◌, map, Bool, true, false, not, ◌&&◌, refl, sym, ap, ◌∙◌}
 use Rattle.std.specs.Prelude.{Some, None}
+use Rattle.std.proofs.lemmas.Bool.Decides.{same_from_decides}
 use Rattle.cp_lists.specs.Lists.{item_at, IsIn}
 use Rattle.cp_lists.proofs.Items.{map_of_item}
 use Rattle.cp_model.specs.Term.{AtomTerm, Term}
@@ -8,14 +9,13 @@ use Rattle.cp_model.specs.Strand.{Event}
 use Rattle.cp_model.specs.Skeleton.{UniqueAt}
 use Rattle.cp_model.specs.Given.{has_atom, has_unique}
 use Rattle.cp_model.proofs.Gathered.{atoms, uniques}
-use Rattle.cp_load.proofs.Cycles.{same_bool}
 use Rattle.cp_report.specs.Skeletons.{carries_value}
 
 pub exact-atom : (b : Bool) (vs : List AtomTerm) (v : AtomTerm) → (b ≡ true → IsIn v vs) → (IsIn v vs → b ≡ true) → b ≡ has_atom vs v
-exact-atom b vs v f g = same_bool b (has_atom vs v) (λ e. atoms.finds vs v (f e)) (λ e. g (atoms.found vs v e))
+exact-atom b vs v f g = same_from_decides b (has_atom vs v) (f, g) (atoms.found vs v, atoms.finds vs v)
 
 pub exact-unique : (b : Bool) (us : List UniqueAt) (u : UniqueAt) → (b ≡ true → IsIn u us) → (IsIn u us → b ≡ true) → b ≡ has_unique us u
-exact-unique b us u f g = same_bool b (has_unique us u) (λ e. uniques.finds us u (f e)) (λ e. g (uniques.found us u e))
+exact-unique b us u f g = same_from_decides b (has_unique us u) (f, g) (uniques.found us u, uniques.finds us u)
 
 -- ---- the order
 

@@ -2,6 +2,7 @@
 use Rattle.std.proofs.Common.{◌≡◌, ℕ, ◌<◌, List, [], ◌∷◌, length, map, nat_lt, Option, Some, None, ltb-true}
 use Rattle.cp_base.specs.declared.place.Place.{Place}
 use Rattle.cp_lists.specs.Lists.{IsIn, here, there}
+use Rattle.cp_lists.proofs.Appended.{none_in_both}
 use Rattle.cp_model.specs.Skeleton.{SkeletonStrand}
 use Rattle.cp_sexpr.specs.Syntax.{Form, symbol, string, number, list}
 use Rattle.cp_language.specs.Faults.{place_of, items_of}
@@ -10,7 +11,7 @@ use Rattle.cp_report.specs.Misfits.{entries_misfits, list_misfits}
 use Rattle.cp_report.specs.Heads.{entries_of, entries_or_none, optional_misfits}
 use Rattle.cp_report.specs.Spelled.{Scope}
 use Rattle.cp_report.specs.Skeletons.{strand_number_misfits, mapping_misfits, map_misfits, problem_variables, strands_mapped}
-use Rattle.cp_stated.proofs.NoMisfits.{none_in_both, holds}
+use Rattle.cp_stated.proofs.NoMisfits.{holds}
 
 module _ (strands : List SkeletonStrand) where
   below : (f : Form) → strand_number_misfits strands f ≡ [] → number_of f < length strands

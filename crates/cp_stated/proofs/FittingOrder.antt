@@ -1,7 +1,8 @@
 -- An order that fits is built pair by pair, and what a label form has of a problem's own pairs is in its order.
 use Rattle.std.proofs.Common.{◌≡◌, ◌≢◌, inl, inr, List, [], ◌∷◌, ◌++◌, length, Bool, true, false, not, ◌&&◌, Option, Some, None, refl, if◌then◌else◌}
-use Rattle.std.proofs.lemmas.Bool.{and_parts}
+use Rattle.std.proofs.lemmas.Bool.{and_parts, not-true}
 use Rattle.cp_lists.specs.Lists.{IsIn}
+use Rattle.cp_lists.proofs.Appended.{none_in_both}
 use Rattle.cp_model.specs.Term.{Term}
 use Rattle.cp_model.specs.Strand.{Event}
 use Rattle.cp_model.specs.Skeleton.{SkeletonStrand, term_event_at, IsNodeOf, Skeleton, Before, IsOrderPair}
@@ -16,11 +17,7 @@ use Rattle.cp_report.specs.Misfits.{misfit_unless, list_misfits, entries_misfits
 use Rattle.cp_report.specs.Heads.{entries_of, entries_or_none, optional_misfits}
 use Rattle.cp_report.specs.Skeletons.{node_misfits, has_pair, is_further_pair, pair_stated, pair_misfits, pairs_misfits, precedes_misfits, is_in_order}
 use Rattle.cp_wellformed.proofs.Bodies.{IsNextPair, AreBuilt, built_behind, is_sent, is_received, differ}
-use Rattle.cp_stated.proofs.NoMisfits.{none_in_both, none_of_unless, holds}
-
-pub not_true : (b : Bool) → not b ≡ true → b ≡ false
-not_true true e = absurd (cc)
-not_true false e = refl
+use Rattle.cp_stated.proofs.NoMisfits.{none_of_unless, holds}
 
 module _ (strands : List SkeletonStrand) where
   -- the five tests of a pair
@@ -68,7 +65,7 @@ pub in_order : (k : Skeleton) → ((p : OrderPair) → IsIn p k.pairs → IsOrde
 in_order k pairs p h =
     let first = and_parts (not (on_one_strand p) && is_known (term_event_at k.strands p.later)) (reaches (length k.pairs) k.pairs p.earlier p.later) h in
     let two = and_parts (not (on_one_strand p)) (is_known (term_event_at k.strands p.later)) first.0 in
-    let apart : p.earlier.strand ≢ p.later.strand = differ p.earlier.strand p.later.strand (not_true (on_one_strand p) two.0) in
+    let apart : p.earlier.strand ≢ p.later.strand = differ p.earlier.strand p.later.strand (not-true (on_one_strand p) two.0) in
     let node : IsNodeOf k.strands p.later = there (term_event_at k.strands p.later) two.1 in
     elim (leads_before k pairs p.earlier p.later node ((reaches_all k.pairs p.earlier p.later).0 first.1)) as (λ _. Before k p.earlier p.later) [
       | inl same ↦ absurd (apart (λ i. (same i).strand))

@@ -3,6 +3,7 @@ use Rattle.std.proofs.Common.{◌≡◌, ℕ, List, [], ◌∷◌, ◌++◌, len
 use Rattle.cp_base.specs.declared.place.Place.{Place}
 use Rattle.cp_lists.specs.Lists.{item_at, IsIn}
 use Rattle.cp_lists.proofs.Items.{at_place, item_of_map}
+use Rattle.cp_lists.proofs.Appended.{none_in_both}
 use Rattle.cp_model.specs.Term.{Substitution}
 use Rattle.cp_model.specs.Strand.{Role, IsHeight}
 use Rattle.cp_model.specs.Skeleton.{instance, listener}
@@ -15,7 +16,7 @@ use Rattle.cp_report.specs.Heads.{entries_of, items_with, strand_heads}
 use Rattle.cp_report.specs.Spelled.{Scope, term_misfits}
 use Rattle.cp_report.specs.Skeletons.{scope_of, term_or_tag, height_misfits, prefix_misfits, instance_misfits, strand_misfits, is_instance, instance_with, instance_of_entries, strand_of, strands_of_label, strands_misfits}
 use Rattle.cp_wellformed.proofs.Strands.{role_listed, height_there}
-use Rattle.cp_stated.proofs.NoMisfits.{none_in_both, none_of_unless, holds, none_of_each}
+use Rattle.cp_stated.proofs.NoMisfits.{none_of_unless, holds, none_of_each}
 
 -- The role is one of these, and has this height.
 pub record IsOf (roles : List Role) (role : Role) (height : ℕ) : Type 0 where

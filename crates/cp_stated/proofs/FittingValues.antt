@@ -3,6 +3,7 @@ use Rattle.std.proofs.Common.{◌≡◌, ℕ, List, [], ◌∷◌, ◌++◌, map
 use Rattle.std.proofs.lemmas.Bool.{and_parts}
 use Rattle.cp_base.specs.declared.place.Place.{Place}
 use Rattle.cp_lists.specs.Lists.{item_at, IsIn, here, there}
+use Rattle.cp_lists.proofs.Appended.{none_in_both}
 use Rattle.cp_model.specs.Term.{AtomTerm, Term, atom_term, Substitution}
 use Rattle.cp_model.specs.Strand.{Event, send, recv, Role}
 use Rattle.cp_model.specs.Skeleton.{SkeletonStrand, instance, listener, term_event_at, UniqueAt, Skeleton, IsOrigin}
@@ -18,7 +19,7 @@ use Rattle.cp_report.specs.Misfits.{misfit_unless, unless_misfit, list_misfits, 
 use Rattle.cp_report.specs.Heads.{entries_of, entries_or_none, place_or, optional_misfits}
 use Rattle.cp_report.specs.Spelled.{Scope, atom_misfits}
 use Rattle.cp_report.specs.Skeletons.{node_misfits, has_atoms, has_uniques, assumption_misfits, carries_value, is_instance_there, may_be_origin, unique_of, second_place, unique_misfits, uniques_misfits}
-use Rattle.cp_stated.proofs.NoMisfits.{none_in_both, none_of_unless, holds}
+use Rattle.cp_stated.proofs.NoMisfits.{none_of_unless, holds}
 
 -- ---- what is given
 

@@ -1,7 +1,8 @@
 -- What the roles give is among assumptions where it is when each stands once; and what is asked behind the strands, part
 -- by part.
-use Rattle.std.proofs.Common.{◌≡◌, ℕ, List, [], ◌∷◌, ◌++◌, Bool, map, refl, sym, ap, ◌∙◌, ⊎_elim}
+use Rattle.std.proofs.Common.{◌≡◌, ℕ, List, [], ◌∷◌, ◌++◌, Bool, true, map, refl, sym, ap, ◌∙◌, ⊎_elim}
 use Rattle.std.specs.Prelude.{Option, Some, None, codes}
+use Rattle.std.proofs.lemmas.Bool.Decides.{same_from_decides}
 use Rattle.cp_base.specs.declared.place.Place.{Place}
 use Rattle.cp_model.specs.Term.{AtomTerm, Term}
 use Rattle.cp_model.specs.Strand.{Declaration}
@@ -12,7 +13,6 @@ use Rattle.cp_model.proofs.Gathered.{atoms, uniques, onto-takes, onto-only}
 use Rattle.cp_sexpr.specs.Syntax.{Form}
 use Rattle.cp_language.specs.Faults.{place_of}
 use Rattle.cp_language.specs.Problems.{Problem}
-use Rattle.cp_load.proofs.Cycles.{same_bool}
 use Rattle.cp_strand.specs.Data.{StrandData}
 use Rattle.cp_strand.specs.View.{strand_view}
 use Rattle.cp_term.specs.Table.{Declared}
@@ -33,15 +33,19 @@ use Rattle.cp_stated.proofs.FittingValues.{given_atoms, given_there}
 
 pub atoms-once : (vs ws : List AtomTerm) → has_atoms vs (atoms_onto [] ws) ≡ has_atoms vs ws
 atoms-once vs ws =
-    same_bool (has_atoms vs (atoms_onto [] ws)) (has_atoms vs ws)
-    (λ e. all_atoms vs ws (λ v m. given_atoms vs (atoms_onto [] ws) e v (onto-takes atoms [] ws v m)))
-    (λ e. all_atoms vs (atoms_onto [] ws) (λ v m. ⊎_elim (λ n. elim n [ ]) (given_atoms vs ws e v) (onto-only atoms [] ws v m)))
+    same_from_decides {P = has_atoms vs ws ≡ true} (has_atoms vs (atoms_onto [] ws)) (has_atoms vs ws) (
+      λ e. all_atoms vs ws (λ v m. given_atoms vs (atoms_onto [] ws) e v (onto-takes atoms [] ws v m)),
+      λ e. all_atoms vs (atoms_onto [] ws) (λ v m. ⊎_elim (λ n. elim n [ ]) (given_atoms vs ws e v) (onto-only atoms [] ws v m)),
+    )
+    (λ e. e, λ e. e)
 
 pub uniques-once : (us ws : List UniqueAt) → has_uniques us (uniques_onto [] ws) ≡ has_uniques us ws
 uniques-once us ws =
-    same_bool (has_uniques us (uniques_onto [] ws)) (has_uniques us ws)
-    (λ e. all_uniques us ws (λ u m. given_there us (uniques_onto [] ws) e u (onto-takes uniques [] ws u m)))
-    (λ e. all_uniques us (uniques_onto [] ws) (λ u m. ⊎_elim (λ n. elim n [ ]) (given_there us ws e u) (onto-only uniques [] ws u m)))
+    same_from_decides {P = has_uniques us ws ≡ true} (has_uniques us (uniques_onto [] ws)) (has_uniques us ws) (
+      λ e. all_uniques us ws (λ u m. given_there us (uniques_onto [] ws) e u (onto-takes uniques [] ws u m)),
+      λ e. all_uniques us (uniques_onto [] ws) (λ u m. ⊎_elim (λ n. elim n [ ]) (given_there us ws e u) (onto-only uniques [] ws u m)),
+    )
+    (λ e. e, λ e. e)
 
 pub values-once : (at : Place) (word : List ℕ) (items : List Form) (given ws : List AtomTerm) → given ≡ atoms_onto [] ws → values_misfits at word given items ≡ values_misfits at word ws items
 values-once at word items given ws e =

@@ -2,12 +2,9 @@
 use Rattle.std.proofs.Common.{◌≡◌, List, [], ◌∷◌, ◌++◌, Bool, true, false, refl}
 use Rattle.cp_base.specs.declared.place.Place.{Place}
 use Rattle.cp_lists.specs.Lists.{IsIn, here, there}
+use Rattle.cp_lists.proofs.Appended.{none_in_both}
 use Rattle.cp_sexpr.specs.Syntax.{Form}
 use Rattle.cp_report.specs.Misfits.{misfit_unless, unless_misfit, each_misfits}
-
-pub none_in_both : (ps qs : List Place) → ps ++ qs ≡ [] → (ps ≡ []) × (qs ≡ [])
-none_in_both [] qs e = (refl, e)
-none_in_both (p ∷ ps) qs e = absurd (cc)
 
 pub none_in_five : (ps qs rs ss ts : List Place) → ps ++ qs ++ rs ++ ss ++ ts ≡ [] → (ps ≡ []) × (qs ≡ []) × (rs ≡ []) × (ss ≡ []) × (ts ≡ [])
 none_in_five ps qs rs ss ts e =

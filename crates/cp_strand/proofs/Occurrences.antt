@@ -1,5 +1,6 @@
 -- Variables that occur in terms and events.
 use Rattle.std.proofs.Common.{◌≡◌, ℕ, ◌+◌, ◌<◌, List, [], ◌∷◌, ◌++◌, ◌||◌, ◌&&◌, ◌==◌, length, get_or, drop, map, Bool, true, false, refl, sym, ap, ◌∙◌}
+use Rattle.std.proofs.Math.Bool.{or_assoc}
 use Rattle.cp_lists.proofs.Members.{drop_read}
 use Rattle.cp_model.specs.Term.{Variable, KeyTerm, Term, pair_term, enc_term, variables_of, variables_of_key}
 use Rattle.cp_model.specs.Strand.{payload, variables_of_trace}
@@ -8,14 +9,10 @@ use Rattle.cp_term.specs.Keys.{key_as_term}
 use Rattle.cp_strand.specs.View.{event_view}
 use Rattle.cp_strand.specs.declared.protocol.Event.{Event}
 
-or_assoc : (a b c : Bool) → (a || (b || c)) ≡ ((a || b) || c)
-or_assoc true b c = refl
-or_assoc false b c = refl
-
 has_variable-append : (xs ys : List Variable) (z : Variable) → has_variable (xs ++ ys) z ≡ (has_variable xs z || has_variable ys z)
 has_variable-append [] ys z = refl
 has_variable-append (x ∷ xs) ys z =
-    ap (λ b. (same_sort x.sort z.sort && (x.number == z.number)) || b) (has_variable-append xs ys z) ∙ or_assoc (same_sort x.sort z.sort && (x.number == z.number)) (has_variable xs z) (has_variable ys z)
+    ap (λ b. (same_sort x.sort z.sort && (x.number == z.number)) || b) (has_variable-append xs ys z) ∙ sym (or_assoc (same_sort x.sort z.sort && (x.number == z.number)) (has_variable xs z) (has_variable ys z))
 
 or_true : (a b : Bool) → true ≡ b → true ≡ (a || b)
 or_true true b e = refl

@@ -1,5 +1,6 @@
 -- Added and grown strands have the strings of their roles.
-use Rattle.std.proofs.Common.{◌≡◌, ◌≢◌, ◌≤◌, ◌⊎◌, inl, inr, ℕ, suc, List, [], ◌∷◌, ◌++◌, Some, length, Bool, true, false, refl, sym, ap, ◌∙◌, subst, ⊎_elim, arith}
+use Rattle.std.proofs.Common.{◌≡◌, ◌≢◌, ◌≤◌, ◌⊎◌, inl, inr, ℕ, suc, List, [], ◌∷◌, ◌++◌, Some, length, Bool, true, false, refl, sym, ap, ◌∙◌, subst, ⊎_elim}
+use Rattle.std.proofs.lemmas.Bool.{cases_eq}
 use Rattle.cp_lists.specs.Lists.{item_at, IsIn, here, there}
 use Rattle.cp_lists.proofs.Members.{not_in_none, in_append, in_pushed, into_map}
 use Rattle.cp_lists.proofs.Items.{place_of, at_place}
@@ -33,9 +34,6 @@ fresh_has_none n (x ∷ xs) t (there i) s j = fresh_has_none (suc n) xs t i s j
 new_has_none : (terms : Substitution) (xs : List Variable) (n : ℕ) (among : List Variable) → terms_of terms xs ≡ fresh_terms n among → (x : Variable) → IsIn x xs → (s : List ℕ) → IsIn s (strings_of (atom_term (apply_to_atom terms (atom_of_variable x)))) → ⊥
 new_has_none terms xs n among gives x i =
     fresh_has_none n among (atom_term (apply_to_atom terms (atom_of_variable x))) (subst (IsIn (atom_term (apply_to_atom terms (atom_of_variable x)))) gives (into_map (λ (z : Variable). atom_term (apply_to_atom terms (atom_of_variable z))) i))
-
-same_strand : (i j : ℕ) → (i ≡ j) ⊎ (i ≢ j)
-same_strand i j = grind arith
 
 module _ (S I : List ℕ → Type 0) where
   -- ---- lists that grow
@@ -121,7 +119,7 @@ module _ (S I : List ℕ → Type 0) where
 
     grown : IsSpelledSkeleton S I l
     grown = record {
-      strands = λ st i. let p = place_of i in each_strand p.0 st (same_strand p.0 s) p.1;
+      strands = λ st i. let p = place_of i in each_strand p.0 st (cases_eq p.0 s) p.1;
       assumptions = grown_assumptions ext.role height ext.terms was.0 each_term s k.assumptions l.assumptions ext.assumptions is.assumptions;
       values = λ t i. is.values t (subst (λ (f : FromProblem). IsIn t f.values) ext.from_problem i);
       own = subst (λ (f : FromProblem). AreSpelledAssumptions S f.assumptions) (sym ext.from_problem) is.own;

@@ -1,5 +1,5 @@
 -- The positions of a term are those at which a term stands.
-use Rattle.std.proofs.Common.{Bool, true, false, List, [], ◌∷◌, ◌++◌, Some, ◌≡◌, ◌⊎◌, inl, inr, refl, sym, ap, ◌∙◌, subst}
+use Rattle.std.proofs.Common.{Bool, true, false, List, [], ◌∷◌, ◌++◌, Some, ◌≡◌, ◌⊎◌, inl, inr, refl, sym, ap, ◌∙◌, subst, ⊎_elim}
 use Rattle.std.specs.Prelude.{◌↔◌, option_and_then}
 use Rattle.cp_lists.specs.Lists.{IsIn, here, there}
 use Rattle.cp_lists.proofs.Members.{in_append_left, in_append_right, in_append}
@@ -26,21 +26,17 @@ stands_below test s t part path at inner h =
     let u = inner e.0 e.2 in
     (u.0, ap (term_at t) e.1 ∙ ap (option_and_then (λ p. term_at p e.0)) at ∙ u.1, u.2)
 
-either : {A B C : Type 0} → (A → C) → (B → C) → A ⊎ B → C
-either f g (inl a) = f a
-either f g (inr b) = g b
-
 stands : (test : Term → Bool) (t : Term) (path : List Step) → IsIn path (positions_where test t) → Stands test t path
 stands test (tag_term bytes) path h = stands_here test (tag_term bytes) path h
 stands test (atom_term a) path h = stands_here test (atom_term a) path h
 stands test (pair_term a b) path h =
-    either (stands_here test (pair_term a b) path)
-    (λ r. either (stands_below test Left (pair_term a b) a path refl (λ q i. stands test a q i))
+    ⊎_elim (stands_here test (pair_term a b) path)
+    (λ r. ⊎_elim (stands_below test Left (pair_term a b) a path refl (λ q i. stands test a q i))
     (stands_below test Right (pair_term a b) b path refl (λ q i. stands test b q i))
     (in_append (below Left (positions_where test a)) (below Right (positions_where test b)) r))
     (in_append (here_if (test (pair_term a b))) (below Left (positions_where test a) ++ below Right (positions_where test b)) h)
 stands test (enc_term a k) path h =
-    either (stands_here test (enc_term a k) path) (stands_below test Plaintext (enc_term a k) a path refl (λ q i. stands test a q i))
+    ⊎_elim (stands_here test (enc_term a k) path) (stands_below test Plaintext (enc_term a k) a path refl (λ q i. stands test a q i))
     (in_append (here_if (test (enc_term a k))) (below Plaintext (positions_where test a)) h)
 
 listed_here : (test : Term → Bool) (t u : Term) → Some t ≡ Some u → test u ≡ true → test t ≡ true
@@ -114,7 +110,7 @@ carried_position whole part = (position_of part whole, λ r. carried_at part who
 order_joined : (ps qs : List (List Step)) → AreInPreorder ps → AreInPreorder qs → ((p q : List Step) → IsIn p ps → IsIn q qs → ComesBefore p q) → AreInPreorder (ps ++ qs)
 order_joined [] qs i j h = j
 order_joined (p ∷ ps) qs i j h =
-    (λ q m. either (i.0 q) (λ n. h p q here n) (in_append ps qs m), order_joined ps qs i.1 j (λ r q m n. h r q (there m) n))
+    (λ q m. ⊎_elim (i.0 q) (λ n. h p q here n) (in_append ps qs m), order_joined ps qs i.1 j (λ r q m n. h r q (there m) n))
 
 behind_step : (s : Step) (p q : List Step) (t : List Step) → t ≡ s ∷ q → ComesBefore p q → ComesBefore (s ∷ p) t
 behind_step s p q t e h = subst (ComesBefore (s ∷ p)) (sym e) (inr (refl, h))
@@ -142,7 +138,7 @@ positions_ordered test (pair_term a b) =
     (order_joined (below Left (positions_where test a)) (below Right (positions_where test b))
     (order_below Left _ (positions_ordered test a)) (order_below Right _ (positions_ordered test b))
     (λ p q m n. let r = in_below Left _ p m in let s = in_below Right _ q n in left_of_right p q r.0 s.0 r.1 s.1))
-    (λ p q m n. either
+    (λ p q m n. ⊎_elim
     (λ l. let r = in_below Left _ q l in first_of_all p q r.0 Left (in_here _ p m).0 r.1)
     (λ l. let r = in_below Right _ q l in first_of_all p q r.0 Right (in_here _ p m).0 r.1)
     (in_append (below Left (positions_where test a)) (below Right (positions_where test b)) n))

@@ -6,7 +6,7 @@ use Rattle.cp_model.specs.Term.{AtomTerm}
 use Rattle.cp_model.specs.Strand.{Protocol}
 use Rattle.cp_model.specs.Skeleton.{UniqueAt, Skeleton, FromProblem, Assumptions, Before, IsSkeleton}
 use Rattle.cp_model.specs.declared.node.OrderPair.{OrderPair}
-use Rattle.cp_lists.proofs.Members.{in_append, in_append_right, from_reverse}
+use Rattle.cp_lists.proofs.Members.{in_append, in_append_left, in_append_right, from_reverse}
 use Rattle.cp_skel.specs.JoinedAssumptions.{joined}
 use Rattle.cp_strand.specs.Data.{StrandData}
 use Rattle.cp_skel.specs.Data.{SkeletonData, skeleton_of}
@@ -111,6 +111,19 @@ joined_has own back again new non penetrator_non unique n p u bn bp bu a j =
     let same : new ≡ mixed own = j ∙ ap (joined back) a
     ∙ (λ i. joined (record { non_originating = (bn ∙ ap reverse n) i; penetrator_non_originating = (bp ∙ ap reverse p) i; uniquely_originating = (bu ∙ ap reverse u) i }) own) in
     subst (HasSame own) (sym same) (mixed_has own)
+
+-- assumptions, and others behind them of which none is a unique value
+
+not_behind : (u : UniqueAt) (xs ys : List UniqueAt) → ys ≡ [] → IsIn u ys → IsIn u xs
+not_behind u xs ys none i = elim (subst (IsIn u) none i) [ ]
+
+pub more_has : (own new more : Assumptions) → more.uniquely_originating ≡ [] → new ≡ joined own more → HasSame own new
+more_has own new more none same = subst (HasSame own) (sym same) (record {
+  non = λ v i. in_append_left more.non_originating i;
+  penetrator_non = λ v i. in_append_left more.penetrator_non_originating i;
+  unique = λ u i. in_append_left more.uniquely_originating i;
+  no_others = λ u i. ⊎_elim (λ j. j) (not_behind u own.uniquely_originating more.uniquely_originating none) (in_append own.uniquely_originating more.uniquely_originating i);
+})
 
 -- the skeleton of copies of its parts, but for these
 pub parts_again : (k : SkeletonData) (variables : List Declared) (strands : List StrandData) (order : List OrderPair) (a : Assumptions) (f : FromProblem)

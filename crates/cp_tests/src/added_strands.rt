@@ -1,6 +1,6 @@
 // A strand that is added to a skeleton and grows, worked out by hand.
 ghost use Rattle.std.specs.Prelude.{◌≡◌, [], ◌∷◌, None, false, map, IfOk};
-ghost use Rattle.cp_model.specs.Term.{pubk_term, asymmetric_term, text_variable, atom_term, enc_term};
+ghost use Rattle.cp_model.specs.Term.{pubk_term, asymmetric_term, text_variable, atom_term, pair_term, enc_term};
 ghost use Rattle.cp_term.specs.Keys.{name_of};
 ghost use Rattle.cp_tests.specs.Example.{example_variables, example_trace, IsExample, example_values, added_values};
 ghost use Rattle.cp_skel.specs.Extensions.{CanExtend};
@@ -9,13 +9,13 @@ ghost use Rattle.cp_strand.specs.View.{declaration_view, event_view};
 
 use crate::stated::skeleton_of;
 use cp_model::Node;
-use cp_skel::{Assumptions, Atom, Declaration, Event, Role, Skeleton};
+use cp_skel::{Assumptions, Atom, Declaration, Event, Instance, Role, Skeleton, missing};
 use cp_term::{Sort, Term, Text, VarId, enc, invert, pair, pubk, var};
 use std::alloc::{AllocError, Global};
 use std::rc::Rc;
 use std::test::Fail;
 
-fn text(alloc: Global, number: usize) -> Result<Term, AllocError>
+pub(crate) fn text(alloc: Global, number: usize) -> Result<Term, AllocError>
     ensures { IfOk result (λ t. t ≡ atom_term (text_variable number)) }
 {
     var(alloc, VarId::numbered(number), Sort::Text)
@@ -42,26 +42,42 @@ fn atom(term: Term) -> Result<Atom, Fail> {
     }
 }
 
-fn private_key(alloc: Global, number: usize) -> Result<Atom, Fail> {
+pub(crate) fn private_key(alloc: Global, number: usize) -> Result<Atom, Fail> {
     let key = pubk(alloc, None, name(alloc, number)?)?;
     atom(invert(alloc, &key)?)
 }
 
 /// The first message: a text and a name under the public key of another.
-fn first(alloc: Global, m: usize, a: usize, b: usize) -> Result<Term, AllocError> {
+fn first(alloc: Global, m: usize, a: usize, b: usize) -> Result<Term, AllocError>
+    ensures { IfOk result (λ t. t ≡ enc_term (pair_term (atom_term (text_variable m)) (name_of a)) (asymmetric_term false (pubk_term None b))) }
+{
     let body = pair(alloc, text(alloc, m)?, name(alloc, a)?)?;
     sealed(alloc, body, b)
+}
+
+/// The answer: the texts m and n under the public key of a.
+fn second(alloc: Global) -> Result<Term, AllocError>
+    ensures { IfOk result (λ t. t ≡ enc_term (pair_term (atom_term (text_variable 2)) (atom_term (text_variable 3))) (asymmetric_term false (pubk_term None 0))) }
+{
+    let body = pair(alloc, text(alloc, 2)?, text(alloc, 3)?)?;
+    sealed(alloc, body, 0)
+}
+
+/// The last message: the text n under the public key of b.
+fn third(alloc: Global) -> Result<Term, AllocError>
+    ensures { IfOk result (λ t. t ≡ enc_term (atom_term (text_variable 3)) (asymmetric_term false (pubk_term None 1))) }
+{
+    let body = text(alloc, 3)?;
+    sealed(alloc, body, 1)
 }
 
 fn trace(alloc: Global) -> Result<Vec<Event>, AllocError>
     ensures { IfOk result (λ v. map event_view v.items ≡ example_trace) }
 {
-    let first = pair(alloc, text(alloc, 2)?, name(alloc, 0)?)?;
-    let second = pair(alloc, text(alloc, 2)?, text(alloc, 3)?)?;
     let mut trace = Vec::new(alloc);
-    trace.push(Event::Send(sealed(alloc, first, 1)?))?;
-    trace.push(Event::Receive(sealed(alloc, second, 0)?))?;
-    trace.push(Event::Send(sealed(alloc, text(alloc, 3)?, 1)?))?;
+    trace.push(Event::Send(first(alloc, 2, 0, 1)?))?;
+    trace.push(Event::Receive(second(alloc)?))?;
+    trace.push(Event::Send(third(alloc)?))?;
     Ok(trace)
 }
 
@@ -90,13 +106,27 @@ fn only(alloc: Global, atom: Atom) -> Result<Vec<Atom>, AllocError> {
     Ok(atoms)
 }
 
-/// The private key of b is non-originating, the penetrator does not originate n, and m originates uniquely.
-fn initiator(alloc: Global) -> Result<Rc<Role>, Fail>
+/// One text alone.
+fn only_text(alloc: Global, number: usize) -> Result<Vec<Atom>, Fail> {
+    let value = atom(text(alloc, number)?)?;
+    Ok(only(alloc, value)?)
+}
+
+/// The private key of one name alone.
+fn only_key(alloc: Global, number: usize) -> Result<Vec<Atom>, Fail> {
+    let key = private_key(alloc, number)?;
+    Ok(only(alloc, key)?)
+}
+
+/// The initiator with these assumptions.
+fn initiator_with(
+    alloc: Global,
+    non_originating: Vec<Atom>,
+    penetrator_non_originating: Vec<Atom>,
+    uniquely_originating: Vec<Atom>,
+) -> Result<Rc<Role>, Fail>
     ensures { IfOk result (λ r. IsExample r.value) }
 {
-    let non_originating = only(alloc, private_key(alloc, 1)?)?;
-    let penetrator_non_originating = only(alloc, atom(text(alloc, 3)?)?)?;
-    let uniquely_originating = only(alloc, atom(text(alloc, 2)?)?)?;
     let role = Role::new(
         Text::new(alloc, "init")?,
         variables(alloc)?,
@@ -108,7 +138,22 @@ fn initiator(alloc: Global) -> Result<Rc<Role>, Fail>
     Ok(Rc::new(alloc, role)?)
 }
 
-fn values(alloc: Global) -> Result<Vec<Term>, AllocError>
+/// The private key of b is non-originating, the penetrator does not originate n, and m originates uniquely.
+pub(crate) fn initiator(alloc: Global) -> Result<Rc<Role>, Fail>
+    ensures { IfOk result (λ r. IsExample r.value) }
+{
+    let non_originating = only_key(alloc, 1)?;
+    let penetrator_non_originating = only_text(alloc, 3)?;
+    let uniquely_originating = only_text(alloc, 2)?;
+    initiator_with(
+        alloc,
+        non_originating,
+        penetrator_non_originating,
+        uniquely_originating,
+    )
+}
+
+pub(crate) fn values(alloc: Global) -> Result<Vec<Term>, AllocError>
     ensures { IfOk result (λ v. v.items ≡ example_values) }
 {
     let mut values = Vec::new(alloc);
@@ -183,6 +228,11 @@ fn has_m(alloc: Global, assumptions: &Assumptions) -> Result<bool, Fail> {
     })
 }
 
+/// Whether these are what the initiator gives as the second strand.
+fn are_given(alloc: Global, assumptions: &Assumptions) -> Result<bool, Fail> {
+    Ok(has_key(alloc, assumptions)? && has_n(alloc, assumptions)? && has_m(alloc, assumptions)?)
+}
+
 const LISTENER: &str = "(defskeleton u (vars (t text)) (deflistener t))";
 
 /// The skeleton of one listener.
@@ -207,11 +257,16 @@ fn grow(alloc: Global, k: &mut Skeleton, strand: usize) -> Result<(), AllocError
     k.extend(alloc, strand, 3, &added)
 }
 
+/// Adds the initiator and lets it grow to height 3.
+fn add_grown(alloc: Global, k: &mut Skeleton) -> Result<(), Fail> {
+    let strand = add_initiator(alloc, k)?;
+    Ok(grow(alloc, k, strand)?)
+}
+
 /// The skeleton of a listener and the initiator at height 3.
 fn grown(alloc: Global) -> Result<Skeleton, Fail> {
     let mut k = listening(alloc)?;
-    let strand = add_initiator(alloc, &mut k)?;
-    grow(alloc, &mut k, strand)?;
+    add_grown(alloc, &mut k)?;
     Ok(k)
 }
 
@@ -220,31 +275,105 @@ fn held(k: &Skeleton, strand: usize) -> Option<usize> {
     Some(k.strands().get(strand)?.held()?.len())
 }
 
+/// Whether the second strand alone holds its event, which is there, and the penetrator may originate all texts.
+fn is_added(alloc: Global, k: &Skeleton) -> Result<bool, Fail> {
+    Ok(
+        held(k, 0).is_none()
+            && held(k, 1) == Some(1)
+            && k.assumptions().penetrator_non_originating().is_empty()
+            && sends_first(alloc, k)?,
+    )
+}
+
+/// Adds the initiator, and answers whether it is there as the second strand.
+fn adds(alloc: Global, k: &mut Skeleton) -> Result<bool, Fail> {
+    let strand = add_initiator(alloc, k)?;
+    Ok(strand == 1 && is_added(alloc, k)?)
+}
+
+/// The same to the skeleton of one listener.
+fn adds_to_listener(alloc: Global) -> Result<bool, Fail> {
+    let mut k = listening(alloc)?;
+    adds(alloc, &mut k)
+}
+
 // Of the text n, which its prefix does not have yet, nothing is assumed.
 #[test]
 fn a_strand_is_added(rt: HostRuntime) -> Result<(), Fail> {
-    let mut k = listening(rt.alloc())?;
-    assert_eq!(rt; add_initiator(rt.alloc(), &mut k)?, 1);
-    assert!(rt; sends_first(rt.alloc(), &k)?);
-    assert!(rt; held(&k, 0).is_none() && held(&k, 1) == Some(1));
-    assert!(rt; k.assumptions().penetrator_non_originating().is_empty());
+    assert!(rt; adds_to_listener(rt.alloc())?);
     Ok(())
+}
+
+/// Whether the second strand sends the first message and the last.
+fn sends_both(alloc: Global, k: &Skeleton) -> Result<bool, Fail> {
+    Ok(sends_first(alloc, k)? && sends_last(alloc, k)?)
+}
+
+/// Whether that is so where the initiator grew.
+fn grown_sends_both(alloc: Global) -> Result<bool, Fail> {
+    let k = grown(alloc)?;
+    sends_both(alloc, &k)
 }
 
 #[test]
 fn a_strand_grows(rt: HostRuntime) -> Result<(), Fail> {
-    let k = grown(rt.alloc())?;
-    assert!(rt; sends_first(rt.alloc(), &k)?);
-    assert!(rt; sends_last(rt.alloc(), &k)?);
+    assert!(rt; grown_sends_both(rt.alloc())?);
     Ok(())
+}
+
+/// Whether the initiator that grew gives what it should.
+fn grown_gives(alloc: Global) -> Result<bool, Fail> {
+    let k = grown(alloc)?;
+    are_given(alloc, k.assumptions())
 }
 
 #[test]
 fn what_a_strand_gives(rt: HostRuntime) -> Result<(), Fail> {
-    let k = grown(rt.alloc())?;
-    assert!(rt; has_key(rt.alloc(), k.assumptions())?);
-    assert!(rt; has_n(rt.alloc(), k.assumptions())?);
-    assert!(rt; has_m(rt.alloc(), k.assumptions())?);
+    assert!(rt; grown_gives(rt.alloc())?);
+    Ok(())
+}
+
+/// What the initiator at height 2 gives as the second strand, and these assumptions lack.
+fn lacking(alloc: Global, assumed: &Assumptions) -> Result<Assumptions, Fail> {
+    let mut values = values(alloc)?;
+    values.push(text(alloc, 13)?)?;
+    let instance = Instance::new(initiator(alloc)?, 2, values);
+    Ok(missing(alloc, 1, &instance, assumed)?)
+}
+
+/// Whether nothing is assumed.
+fn is_nothing(assumptions: &Assumptions) -> bool {
+    assumptions.non_originating().is_empty()
+        && assumptions.penetrator_non_originating().is_empty()
+        && assumptions.uniquely_originating().is_empty()
+}
+
+/// Where nothing is assumed.
+fn nothing(alloc: Global) -> Assumptions {
+    Assumptions::new(Vec::new(alloc), Vec::new(alloc), Vec::new(alloc))
+}
+
+/// Whether nothing is lacking where this is assumed.
+fn lacks_nothing(alloc: Global, given: &Assumptions) -> Result<bool, Fail> {
+    let more = lacking(alloc, given)?;
+    Ok(is_nothing(&more))
+}
+
+/// Whether this is what the instance gives, and nothing is lacking where it is assumed.
+fn is_all(alloc: Global, given: &Assumptions) -> Result<bool, Fail> {
+    Ok(are_given(alloc, given)? && lacks_nothing(alloc, given)?)
+}
+
+/// Whether that is so of what is lacking where nothing is assumed.
+fn lacks_all(alloc: Global) -> Result<bool, Fail> {
+    let given = lacking(alloc, &nothing(alloc))?;
+    is_all(alloc, &given)
+}
+
+// All that the instance gives is lacking where nothing is assumed, and nothing where it is.
+#[test]
+fn what_is_lacking(rt: HostRuntime) -> Result<(), Fail> {
+    assert!(rt; lacks_all(rt.alloc())?);
     Ok(())
 }
 
@@ -275,22 +404,38 @@ fn is_unchanged(alloc: Global, k: &Skeleton) -> Result<bool, Fail> {
     )
 }
 
+/// Lets the initiator grow, and adds the listener.
+fn change(alloc: Global, k: &mut Skeleton, strand: usize) -> Result<(), AllocError>
+    requires { CanExtend (skeleton_view k.old) strand 3 added_values }
+{
+    grow(alloc, k, strand)?;
+    add_listener(alloc, k)
+}
+
 /// Changes the skeleton, and answers whether a copy that was made before stays.
 fn copy_stays(alloc: Global, k: &mut Skeleton, strand: usize) -> Result<bool, Fail>
     requires { CanExtend (skeleton_view k.old) strand 3 added_values }
 {
     let copy = k.copy(alloc)?;
-    grow(alloc, k, strand)?;
-    add_listener(alloc, k)?;
+    change(alloc, k, strand)?;
     is_unchanged(alloc, &copy)
+}
+
+/// Adds the initiator and changes the skeleton, and answers whether it is changed and the copy stays.
+fn changes_alone(alloc: Global, k: &mut Skeleton) -> Result<bool, Fail> {
+    let strand = add_initiator(alloc, k)?;
+    Ok(copy_stays(alloc, k, strand)? && is_changed(alloc, k)?)
+}
+
+/// The same with the skeleton of one listener.
+fn listener_changes_alone(alloc: Global) -> Result<bool, Fail> {
+    let mut k = listening(alloc)?;
+    changes_alone(alloc, &mut k)
 }
 
 // A copy shares its strands with the skeleton; where that changes, the copy stays.
 #[test]
 fn a_copy_stays(rt: HostRuntime) -> Result<(), Fail> {
-    let mut k = listening(rt.alloc())?;
-    let strand = add_initiator(rt.alloc(), &mut k)?;
-    assert!(rt; copy_stays(rt.alloc(), &mut k, strand)?);
-    assert!(rt; is_changed(rt.alloc(), &k)?);
+    assert!(rt; listener_changes_alone(rt.alloc())?);
     Ok(())
 }

@@ -49,10 +49,15 @@ const FORK: &str = "(defskeleton e (vars (x text)) (defstrand speaker 1 (n x)) \
     (defstrand relay 2 (n x)) (defstrand relay 2 (n x)) (defstrand relay 2 (n x)) \
     (precedes ((1 1) (2 0)) ((1 1) (3 0))))";
 
+/// The skeleton, of which the first strand and so many variables alone are said to come from a problem.
+fn with_first(alloc: Global, k: &Skeleton, count: usize) -> Result<Skeleton, Fail> {
+    Ok(with_way_of(alloc, k, 1, count, 0)?)
+}
+
 /// The skeleton of the problem, of which the first strand and so many variables alone are said to come from a problem.
 fn over(alloc: Global, problem: &str, count: usize) -> Result<Skeleton, Fail> {
     let k = skeleton_of(alloc, PROTOCOL, problem)?;
-    Ok(with_way_of(alloc, &k, 1, count, 0)?)
+    with_first(alloc, &k, count)
 }
 
 // Two problems, how many variables come from one, and whether the first embeds in the second and the second in the first.
@@ -99,7 +104,7 @@ fn are_alike(alloc: Global, a: &Skeleton, b: &Skeleton, wanted: bool) -> Result<
 }
 
 /// Whether the skeletons of a row embed in each other as they should, and are isomorphic where both do.
-fn is_answered(alloc: Global, row: &Row, a: &Skeleton, b: &Skeleton) -> Result<bool, AllocError> {
+fn is_answered(alloc: Global, row: &Row, a: &Skeleton, b: &Skeleton) -> Result<bool, Fail> {
     Ok(
         goes(alloc, a, b, row.3)?
             && goes(alloc, b, a, row.4)?
@@ -107,11 +112,16 @@ fn is_answered(alloc: Global, row: &Row, a: &Skeleton, b: &Skeleton) -> Result<b
     )
 }
 
+/// Whether the row's answers are right, where this is its first skeleton.
+fn is_right_from(alloc: Global, row: &Row, a: &Skeleton) -> Result<bool, Fail> {
+    let b = over(alloc, row.1, row.2)?;
+    is_answered(alloc, row, a, &b)
+}
+
 /// Whether the row's answers are right.
 fn is_right(alloc: Global, row: &Row) -> Result<bool, Fail> {
     let a = over(alloc, row.0, row.2)?;
-    let b = over(alloc, row.1, row.2)?;
-    Ok(is_answered(alloc, row, &a, &b)?)
+    is_right_from(alloc, row, &a)
 }
 
 #[test]
@@ -139,13 +149,27 @@ fn is_found(map: &Map) -> bool {
     }
 }
 
+/// Whether the map from the one skeleton to the other is the one that is wanted.
+fn finds_it(alloc: Global, a: &Skeleton, b: &Skeleton) -> Result<bool, Fail> {
+    let found = embed(alloc, a, b)?;
+    Ok(found.is_some_and(|map| is_found(&map)))
+}
+
+/// Whether that map is found from this skeleton to the one whose unique text is declared second.
+fn finds_second(alloc: Global, a: &Skeleton) -> Result<bool, Fail> {
+    let b = over(alloc, UNIQUE_SECOND, 0)?;
+    finds_it(alloc, a, &b)
+}
+
+/// Whether that map is found from the skeleton of one strand.
+fn finds_from_one(alloc: Global) -> Result<bool, Fail> {
+    let a = over(alloc, ONE, 0)?;
+    finds_second(alloc, &a)
+}
+
 #[test]
 fn where_a_strand_goes(rt: HostRuntime) -> Result<(), Fail> {
-    let alloc = rt.alloc();
-    let a = over(alloc, ONE, 0)?;
-    let b = over(alloc, UNIQUE_SECOND, 0)?;
-    let found = embed(alloc, &a, &b)?;
-    assert!(rt; found.is_some_and(|map| is_found(&map)));
+    assert!(rt; finds_from_one(rt.alloc())?);
     Ok(())
 }
 
@@ -153,6 +177,6 @@ fn where_a_strand_goes(rt: HostRuntime) -> Result<(), Fail> {
 #[test]
 fn first_places(rt: HostRuntime) {
     for (place, number) in [(4, 0), (7, 1), (5, 3)] {
-        assert_eq!(rt; first_of(&[4, 7, 4], place), number);
+        assert!(rt; first_of(&[4, 7, 4], place) == number);
     }
 }

@@ -1,5 +1,5 @@
 // Runs over streams that fail at given calls, on a problem with a search: what is put before.
-use crate::sources_and_sinks::{Ended, line_of, run_over};
+use crate::sources_and_sinks::{Ended, has_ended, run_over};
 use crate::stated::{NEEDHAM_SCHROEDER, joined};
 use cp_base::{MemSource, Status};
 use std::alloc::{AllocError, Global};
@@ -119,13 +119,6 @@ fn run_failing(alloc: Global, takes: &[u64], puts: &[u64]) -> Result<Ended, Allo
     let input = joined(alloc, &[NEEDHAM_SCHROEDER, PROBLEM])?;
     let mut source = MemSource::new(input, takes.to_vec(alloc)?);
     run_over(alloc, COMMAND, &mut source, 10_000, puts)
-}
-
-/// Whether the run ended so, put this, and put the line of its status on the error stream.
-fn has_ended(ended: &Ended, status: Status, wanted: &[u8]) -> bool {
-    ended.status == status
-        && ended.out.bytes() == wanted
-        && ended.errs.bytes() == line_of(status).as_bytes()
 }
 
 /// Whether the run of a row ends and puts as the row says.

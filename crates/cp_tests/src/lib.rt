@@ -20,6 +20,8 @@ mod generalisations;
 #[cfg(test)]
 mod interrupted;
 #[cfg(test)]
+mod loaded;
+#[cfg(test)]
 mod matched;
 #[cfg(test)]
 mod messages;
@@ -37,6 +39,8 @@ mod questions;
 mod read_back;
 #[cfg(test)]
 mod rebuilt;
+#[cfg(test)]
+mod roles;
 #[cfg(test)]
 mod searches;
 #[cfg(test)]

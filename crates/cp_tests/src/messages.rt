@@ -1,5 +1,5 @@
 // Messages, and runs and bundles worked out by hand.
-use cp_model::{Event, Key, Msg, Node, Run, Strand, bundle_of, origin_before, run_of};
+use cp_model::{Bundle, Event, Key, Msg, Node, Run, Strand, bundle_of, origin_before, run_of};
 use std::alloc::{AllocError, Global};
 use std::test::Fail;
 
@@ -19,16 +19,28 @@ fn sealed(alloc: Global) -> Result<Msg, AllocError> {
     Msg::enc(alloc, content, Key::pubk(alloc, None, 1)?)
 }
 
+/// Whether the message carries the text and the name that are encrypted.
+fn carries_content(alloc: Global, sealed: &Msg) -> Result<bool, AllocError> {
+    Ok(sealed.carries(&Msg::text(alloc, 0)?) && sealed.carries(&Msg::name(alloc, 0)?))
+}
+
+/// Whether the message carries a datum, or the name of its key.
+fn carries_others(alloc: Global, sealed: &Msg) -> Result<bool, AllocError> {
+    Ok(sealed.carries(&Msg::datum(alloc, 0)?) || sealed.carries(&Msg::name(alloc, 1)?))
+}
+
+/// Whether the key of the message carries itself, and is neither carried by the message nor the same.
+fn is_apart(alloc: Global, sealed: &Msg) -> Result<bool, AllocError> {
+    let key = Msg::key(alloc, Key::pubk(alloc, None, 1)?)?;
+    Ok(key.carries(&key) && !sealed.carries(&key) && !sealed.same(&key))
+}
+
 // A key is carried by the message that it is, and not by what is encrypted under it.
 #[test]
 fn carried(rt: HostRuntime) -> Result<(), Fail> {
-    let alloc = rt.alloc();
-    let sealed = sealed(alloc)?;
-    assert!(rt; sealed.carries(&Msg::text(alloc, 0)?) && sealed.carries(&Msg::name(alloc, 0)?));
-    assert!(rt; !sealed.carries(&Msg::datum(alloc, 0)?) && !sealed.carries(&Msg::name(alloc, 1)?));
-    let key = Msg::key(alloc, Key::pubk(alloc, None, 1)?)?;
-    assert!(rt; key.carries(&key) && !sealed.carries(&key));
-    assert!(rt; sealed.same(&sealed.copy()?) && !sealed.same(&key));
+    let sealed = sealed(rt.alloc())?;
+    assert!(rt; carries_content(rt.alloc(), &sealed)? && !carries_others(rt.alloc(), &sealed)?);
+    assert!(rt; is_apart(rt.alloc(), &sealed)? && sealed.same(&sealed.copy()?));
     Ok(())
 }
 
@@ -72,22 +84,20 @@ fn one_event(alloc: Global) -> Result<Run, AllocError> {
     })
 }
 
+/// Whether the copy of an event has its message.
+fn is_copied(alloc: Global) -> Result<bool, AllocError> {
+    let copied = Event::Send(sealed(alloc)?).copy()?;
+    Ok(copied.message().same(&sealed(alloc)?))
+}
+
 // The run of one event is a bundle of one strand without links, and back the same run.
 #[test]
 fn one_event_and_back(rt: HostRuntime) -> Result<(), Fail> {
-    let alloc = rt.alloc();
-    let copied = Event::Send(sealed(alloc)?).copy()?;
-    assert!(rt; copied.message().same(&sealed(alloc)?));
-    let bundle = bundle_of(alloc, &one_event(alloc)?)?;
-    assert_eq!(rt;
-        (bundle.strands.len(), bundle.sender(node(0, 0))),
-        (1, None)
-    );
-    let run = run_of(alloc, &bundle)?;
-    assert_eq!(rt;
-        (run.strands.len(), run.events.as_slice()),
-        (1, [node(0, 0)].as_slice())
-    );
+    assert!(rt; is_copied(rt.alloc())?);
+    let bundle = bundle_of(rt.alloc(), &one_event(rt.alloc())?)?;
+    assert!(rt; bundle.strands.len() == 1 && bundle.sender(node(0, 0)).is_none());
+    let run = run_of(rt.alloc(), &bundle)?;
+    assert!(rt; run.strands.len() == 1 && run.events.as_slice() == [node(0, 0)].as_slice());
     Ok(())
 }
 
@@ -127,34 +137,46 @@ fn forwarded(alloc: Global) -> Result<Run, AllocError> {
     })
 }
 
+/// Whether the text is linked to the strand that sent it first, and the pair to the strand that sent it on.
+fn is_linked(bundle: &Bundle) -> bool {
+    bundle.sender(node(2, 0)) == Some(node(1, 0)) && bundle.sender(node(3, 0)) == Some(node(2, 1))
+}
+
 // Of two events that send the text the first is linked.
 #[test]
 fn linked_to_the_first(rt: HostRuntime) -> Result<(), Fail> {
     let run = forwarded(rt.alloc())?;
     let bundle = bundle_of(rt.alloc(), &run)?;
-    assert_eq!(rt; bundle.sender(node(2, 0)), Some(node(1, 0)));
-    assert_eq!(rt; bundle.sender(node(3, 0)), Some(node(2, 1)));
-    assert_eq!(rt; bundle.order.as_slice(), run.events.as_slice());
+    assert!(rt; is_linked(&bundle) && bundle.order.as_slice() == run.events.as_slice());
     let back = run_of(rt.alloc(), &bundle)?;
-    assert_eq!(rt;
-        (back.strands.len(), back.events.as_slice()),
-        (4, run.events.as_slice())
-    );
+    assert!(rt; back.strands.len() == 4 && back.events.as_slice() == run.events.as_slice());
     Ok(())
 }
 
-// The text comes from where it was first sent, the tag and the pair from the strand that sends it on.
+/// Whether the text comes from where it was first sent, and where another strand sends it from there.
+fn finds_text(alloc: Global, bundle: &Bundle) -> Result<bool, AllocError> {
+    let text = marked(alloc, false)?;
+    Ok(
+        origin_before(bundle, node(3, 0), &text) == node(1, 0)
+            && origin_before(bundle, node(0, 0), &text) == node(0, 0),
+    )
+}
+
+/// Whether the pair and the tag come from the strand that sends the text on.
+fn finds_pair_and_tag(alloc: Global, bundle: &Bundle) -> Result<bool, AllocError> {
+    let pair = marked(alloc, true)?;
+    let tag = Msg::tag(alloc, "seen")?;
+    Ok(
+        origin_before(bundle, node(3, 0), &pair) == node(2, 1)
+            && origin_before(bundle, node(2, 1), &tag) == node(2, 1),
+    )
+}
+
 #[test]
 fn origins(rt: HostRuntime) -> Result<(), Fail> {
     let bundle = bundle_of(rt.alloc(), &forwarded(rt.alloc())?)?;
-    let (text, pair) = (marked(rt.alloc(), false)?, marked(rt.alloc(), true)?);
-    assert_eq!(rt; origin_before(&bundle, node(3, 0), &text), node(1, 0));
-    assert_eq!(rt; origin_before(&bundle, node(3, 0), &pair), node(2, 1));
-    assert_eq!(rt; origin_before(&bundle, node(0, 0), &text), node(0, 0));
-    assert_eq!(rt;
-        origin_before(&bundle, node(2, 1), &Msg::tag(rt.alloc(), "seen")?),
-        node(2, 1)
-    );
+    assert!(rt; finds_text(rt.alloc(), &bundle)?);
+    assert!(rt; finds_pair_and_tag(rt.alloc(), &bundle)?);
     Ok(())
 }
 

@@ -7,10 +7,10 @@ use std::test::Fail;
 #[test]
 fn locals_of_patterns(rt: HostRuntime) -> Result<(), Fail> {
     let locals = locals_of(rt.alloc(), &pattern(rt.alloc())?)?;
-    assert_eq!(rt; locals.len(), 1);
+    assert!(rt; locals.len() == 1);
     for local in &locals {
-        assert_eq!(rt; local.number, 0);
-        assert!(rt; is_same_sort(local.sort, Sort::Text) && !is_same_sort(local.sort, Sort::Skey));
+        assert!(rt; local.number == 0 && is_same_sort(local.sort, Sort::Text));
+        assert!(rt; !is_same_sort(local.sort, Sort::Skey));
     }
     Ok(())
 }

@@ -2,7 +2,7 @@
 ghost use Rattle.std.specs.Prelude.{◌≡◌, IfOk};
 ghost use Rattle.cp_model.specs.Term.{atom_term, text_variable};
 
-use crate::rebuilt::{with_mixed, with_way_of};
+use crate::rebuilt::{with_mixed, with_unoriginated, with_way_of};
 use crate::stated::{NEEDHAM_SCHROEDER, forms_of, joined, labels, last_problem, skeleton_of};
 use cp_model::Node;
 use cp_normal::{
@@ -10,7 +10,7 @@ use cp_normal::{
     normalise, under,
 };
 use cp_sexpr::Form;
-use cp_skel::{OrderPair, Skeleton};
+use cp_skel::{Atom, OrderPair, Skeleton};
 use cp_term::{Sort, Term, VarId, var};
 use cp_unify::{Binding, Subst};
 use std::alloc::{AllocError, Global};
@@ -30,6 +30,8 @@ enum Change {
     Bind,
     /// Assumptions out of order and twice are listed.
     List,
+    /// The same, where nobody originates a declared text.
+    ListBeside(usize),
 }
 
 fn text(alloc: Global, number: usize) -> Result<Term, AllocError>
@@ -49,11 +51,18 @@ fn without(alloc: Global, k: &Skeleton, strand: usize) -> Result<Skeleton, Fail>
     Ok(left)
 }
 
-/// The skeleton with a listener more.
-fn with_listener(alloc: Global, mut k: Skeleton, number: usize) -> Result<Skeleton, AllocError> {
+/// Adds a listener on a text to the skeleton.
+fn listen(alloc: Global, k: &mut Skeleton, number: usize) -> Result<(), AllocError> {
     let message = text(alloc, number)?;
     k.add_listener(alloc, message)?;
-    Ok(k)
+    Ok(())
+}
+
+/// The skeleton with a listener more.
+fn with_listener(alloc: Global, k: &Skeleton, number: usize) -> Result<Skeleton, Fail> {
+    let mut more = k.copy(alloc)?;
+    listen(alloc, &mut more, number)?;
+    Ok(more)
 }
 
 /// The skeleton with one text in place of another.
@@ -63,6 +72,11 @@ fn bound(alloc: Global, k: &Skeleton) -> Result<Skeleton, AllocError> {
     under(alloc, k, &s)
 }
 
+/// The same, where the error says that a test failed.
+fn with_bound(alloc: Global, k: &Skeleton) -> Result<Skeleton, Fail> {
+    Ok(bound(alloc, k)?)
+}
+
 /// The skeleton with its assumptions backwards, then once more, and then listed.
 fn mixed(alloc: Global, k: &Skeleton) -> Result<Skeleton, AllocError> {
     let mut mixed = with_mixed(alloc, &k)?;
@@ -70,29 +84,66 @@ fn mixed(alloc: Global, k: &Skeleton) -> Result<Skeleton, AllocError> {
     Ok(mixed)
 }
 
-/// One skeleton alone.
-fn alone(alloc: Global, k: Skeleton) -> Result<Vec<Skeleton>, AllocError> {
+/// The same, where the error says that a test failed.
+fn listed(alloc: Global, k: &Skeleton) -> Result<Skeleton, Fail> {
+    Ok(mixed(alloc, k)?)
+}
+
+/// The same, with the assumptions that nobody originates this value.
+fn listed_beside(alloc: Global, k: &Skeleton, value: &Atom) -> Result<Skeleton, Fail> {
+    let more = with_unoriginated(alloc, k, value)?;
+    listed(alloc, &more)
+}
+
+/// The same of a text.
+fn mixed_beside(alloc: Global, k: &Skeleton, number: usize) -> Result<Skeleton, Fail> {
+    match Atom::new(text(alloc, number)?) {
+        Some(value) => listed_beside(alloc, k, &value),
+        None => Err(Fail::new("no atom")),
+    }
+}
+
+/// A copy of the skeleton.
+fn copied(alloc: Global, k: &Skeleton) -> Result<Skeleton, Fail> {
+    Ok(k.copy(alloc)?)
+}
+
+/// The normal forms of the skeleton.
+fn normal_forms(alloc: Global, k: &Skeleton) -> Result<Vec<Skeleton>, Fail> {
+    Ok(normalise(alloc, k.copy(alloc)?)?)
+}
+
+/// The collapses of the skeleton.
+fn collapses_of(alloc: Global, k: &Skeleton) -> Result<Vec<Skeleton>, Fail> {
+    Ok(collapses(alloc, k)?)
+}
+
+/// What was made, alone, if it was.
+fn alone(alloc: Global, made: Result<Skeleton, Fail>) -> Result<Vec<Skeleton>, Fail> {
+    let k = made?;
     let mut all = Vec::new(alloc);
     all.push(k)?;
     Ok(all)
 }
 
-fn changed(alloc: Global, k: Skeleton, change: Change) -> Result<Vec<Skeleton>, Fail> {
-    Ok(match change {
-        Change::Copy => alone(alloc, k.copy(alloc)?)?,
-        Change::Normal => normalise(alloc, k)?,
-        Change::Collapses => collapses(alloc, &k)?,
-        Change::Delete(strand) => alone(alloc, without(alloc, &k, strand)?)?,
-        Change::Listen(number) => alone(alloc, with_listener(alloc, k, number)?)?,
-        Change::Bind => alone(alloc, bound(alloc, &k)?)?,
-        Change::List => alone(alloc, mixed(alloc, &k)?)?,
-    })
+/// What becomes of the skeleton. No arm has a `?`, which costs most beside skeletons.
+fn changed(alloc: Global, k: &Skeleton, change: Change) -> Result<Vec<Skeleton>, Fail> {
+    match change {
+        Change::Copy => alone(alloc, copied(alloc, k)),
+        Change::Normal => normal_forms(alloc, k),
+        Change::Collapses => collapses_of(alloc, k),
+        Change::Delete(strand) => alone(alloc, without(alloc, k, strand)),
+        Change::Listen(number) => alone(alloc, with_listener(alloc, k, number)),
+        Change::Bind => alone(alloc, with_bound(alloc, k)),
+        Change::List => alone(alloc, listed(alloc, k)),
+        Change::ListBeside(number) => alone(alloc, mixed_beside(alloc, k, number)),
+    }
 }
 
 /// The labels of what becomes of the problem that the last form states, with assumptions as a report lists them.
 fn labels_after(alloc: Global, forms: &[Form], change: Change) -> Result<Vec<u8>, Fail> {
     let k = last_problem(alloc, forms)?;
-    let mut all = changed(alloc, k, change)?;
+    let mut all = changed(alloc, &k, change)?;
     for k in &mut all {
         k.list_assumptions(alloc)?;
     }
@@ -224,6 +275,15 @@ const ROWS: &[(&str, &str, Change, &str)] = &[
         (non-orig (privk b)) (uniq-orig (x (0 0)) (z (1 0))) \
         (map () (a a) (b b) (c c) (x x) (y y) (z z)))\n",
     ),
+    (
+        INITIATORS,
+        THREE_TO_TWO,
+        Change::Delete(2),
+        "(label 0 (by problem) (vars (a name) (b name) (c name) (x text) (y text) (z text)) \
+        (defstrand init 1 (a a) (b b) (m x)) (defstrand init 1 (a a) (b c) (m y)) \
+        (non-orig (privk b) (privk c)) (uniq-orig (x (0 0)) (y (1 0))) \
+        (map () (a a) (b b) (c c) (x x) (y y) (z z)))\n",
+    ),
     // The order goes on through a deleted strand, but not backwards on it.
     (
         ORDERED,
@@ -266,16 +326,50 @@ const ROWS: &[(&str, &str, Change, &str)] = &[
         (non-orig (privk d) (privk c) (privk b)) (pen-non-orig d z) (uniq-orig (y (1 0)) (x (0 0))) \
         (map (0 1) (a a) (b b) (c c) (d d) (x x) (y y) (z z)))\n",
     ),
+    // What neither gives comes last.
+    (
+        INITIATORS,
+        "(defskeleton p (vars (a b c d name) (x y w text)) (defstrand init 1 (a a) (b b) (m x)) \
+        (defstrand init 1 (a a) (b c) (m y)) (non-orig (privk d) (privk c)) (pen-non-orig d) (uniq-orig y))",
+        Change::ListBeside(6),
+        "(label 0 (by problem) (vars (a name) (b name) (c name) (d name) (x text) (y text) (w text)) \
+        (defstrand init 1 (a a) (b b) (m x)) (defstrand init 1 (a a) (b c) (m y)) \
+        (non-orig (privk d) (privk c) (privk b) w) (pen-non-orig d w) (uniq-orig (y (1 0)) (x (0 0))) \
+        (map (0 1) (a a) (b b) (c c) (d d) (x x) (y y) (w w)))\n",
+    ),
 ];
+
+/// Whether these are the labels of what becomes of the problem that the last form states.
+fn has_labels(alloc: Global, forms: &[Form], change: Change, wanted: &str) -> Result<bool, Fail> {
+    let labels = labels_after(alloc, forms, change)?;
+    Ok(labels.as_slice() == wanted.as_bytes())
+}
+
+/// Whether these are the labels of what becomes of the problem that the text states last.
+fn is_labelled(alloc: Global, text: &[u8], change: Change, wanted: &str) -> Result<bool, Fail> {
+    let forms = forms_of(alloc, text)?;
+    has_labels(alloc, &forms, change, wanted)
+}
+
+/// Whether these are the labels of what becomes of the problem, which stands behind its protocol.
+fn becomes(
+    alloc: Global,
+    protocol: &str,
+    problem: &str,
+    change: Change,
+    wanted: &str,
+) -> Result<bool, Fail> {
+    let text = joined(alloc, &[protocol, problem])?;
+    is_labelled(alloc, &text, change, wanted)
+}
 
 #[test]
 fn what_becomes_of_problems(rt: HostRuntime) -> Result<(), Fail> {
-    let alloc = rt.alloc();
     for &(protocol, problem, change, wanted) in ROWS {
-        let text = joined(alloc, &[protocol, problem])?;
-        let forms = forms_of(alloc, &text)?;
-        let labels = labels_after(alloc, &forms, change)?;
-        assert_eq!(rt; labels.as_slice(), wanted.as_bytes(), "{problem}");
+        assert!(rt;
+            becomes(rt.alloc(), protocol, problem, change, wanted)?,
+            "{problem}"
+        );
     }
     Ok(())
 }
@@ -296,20 +390,41 @@ const CONTRADICTIONS: &[(&str, &str, bool, bool)] = &[
     ),
 ];
 
+/// Whether the contradictions are these, and the skeleton has no normal form but has all its origins.
+fn is_contradicted(
+    alloc: Global,
+    k: &Skeleton,
+    is_carried: bool,
+    is_twice: bool,
+) -> Result<bool, Fail> {
+    Ok(
+        carries_non_originating(alloc, k)? == is_carried
+            && has_two_origins(k) == is_twice
+            && !loses_origin(alloc, k)?
+            && normal_pairs(alloc, k)?.is_none(),
+    )
+}
+
+/// The same of the problem's skeleton.
+fn contradicts(
+    alloc: Global,
+    protocol: &str,
+    problem: &str,
+    is_carried: bool,
+    is_twice: bool,
+) -> Result<bool, Fail> {
+    let k = skeleton_of(alloc, protocol, problem)?;
+    is_contradicted(alloc, &k, is_carried, is_twice)
+}
+
 // The contradictions one by one.
 #[test]
 fn what_contradicts_a_skeleton(rt: HostRuntime) -> Result<(), Fail> {
-    let alloc = rt.alloc();
     for &(protocol, problem, is_carried, is_twice) in CONTRADICTIONS {
-        let k = skeleton_of(alloc, protocol, problem)?;
-        assert_eq!(rt;
-            carries_non_originating(alloc, &k)?,
-            is_carried,
+        assert!(rt;
+            contradicts(rt.alloc(), protocol, problem, is_carried, is_twice)?,
             "{problem}"
         );
-        assert_eq!(rt; has_two_origins(&k), is_twice, "{problem}");
-        assert!(rt; !loses_origin(alloc, &k)?, "{problem}");
-        assert!(rt; normal_pairs(alloc, &k)?.is_none(), "{problem}");
     }
     Ok(())
 }
@@ -319,25 +434,49 @@ const HEARD_AND_SAID: &str = "(defprotocol v basic \
 
 const ANOTHER_HEARD: &str = "(defskeleton v (vars (n m text)) (defstrand r 2 (x m) (m n)))";
 
+/// Whether the skeleton loses an origin, but has none twice, where the second text is the first.
+fn loses_one_bound(alloc: Global, k: &Skeleton) -> Result<bool, AllocError> {
+    let heard = bound(alloc, k)?;
+    Ok(loses_origin(alloc, &heard)? && !has_two_origins(&heard))
+}
+
+/// Whether the skeleton has its origins, and loses one, but has none twice, where the second text is the first.
+fn loses_one(alloc: Global, k: &Skeleton) -> Result<bool, Fail> {
+    Ok(!loses_origin(alloc, k)? && loses_one_bound(alloc, k)?)
+}
+
+/// Whether that is so where another text is heard than said.
+fn loses_what_was_heard(alloc: Global) -> Result<bool, Fail> {
+    let k = skeleton_of(alloc, HEARD_AND_SAID, ANOTHER_HEARD)?;
+    loses_one(alloc, &k)
+}
+
 // What a strand says first is then what it heard.
 #[test]
 fn an_origin_that_is_lost(rt: HostRuntime) -> Result<(), Fail> {
-    let alloc = rt.alloc();
-    let k = skeleton_of(alloc, HEARD_AND_SAID, ANOTHER_HEARD)?;
-    assert!(rt; !loses_origin(alloc, &k)?);
-    let heard = bound(alloc, &k)?;
-    assert!(rt; loses_origin(alloc, &heard)? && !has_two_origins(&heard));
+    assert!(rt; loses_what_was_heard(rt.alloc())?);
     Ok(())
 }
 
 const HEARD_TEXT: &str =
     "(defskeleton u (vars (n text)) (defstrand s 1 (n n)) (defstrand e 2 (x n) (y n)))";
 
-// What one strand says is unique, and the other hears it.
-#[test]
-fn pairs_that_a_unique_value_adds(rt: HostRuntime) -> Result<(), Fail> {
-    let alloc = rt.alloc();
-    let k = skeleton_of(alloc, SAID_AND_HEARD, HEARD_TEXT)?;
+/// Whether this pair alone is added.
+fn is_added(alloc: Global, k: &Skeleton, pair: OrderPair) -> Result<bool, AllocError> {
+    let added = added_pairs(alloc, k)?;
+    Ok(added.as_slice() == [pair].as_slice())
+}
+
+/// Whether this pair is the only one of the normal form.
+fn is_normal(alloc: Global, k: &Skeleton, pair: OrderPair) -> Result<bool, AllocError> {
+    match normal_pairs(alloc, k)? {
+        Some(pairs) => Ok(pairs.as_slice() == [pair].as_slice()),
+        None => Ok(false),
+    }
+}
+
+/// Whether both are so of the pair of the first nodes of the first strand and the second.
+fn adds_alone(alloc: Global, k: &Skeleton) -> Result<bool, Fail> {
     let earlier = Node {
         strand: 0,
         index: 0,
@@ -347,10 +486,18 @@ fn pairs_that_a_unique_value_adds(rt: HostRuntime) -> Result<(), Fail> {
         index: 0,
     };
     let pair = OrderPair { earlier, later };
-    assert_eq!(rt; added_pairs(alloc, &k)?.as_slice(), [pair].as_slice());
-    match normal_pairs(alloc, &k)? {
-        Some(pairs) => assert_eq!(rt; pairs.as_slice(), [pair].as_slice()),
-        None => return Err(Fail::new("no normal form")),
-    }
+    Ok(is_added(alloc, k, pair)? && is_normal(alloc, k, pair)?)
+}
+
+/// Whether that is so where the second strand hears what the first says.
+fn adds_what_was_heard(alloc: Global) -> Result<bool, Fail> {
+    let k = skeleton_of(alloc, SAID_AND_HEARD, HEARD_TEXT)?;
+    adds_alone(alloc, &k)
+}
+
+// What one strand says is unique, and the other hears it.
+#[test]
+fn pairs_that_a_unique_value_adds(rt: HostRuntime) -> Result<(), Fail> {
+    assert!(rt; adds_what_was_heard(rt.alloc())?);
     Ok(())
 }

@@ -42,17 +42,32 @@ const ROWS: &[((usize, usize), &[(usize, usize)], &[(usize, usize)])] = &[
     ((1, 1), &[(1, 0), (1, 1), (0, 0)], &[(1, 2), (0, 1), (2, 0)]),
 ];
 
+/// Whether all of these nodes were gathered, or none, as wanted.
+fn has_all(leading: &Leading, nodes: &[(usize, usize)], wanted: bool) -> bool {
+    for &(strand, index) in nodes {
+        if leading.has(node(strand, index)) != wanted {
+            return false;
+        }
+    }
+    true
+}
+
+/// Whether what leads to the node is gathered, and nothing else.
+fn is_gathered(
+    alloc: Global,
+    to: Node,
+    before: &[(usize, usize)],
+    others: &[(usize, usize)],
+) -> Result<bool, AllocError> {
+    let pairs = pairs(alloc)?;
+    let leading = Leading::new(alloc, &pairs, to)?;
+    Ok(has_all(&leading, before, true) && has_all(&leading, others, false))
+}
+
 #[test]
 fn leading(rt: HostRuntime) -> Result<(), Fail> {
-    let pairs = pairs(rt.alloc())?;
     for &((strand, index), before, others) in ROWS {
-        let leading = Leading::new(rt.alloc(), &pairs, node(strand, index))?;
-        for &(strand, index) in before {
-            assert!(rt; leading.has(node(strand, index)));
-        }
-        for &(strand, index) in others {
-            assert!(rt; !leading.has(node(strand, index)));
-        }
+        assert!(rt; is_gathered(rt.alloc(), node(strand, index), before, others)?);
     }
     Ok(())
 }
@@ -96,40 +111,98 @@ fn empty(alloc: Global, is_closed: bool) -> Result<Order, AllocError> {
     Ok(order)
 }
 
+/// Whether the order has the four pairs and answers as worked out for them.
+fn has_the_pairs(alloc: Global, order: &Order) -> Result<bool, AllocError> {
+    Ok(order.pairs() == pairs(alloc)?.as_slice() && is_as_worked_out(alloc, order)?)
+}
+
+/// Whether the order and its copy answer as worked out for the four pairs.
+fn copies_as_worked_out(alloc: Global, order: &Order) -> Result<bool, AllocError> {
+    let copy = order.copy(alloc)?;
+    Ok(is_as_worked_out(alloc, order)? && is_as_worked_out(alloc, &copy)?)
+}
+
+/// The order with the four pairs in place of none.
+fn replaced(alloc: Global, is_closed: bool) -> Result<Order, AllocError> {
+    empty(alloc, is_closed)?.with_pairs(alloc, pairs(alloc)?)
+}
+
+/// The order to which the four pairs were added, one after the other.
+fn grown(alloc: Global, is_closed: bool) -> Result<Order, AllocError> {
+    let mut order = empty(alloc, is_closed)?;
+    for pair in pairs(alloc)? {
+        order.add(alloc, pair)?;
+    }
+    Ok(order)
+}
+
+/// Whether the order that is given the four pairs at once answers as worked out, before it is closed and after it.
+fn is_given(alloc: Global) -> Result<bool, AllocError> {
+    let mut given = Order::of(pairs(alloc)?);
+    let is_open_right = has_the_pairs(alloc, &given)?;
+    given.close(alloc)?;
+    Ok(is_open_right && copies_as_worked_out(alloc, &given)?)
+}
+
+/// Whether the order with the four pairs in place of none answers as worked out.
+fn is_replaced(alloc: Global, is_closed: bool) -> Result<bool, AllocError> {
+    let order = replaced(alloc, is_closed)?;
+    is_as_worked_out(alloc, &order)
+}
+
+/// Whether the order to which the four pairs were added answers as worked out.
+fn is_grown(alloc: Global, is_closed: bool) -> Result<bool, AllocError> {
+    let order = grown(alloc, is_closed)?;
+    is_as_worked_out(alloc, &order)
+}
+
 // Of open orders and of closed ones: all pairs at once, pair after pair, and pairs in place of others.
 #[test]
 fn orders(rt: HostRuntime) -> Result<(), Fail> {
-    let alloc = rt.alloc();
-    let mut given = Order::of(pairs(alloc)?);
-    assert_eq!(rt; given.pairs(), pairs(alloc)?.as_slice());
-    assert!(rt; is_as_worked_out(alloc, &given)?);
-    given.close(alloc)?;
-    assert!(rt; is_as_worked_out(alloc, &given)? && is_as_worked_out(alloc, &given.copy(alloc)?)?);
+    assert!(rt; is_given(rt.alloc())?);
     for is_closed in [false, true] {
-        let replaced = empty(alloc, is_closed)?.with_pairs(alloc, pairs(alloc)?)?;
-        let mut grown = empty(alloc, is_closed)?;
-        for pair in pairs(alloc)? {
-            grown.add(alloc, pair)?;
-        }
-        assert!(rt; is_as_worked_out(alloc, &replaced)? && is_as_worked_out(alloc, &grown)?);
+        assert!(rt; is_replaced(rt.alloc(), is_closed)? && is_grown(rt.alloc(), is_closed)?);
     }
     Ok(())
 }
 
-// From strand to strand there are two pairs each: to try each of the ways through forty strands would never end.
-#[test]
-fn many_ways_through_a_closed_order(rt: HostRuntime) -> Result<(), Fail> {
-    let mut order = empty(rt.alloc(), true)?;
+/// A closed order of 41 strands, with two pairs from each to the next.
+fn doubled(alloc: Global) -> Result<Order, AllocError> {
+    let mut order = empty(alloc, true)?;
     for strand in 0..40 {
         let next = pair(node(strand, 1), node(strand + 1, 0));
-        order.add(rt.alloc(), next)?;
-        order.add(rt.alloc(), next)?;
+        order.add(alloc, next)?;
+        order.add(alloc, next)?;
     }
-    assert_eq!(rt; order.pairs().len(), 80);
-    assert!(rt; order.leads_to(node(0, 0), node(40, 0)));
-    assert!(rt; !order.leads_to(node(0, 0), node(50, 0)));
-    let copy = order.copy(rt.alloc())?;
-    assert!(rt; !copy.leads_to(node(0, 0), node(50, 0)));
+    Ok(order)
+}
+
+/// Whether nothing leads to a strand behind the last.
+fn ends(order: &Order) -> bool {
+    !order.leads_to(node(0, 0), node(50, 0))
+}
+
+/// Whether that is so of a copy.
+fn copy_ends(alloc: Global, order: &Order) -> Result<bool, AllocError> {
+    let copy = order.copy(alloc)?;
+    Ok(ends(&copy))
+}
+
+/// Whether the order of so many strands leads to the last, and not further.
+fn leads_to_last(alloc: Global) -> Result<bool, AllocError> {
+    let order = doubled(alloc)?;
+    Ok(
+        order.pairs().len() == 80
+            && order.leads_to(node(0, 0), node(40, 0))
+            && ends(&order)
+            && copy_ends(alloc, &order)?,
+    )
+}
+
+// To try each of the ways through so many strands would never end.
+#[test]
+fn many_ways_through_a_closed_order(rt: HostRuntime) -> Result<(), Fail> {
+    assert!(rt; leads_to_last(rt.alloc())?);
     Ok(())
 }
 
@@ -169,51 +242,105 @@ fn with_its_pairs(alloc: Global, k: Skeleton) -> Result<Skeleton, AllocError> {
     k.with_pairs(alloc, pairs)
 }
 
+/// Puts the first node of the first strand before the first of the second.
+fn add_first_pair(alloc: Global, k: &mut Skeleton) -> Result<(), Fail> {
+    if add_pair(alloc, k, node(0, 0), node(1, 0))? {
+        Ok(())
+    } else {
+        Err(Fail::new("the pair closes a cycle"))
+    }
+}
+
 /// The skeleton of two strands with a pair from the first node of the one to the first of the other.
 fn with_first_pair(alloc: Global) -> Result<Skeleton, Fail> {
     let mut k = skeleton_of(alloc, NEEDHAM_SCHROEDER, TWO_STRANDS)?;
-    if !add_pair(alloc, &mut k, node(0, 0), node(1, 0))? {
-        return Err(Fail::new("the pair closes a cycle"));
-    }
+    add_first_pair(alloc, &mut k)?;
     Ok(k)
 }
 
 const TWO_STRANDS: &str = "(defskeleton ns (vars) (defstrand init 3) (defstrand resp 3))";
 
-// The second pair would close a cycle, and is not added.
+/// Whether the pair that is added first is the only one.
+fn has_one(k: &Skeleton) -> bool {
+    k.order().pairs() == [pair(node(0, 2), node(1, 0))].as_slice()
+}
+
+/// Whether a pair is added, and another, which would close a cycle, is not.
+fn adds_one(alloc: Global, k: &mut Skeleton) -> Result<bool, Fail> {
+    let is_first_added = add_pair(alloc, k, node(0, 2), node(1, 0))?;
+    let is_second_added = add_pair(alloc, k, node(1, 1), node(0, 1))?;
+    Ok(is_first_added && !is_second_added && has_one(k))
+}
+
+/// Whether that is so of the skeleton of two strands.
+fn adds_one_of_two(alloc: Global) -> Result<bool, Fail> {
+    let mut k = skeleton_of(alloc, NEEDHAM_SCHROEDER, TWO_STRANDS)?;
+    adds_one(alloc, &mut k)
+}
+
 #[test]
 fn pair_that_closes_a_cycle(rt: HostRuntime) -> Result<(), Fail> {
-    let alloc = rt.alloc();
-    let mut k = skeleton_of(alloc, NEEDHAM_SCHROEDER, TWO_STRANDS)?;
-    assert!(rt; add_pair(alloc, &mut k, node(0, 2), node(1, 0))?);
-    assert!(rt; !add_pair(alloc, &mut k, node(1, 1), node(0, 1))?);
-    assert_eq!(rt;
-        k.order().pairs(),
-        [pair(node(0, 2), node(1, 0))].as_slice()
-    );
+    assert!(rt; adds_one_of_two(rt.alloc())?);
     Ok(())
+}
+
+/// Whether the pairs of the two are the same.
+fn have_same_pairs(k: &Skeleton, other: &Skeleton) -> bool {
+    k.order().pairs() == other.order().pairs()
+}
+
+/// Whether the first node of the first strand is before the last of the second.
+fn is_before_last(alloc: Global, k: &Skeleton) -> Result<bool, Fail> {
+    is_before(alloc, k, node(0, 0), node(1, 2))
+}
+
+/// Whether the copy has the pairs of the skeleton, and the one node is before the other.
+fn is_as_before(alloc: Global, again: &Skeleton, k: &Skeleton) -> Result<bool, Fail> {
+    Ok(have_same_pairs(again, k) && is_before_last(alloc, again)?)
+}
+
+/// Whether a copy with its own pairs in place of them is as the skeleton.
+fn stays(alloc: Global, k: &Skeleton) -> Result<bool, Fail> {
+    let again = with_its_pairs(alloc, k.copy(alloc)?)?;
+    is_as_before(alloc, &again, k)
+}
+
+/// Whether that is so of the skeleton with the first pair.
+fn stays_with_first_pair(alloc: Global) -> Result<bool, Fail> {
+    let k = with_first_pair(alloc)?;
+    stays(alloc, &k)
 }
 
 // The skeleton with its own pairs in place of them is as it was.
 #[test]
 fn the_same_pairs_again(rt: HostRuntime) -> Result<(), Fail> {
-    let alloc = rt.alloc();
-    let k = with_first_pair(alloc)?;
-    let again = with_its_pairs(alloc, k.copy(alloc)?)?;
-    assert_eq!(rt; again.order().pairs(), k.order().pairs());
-    assert!(rt; is_before(alloc, &again, node(0, 0), node(1, 2))?);
+    assert!(rt; stays_with_first_pair(rt.alloc())?);
     Ok(())
 }
 
-// Before the order is closed and after it.
+/// Whether neither the other strand's first node nor the first node itself is before the first node.
+fn is_first(alloc: Global, k: &Skeleton) -> Result<bool, Fail> {
+    Ok(
+        !is_before(alloc, k, node(1, 0), node(0, 0))?
+            && !is_before(alloc, k, node(0, 0), node(0, 0))?,
+    )
+}
+
+/// Whether the first node is before the last, before the order is closed and after it, and then no node before the first.
+fn answers_closed(alloc: Global, k: &mut Skeleton) -> Result<bool, Fail> {
+    let is_open_right = is_before_last(alloc, k)?;
+    k.order_close(alloc)?;
+    Ok(is_open_right && is_before_last(alloc, k)? && is_first(alloc, k)?)
+}
+
+/// Whether that is so of the skeleton with the first pair.
+fn answers_with_first_pair(alloc: Global) -> Result<bool, Fail> {
+    let mut k = with_first_pair(alloc)?;
+    answers_closed(alloc, &mut k)
+}
+
 #[test]
 fn before(rt: HostRuntime) -> Result<(), Fail> {
-    let alloc = rt.alloc();
-    let mut k = with_first_pair(alloc)?;
-    assert!(rt; is_before(alloc, &k, node(0, 0), node(1, 2))?);
-    k.order_close(alloc)?;
-    assert!(rt; is_before(alloc, &k, node(0, 0), node(1, 2))?);
-    assert!(rt; !is_before(alloc, &k, node(1, 0), node(0, 0))?);
-    assert!(rt; !is_before(alloc, &k, node(0, 0), node(0, 0))?);
+    assert!(rt; answers_with_first_pair(rt.alloc())?);
     Ok(())
 }

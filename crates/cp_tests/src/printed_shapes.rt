@@ -1,6 +1,7 @@
 // What is printed of a tree's shapes alone.
 use crate::stated::{NEEDHAM_SCHROEDER, forms_of, input_of, joined, label, last_problem};
 use cp_print::print_shapes;
+use cp_sexpr::Form;
 use cp_skel::{Mark, Outcome, Tree, TreeNode};
 use std::alloc::Global;
 use std::test::Fail;
@@ -21,24 +22,34 @@ fn marked(alloc: Global, text: &[u8], mark: Mark) -> Result<TreeNode, Fail> {
     Ok(node)
 }
 
-// A label that is dead, and one that is a shape.
+/// The tree of a label that is dead, and one that is a shape.
+fn tree(alloc: Global, text: &[u8]) -> Result<Tree, Fail> {
+    let mut nodes = Vec::new(alloc);
+    nodes.push(marked(alloc, text, Mark::Dead)?)?;
+    nodes.push(marked(alloc, text, Mark::Shape)?)?;
+    Ok(Tree {
+        nodes,
+        outcome: Outcome::Complete,
+    })
+}
+
+/// What is printed of the tree's shapes, where the forms state its problem.
+fn printed(alloc: Global, forms: &[Form], tree: Tree) -> Result<Vec<u8>, Fail> {
+    let input = input_of(alloc, forms)?;
+    let mut trees = Vec::new(alloc);
+    trees.push(tree)?;
+    let mut shapes = Vec::new(alloc);
+    print_shapes(alloc, &input, &trees, &mut shapes)?;
+    Ok(shapes)
+}
+
 #[test]
 fn shapes_alone(rt: HostRuntime) -> Result<(), Fail> {
     let alloc = rt.alloc();
     let text = joined(alloc, &[NEEDHAM_SCHROEDER, PROBLEM])?;
     let forms = forms_of(alloc, &text)?;
-    let input = input_of(alloc, &forms)?;
-    let mut nodes = Vec::new(alloc);
-    nodes.push(marked(alloc, &text, Mark::Dead)?)?;
-    nodes.push(marked(alloc, &text, Mark::Shape)?)?;
-    let mut trees = Vec::new(alloc);
-    trees.push(Tree {
-        nodes,
-        outcome: Outcome::Complete,
-    })?;
-    let mut shapes = Vec::new(alloc);
-    print_shapes(alloc, &input, &trees, &mut shapes)?;
+    let shapes = printed(alloc, &forms, tree(alloc, &text)?)?;
     let wanted = joined(alloc, &[NEEDHAM_SCHROEDER, SHAPES])?;
-    assert_eq!(rt; shapes.as_slice(), wanted.as_slice());
+    assert!(rt; shapes.as_slice() == wanted.as_slice());
     Ok(())
 }

@@ -133,6 +133,31 @@ fn backwards_and_again(alloc: Global, own: &Assumptions) -> Result<Assumptions, 
     Ok(all)
 }
 
+/// The assumptions, and behind them that neither a strand nor the penetrator originates the value.
+#[tactic(auto, using(crate::proofs::OtherParts::more_has))]
+fn with_value(alloc: Global, own: &Assumptions, value: &Atom) -> Result<Assumptions, AllocError>
+    ensures { IfOk result (λ a. HasSame own.now a) }
+{
+    let mut non_originating = Vec::new(alloc);
+    non_originating.push(value.copy()?)?;
+    let mut penetrator = Vec::new(alloc);
+    penetrator.push(value.copy()?)?;
+    let mut all = own.copy(alloc)?;
+    all.append(Assumptions::new(non_originating, penetrator, Vec::new(alloc)))?;
+    Ok(all)
+}
+
+/// The skeleton where neither a strand nor the penetrator is said to originate the value.
+pub(crate) fn with_unoriginated(
+    alloc: Global,
+    k: &Skeleton,
+    value: &Atom,
+) -> Result<Skeleton, AllocError> {
+    let assumptions = with_value(alloc, k.assumptions(), value)?;
+    let way = k.from_problem().copy(alloc)?;
+    rebuilt(alloc, k, assumptions, way)
+}
+
 /// The skeleton with its assumptions backwards, and then once more.
 pub(crate) fn with_mixed(alloc: Global, k: &Skeleton) -> Result<Skeleton, AllocError> {
     let assumptions = backwards_and_again(alloc, k.assumptions())?;

@@ -34,6 +34,33 @@ pub(crate) fn atoms(alloc: Global, variables: &str, terms: &[&str]) -> Result<Ve
     Ok(atoms)
 }
 
+// A term, and whether it is an atom.
+const ATOMS: &[(&str, bool)] = &[
+    ("n", true),
+    ("(privk a)", true),
+    ("(ltk a a)", true),
+    ("(enc n (ltk a a))", false),
+    ("(cat n a)", false),
+    ("\"n\"", false),
+];
+
+/// Whether what the text says is an atom, or not, as wanted.
+fn is_as_wanted(alloc: Global, term: &str, is_atom: bool) -> Result<bool, Fail> {
+    let mut terms = terms_of(alloc, "(n text) (a name)", &[term])?;
+    match terms.pop() {
+        Some(term) => Ok(Atom::new(term).is_some() == is_atom),
+        None => Ok(false),
+    }
+}
+
+#[test]
+fn terms_that_are_atoms(rt: HostRuntime) -> Result<(), Fail> {
+    for &(term, is_atom) in ATOMS {
+        assert!(rt; is_as_wanted(rt.alloc(), term, is_atom)?, "{term}");
+    }
+    Ok(())
+}
+
 /// The value with its origin at the first node of the strand.
 pub(crate) fn unique(value: &Atom, strand: usize) -> Result<UniqueAt, AllocError> {
     Ok(UniqueAt::new(value.copy()?, node(strand, 0)))
@@ -48,14 +75,33 @@ fn at_two_strands(alloc: Global, value: &Atom) -> Result<Vec<UniqueAt>, AllocErr
     Ok(held)
 }
 
+/// Whether there are two, of which one has its origin at strand 1 and none at strand 2.
+fn are_two(held: &[UniqueAt], value: &Atom) -> Result<bool, Fail> {
+    Ok(
+        held.len() == 2
+            && has_unique(held, &unique(value, 1)?.copy()?)
+            && !has_unique(held, &unique(value, 2)?),
+    )
+}
+
+/// Whether the value is held once for each of the strands 0 and 1.
+fn is_held_once(alloc: Global, value: &Atom) -> Result<bool, Fail> {
+    let held = at_two_strands(alloc, value)?;
+    are_two(&held, value)
+}
+
+/// Whether that is so of a text.
+fn is_text_held_once(alloc: Global) -> Result<bool, Fail> {
+    let values = atoms(alloc, "(n text)", &["n"])?;
+    match values.as_slice() {
+        [value] => is_held_once(alloc, value),
+        _ => Ok(false),
+    }
+}
+
 #[test]
 fn unique_values_each_once(rt: HostRuntime) -> Result<(), Fail> {
-    for value in &atoms(rt.alloc(), "(n text)", &["n"])? {
-        let held = at_two_strands(rt.alloc(), value)?;
-        assert_eq!(rt; held.len(), 2);
-        assert!(rt; has_unique(&held, &unique(value, 1)?.copy()?));
-        assert!(rt; !has_unique(&held, &unique(value, 2)?));
-    }
+    assert!(rt; is_text_held_once(rt.alloc())?);
     Ok(())
 }
 
@@ -121,13 +167,21 @@ fn answers(values: &[Term], terms: &[Term], is_carried: bool) -> bool {
     }
 }
 
+/// The same of what these texts say, under the values t, c and c.
+fn is_answered(alloc: Global, whole: &str, part: &str, is_carried: bool) -> Result<bool, Fail> {
+    let variables = "(n text) (a b name) (t text) (c name)";
+    let values = terms_of(alloc, variables, &["t", "c", "c"])?;
+    let terms = terms_of(alloc, variables, &[whole, part])?;
+    Ok(answers(&values, &terms, is_carried))
+}
+
 #[test]
 fn carried_under_values(rt: HostRuntime) -> Result<(), Fail> {
-    let variables = "(n text) (a b name) (t text) (c name)";
-    let values = terms_of(rt.alloc(), variables, &["t", "c", "c"])?;
     for &(whole, part, is_carried) in CARRIED {
-        let terms = terms_of(rt.alloc(), variables, &[whole, part])?;
-        assert!(rt; answers(&values, &terms, is_carried), "{whole} {part}");
+        assert!(rt;
+            is_answered(rt.alloc(), whole, part, is_carried)?,
+            "{whole} {part}"
+        );
     }
     Ok(())
 }
@@ -164,6 +218,18 @@ fn is_done(event: &Option<Event>, done: &str, message: &Term) -> bool {
     }
 }
 
+/// Whether this is done with the message at this index of the strand.
+fn is_done_there(
+    alloc: Global,
+    strand: &Strand,
+    index: usize,
+    done: &str,
+    message: &Term,
+) -> Result<bool, AllocError> {
+    let event = strand.event(alloc, index)?;
+    Ok(is_done(&event, done, message))
+}
+
 /// Whether this is done with the message at this index of the strand and of its copy.
 fn is_done_at(
     alloc: Global,
@@ -172,9 +238,11 @@ fn is_done_at(
     done: &str,
     message: &Term,
 ) -> Result<bool, AllocError> {
-    let event = strand.event(alloc, index)?;
-    let again = strand.copy()?.event(alloc, index)?;
-    Ok(is_done(&event, done, message) && is_done(&again, done, message))
+    let copy = strand.copy()?;
+    Ok(
+        is_done_there(alloc, strand, index, done, message)?
+            && is_done_there(alloc, &copy, index, done, message)?,
+    )
 }
 
 /// Whether this is done with the first of the messages on a strand of the skeleton.
@@ -191,13 +259,37 @@ fn is_done_on(
     }
 }
 
+/// Whether this is done with what the text says at a node of the skeleton.
+fn is_event(
+    alloc: Global,
+    k: &Skeleton,
+    at: Node,
+    done: &str,
+    message: &str,
+) -> Result<bool, Fail> {
+    let messages = terms_of(alloc, "(t text) (c name)", &[message])?;
+    Ok(is_done_on(alloc, k, at, done, &messages)?)
+}
+
+/// Whether the skeleton has all the events.
+fn has_events(alloc: Global, k: &Skeleton) -> Result<bool, Fail> {
+    for &(strand, index, done, message) in EVENTS {
+        if !is_event(alloc, k, node(strand, index), done, message)? {
+            return Ok(false);
+        }
+    }
+    Ok(true)
+}
+
+/// Whether the skeleton of the strands has all the events.
+fn has_all_events(alloc: Global) -> Result<bool, Fail> {
+    let k = skeleton_of(alloc, PROTOCOL, STRANDS)?;
+    has_events(alloc, &k)
+}
+
 #[test]
 fn events(rt: HostRuntime) -> Result<(), Fail> {
-    let k = skeleton_of(rt.alloc(), PROTOCOL, STRANDS)?;
-    for &(strand, index, done, message) in EVENTS {
-        let messages = terms_of(rt.alloc(), "(t text) (c name)", &[message])?;
-        assert!(rt; is_done_on(rt.alloc(), &k, node(strand, index), done, &messages)?);
-    }
+    assert!(rt; has_all_events(rt.alloc())?);
     Ok(())
 }
 
@@ -206,19 +298,30 @@ fn without_terms(alloc: Global, role: &Rc<Role>) -> Result<Strand, AllocError> {
     Strand::instance(alloc, Instance::new(role.clone()?, 2, Vec::new(alloc)))
 }
 
-/// Whether the strand sends the message at index 1.
-fn sends(alloc: Global, strand: &Strand, message: &Term) -> Result<bool, AllocError> {
-    let event = strand.event(alloc, 1)?;
-    Ok(is_done(&event, "send", message))
+/// Whether the strand sends the message of the role at index 1.
+fn sends(alloc: Global, strand: &Strand) -> Result<bool, Fail> {
+    let messages = terms_of(alloc, "(n text) (a b name)", &["(enc n (ltk a b))"])?;
+    match messages.first() {
+        Some(message) => Ok(is_done_there(alloc, strand, 1, "send", message)?),
+        None => Ok(false),
+    }
+}
+
+/// Whether the first strand's role does so as an instance without terms.
+fn first_sends(alloc: Global, k: &Skeleton) -> Result<bool, Fail> {
+    let strand = first_without_terms(alloc, k)?;
+    sends(alloc, &strand)
+}
+
+/// Whether that is so in the skeleton of the strands.
+fn sends_without_terms(alloc: Global) -> Result<bool, Fail> {
+    let k = skeleton_of(alloc, PROTOCOL, STRANDS)?;
+    first_sends(alloc, &k)
 }
 
 #[test]
 fn event_without_terms(rt: HostRuntime) -> Result<(), Fail> {
-    let k = skeleton_of(rt.alloc(), PROTOCOL, STRANDS)?;
-    let strand = first_without_terms(rt.alloc(), &k)?;
-    for message in &terms_of(rt.alloc(), "(n text) (a b name)", &["(enc n (ltk a b))"])? {
-        assert!(rt; sends(rt.alloc(), &strand, message)?);
-    }
+    assert!(rt; sends_without_terms(rt.alloc())?);
     Ok(())
 }
 
@@ -255,14 +358,29 @@ fn originate(k: &Skeleton, at: Node, terms: &[Term], originates: bool) -> bool {
     true
 }
 
+/// Whether what the text says originates at the node, or does not, as wanted.
+fn is_origin(
+    k: &Skeleton,
+    alloc: Global,
+    at: Node,
+    term: &str,
+    wanted: bool,
+) -> Result<bool, Fail> {
+    let terms = terms_of(alloc, "(t m x z text) (j akey)", &[term])?;
+    Ok(terms.len() == 1 && originate(k, at, &terms, wanted))
+}
+
+/// The same in the skeleton of the originators.
+fn originates(alloc: Global, at: Node, term: &str, wanted: bool) -> Result<bool, Fail> {
+    let k = skeleton_of(alloc, ORIGINATING, ORIGINATORS)?;
+    is_origin(&k, alloc, at, term, wanted)
+}
+
 #[test]
 fn origins(rt: HostRuntime) -> Result<(), Fail> {
-    let k = skeleton_of(rt.alloc(), ORIGINATING, ORIGINATORS)?;
-    for &(strand, index, term, originates) in ORIGINS {
-        let terms = terms_of(rt.alloc(), "(t m x z text) (j akey)", &[term])?;
-        assert_eq!(rt; terms.len(), 1);
+    for &(strand, index, term, wanted) in ORIGINS {
         assert!(rt;
-            originate(&k, node(strand, index), &terms, originates),
+            originates(rt.alloc(), node(strand, index), term, wanted)?,
             "{term}"
         );
     }

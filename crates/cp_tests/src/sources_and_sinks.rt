@@ -10,6 +10,12 @@ use std::io;
 use std::io::{Error, ErrorKind, Write};
 use std::test::Fail;
 
+/// Whether the copy of a text is the text.
+fn is_copied(alloc: Global) -> Result<bool, AllocError> {
+    let copy = Text::new(alloc, "n1")?.copy()?;
+    Ok(copy.as_str() == "n1" && copy.as_bytes() == b"n1".as_slice())
+}
+
 #[test]
 fn statuses_codes_and_texts(rt: HostRuntime) -> Result<(), Fail> {
     let place = Place { line: 2, col: 7 };
@@ -25,12 +31,9 @@ fn statuses_codes_and_texts(rt: HostRuntime) -> Result<(), Fail> {
         (Status::Memory, 6),
         (Status::TooLong, 7),
     ] {
-        assert_eq!(rt; status.number(), number);
+        assert!(rt; status.number() == number);
     }
-    assert_eq!(rt; code.name(), "Unclosed");
-    let copy = Text::new(rt.alloc(), "n1")?.copy()?;
-    assert_eq!(rt; copy.as_str(), "n1");
-    assert_eq!(rt; copy.as_bytes(), b"n1".as_slice());
+    assert!(rt; code.name() == "Unclosed" && is_copied(rt.alloc())?);
     Ok(())
 }
 
@@ -47,8 +50,8 @@ fn source_in_memory(rt: HostRuntime) -> Result<(), Fail> {
         (Err(Failed), b"efcd"),
         (Ok(0), b"efcd"),
     ] {
-        assert_eq!(rt; source.take(&mut buf), answer);
-        assert_eq!(rt; buf, *front);
+        assert!(rt; source.take(&mut buf) == answer);
+        assert!(rt; buf == *front);
     }
     Ok(())
 }
@@ -64,8 +67,7 @@ fn sink_in_memory(rt: HostRuntime) -> Result<(), Fail> {
         ("fg", Err(Failed), "abcde"),
         ("", Ok(0), "abcde"),
     ] {
-        assert_eq!(rt; sink.put(piece.as_bytes()), answer);
-        assert_eq!(rt; sink.bytes(), held.as_bytes());
+        assert!(rt; sink.put(piece.as_bytes()) == answer && sink.bytes() == held.as_bytes());
     }
     Ok(())
 }
@@ -73,12 +75,12 @@ fn sink_in_memory(rt: HostRuntime) -> Result<(), Fail> {
 #[test]
 fn source_over_readers(rt: HostRuntime) {
     let mut source = StdSource::new(rt.stdin());
-    assert_eq!(rt; source.take(&mut []), Ok(0));
+    assert!(rt; source.take(&mut []) == Ok(0));
     let mut source = StdSource::new(b"abc".as_slice());
     let mut buf = [0; 4];
-    assert_eq!(rt; source.take(&mut buf), Ok(3));
-    assert_eq!(rt; buf, *b"abc\0");
-    assert_eq!(rt; source.take(&mut buf), Ok(0));
+    assert!(rt; source.take(&mut buf) == Ok(3));
+    assert!(rt; buf == *b"abc\0");
+    assert!(rt; source.take(&mut buf) == Ok(0));
 }
 
 // A writer that takes at most so many bytes a call, and whose flush may fail.
@@ -105,16 +107,16 @@ impl Write for Narrow {
 #[test]
 fn sink_over_writers(rt: HostRuntime) {
     let mut out = StdSink::new(rt.stdout());
-    assert_eq!(rt; out.put(b""), Ok(0));
+    assert!(rt; out.put(b"") == Ok(0));
     let mut errs = StdSink::new(rt.stderr());
-    assert_eq!(rt; errs.put(b""), Ok(0));
+    assert!(rt; errs.put(b"") == Ok(0));
     for (width, flushes, answer) in [
         (2, true, Ok(2)),
         (0, true, Err(Failed)),
         (2, false, Err(Failed)),
     ] {
         let mut sink = StdSink::new(Narrow { width, flushes });
-        assert_eq!(rt; sink.put(b"abc"), answer);
+        assert!(rt; sink.put(b"abc") == answer);
     }
 }
 
@@ -194,8 +196,8 @@ const RUNS: &[Row] = &[
     (&[], &[0], 1_000, &[0], Status::Usage, NOTHING),
 ];
 
-// The line on the error stream.
-pub(crate) fn line_of(status: Status) -> &'static str {
+/// The line on the error stream.
+fn line_of(status: Status) -> &'static str {
     match status {
         Status::Usage => "usage: cpsa COMMAND [--limit N] [--bound N]\n",
         Status::ReadFault => "read fault\n",
@@ -204,18 +206,39 @@ pub(crate) fn line_of(status: Status) -> &'static str {
     }
 }
 
+/// Whether the run ended so, put this, and put the line of its status on the error stream.
+pub(crate) fn has_ended(ended: &Ended, status: Status, wanted: &[u8]) -> bool {
+    ended.status == status
+        && ended.out.bytes() == wanted
+        && ended.errs.bytes() == line_of(status).as_bytes()
+}
+
+/// Whether the run of a row ends and puts as the row says.
+fn is_right(alloc: Global, row: &Row) -> Result<bool, AllocError> {
+    let &(line, takes, room, puts, status, pieces) = row;
+    let input = joined(alloc, &[NEEDHAM_SCHROEDER, INITIATOR])?;
+    let mut source = MemSource::new(input, takes.to_vec(alloc)?);
+    let ended = run_over(alloc, line, &mut source, room, puts)?;
+    let out = joined(alloc, pieces)?;
+    Ok(has_ended(&ended, status, out.as_slice()))
+}
+
+// Of too long an input one byte too many is taken, and no more.
+#[test]
+fn what_is_left_of_too_long_an_input(rt: HostRuntime) -> Result<(), Fail> {
+    let spaces = vec![in rt.alloc(); b' '; 1_100_000]?;
+    let mut source = MemSource::new(spaces, Vec::new(rt.alloc()));
+    let ended = run_over(rt.alloc(), COMMAND, &mut source, 100, &[])?;
+    let mut rest = vec![in rt.alloc(); 0; 60_000]?;
+    assert!(rt; ended.status == Status::TooLong && source.take(&mut rest) == Ok(51_423));
+    Ok(())
+}
+
 // What was put is the whole, or the pieces before the call that failed: the protocol's form is one.
 #[test]
 fn runs_over_failing_streams(rt: HostRuntime) -> Result<(), Fail> {
-    let alloc = rt.alloc();
-    for &(line, takes, room, puts, status, pieces) in RUNS {
-        let input = joined(alloc, &[NEEDHAM_SCHROEDER, INITIATOR])?;
-        let mut source = MemSource::new(input, takes.to_vec(alloc)?);
-        let ended = run_over(alloc, line, &mut source, room, puts)?;
-        let out = joined(alloc, pieces)?;
-        assert_eq!(rt; ended.status, status);
-        assert_eq!(rt; ended.out.bytes(), out.as_slice());
-        assert_eq!(rt; ended.errs.bytes(), line_of(status).as_bytes());
+    for row in RUNS {
+        assert!(rt; is_right(rt.alloc(), row)?);
     }
     Ok(())
 }

@@ -58,11 +58,16 @@ pub(crate) fn last_problem(alloc: Global, forms: &[Form]) -> Result<Skeleton, Fa
     }
 }
 
+/// The skeleton of the problem that the text states last.
+fn last_in(alloc: Global, text: &[u8]) -> Result<Skeleton, Fail> {
+    let forms = forms_of(alloc, text)?;
+    last_problem(alloc, &forms)
+}
+
 /// The skeleton of the problem, which stands behind its protocol.
 pub(crate) fn skeleton_of(alloc: Global, protocol: &str, problem: &str) -> Result<Skeleton, Fail> {
     let text = joined(alloc, &[protocol, problem])?;
-    let forms = forms_of(alloc, &text)?;
-    last_problem(alloc, &forms)
+    last_in(alloc, &text)
 }
 
 /// The event at a node, if there is one.
@@ -87,7 +92,7 @@ pub(crate) fn is_there(alloc: Global, k: &Skeleton, node: Node) -> Result<bool, 
 }
 
 /// The messages of the listeners.
-fn heard(alloc: Global, strands: &[Strand]) -> Result<Vec<Term>, AllocError> {
+fn heard(alloc: Global, strands: &[Strand]) -> Result<Vec<Term>, Fail> {
     let mut terms = Vec::new(alloc);
     for strand in strands {
         if let StrandShape::Listener(term) = strand.shape() {
@@ -97,24 +102,40 @@ fn heard(alloc: Global, strands: &[Strand]) -> Result<Vec<Term>, AllocError> {
     Ok(terms)
 }
 
-/// These terms, over variables that are declared so.
-pub(crate) fn terms_of(alloc: Global, variables: &str, terms: &[&str]) -> Result<Vec<Term>, Fail> {
-    if terms.is_empty() {
-        return Ok(Vec::new(alloc));
+/// Puts a listener on the term behind the text.
+fn push_listener(text: &mut Vec<u8>, term: &str) -> Result<(), AllocError> {
+    for piece in ["(deflistener ", term, ")"] {
+        text.extend_from_slice(piece.as_bytes())?;
     }
+    Ok(())
+}
+
+/// The text of a problem of listeners on these terms, over variables that are declared so, behind its protocol.
+fn listeners(alloc: Global, variables: &str, terms: &[&str]) -> Result<Vec<u8>, AllocError> {
     let mut text = joined(
         alloc,
         &["(defprotocol p basic)(defskeleton p (vars ", variables, ")"],
     )?;
     for term in terms {
-        for piece in ["(deflistener ", *term, ")"] {
-            text.extend_from_slice(piece.as_bytes())?;
-        }
+        push_listener(&mut text, term)?;
     }
     text.push(b')')?;
-    let forms = forms_of(alloc, &text)?;
-    let k = last_problem(alloc, &forms)?;
-    Ok(heard(alloc, k.strands())?)
+    Ok(text)
+}
+
+/// The skeleton of that problem.
+fn listening(alloc: Global, variables: &str, terms: &[&str]) -> Result<Skeleton, Fail> {
+    let text = listeners(alloc, variables, terms)?;
+    last_in(alloc, &text)
+}
+
+/// These terms, over variables that are declared so.
+pub(crate) fn terms_of(alloc: Global, variables: &str, terms: &[&str]) -> Result<Vec<Term>, Fail> {
+    if terms.is_empty() {
+        return Ok(Vec::new(alloc));
+    }
+    let k = listening(alloc, variables, terms)?;
+    heard(alloc, k.strands())
 }
 
 /// A pair of a term and a pair of it and so on, this many deep, and then the last.
@@ -149,17 +170,45 @@ fn beside(alloc: Global, skeletons: Vec<Skeleton>) -> Result<Vec<TreeNode>, Allo
     Ok(nodes)
 }
 
-/// The report on the forms, with these labels of their only problem.
-fn report(alloc: Global, forms: &[Form], nodes: Vec<TreeNode>) -> Result<Vec<u8>, Fail> {
-    let input = input_of(alloc, forms)?;
+/// The tree of these labels, alone.
+fn tree_alone(alloc: Global, nodes: Vec<TreeNode>) -> Result<Vec<Tree>, AllocError> {
     let mut trees = Vec::new(alloc);
     trees.push(Tree {
         nodes,
         outcome: Outcome::Complete,
     })?;
+    Ok(trees)
+}
+
+/// The report on the forms, with these trees of their problems.
+fn printed(alloc: Global, forms: &[Form], trees: &[Tree]) -> Result<Vec<u8>, Fail> {
+    let input = input_of(alloc, forms)?;
     let mut text = Vec::new(alloc);
-    print(alloc, &input, &trees, &mut text)?;
+    print(alloc, &input, trees, &mut text)?;
     Ok(text)
+}
+
+/// The report on the forms, with these labels of their only problem.
+fn report(alloc: Global, forms: &[Form], nodes: Vec<TreeNode>) -> Result<Vec<u8>, Fail> {
+    let trees = tree_alone(alloc, nodes)?;
+    printed(alloc, forms, &trees)
+}
+
+/// These forms, each on one line.
+fn lines_of(alloc: Global, forms: &[Form]) -> Result<Vec<u8>, Fail> {
+    let mut lines = Vec::new(alloc);
+    for form in forms {
+        write(form, &mut lines)?;
+        lines.push(b'\n')?;
+    }
+    Ok(lines)
+}
+
+/// The labels in a report from this number on, each on one line, where they stand behind so many forms.
+fn labels_in(alloc: Global, report: &[u8], behind: usize, first: usize) -> Result<Vec<u8>, Fail> {
+    let printed = forms_of(alloc, report)?;
+    let labels = front_items(later_items(&printed, behind));
+    lines_of(alloc, later_items(labels, first))
 }
 
 /// The labels from this number on, each on one line, where the last of the forms states the only problem.
@@ -170,14 +219,7 @@ pub(crate) fn labels_from(
     first: usize,
 ) -> Result<Vec<u8>, Fail> {
     let text = report(alloc, forms, nodes)?;
-    let printed = forms_of(alloc, &text)?;
-    let labels = front_items(later_items(&printed, forms.len()));
-    let mut lines = Vec::new(alloc);
-    for form in later_items(labels, first) {
-        write(form, &mut lines)?;
-        lines.push(b'\n')?;
-    }
-    Ok(lines)
+    labels_in(alloc, &text, forms.len(), first)
 }
 
 /// The labels of these skeletons, each on one line, where the last of the forms states the only problem.

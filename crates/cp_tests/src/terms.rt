@@ -1,5 +1,5 @@
 // Terms made by hand, each public call once, and a long chain.
-ghost use Rattle.std.specs.Prelude.{◌≡◌, IfOk};
+ghost use Rattle.std.specs.Prelude.{◌≡◌, ◌<◌, length, IfOk};
 ghost use Rattle.cp_term.specs.Keys.{IsKey};
 ghost use Rattle.cp_term.specs.Variables.{variable_term};
 
@@ -11,18 +11,28 @@ use cp_term::{
 use std::alloc::{AllocError, Global};
 use std::test::Fail;
 
+/// Whether the table holds the text n1 under the first number, the key k under the second, and no more.
+fn has_text_and_key(table: &VarTable, n: VarId, k: VarId) -> bool
+    requires text { n < length table.now }
+    requires key { k < length table.now }
+{
+    table.len() == 2
+        && n.number() == 0
+        && k.number() == 1
+        && table.root(n) == "n1"
+        && table.root(k) == "k"
+        && table.sort(n) == Sort::Text
+        && table.sort(k) == Sort::Akey
+}
+
 #[test]
 fn variables(rt: HostRuntime) -> Result<(), Fail> {
     let mut table = VarTable::new(rt.alloc());
     let n = table.fresh("n1", Sort::Text)?;
     let k = table.fresh("k", Sort::Akey)?;
-    assert_eq!(rt; table.len(), 2);
-    assert_eq!(rt; (n.number(), k.number()), (0, 1));
-    assert_eq!(rt; (table.root(n), table.root(k)), ("n1", "k"));
-    assert_eq!(rt; (table.sort(n), table.sort(k)), (Sort::Text, Sort::Akey));
+    assert!(rt; has_text_and_key(&table, n, k));
     let again = table.copy()?;
-    assert_eq!(rt; again.len(), 2);
-    assert_eq!(rt; (again.root(k), again.sort(k)), ("k", Sort::Akey));
+    assert!(rt; has_text_and_key(&again, n, k));
     Ok(())
 }
 
@@ -68,7 +78,7 @@ fn carried(rt: HostRuntime) -> Result<(), Fail> {
     let n = variable(rt.alloc(), Sort::Text)?;
     let k = variable(rt.alloc(), Sort::Skey)?;
     assert!(rt; !carries(&sealed, &k) && carries(&sealed, &n) && carries(&sealed, &sealed));
-    assert_eq!(rt; (depth(&n), depth(&sealed)), (1, 2));
+    assert!(rt; depth(&n) == 1 && depth(&sealed) == 2);
     Ok(())
 }
 
@@ -78,7 +88,7 @@ fn positions(rt: HostRuntime) -> Result<(), Fail> {
     let whole = text_and_sealed(rt.alloc())?;
     let n = variable(rt.alloc(), Sort::Text)?;
     let paths = paths_of(rt.alloc(), &whole, &n)?;
-    assert_eq!(rt; (paths.len(), depth(&whole)), (2, 3));
+    assert!(rt; paths.len() == 2 && depth(&whole) == 3);
     assert!(rt;
         is_path(&paths, 0, &[Step::Left]) && is_path(&paths, 1, &[Step::Right, Step::Plaintext])
     );
@@ -88,18 +98,23 @@ fn positions(rt: HostRuntime) -> Result<(), Fail> {
     Ok(())
 }
 
+/// Whether nothing stands a step to the left of the path, which then is as long as before.
+fn ends_there(whole: &Term, path: &mut Path) -> Result<bool, AllocError> {
+    path.push(Step::Left)?;
+    let is_off = at(whole, &path.copy()?).is_none();
+    path.truncate(1);
+    Ok(is_off && path.len() == 1)
+}
+
 #[test]
 fn paths(rt: HostRuntime) -> Result<(), Fail> {
     let whole = text_and_sealed(rt.alloc())?;
     let mut path = Path::new(rt.alloc());
     path.push(Step::Right)?;
     assert!(rt; leads(&whole, &path, &sealed(rt.alloc())?));
-    path.push(Step::Left)?;
-    assert!(rt; at(&whole, &path.copy()?).is_none());
-    path.truncate(1);
-    assert_eq!(rt; path.len(), 1);
+    assert!(rt; ends_there(&whole, &mut path)?);
     let again = Path::from_slice(rt.alloc(), &[Step::Right])?;
-    assert_eq!(rt; again.as_slice(), path.as_slice());
+    assert!(rt; again.as_slice() == path.as_slice());
     Ok(())
 }
 
@@ -110,15 +125,33 @@ fn inverts(alloc: Global, key: &Term, inverse: &Term) -> Result<bool, AllocError
     Ok(invert(alloc, key)?.same(inverse))
 }
 
+/// Whether the term is the inverse of variable 0.
+fn is_inverse(term: &Term) -> bool {
+    matches!(term.shape(), Shape::Inverse(id) if id.number() == 0)
+}
+
+/// Whether an asymmetric key has another inverse, of which it is the inverse.
+fn has_other_inverse(alloc: Global) -> Result<bool, AllocError> {
+    let k = variable(alloc, Sort::Akey)?;
+    let inverse = invert(alloc, &k)?;
+    Ok(
+        is_inverse(&inverse)
+            && is_of_sort(&inverse, Sort::Akey)
+            && inverts(alloc, &inverse, &k)?
+            && !inverts(alloc, &k, &k)?,
+    )
+}
+
+/// Whether a symmetric key is its own inverse.
+fn is_own_inverse(alloc: Global) -> Result<bool, AllocError> {
+    let k = variable(alloc, Sort::Skey)?;
+    Ok(inverts(alloc, &k, &k)? && !is_of_sort(&k, Sort::Akey))
+}
+
 #[test]
 fn keys(rt: HostRuntime) -> Result<(), Fail> {
-    let k = variable(rt.alloc(), Sort::Akey)?;
-    let inverse = invert(rt.alloc(), &k)?;
-    assert!(rt; inverts(rt.alloc(), &inverse, &k)? && !inverts(rt.alloc(), &k, &k)?);
-    assert!(rt; matches!(inverse.shape(), Shape::Inverse(id) if id.number() == 0));
-    let symmetric = variable(rt.alloc(), Sort::Skey)?;
-    assert!(rt; inverts(rt.alloc(), &symmetric, &symmetric)?);
-    assert!(rt; is_of_sort(&inverse, Sort::Akey) && !is_of_sort(&symmetric, Sort::Akey));
+    assert!(rt; has_other_inverse(rt.alloc())?);
+    assert!(rt; is_own_inverse(rt.alloc())?);
     Ok(())
 }
 
@@ -127,16 +160,29 @@ fn key_of_name(alloc: Global, purpose: Option<&str>) -> Result<Term, AllocError>
     pubk(alloc, purpose, variable(alloc, Sort::Name)?)
 }
 
+/// Whether the term is a public key for signing.
+fn is_for_signing(term: &Term) -> bool {
+    matches!(term.shape(), Shape::Pubk(false, Some("sign"), _))
+}
+
+/// Whether the term is the tag.
+fn is_hello(term: &Term) -> bool {
+    matches!(term.shape(), Shape::Tag("hello"))
+}
+
+/// Whether the key that a name shares with itself is a long-term key.
+fn is_shared(alloc: Global) -> Result<bool, AllocError> {
+    let a = variable(alloc, Sort::Name)?;
+    let shared = ltk(alloc, a.copy()?, a)?;
+    Ok(matches!(shared.shape(), Shape::Ltk(_, _)))
+}
+
 #[test]
 fn keys_of_names(rt: HostRuntime) -> Result<(), Fail> {
     let public = key_of_name(rt.alloc(), None)?;
     let signing = key_of_name(rt.alloc(), Some("sign"))?;
-    assert!(rt; !public.same(&signing));
-    assert!(rt; matches!(signing.shape(), Shape::Pubk(false, Some("sign"), _)));
-    let a = variable(rt.alloc(), Sort::Name)?;
-    let shared = ltk(rt.alloc(), a.copy()?, a)?;
-    assert!(rt; matches!(shared.shape(), Shape::Ltk(_, _)));
-    assert!(rt; matches!(tag(rt.alloc(), "hello")?.shape(), Shape::Tag("hello")));
+    assert!(rt; !public.same(&signing) && is_for_signing(&signing));
+    assert!(rt; is_shared(rt.alloc())? && is_hello(&tag(rt.alloc(), "hello")?));
     Ok(())
 }
 
@@ -165,8 +211,7 @@ fn long_chain(rt: HostRuntime) -> Result<(), Fail> {
     let n = variable(rt.alloc(), Sort::Text)?;
     let chain = chain(rt.alloc(), &n, &n, 300_000)?;
     let other = tag(rt.alloc(), "other")?;
-    assert_eq!(rt; depth(&chain), 300_001);
-    assert!(rt; chain.same(&chain) && !carries(&chain, &other));
+    assert!(rt; depth(&chain) == 300_001 && chain.same(&chain) && !carries(&chain, &other));
     assert!(rt; paths_of(rt.alloc(), &chain, &other)?.is_empty());
     Ok(())
 }

@@ -4,10 +4,8 @@ use Rattle.std.proofs.lemmas.List.{take_all}
 use Rattle.cp_lists.specs.Lists.{item_at, Steps, one_step, more_steps}
 use Rattle.cp_lists.proofs.Items.{item_of_take, take_of_item}
 use Rattle.cp_lists.proofs.Reached.{steps_append}
+use Rattle.cp_lists.proofs.Least.{less_or_same}
 use Rattle.cp_tree.specs.Made.{Way, IsEdge, to_child, to_seen, Reaches, MayPointTo}
-
-either : (k n : ℕ) → k < suc n → (k < n) ⊎ (k ≡ n)
-either k n l = grind arith
 
 -- Each label comes behind the one from which it was made, and points only where it may.
 module _ (ways : List Way) (parents_first : (i j : ℕ) (w : Way) → item_at ways j ≡ Some w → w.parent ≡ Some i → i < j) (may : (i n : ℕ) (w : Way) → item_at ways i ≡ Some w → w.seen_in ≡ Some n → MayPointTo ways i n) where
@@ -54,8 +52,8 @@ module _ (ways : List Way) (parents_first : (i j : ℕ) (w : Way) → item_at wa
   seen_cases m i j w at e (inr q) = inr (inr (q, subst (λ (n : ℕ). MayPointTo ways n j) q (may i j w at e)))
 
   edge_cases : (m i j : ℕ) → Edge (suc m) i j → EdgeCases m i j
-  edge_cases m i j (to_child {w = w} at e) = let t = item_of_take (suc m) ways j w at in child_cases m i j w t.1 e (either j m t.0)
-  edge_cases m i j (to_seen {w = w} at e) = let t = item_of_take (suc m) ways i w at in seen_cases m i j w t.1 e (either i m t.0)
+  edge_cases m i j (to_child {w = w} at e) = let t = item_of_take (suc m) ways j w at in child_cases m i j w t.1 e (less_or_same j m t.0)
+  edge_cases m i j (to_seen {w = w} at e) = let t = item_of_take (suc m) ways i w at in seen_cases m i j w t.1 e (less_or_same i m t.0)
 
   -- ---- ways with one label more
 

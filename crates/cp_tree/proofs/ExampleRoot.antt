@@ -7,7 +7,7 @@ use Rattle.cp_model.specs.Realisation.{KeepsAssumptions}
 use Rattle.cp_model.specs.Homomorphism.{CarriesHomomorphism}
 use Rattle.cp_model.specs.Stated.{KeepsStated}
 use Rattle.cp_model.specs.PointOfView.{HasDeclaredVariables, IsPointOfView}
-use Rattle.cp_model.proofs.SingleMaps.{itself, own_carries}
+use Rattle.cp_model.proofs.SingleMaps.{itself, states_itself, own_carries}
 use Rattle.cp_model.proofs.StatedItself.{keeps_its_own}
 use Rattle.cp_answers.specs.Example.{locker, protocol, heard}
 use Rattle.cp_answers.proofs.Heard.{no_instance, heard_skeleton}
@@ -42,7 +42,7 @@ heard_sound = record {
   skeletons = λ i root at. subst (λ (r : Root). IsSkeleton protocol r.skeleton) (the_root i root at) heard_skeleton;
   assumptions = λ i root at alive. subst (λ (r : Root). KeepsAssumptions r.skeleton) (the_root i root at) keeps_assumptions;
   from_problem = λ i root at. subst (λ (r : Root). CarriesHomomorphism heard r.skeleton) (the_root i root at) (own_carries locker.variables heard (itself heard_own));
-  stated = λ i root at. subst (λ (r : Root). KeepsStated heard r.skeleton) (the_root i root at) (keeps_its_own protocol locker.variables heard heard_skeleton heard_own);
+  stated = λ i root at. subst (λ (r : Root). KeepsStated heard r.skeleton) (the_root i root at) (keeps_its_own protocol locker.variables heard heard_skeleton (states_itself heard_own));
   nowhere = λ i root at d b g is stands apart. lives root (the_root i root at) d;
   covers = λ b h is stands. record {
     number = 0;

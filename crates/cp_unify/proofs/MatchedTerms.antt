@@ -9,7 +9,7 @@ use Rattle.std.proofs.lemmas.Bool.Decides.{Decides-and}
 use Rattle.cp_lists.specs.Lists.{IsIn, here}
 use Rattle.cp_lists.proofs.Members.{into_filter, from_filter}
 use Rattle.cp_model.specs.Term.{Sort, text_sort, datum_sort, name_sort, skey_sort, akey_sort, Variable, SymmetricTerm, skey_variable, ltk_term, PairTerm, akey_variable, pubk_term, KeyTerm, symmetric_term, asymmetric_term, AtomTerm, text_variable, datum_variable, name_variable, key_term, Term, tag_term, atom_term, pair_term, enc_term, atom_of_variable, variables_of_symmetric, variables_of_pair, variables_of_key, variables_of_atom, variables_of, inverse_term, flag_of, Substitution, apply_to_key, apply_to_atom, apply_to}
-use Rattle.cp_model.proofs.LawTerms.{flag_last, atom_unchanged}
+use Rattle.cp_model.proofs.LawTerms.{flag_last, atom_unchanged, flag_twice}
 use Rattle.cp_model.specs.Same.{same_bool, same_atom, same_term}
 use Rattle.cp_term.proofs.SameTerms.{bytes_Decides, flag_Decides, purpose_Decides, atom_Decides, same_Decides}
 use Rattle.cp_unify.specs.Bindings.{Binding, sort_of, variable_of, put_term, as_substitution}
@@ -199,13 +199,8 @@ symmetric_matched is_local (ltk_term a b) (ltk_term c d) r =
     (λ s w. let e : s.names a ≡ c = cc in ap name_variable e) (λ s w. let e : s.names b ≡ d = cc in ap name_variable e)
     (variable_matched is_local name_sort a (name_variable c) r) (λ q. variable_matched is_local name_sort b (name_variable d) q)
 
-back_sum : (f x : Bool) → flag_of f (flag_of f x) ≡ x
-back_sum true true = refl
-back_sum true false = refl
-back_sum false x = refl
-
 akey_up : (f g x : Bool) → x ≡ flag_of f g → flag_of f x ≡ g
-akey_up f g x e = ap (flag_of f) e ∙ back_sum f g
+akey_up f g x e = ap (flag_of f) e ∙ flag_twice f g
 
 akey_down : (f g x : Bool) → flag_of f x ≡ g → x ≡ flag_of f g
 akey_down f g x e = swap f g x false (e ∙ sym (flag_last g)) ∙ flag_last (flag_of f g)

@@ -1,6 +1,6 @@
 -- The variables of terms under substitutions.
 use Rattle.std.proofs.Common.{◌≡◌, ◌⊎◌, inl, inr, ℕ, Bool, true, false, if◌then◌else◌, ◌==◌, List, [], ◌∷◌, refl, sym, ap, ap₂, ◌∙◌, subst}
-use Rattle.std.proofs.lemmas.Bool.{eqb-true, eq-eqb}
+use Rattle.std.proofs.lemmas.Bool.{eqb-true, eq-eqb, cond-false, cond-true, false_from_ne_true}
 use Rattle.cp_lists.specs.Lists.{IsIn, here, there}
 use Rattle.cp_model.specs.Term.{Sort, text_sort, datum_sort, name_sort, skey_sort, akey_sort, Variable, SymmetricTerm, skey_variable, ltk_term, PairTerm, akey_variable, pubk_term, symmetric_term, asymmetric_term, AtomTerm, text_variable, datum_variable, name_variable, key_term, Term, tag_term, atom_term, pair_term, enc_term, atom_of_variable, variables_of_key, variables_of_atom, variables_of, flag_of, Substitution, apply_to_key, apply_to_atom, apply_to}
 use Rattle.cp_model.specs.Identity.{unchanged}
@@ -81,12 +81,8 @@ leaves_atom s (key_term (asymmetric_term flag (pubk_term p a))) h =
     let e0 : s.names a ≡ a = cc in ap (λ (n : ℕ). key_term (asymmetric_term flag (pubk_term p n))) e0
 
 -- One binding gives its variable its term, and leaves the other variables.
-choice_true : {A : Type 0} (b : Bool) (v w : A) → b ≡ true → (if b then v else w) ≡ v
-choice_true true v w e = refl
-choice_true false v w e = cc
-
 put_here : {A : Type 0} (n : ℕ) (v w : A) → (if n == n then v else w) ≡ v
-put_here n v w = choice_true (n == n) v w (eq-eqb n n refl)
+put_here n v w = cond-true (n == n) v w (eq-eqb n n refl)
 
 bound_at : (s : Substitution) (n : ℕ) (u : AtomTerm) → apply_to_atom (put_term n u s) (atom_of_variable (variable_of (record { number = n; term = u }))) ≡ u
 bound_at s n (text_variable m) = ap text_variable (put_here n m (s.texts n))
@@ -98,12 +94,8 @@ bound_at s n (key_term (asymmetric_term flag k)) = ap (λ (h : Bool × PairTerm)
 pub bound : (b : Binding) (s : Substitution) → apply_to_atom (put_term b.number b.term s) (atom_of_variable (variable_of b)) ≡ b.term
 bound b s = bound_at s b.number b.term
 
-choice_other : {A : Type 0} (b : Bool) (v w : A) → (b ≡ true → ⊥) → (if b then v else w) ≡ w
-choice_other true v w h = absurd (h refl)
-choice_other false v w h = refl
-
 put_other : {A : Type 0} (s : Sort) (m n : ℕ) (v w : A) → ((let x : Variable = record { sort = s; number = m } in x) ≡ record { sort = s; number = n } → ⊥) → (if m == n then v else w) ≡ w
-put_other s m n v w h = choice_other (m == n) v w (λ e. h (ap (λ (k : ℕ). let x : Variable = record { sort = s; number = k } in x) (eqb-true m n e)))
+put_other s m n v w h = cond-false (m == n) v w (false_from_ne_true (m == n) (λ e. h (ap (λ (k : ℕ). let x : Variable = record { sort = s; number = k } in x) (eqb-true m n e))))
 
 other_at : (s : Substitution) (k : Sort) (m n : ℕ) (u : AtomTerm) → ((let x : Variable = record { sort = k; number = m } in x) ≡ record { sort = sort_of u; number = n } → ⊥) →
     apply_to_atom (put_term n u s) (atom_of_variable (record { sort = k; number = m })) ≡ apply_to_atom s (atom_of_variable (record { sort = k; number = m }))

@@ -1,8 +1,8 @@
 -- Locals as they stand in a form.
-use Rattle.std.proofs.Common.{◌≡◌, ℕ, zero, suc, ◌+◌, ◌<◌, ◌≤◌, List, [], ◌∷◌, ◌++◌, length, get_or, map, drop, Vec, Global, refl, sym, ap, ◌∙◌, arith}
+use Rattle.std.proofs.Common.{◌≡◌, ℕ, suc, ◌+◌, ◌<◌, ◌≤◌, List, [], ◌∷◌, ◌++◌, length, get_or, map, drop, Vec, Global, refl, sym, ap, ◌∙◌, arith}
 use Rattle.std.specs.Prelude.{None}
 use Rattle.std.proofs.lemmas.List.{append_assoc, append-nil, drop_all}
-use Rattle.cp_lists.proofs.Members.{drop_read}
+use Rattle.cp_lists.proofs.Members.{drop_read, first_left}
 use Rattle.cp_base.specs.declared.place.Place.{Place}
 use Rattle.cp_sexpr.specs.Syntax.{Form, symbol, string, number, list, forms_of}
 use Rattle.cp_sexpr.specs.View.{view, views}
@@ -57,19 +57,11 @@ local-stated (list at gs) fs = none-alone fs
 
 -- ---- numbers of locals
 
-dropped : (ls : List plain.Local) (k : ℕ) → k < length ls → (l : plain.Local) × (drop k ls ≡ l ∷ drop (k + 1) ls)
-dropped [] k h = absurd (omega arith)
-dropped (l ∷ ls) zero h = (l, refl)
-dropped (l ∷ ls) (suc k) h =
-    let rest = dropped ls k (omega arith) in
-    let next : suc (k + 1) ≡ suc k + 1 = omega arith in
-    (rest.0, rest.1 ∙ ap (λ j. rest.0 ∷ drop j (l ∷ ls)) next)
-
 pub numbers-taken : (count : ℕ) (ls : List plain.Local) (k : ℕ) → k < length ls → (ns ms all : List ℕ) (n : ℕ) → n ≡ count + k → ms ≡ ns ++ n ∷ []
     → ns ++ map (λ x. x.number) (variables_of_locals (count + k) (map local_view (drop k ls))) ≡ all
     → ms ++ map (λ x. x.number) (variables_of_locals (count + (k + 1)) (map local_view (drop (k + 1) ls))) ≡ all
 numbers-taken count ls k h ns ms all n e g i =
-    let one = dropped ls k h in
+    let one = first_left ls k h in
     let rest = map local_view (drop (k + 1) ls) in
     let next : count + (k + 1) ≡ suc (count + k) = omega arith in
     ap (λ xs. xs ++ map (λ x. x.number) (variables_of_locals (count + (k + 1)) rest)) g

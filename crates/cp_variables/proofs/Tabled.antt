@@ -4,6 +4,7 @@ use Rattle.std.specs.Prelude.{Option, Some, None, option_map, nat_eq, cond}
 use Rattle.std.specs.Cmp.Lexicographic.{nat_list_eq_equiv}
 use Rattle.std.specs.HashMap.{HashMap, get, get_by, UpdatesBy}
 use Rattle.std.specs.Str.{bytes_eq}
+use Rattle.std.proofs.lemmas.Bool.{cond-false, cond-true}
 use Rattle.cp_model.specs.Term as model
 use Rattle.cp_model.specs.Strand.{Declaration}
 use Rattle.cp_model.specs.Same.{same_text}
@@ -13,7 +14,7 @@ use Rattle.cp_language.specs.Terms.{variable_from, variable_named}
 use Rattle.cp_language.specs.Problems.{is_known}
 use Rattle.cp_report.specs.Spelled.{Local, place_of_local, has_local}
 use Rattle.cp_scope.specs.Terms.{variable_view}
-use Rattle.cp_scope.proofs.NamesInUse.{same_text-is, otherwise, otherwise-none, count, count-all, one_more, none_is, if_true, if_false, entry-pushed, entry-again}
+use Rattle.cp_scope.proofs.NamesInUse.{same_text-is, otherwise, otherwise-none, count, count-all, one_more, none_is, entry-pushed, entry-again}
 use Rattle.cp_scope.specs.declared.sorts.Variable.{Variable}
 use Rattle.cp_variables.specs.LocalViews.{local_view}
 use Rattle.cp_variables.specs.declared.locals.Local as program
@@ -74,9 +75,6 @@ module _ {A S : Type 0} (ds : List Declaration) (d : Declaration) (m n : HashMap
 
 -- ---- locals that are found by their numbers
 
-same_number : (m n : ℕ) → nat_eq m n ≡ true → m ≡ n
-same_number m n e = eqb-true m n e
-
 pub locals-again : (ls : List Local) (n : ℕ) → is_some (local_from 0 ls n) ≡ has_local ls n
 locals-again ls n = at_place 0 ls
   where
@@ -118,7 +116,7 @@ module _ (ls : List Local) (l : Local) {S : Type 0} (m n : HashMap ℕ Variable 
       by_number : (b : Bool) → nat_eq l.number q ≡ b
           → option_map variable_view (cond b (Some v) (get nat_eq m q)) ≡ otherwise (local_from 0 ls q) (if b then Some (record { sort = l.sort; number = count 0 ls }) else None)
       by_number true f =
-          let missing : local_from 0 ls q ≡ None = ap (local_from 0 ls) (sym (same_number l.number q f)) ∙ none in
+          let missing : local_from 0 ls q ≡ None = ap (local_from 0 ls) (sym (eqb-true l.number q f)) ∙ none in
           shown ∙ sym (ap (λ o. otherwise o (Some (record { sort = l.sort; number = count 0 ls }))) missing)
       by_number false f = h q ∙ sym (otherwise-none (local_from 0 ls q))
 
@@ -131,9 +129,9 @@ module _ {S : Type 0} (ls : List program.Local) (l : program.Local) (m : HashMap
   known h e = sym (locals-again (map local_view ls) l.number) ∙ ap is_some (sym (h l.number)) ∙ seen_some variable_view (get nat_eq m l.number) ∙ e
 
   pub locals-known : (now : List program.Local) → AreLocalsOf (map local_view ls) m → ls ≡ now → is_some (get nat_eq m l.number) ≡ true → now ≡ (if has_local (map local_view now) l.number then now else now ++ l ∷ [])
-  locals-known now h e g = sym (if_true (has_local (map local_view now) l.number) now (now ++ l ∷ []) (ap (λ ks. has_local (map local_view ks) l.number) (sym e) ∙ known h g))
+  locals-known now h e g = sym (cond-true (has_local (map local_view now) l.number) now (now ++ l ∷ []) (ap (λ ks. has_local (map local_view ks) l.number) (sym e) ∙ known h g))
 
   pub locals-new : (now : List program.Local) → AreLocalsOf (map local_view ls) m → ls ≡ now → is_some (get nat_eq m l.number) ≡ false → now ++ l ∷ [] ≡ (if has_local (map local_view now) l.number then now else now ++ l ∷ [])
   locals-new now h e g =
       let missing : has_local (map local_view ls) l.number ≡ false = sym (locals-again (map local_view ls) l.number) ∙ ap is_some (locals-asked h g) in
-      sym (if_false (has_local (map local_view now) l.number) now (now ++ l ∷ []) (ap (λ ks. has_local (map local_view ks) l.number) (sym e) ∙ missing))
+      sym (cond-false (has_local (map local_view now) l.number) now (now ++ l ∷ []) (ap (λ ks. has_local (map local_view ks) l.number) (sym e) ∙ missing))

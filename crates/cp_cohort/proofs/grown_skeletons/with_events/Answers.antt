@@ -1,38 +1,21 @@
-use Rattle.std.proofs.Common.{◌≡◌, ◌<◌, ◌≤◌, ◌++◌, ℕ, length, ap, ◌∙◌, arith}
-use Rattle.cp_model.specs.Strand.{Role}
-use Rattle.cp_skel.specs.Trees.{variables_view}
-use Rattle.cp_strand.specs.PrefixVariables.{added_variables}
-use Rattle.cp_answers.specs.Fresh.{fresh_terms}
-use Rattle.cp_covering.specs.Children.{declarations_of}
-use Rattle.cp_cohort.proofs.FitValues.{high_enough, can_extend, grown_by}
+use Rattle.std.proofs.Common.{sym, subst}
+use Rattle.std.proofs.lemmas.Result.{IfOk-weaker}
+use Rattle.cp_skel.specs.Data.{SkeletonData}
+use Rattle.cp_skel.specs.View.{skeleton_view}
+use Rattle.cp_cohort.specs.Children.{IsThere}
+use Rattle.cp_cohort.proofs.FitValues.{grown_in_copy}
 use Rattle.cp_cohort.proofs.grown_skeletons.with_events.Goals as goal
 
-pub returns-then-height-before : goal.returns-then-height-before
-returns-then-height-before c =
-    let lower : c.args.height ≤ c.args.instance.now.height = omega (arith, c.if-height-before.true, c.height-before.ensures) in
-    high_enough c.args.question.now.skeleton.now c.args.question.now.node c.args.question.now.critical.now c.args.question.now.patterns.now c.in_ok-grown.grown c.in_ok-grown.ensures.same c.args.height c.args.strand c.args.instance.now lower
-
-pub extend-requires : goal.extend-requires
-extend-requires c =
-    let i = c.args.instance.now in
-    let role_is : c.deref.result.now ≡ i.role = c.deref.ensures ∙ c.role.ensures in
-    let are : c.deref-2.result.now ≡ fresh_terms (length c.in_ok-grown.grown.variables) (added_variables i.role i.height c.args.height) =
-    c.deref-2.ensures.value ∙ c.in_ok-values.ensures.values ∙ ap (λ (r : Role). fresh_terms (length c.in_ok-grown.grown.variables) (added_variables r c.height-before.result c.args.height)) role_is
-    ∙ ap (λ (m : ℕ). fresh_terms (length c.in_ok-grown.grown.variables) (added_variables i.role m c.args.height)) c.height-before.ensures in
-    can_extend c.args.question.now.skeleton.now c.args.question.now.node c.args.question.now.critical.now c.args.question.now.patterns.now c.in_ok-grown.grown c.in_ok-grown.ensures.same c.args.height c.declare_added.new.k c.in_ok-values.ensures.rest
-    c.args.strand i c.requires.there c.deref-2.result.now are (omega (arith, c.if-height-before.false, c.height-before.ensures)) c.requires.reached
+pub grown_to-requires : goal.grown_to-requires
+grown_to-requires c = record {
+  there = subst (λ (k : SkeletonData). IsThere (skeleton_view k) c.args.strand c.args.instance.now) (sym c.in_ok-copied.ensures.same) c.requires.there;
+  reached = c.requires.reached;
+}
 
 pub returns : goal.returns
 returns c =
-    let i = c.args.instance.now in
-    let role_is : c.deref.result.now ≡ i.role = c.deref.ensures ∙ c.role.ensures in
-    let are : c.deref-2.result.now ≡ fresh_terms (length c.in_ok-grown.grown.variables) (added_variables i.role i.height c.args.height) =
-    c.deref-2.ensures.value ∙ c.in_ok-values.ensures.values ∙ ap (λ (r : Role). fresh_terms (length c.in_ok-grown.grown.variables) (added_variables r c.height-before.result c.args.height)) role_is
-    ∙ ap (λ (m : ℕ). fresh_terms (length c.in_ok-grown.grown.variables) (added_variables i.role m c.args.height)) c.height-before.ensures in
-    let more : variables_view c.declare_added.new.k.variables ≡ variables_view c.in_ok-grown.grown.variables ++ declarations_of i.role (added_variables i.role i.height c.args.height) =
-    c.in_ok-values.ensures.declared ∙ ap (λ (r : Role). variables_view c.in_ok-grown.grown.variables ++ declarations_of r (added_variables r c.height-before.result c.args.height)) role_is
-    ∙ ap (λ (m : ℕ). variables_view c.in_ok-grown.grown.variables ++ declarations_of i.role (added_variables i.role m c.args.height)) c.height-before.ensures in
-    let higher : i.height < c.args.height = omega (arith, c.if-height-before.false, c.height-before.ensures) in
-    λ j is.
-    grown_by c.args.question.now.skeleton.now c.args.question.now.node c.args.question.now.critical.now c.args.question.now.patterns.now c.in_ok-grown.grown c.in_ok-grown.ensures.same c.args.height c.declare_added.new.k c.in_ok-values.ensures.rest
-    c.args.strand i c.requires.there c.deref-2.result.now are (omega (arith, higher)) higher j is c.extend.new.self more c.in_ok-extend.ensures.changed c.extend.ensures.variables
+    IfOk-weaker c.grown_to.result _ _
+    (λ k grows j is.
+    grown_in_copy c.args.question.now.skeleton.now c.args.question.now.node c.args.question.now.critical.now c.args.question.now.patterns.now c.in_ok-copied.copied c.in_ok-copied.ensures.same k c.args.strand c.args.instance.now.role
+    c.args.instance.now.height j (grows j is))
+    c.grown_to.ensures

@@ -1,28 +1,14 @@
-use Rattle.std.proofs.Common.{◌≡◌, ◌++◌, length, ap, ◌∙◌}
-use Rattle.cp_model.specs.Strand.{Role}
-use Rattle.cp_skel.specs.Trees.{variables_view}
-use Rattle.cp_strand.specs.PrefixVariables.{added_variables}
-use Rattle.cp_answers.specs.Fresh.{fresh_terms}
-use Rattle.cp_covering.specs.Children.{declarations_of}
-use Rattle.cp_cohort.proofs.FitValues.{terms_fit, added_by}
+use Rattle.std.proofs.lemmas.Result.{IfOk-weaker}
+use Rattle.cp_cohort.proofs.FitValues.{added_in_copy}
 use Rattle.cp_cohort.proofs.grown_skeletons.with_strand.Goals as goal
 
-pub add_strand-requires : goal.add_strand-requires
-add_strand-requires c =
-    let are : c.deref-2.result.now ≡ fresh_terms (length c.in_ok-grown.grown.variables) (added_variables c.args.role.now.value 0 c.args.height) =
-    c.deref-2.ensures.value ∙ c.in_ok-values.ensures.values ∙ ap (λ (r : Role). fresh_terms (length c.in_ok-grown.grown.variables) (added_variables r 0 c.args.height)) c.deref.ensures in
-    record {
-      height = c.requires.height;
-      values = terms_fit c.args.question.now.skeleton.now c.args.question.now.node c.args.question.now.critical.now c.args.question.now.patterns.now c.in_ok-grown.grown c.in_ok-grown.ensures.same c.args.height c.declare_added.new.k
-          c.in_ok-values.ensures.rest c.args.role.now.value c.deref-2.result.now are;
-    }
+pub with_instance-requires : goal.with_instance-requires
+with_instance-requires c = record { height = c.requires.height }
 
 pub returns : goal.returns
 returns c =
-    let are : c.deref-2.result.now ≡ fresh_terms (length c.in_ok-grown.grown.variables) (added_variables c.args.role.now.value 0 c.args.height) =
-    c.deref-2.ensures.value ∙ c.in_ok-values.ensures.values ∙ ap (λ (r : Role). fresh_terms (length c.in_ok-grown.grown.variables) (added_variables r 0 c.args.height)) c.deref.ensures in
-    let more : variables_view c.declare_added.new.k.variables ≡ variables_view c.in_ok-grown.grown.variables ++ declarations_of c.args.role.now.value (added_variables c.args.role.now.value 0 c.args.height) =
-    c.in_ok-values.ensures.declared ∙ ap (λ (r : Role). variables_view c.in_ok-grown.grown.variables ++ declarations_of r (added_variables r 0 c.args.height)) c.deref.ensures in
-    λ j is.
-    added_by c.args.question.now.skeleton.now c.args.question.now.node c.args.question.now.critical.now c.args.question.now.patterns.now c.in_ok-grown.grown c.in_ok-grown.ensures.same c.args.height c.declare_added.new.k c.in_ok-values.ensures.rest
-    c.args.role.now.value c.deref-2.result.now are j is c.add_strand.new.self more c.in_ok-add_strand.ensures.changed c.add_strand.ensures.variables
+    IfOk-weaker c.with_instance.result _ _
+    (λ k adds j is.
+    added_in_copy c.args.question.now.skeleton.now c.args.question.now.node c.args.question.now.critical.now c.args.question.now.patterns.now c.in_ok-copied.copied c.in_ok-copied.ensures.same k c.args.role.now.value c.args.height j is
+    adds.0 adds.1)
+    c.with_instance.ensures

@@ -1,14 +1,14 @@
-use Rattle.std.proofs.Common.{◌∙◌, ◌-◌, length, ap, sym}
+use Rattle.std.proofs.Common.{◌∙◌, ◌-◌, length, ap, sym, le_of_eq}
 use Rattle.std.proofs.lemmas.List.{length-map}
 use Rattle.cp_strand.specs.View.{strand_view}
 use Rattle.cp_skel.specs.View.{skeleton_view}
-use Rattle.cp_general.proofs.Stepped.{none_beyond, deletion_step, deletion_fewer, one_below, above_one, at_most}
+use Rattle.cp_general.proofs.Stepped.{none_beyond, deletion_step, deletion_fewer, one_below, above_one}
 use Rattle.cp_general.proofs.deletion.first_deletion.Goals as goal
 
 pub loop-rest-init : goal.loop-rest-init
 loop-rest-init c =
     let same = ap length c.strands-rest.ensures ∙ sym (length-map c.args.k.now.strands strand_view) in
-    (none_beyond (skeleton_view c.args.k.now) _ same, at_most same)
+    (none_beyond (skeleton_view c.args.k.now) _ same, le_of_eq same)
 
 pub try_deletion-requires : goal.try_deletion-requires
 try_deletion-requires c = one_below c.loop-rest.rest (length (skeleton_view c.args.k.now).strands) c.loop-rest-test.true c.loop-rest.invariant.1

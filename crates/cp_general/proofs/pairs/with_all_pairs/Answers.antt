@@ -5,15 +5,13 @@ use Rattle.cp_general.proofs.pairs.with_all_pairs.Goals.{After-reordered}
 use Rattle.cp_general.proofs.pairs.with_all_pairs.Goals as goal
 
 pub reordered-requires : goal.reordered-requires
-reordered-requires c = sound_by c.order_close.new.self c.in_ok-pairs.pairs.items c.of-order.result c.is_sound.ensures c.in_ok-pairs.ensures c.of-order.ensures
+reordered-requires c = sound_by c.args.k.now c.in_ok-pairs.pairs.items c.of-order.result c.is_sound.ensures c.in_ok-pairs.ensures c.of-order.ensures
 
 -- what is made has all pairs of the skeleton's order
 made : (c : After-reordered) → IfOk c.reordered.result (HasAllPairs c.args.k.now)
 made c =
     IfOk-weaker c.reordered.result _ _
-    (λ h made. made_whole c.args.k.now c.in_ok-closed.closed c.order_close.new.self h c.in_ok-pairs.pairs.items c.of-order.result c.in_ok-closed.ensures.same c.in_ok-order_close.ensures.rest c.in_ok-order_close.ensures.before c.is_sound.ensures
-    c.in_ok-pairs.ensures c.of-order.ensures made)
-    c.reordered.ensures
+    (λ h made. made_whole c.args.k.now h c.in_ok-pairs.pairs.items c.of-order.result c.is_sound.ensures c.in_ok-pairs.ensures c.of-order.ensures made) c.reordered.ensures
 
 pub returns-clause-same : goal.returns-clause-same
 returns-clause-same c = IfOk-weaker c.reordered.result _ _ (λ h m. m.same) (made (goal.at.returns-clause-same c).After-reordered)

@@ -5,14 +5,14 @@ use Rattle.cp_model.specs.declared.node.OrderPair.{OrderPair}
 use Rattle.cp_skel.specs.View.{skeleton_view}
 use Rattle.cp_model.proofs.CarriedParts.{not_both}
 use Rattle.cp_normal.specs.Findings.{IsAddedPair}
-use Rattle.cp_normal.proofs.NormalSkeletons.{not_refuted, not_stray, normal_if}
+use Rattle.cp_normal.proofs.NormalSkeletons.{refuted_not_normal, stray_not_normal, normal_if}
 use Rattle.cp_normal.proofs.normal.is_normal.Goals as goal
 
 pub returns-then-is_refuted : goal.returns-then-is_refuted
-returns-then-is_refuted c = not_refuted (skeleton_view c.args.k.now) (c.is_refuted.ensures.0 c.if-is_refuted.true)
+returns-then-is_refuted c = refuted_not_normal (skeleton_view c.args.k.now) (c.is_refuted.ensures.0 c.if-is_refuted.true)
 
 pub returns-then-branch : goal.returns-then-branch
-returns-then-branch c = not_stray (skeleton_view c.args.k.now) (c.in_ok-some_strays.ensures.some c.if-branch.true)
+returns-then-branch c = stray_not_normal (skeleton_view c.args.k.now) (c.in_ok-some_strays.ensures.some c.if-branch.true)
 
 pub returns : goal.returns
 returns c =

@@ -13,4 +13,4 @@ pub loop-atom-preserved : goal.loop-atom-preserved
 loop-atom-preserved c =
     branch_added c.args.form.now c.args.value.now c.args.atoms.now c.loop-atom.atom-index c.atom-item.result c.loop-atom-test.true c.atom-item.is _ c.loop-atom.invariant c.in-Some.s
     _ (unifier_of _ _ _ c.args.value.now c.atom-item.result c.as_term.ensures c.as_term-in-loop-atom.ensures c.new-nothing.ensures c.in-Some.s (rw c.in-Some.is at c.in_ok-s.ensures.some))
-    c.in_ok-skeleton.ensures.same c.in_ok-skeleton.ensures.variables c.in_ok-substitution.ensures.plain _ c.in_ok-push.ensures.items
+    c.in_ok-branch_by.ensures.same c.in_ok-branch_by.ensures.variables c.in_ok-branch_by.ensures.followed _ c.in_ok-push.ensures.items

@@ -1,6 +1,5 @@
-use Rattle.std.proofs.Common.{◌≡◌, ℕ, [], ◌∷◌, ◌++◌, subst}
 use Rattle.std.specs.Vec.Iter.{into_iter_items, into_iter_len}
-use Rattle.cp_search.proofs.MadeInTurn.{no_child_made, next_child, child_made}
+use Rattle.cp_search.proofs.MadeInTurn.{no_child_made, next_child}
 use Rattle.cp_search.proofs.StillToCome.{all_to_come, one_less}
 use Rattle.cp_search.proofs.children.make_children.Goals as goal
 
@@ -13,8 +12,7 @@ loop-child-init c = (
 pub loop-child-preserved : goal.loop-child-preserved
 loop-child-preserved c = (
   next_child c.args.parent c.args.children.items (into_iter_items c.loop-child.child-iterator) c.args.made.now c.loop-child.made c.loop-child.numbers.items c.loop-child.invariant.0
-      (into_iter_items c.next.new.self) c.in-Some.child c.in-Some.ensures.steps.0 c.make.new.made
-      (child_made c.args.parent c.in-Some.child c.list_assumptions.new.self c.loop-child.made c.make.new.made c.in_ok-list_assumptions.ensures.listed c.in_ok-list_assumptions.ensures.variables c.in_ok-make.ensures.made)
-      c.push.new.self.items (subst (λ (n : ℕ). c.push.new.self.items ≡ c.loop-child.numbers.items ++ n ∷ []) c.len-in-loop-child.ensures c.in_ok-push.ensures.items),
+      (into_iter_items c.next.new.self) c.in-Some.child c.in-Some.ensures.steps.0 c.add_child.new.made c.in_ok-add_child.ensures.made
+      c.add_child.new.numbers.items c.in_ok-add_child.ensures.numbers,
   one_less (into_iter_items c.loop-child.child-iterator) (into_iter_items c.next.new.self) c.in-Some.child (into_iter_len c.loop-child.child-iterator) (into_iter_len c.next.new.self) c.loop-child.invariant.1 c.in-Some.ensures.steps.0 c.in-Some.ensures.steps.1,
 )

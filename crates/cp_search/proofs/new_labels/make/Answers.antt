@@ -3,13 +3,10 @@ use Rattle.std.proofs.lemmas.Result.{on_ok_weaker}
 use Rattle.cp_search.proofs.Behind.{makes_one}
 use Rattle.cp_search.proofs.new_labels.make.Goals as goal
 
-pub copied_label-requires : goal.copied_label-requires
-copied_label-requires c = record { found = c.requires.found; parent = c.requires.parent; fingerprint = c.in_ok-fingerprint.ensures.exact }
-
 pub returns-clause-made : goal.returns-clause-made
 returns-clause-made c =
     on_ok_weaker c.push.result
-    (λ behind. makes_one c.args.made.now _ c.push.new.self behind c.requires.found _ refl c.in_ok-fingerprint.ensures.exact c.requires.parent refl c.in_ok-seen_in.ensures c.in_ok-unrealised.ensures.listed c.requires.general)
+    (λ behind. makes_one c.args.made.now _ c.push.new.self behind c.requires.found _ refl c.in_ok-fingerprint.ensures.fingerprint c.requires.parent refl c.in_ok-fingerprint.ensures.seen c.in_ok-fingerprint.ensures.listed c.requires.general)
     c.push.ensures
 
 pub returns-clause-general : goal.returns-clause-general

@@ -1,0 +1,18 @@
+use Rattle.std.proofs.Common.{◌≡◌, length}
+use Rattle.cp_model.specs.Skeleton.{Skeleton}
+use Rattle.cp_skel.specs.View.{skeleton_view}
+use Rattle.cp_general.specs.Fit.{IsFit}
+use Rattle.cp_general.specs.ListedPairs.{ListsOrder}
+use Rattle.cp_general.specs.ProgramSteps.{IsOnTheWay}
+use Rattle.cp_general.proofs.generalisation.drop_pairs.Given as goal
+
+abbrev pub invariant-loop-next : goal.invariant-loop-next
+invariant-loop-next l = record {
+  lists : ListsOrder (skeleton_view l.k) l.k.order;
+  fit : IsFit (skeleton_view l.k);
+  way : (first : Skeleton) → IsOnTheWay first (skeleton_view l.fn.k) → IsOnTheWay first (skeleton_view l.k);
+  variables : l.k.variables ≡ l.fn.k.variables;
+}
+
+abbrev pub decreases-loop-next : goal.decreases-loop-next
+decreases-loop-next l = length l.k.order
