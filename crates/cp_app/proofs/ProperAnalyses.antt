@@ -1,7 +1,8 @@
 -- What is printed of an input and of the analyses of its problems is proper.
-use Rattle.std.proofs.Common.{◌≡◌, List, [], ◌∷◌}
-use Rattle.std.specs.List.{AllZip, filter_map}
+use Rattle.std.proofs.Common.{◌≡◌, List, []}
+use Rattle.std.specs.List.{filter_map}
 use Rattle.cp_lists.specs.Lists.{IsIn, here, there}
+use Rattle.cp_lists.proofs.Members.{zip_listed}
 use Rattle.cp_model.specs.Strand.{Role}
 use Rattle.cp_model.specs.Skeleton.{IsSkeleton}
 use Rattle.cp_model.specs.PointOfView.{IsPointOfView}
@@ -22,12 +23,6 @@ use Rattle.cp_strings.proofs.Labels.{labels_spelled}
 use Rattle.cp_app.specs.Headline.{HaveTrees}
 use Rattle.cp_app.specs.Analysis.{IsAnalysisOf}
 use Rattle.cp_app.proofs.Trees.{entry_of}
-
-zip_listed : {A B : Type 0} (P Q : A → B → Type 0) (xs : List A) (ys : List B) → ((x : A) (y : B) → IsIn x xs → P x y → Q x y) → AllZip P xs ys → AllZip Q xs ys
-zip_listed P Q [] [] f all = tt
-zip_listed P Q [] (y ∷ ys) f all = absurd all
-zip_listed P Q (x ∷ xs) [] f all = absurd all
-zip_listed P Q (x ∷ xs) (y ∷ ys) f all = (f x y here all.0, zip_listed P Q xs ys (λ z w i. f z w (there i)) all.1)
 
 -- The tree of a problem whose strings and identifiers the reader gives.
 tree_proper : (limits : Limits) (p : Problem) (t : Tree) → IsSpelledProblem IsStringText IsSymbolText p → ((role : Role) → IsIn role p.protocol.roles → DeclaresItsVariables role) → IsSkeleton p.protocol p.skeleton

@@ -1,8 +1,8 @@
 -- A text is put piece by piece.
-use Rattle.std.proofs.Common.{◌≡◌, ◌==◌, Bool, true, false, ℕ, ◌+◌, ◌<◌, ◌≤◌, Bor, get_or, map, add-one, List, [], ◌∷◌, ◌++◌, length, take, drop, Option, Some, Result, Ok, Err, refl, sym, ap, ◌∙◌, append_assoc, length-append, arith}
+use Rattle.std.proofs.Common.{◌≡◌, ℕ, ◌+◌, ◌<◌, ◌≤◌, Bor, get_or, map, add-one, List, [], ◌++◌, length, take, drop, Option, Some, Result, Ok, Err, refl, sym, ap, ◌∙◌, append_assoc, length-append, arith}
 use Rattle.std.specs.List.{concat}
 use Rattle.std.specs.Result.{IsErr}
-use Rattle.std.proofs.lemmas.List.{take-append-drop, take-append-le, append-nil}
+use Rattle.std.proofs.lemmas.List.{take-append-le, append-nil}
 use Rattle.std.proofs.Math.Seq.{take-append-add, drop-cons}
 use Rattle.cp_base.specs.declared.status.Failed.{Failed}
 use Rattle.cp_base.specs.Outside.{Puts}
@@ -13,10 +13,6 @@ pub record PutUpTo (text rest : List ℕ) (held_old held_new : Option (List ℕ)
   pub front : List ℕ
   pub cut : text ≡ front ++ rest
   pub held : (before : List ℕ) → held_old ≡ Some before → held_new ≡ Some (before ++ front)
-
--- a text that is split at n is its two parts
-pub both_parts : (n : ℕ) (text part after : List ℕ) → part ≡ take n text → after ≡ drop n text → text ≡ part ++ after
-both_parts n text part after front back = sym (ap (λ xs. xs ++ after) front ∙ ap (λ xs. take n text ++ xs) back ∙ take-append-drop n text)
 
 pub PutUpTo-begin : (text : List ℕ) (held : Option (List ℕ)) → PutUpTo text text held held
 PutUpTo-begin text held = record { front = []; cut = refl; held = λ before is. is ∙ ap (λ bs. Some bs) (sym (append-nil before)) }
@@ -61,10 +57,6 @@ Puts-err held_old held_new piece before failed puts is = rw is at puts
 pub Puts-none : (held_old held_new : Option (List ℕ)) (piece before : List ℕ) (failed : Failed) → 0 < length piece → Puts held_old held_new piece (Err failed) → held_old ≡ Some before
     → (n : ℕ) × (n < length piece) × (held_new ≡ Some (before ++ take n piece))
 Puts-none held_old held_new piece before failed some puts is = (0, some, Puts-err held_old held_new piece before failed puts is ∙ ap (λ bs. Some bs) (sym (append-nil before)))
-
-pub some_left : (empty : Bool) (rest : List ℕ) → empty ≡ (length rest == 0) → empty ≡ false → 0 < length rest
-some_left empty [] is some = absurd (let e : true ≡ false = sym is ∙ some in cc)
-some_left empty (x ∷ rest) is some = omega arith
 
 -- what a call that puts a whole text puts
 pub HasPut-err : (before text : List ℕ) (held_new : Option (List ℕ)) (result : Result (Unit {0}) Failed) → IsErr result → (n : ℕ) × (n < length text) × (held_new ≡ Some (before ++ take n text)) → HasPut before text held_new result

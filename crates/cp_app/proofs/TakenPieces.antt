@@ -1,8 +1,9 @@
 -- A source is read piece by piece.
 use Rattle.std.proofs.Common.{◌≡◌, ◌≢◌, ℕ, ◌+◌, ◌<◌, ◌≤◌, List, [], ◌++◌, length, take, drop, Option, Some, Result, Ok, Err, refl, sym, ap, ◌∙◌, append_assoc, length-append, arith}
-use Rattle.std.proofs.lemmas.List.{take-append-drop, take_at, length-take-le, take-append-le, append-nil}
+use Rattle.std.proofs.lemmas.List.{take-append-drop, take-append-le, append-nil}
 use Rattle.std.specs.Result.{IsErrAnd, IfErr}
 use Rattle.std.proofs.lemmas.List.Prefix.{front_rest}
+use Rattle.cp_lists.proofs.Fronts.{take-front}
 use Rattle.cp_base.specs.declared.status.Failed.{Failed}
 use Rattle.cp_base.specs.Outside.{Moved, Takes}
 use Rattle.cp_app.specs.Headline.{most_bytes}
@@ -30,9 +31,6 @@ Takes-ok left_old left_new rest buf_old buf_new n takes is = rw is at takes
 
 pub Takes-err : (left_old left_new : Option (List ℕ)) (rest buf_old buf_new : List ℕ) (failed : Failed) → Takes left_old left_new buf_old buf_new (Err failed) → left_old ≡ Some rest → left_new ≡ Some rest
 Takes-err left_old left_new rest buf_old buf_new failed takes is = rw is at takes
-
-take-front : (n : ℕ) (rest others : List ℕ) → n ≤ length rest → take n (take n rest ++ others) ≡ take n rest
-take-front n rest others within = take_at (take n rest) others n (length-take-le n rest within)
 
 pub TookFrom-more : (bytes buf_old buf_new : List ℕ) (n : ℕ) (left_old left_middle left_new : Option (List ℕ)) → TookFrom bytes left_old left_middle → Takes left_middle left_new buf_old buf_new (Ok n)
     → TookFrom (bytes ++ take n buf_new) left_old left_new

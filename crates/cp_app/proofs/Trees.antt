@@ -8,7 +8,7 @@ use Rattle.std.proofs.Math.Seq.{take-suc}
 use Rattle.std.proofs.lemmas.Slice.Zip.{all_zipped_more}
 use Rattle.cp_skel.specs.Trees.{declared_view, variables_view, outcome_view, label_view, tree_view}
 use Rattle.cp_skel.specs.declared.tree.TreeNode.{TreeNode}
-use Rattle.cp_term.specs.Table.{Declared}
+use Rattle.cp_model.specs.Data.{Declared}
 use Rattle.cp_skel.specs.declared.tree.Tree.{Tree as ProgramTree}
 use Rattle.cp_app.specs.Steps.{is_complete}
 use Rattle.cp_lists.specs.Lists.{item_at, IsIn, here, there}

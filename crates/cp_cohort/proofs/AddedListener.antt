@@ -10,7 +10,7 @@ use Rattle.cp_model.specs.Skeleton.{SkeletonStrand, listener, skeleton_trace_or_
 use Rattle.cp_model.specs.Tree.{by_added_listener}
 use Rattle.cp_guard.specs.Critical.{IsTest}
 use Rattle.cp_skel.specs.Extensions.{AddsListener}
-use Rattle.cp_skel.specs.Data.{SkeletonData}
+use Rattle.cp_model.specs.Data.{SkeletonData}
 use Rattle.cp_skel.specs.Sound.{IsSound}
 use Rattle.cp_skel.specs.View.{skeleton_view}
 use Rattle.cp_term.specs.declared.path.Step.{Step}

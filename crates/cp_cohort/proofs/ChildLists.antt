@@ -1,6 +1,6 @@
 -- Lists of children that grow, item by item.
 use Rattle.std.proofs.Common.{append_assoc, ◌≡◌, ℕ, ◌+◌, ◌<◌, ◌≤◌, List, [], ◌∷◌, ◌++◌, length, take, map, Some, sym, ap, ◌∙◌, subst, add-one, arith}
-use Rattle.std.proofs.lemmas.List.{append-nil, length-map, take_all}
+use Rattle.std.proofs.lemmas.List.{append-nil, take_all}
 use Rattle.cp_model.specs.Problem.{numbers_from}
 use Rattle.cp_model.proofs.Numbers.{numbers_length}
 use Rattle.cp_collapse.proofs.Lowest.{numbers_at}
@@ -56,6 +56,3 @@ number_there xs i lt = let e : 0 + i ≡ i = omega arith in numbers_at 0 xs i lt
 
 pub numbers_past : {A : Type 0} (xs : List A) (n : ℕ) → length xs ≤ n → length (numbers_from 0 xs) ≤ n
 numbers_past xs n past = let e : length (numbers_from 0 xs) ≡ length xs = numbers_length 0 xs in omega (arith, e, past)
-
-pub length_of : {A B : Type 0} (f : A → B) (xs : List A) (ys : List B) → map f xs ≡ ys → length xs ≡ length ys
-length_of f xs ys e = sym (length-map xs f) ∙ ap length e

@@ -14,7 +14,7 @@ use Rattle.cp_match.specs.Candidates.{may_equal}
 use Rattle.cp_match.specs.Unifiers.{UnifiesMostGenerally}
 use Rattle.cp_match.proofs.DifferentTerms as differing
 use Rattle.cp_skel.proofs.EventLists.{listed_event}
-use Rattle.cp_skel.specs.Data.{SkeletonData}
+use Rattle.cp_model.specs.Data.{SkeletonData}
 use Rattle.cp_skel.specs.Events.{Occurrence, occurrence_view, events_of}
 use Rattle.cp_skel.specs.Trees.{variables_view}
 use Rattle.cp_skel.specs.View.{skeleton_view}

@@ -8,10 +8,9 @@ use Rattle.cp_model.specs.declared.node.Node.{Node}
 use Rattle.cp_model.specs.Skeleton.{Skeleton}
 use Rattle.cp_model.specs.Tree.{Pattern}
 use Rattle.cp_model.specs.Homomorphism.{substitution_by}
-use Rattle.cp_strand.specs.Data.{InstanceData}
+use Rattle.cp_model.specs.Data.{InstanceData, SkeletonData}
 use Rattle.cp_strand.specs.PrefixVariables.{prefix_variables, added_variables, fits, AreTermsFor}
 use Rattle.cp_skel.specs.Extensions.{AddsStrand, CanExtend, Extends}
-use Rattle.cp_skel.specs.Data.{SkeletonData}
 use Rattle.cp_skel.specs.Trees.{variables_view, declared_view}
 use Rattle.cp_skel.specs.View.{skeleton_view}
 use Rattle.cp_skel.proofs.ValuedTerms.{all-added}

@@ -3,7 +3,7 @@ use Rattle.std.proofs.Common.{◌≡◌, ◌≢◌, ℕ, suc, ◌<◌, List, [],
 use Rattle.std.specs.Borrow.{Bor}
 use Rattle.cp_lists.specs.Lists.{item_at, one_step}
 use Rattle.cp_lists.proofs.Items.{item_still, item_last, item_below, map_of_read}
-use Rattle.cp_lists.proofs.Mapped.{map_then}
+use Rattle.cp_lists.proofs.Mapped.{map_then, length_of}
 use Rattle.cp_lists.proofs.Members.{in_append_left, in_last}
 use Rattle.cp_lists.proofs.Reached.{steps_append}
 use Rattle.cp_model.specs.Term.{Term, Substitution, apply_to}
@@ -21,10 +21,9 @@ use Rattle.cp_match.specs.Candidates.{may_equal}
 use Rattle.cp_match.specs.Unifiers.{UnifiesMostGenerally, NeverEqual}
 use Rattle.cp_match.proofs.DifferentTerms as differing
 use Rattle.cp_skel.specs.Extensions.{AddsStrand, Extends}
-use Rattle.cp_skel.specs.Data.{SkeletonData}
+use Rattle.cp_model.specs.Data.{SkeletonData, InstanceData, StrandData}
 use Rattle.cp_skel.specs.Ordered.{ChangesOrderOnly}
 use Rattle.cp_skel.specs.View.{skeleton_view}
-use Rattle.cp_strand.specs.Data.{InstanceData, StrandData}
 use Rattle.cp_strand.specs.View.{event_view, strand_view}
 use Rattle.cp_strand.specs.Shapes.{strand_of_shape}
 use Rattle.cp_strand.specs.declared.strand.StrandShape.{StrandShape}
@@ -44,7 +43,7 @@ use Rattle.cp_covering.specs.Children.{Child, child, declarations_of, HasGrown}
 use Rattle.cp_covering.specs.Cohort.{Question, positions, cyclic, never_equal, unified, release_at, DisplacesAt, DisplacesEvent, is_displaced, AddsAt, AddsEvent, is_added}
 use Rattle.cp_cohort.specs.Children.{ReleasesAt, ReleasesEach, ReleasesPut}
 use Rattle.cp_cohort.specs.Views.{settled_child}
-use Rattle.cp_cohort.proofs.ChildLists.{each_nothing, length_of}
+use Rattle.cp_cohort.proofs.ChildLists.{each_nothing}
 use Rattle.cp_cohort.proofs.Positions.{wider, positions_under}
 
 pub each_other : {A B : Type 0} (P Q : A → List B → Type 0) → ((x : A) (ys : List B) → P x ys → Q x ys) → (xs : List A) (ys : List B) → EachGives P xs ys → EachGives Q xs ys

@@ -7,12 +7,12 @@ use Rattle.cp_lists.proofs.Members.{drop_read}
 use Rattle.cp_model.specs.Term.{Variable, Term, atom_term, atom_of_variable}
 use Rattle.cp_model.specs.Strand.{Event, Declaration, Role, prefix_of, variables_of_trace, variables_of_prefix}
 use Rattle.cp_term.specs.Variables.{variable_term}
-use Rattle.cp_term.specs.declared.variable.Sort.{Sort}
-use Rattle.cp_term.specs.declared.variable.Sort.TheVariants as sorts
+use Rattle.cp_model.specs.declared.sort.Sort.{Sort}
+use Rattle.cp_model.specs.declared.sort.Sort.TheVariants as sorts
 use Rattle.cp_strand.specs.PrefixVariables.{declared_variables, is_added, added_variables}
 use Rattle.cp_strand.specs.View.{sort_view, declaration_view}
 use Rattle.cp_strand.specs.declared.protocol.Declaration as program
-use Rattle.cp_skel.specs.Data.{SkeletonData}
+use Rattle.cp_model.specs.Data.{SkeletonData}
 use Rattle.cp_skel.specs.Trees.{variables_view}
 use Rattle.cp_answers.specs.Fresh.{fresh_terms}
 use Rattle.cp_covering.specs.Children.{declaration_onto, declarations_of}

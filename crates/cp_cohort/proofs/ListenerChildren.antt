@@ -11,7 +11,7 @@ use Rattle.cp_term.specs.Keys.{key_as_term}
 use Rattle.cp_term.specs.Shapes.{IsShapeOf}
 use Rattle.cp_term.specs.declared.shape.Shape.{Shape}
 use Rattle.cp_term.specs.declared.shape.Shape.TheVariants.{Tag, Variable, Inverse, Ltk, Pubk, Pair, Encryption}
-use Rattle.cp_term.specs.declared.variable.Sort.TheVariants as sorts
+use Rattle.cp_model.specs.declared.sort.Sort.TheVariants as sorts
 use Rattle.cp_model.specs.Tree.{Pattern}
 use Rattle.cp_covering.specs.GatheredLists.{EachGives, nothing_given, has_term, terms_onto}
 use Rattle.cp_covering.specs.Cohort.{Question, FreesCritical, by_key, by_body, by_nothing, OpensPattern, Listens, AreListeners}

@@ -11,11 +11,10 @@ use Rattle.cp_term.specs.Positions.{term_at}
 use Rattle.cp_strand.specs.PrefixVariables.{prefix_variables}
 use Rattle.cp_normal.specs.Exact.{HasForms}
 use Rattle.cp_skel.specs.Extensions.{AddsStrand}
-use Rattle.cp_skel.specs.Data.{SkeletonData}
+use Rattle.cp_model.specs.Data.{SkeletonData, InstanceData}
 use Rattle.cp_skel.specs.Events.{Occurrence}
 use Rattle.cp_skel.specs.View.{skeleton_view}
 use Rattle.cp_skel.specs.Trees.{variables_view}
-use Rattle.cp_strand.specs.Data.{InstanceData}
 use Rattle.cp_strand.specs.View.{instance_view}
 use Rattle.cp_answers.specs.Covering.{put_before}
 use Rattle.cp_answers.specs.Fresh.{fresh_terms}

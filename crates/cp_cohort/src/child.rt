@@ -1,6 +1,6 @@
 // Children of a test.
 ghost use Rattle.std.specs.Prelude.{◌≡◌, ◌++◌, ◌∷◌, [], map, IfOk, OnOk};
-ghost use Rattle.cp_skel.specs.Data.{SkeletonData};
+ghost use Rattle.cp_model.specs.Data.{SkeletonData};
 ghost use Rattle.cp_skel.specs.Trees.{operation_view};
 ghost use Rattle.cp_cohort.specs.Views.{child_view, made_view, child_of};
 

@@ -4,7 +4,7 @@ use Rattle.cp_lists.specs.Lists.{item_at, IsIn}
 use Rattle.cp_model.specs.Skeleton.{Skeleton}
 use Rattle.cp_lists.proofs.Items.{item_below, at_place}
 use Rattle.cp_lists.proofs.Members.{in_append, only_item}
-use Rattle.cp_skel.specs.Data.{SkeletonData as Program}
+use Rattle.cp_model.specs.Data.{SkeletonData as Program}
 use Rattle.cp_collapse.specs.Collapses.{IsCollapsed, HasNoCycle, IsImpossible, AreCollapses}
 use Rattle.cp_collapse.specs.FirstPartitions.{ArePartitionsOfFirst, AreCollapsedTo}
 use Rattle.cp_collapse.specs.Partitions.{IsPartition, finest}

@@ -9,7 +9,7 @@ use Rattle.cp_model.specs.declared.node.OrderPair.{OrderPair}
 use Rattle.cp_model.proofs.LawPrefixes.{variables_of_higher}
 use Rattle.cp_unify.specs.Bindings.{Binding, as_substitution}
 use Rattle.cp_strand.specs.View.{strand_view}
-use Rattle.cp_strand.specs.Data.{StrandData as Strand}
+use Rattle.cp_model.specs.Data.{StrandData as Strand}
 use Rattle.cp_collapse.specs.SameSkeletons.{AreSameStrands, no_strands, same_strands}
 use Rattle.cp_collapse.specs.Collapses.{ArePairsIn, LiesOnOne, assumptions_in, IsFromProblemIn, IsCollapsed, HasNoCycle, HasPairBackward, IsImpossible}
 use Rattle.cp_collapse.specs.Cycles.{IsClosedAt}

@@ -5,8 +5,8 @@ use Rattle.cp_lists.proofs.Members.{drop_read}
 use Rattle.cp_model.specs.Term.{Variable, Term, atom_term, atom_of_variable, Substitution, apply_to, composed}
 use Rattle.cp_model.proofs.LawTerms.{atom_composed}
 use Rattle.cp_term.specs.Variables.{variable_term}
-use Rattle.cp_term.specs.declared.variable.Sort.{Sort}
-use Rattle.cp_term.specs.declared.variable.Sort.TheVariants.{Text, Datum, Name, Skey, Akey}
+use Rattle.cp_model.specs.declared.sort.Sort.{Sort}
+use Rattle.cp_model.specs.declared.sort.Sort.TheVariants.{Text, Datum, Name, Skey, Akey}
 use Rattle.cp_strand.specs.PrefixVariables.{declared_variables, terms_of}
 use Rattle.cp_strand.specs.View.{sort_view, declaration_view}
 use Rattle.cp_strand.specs.declared.protocol.Declaration.{Declaration}

@@ -1,5 +1,5 @@
 -- Lists in descending lexicographic order, and lists with one item more.
-use Rattle.std.proofs.Common.{◌≡◌, ◌⊎◌, inl, inr, ℕ, zero, suc, ◌<◌, List, [], ◌∷◌, ◌++◌, Some, length, refl, sym, ap, subst, arith}
+use Rattle.std.proofs.Common.{◌≡◌, ◌⊎◌, inl, inr, ℕ, zero, suc, ◌<◌, List, [], ◌∷◌, ◌++◌, Some, refl, sym, ap, subst, arith}
 use Rattle.cp_lists.specs.Lists.{item_at, IsIn, here, there}
 use Rattle.cp_lists.proofs.Members.{in_append, only_item}
 use Rattle.cp_lists.proofs.Items.{at_place}
@@ -8,24 +8,6 @@ use Rattle.cp_collapse.specs.Partitions.{IsLower, AreDescending}
 next_case : {P : Type 0} {i n : ℕ} → ((i < n) × P) ⊎ ((i ≡ n) × P) → ((suc i < suc n) × P) ⊎ ((suc i ≡ suc n) × P)
 next_case (inl r) = let l = r.0 in inl (omega (arith, l), r.1)
 next_case (inr r) = inr (ap suc r.0, r.1)
-
-pub end_cases : {A : Type 0} (xs : List A) (y : A) (i : ℕ) (x : A) → item_at (xs ++ (y ∷ [])) i ≡ Some x → ((i < length xs) × (item_at xs i ≡ Some x)) ⊎ ((i ≡ length xs) × (y ≡ x))
-end_cases [] y zero x e = inr (refl, cc)
-end_cases [] y (suc i) x e = absurd (cc)
-end_cases (z ∷ xs) y zero x e = inl (omega arith, e)
-end_cases (z ∷ xs) y (suc i) x e = by (end_cases xs y i x e)
-  where
-    by : ((i < length xs) × (item_at xs i ≡ Some x)) ⊎ ((i ≡ length xs) × (y ≡ x)) → ((suc i < length (z ∷ xs)) × (item_at xs i ≡ Some x)) ⊎ ((suc i ≡ length (z ∷ xs)) × (y ≡ x))
-    by (inl r) = let l = r.0 in inl (omega (arith, l), r.1)
-    by (inr r) = inr (ap suc r.0, r.1)
-
-pub split_end : {A : Type 0} (n : ℕ) (xs : List A) → length xs ≡ suc n → (ys : List A) × (y : A) × (xs ≡ ys ++ (y ∷ [])) × (length ys ≡ n)
-split_end n [] e = absurd (omega (arith, e))
-split_end zero (x ∷ []) e = ([], x, refl, refl)
-split_end zero (x ∷ y ∷ xs) e = absurd (omega (arith, e))
-split_end (suc n) (x ∷ xs) e =
-    let r = split_end n xs (omega (arith, e)) in
-    (x ∷ r.0, r.1, ap (λ zs. x ∷ zs) r.2, ap suc r.3)
 
 -- Lower lists.
 pub lower_with : (p q : List ℕ) (x y : ℕ) → IsLower p q → IsLower (p ++ (x ∷ [])) (q ++ (y ∷ []))

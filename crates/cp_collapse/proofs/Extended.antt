@@ -4,13 +4,14 @@ use Rattle.std.proofs.Common.{◌≡◌, ◌≢◌, ◌⊎◌, inl, inr, ℕ, su
 use Rattle.cp_lists.specs.Lists.{item_at, IsIn, here}
 use Rattle.cp_model.specs.Term.{Assignment}
 use Rattle.cp_model.specs.Skeleton.{Skeleton}
-use Rattle.cp_lists.proofs.Members.{in_append_left, in_append_right, in_append, only_item}
-use Rattle.cp_lists.proofs.Items.{item_below, place_of, at_place, item_in_front, item_last}
+use Rattle.cp_lists.proofs.Members.{in_append_left, in_append_right, in_append, only_item, empty_in}
+use Rattle.cp_lists.proofs.Items.{item_below, place_of, at_place, item_in_front, item_last, end_cases}
 use Rattle.cp_lists.proofs.Appended.{length_pushed}
+use Rattle.cp_lists.proofs.Fronts.{split_end}
 use Rattle.cp_collapse.specs.Partitions.{AreOfOneRole, IsPartition, AreTogether, IdentifiesValues, IsLower, AreDescending}
 use Rattle.cp_collapse.specs.Collapses.{IsNeverIdentified}
 use Rattle.cp_collapse.specs.FirstPartitions.{IsPartitionOfFirst, ArePartitionsOfFirst, MayHave, IsBehind, IsOneBehind, AreExtendedTo}
-use Rattle.cp_collapse.proofs.DescendingLists.{end_cases, split_end, lower_with, lower_last, descending_at, descending_with}
+use Rattle.cp_collapse.proofs.DescendingLists.{lower_with, lower_last, descending_at, descending_with}
 
 -- ---- blocks that never have equal values
 
@@ -218,13 +219,9 @@ module _ (k : Skeleton) (n : ℕ) where
 pub first_partition : (k : Skeleton) → ArePartitionsOfFirst k 0 ([] ∷ [])
 first_partition k = record {
   each = λ p i. subst (IsPartitionOfFirst k 0) (sym (only_item i)) (record { each = refl; lowest = λ s l e. absurd (cc); alike = λ s l e ne. absurd (cc) });
-  all = λ p part. inl (empty p part.each);
+  all = λ p part. inl (empty_in p part.each);
   descending = (λ q i. elim i [ ], tt);
 }
-  where
-    empty : (p : List ℕ) → length p ≡ 0 → IsIn p ([] ∷ [])
-    empty [] e = here
-    empty (x ∷ p) e = absurd (omega (arith, e))
 
 -- A partition of all strands.
 pub of_all : (k : Skeleton) (p : List ℕ) → IsPartitionOfFirst k (length k.strands) p → IsPartition k p

@@ -1,16 +1,13 @@
 -- Putting images of pairs one by one, each once.
-use Rattle.std.proofs.Common.{◌≡◌, inl, inr, ℕ, suc, ◌≤◌, ◌+◌, List, [], ◌∷◌, ◌++◌, Some, take, length, refl, sym, ap, ◌∙◌, subst, arith}
+use Rattle.std.proofs.Common.{◌≡◌, inl, inr, ℕ, ◌≤◌, ◌+◌, List, [], ◌∷◌, ◌++◌, Some, take, length, refl, sym, ap, ◌∙◌, subst, arith}
 use Rattle.std.proofs.lemmas.List.{take_all}
 use Rattle.cp_lists.specs.Lists.{item_at, IsIn}
-use Rattle.cp_lists.proofs.Items.{take_to_item}
+use Rattle.cp_lists.proofs.Fronts.{take_next}
 use Rattle.cp_model.specs.declared.node.OrderPair.{OrderPair}
 use Rattle.cp_collapse.specs.Collapses.{pair_in, LiesOnOne, ArePairsIn}
 use Rattle.cp_collapse.specs.Property.{Has}
 use Rattle.cp_collapse.specs.MergedStrands.{IsPutOnce}
 use Rattle.cp_collapse.proofs.PairImages.{pairs_none, pairs_more, pairs_again, pairs_dropped}
-
-take_next : {A : Type 0} (xs : List A) (i : ℕ) (x : A) → item_at xs i ≡ Some x → take i xs ++ (x ∷ []) ≡ take (i + 1) xs
-take_next xs i x e = let next : suc i ≡ i + 1 = omega arith in sym (take_to_item xs i x e) ∙ ap (λ (m : ℕ). take m xs) next
 
 -- An item that is listed stays.
 pub listed_stays : {A : Type 0} (x : A) (old : List A) → Has (λ y. y ≡ x) old → IsPutOnce x old old

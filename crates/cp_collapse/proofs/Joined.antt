@@ -12,8 +12,7 @@ use Rattle.cp_skel.specs.Extensions.{IsClosedPrefix}
 use Rattle.cp_skel.specs.DeclaredPrefixes.{HasDeclaredPrefixes}
 use Rattle.cp_strand.specs.View.{instance_view, instance_as_data, strand_view}
 use Rattle.cp_skel.specs.View.{skeleton_view}
-use Rattle.cp_strand.specs.Data.{InstanceData, StrandData as Strand}
-use Rattle.cp_skel.specs.Data.{SkeletonData as Program}
+use Rattle.cp_model.specs.Data.{InstanceData, StrandData as Strand, SkeletonData as Program}
 use Rattle.cp_collapse.specs.FirstPartitions.{IsPartitionOfFirst, IsExactFor, EqualAt, EqualsBlock}
 use Rattle.cp_collapse.specs.Partials.{AlsoEqual, IsNever, MayNotJoin}
 use Rattle.cp_collapse.specs.Partitions.{AreOfOneRole, IdentifiesValues}

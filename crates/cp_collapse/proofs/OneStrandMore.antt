@@ -5,11 +5,10 @@ use Rattle.cp_lists.specs.Lists.{item_at, IsIn}
 use Rattle.cp_model.specs.Term.{atom_of_variable, Assignment, value_of_atom, after, Substitution}
 use Rattle.cp_model.specs.Strand.{Role, variables_of_prefix}
 use Rattle.cp_model.specs.Skeleton.{instance, Skeleton}
-use Rattle.cp_lists.proofs.Items.{item_below, item_in_front, item_last}
+use Rattle.cp_lists.proofs.Items.{item_below, item_in_front, item_last, end_cases}
 use Rattle.cp_collapse.specs.Partitions.{HaveEqualValues, IdentifiesValues}
 use Rattle.cp_collapse.specs.Collapses.{IsNeverIdentified}
 use Rattle.cp_collapse.specs.FirstPartitions.{IsPartitionOfFirst, EqualAt, EqualsBlock}
-use Rattle.cp_collapse.proofs.DescendingLists.{end_cases}
 use Rattle.cp_collapse.proofs.Extended.{identifies_first}
 
 -- A strand has equal values with itself.

@@ -3,7 +3,7 @@ use Rattle.std.proofs.Common.{◌≡◌, ◌⊎◌, inl, inr, ℕ, zero, suc, �
 use native.Mathlib.Decide.{dec_lt}
 use Rattle.cp_lists.specs.Lists.{item_at}
 use Rattle.cp_model.specs.Homomorphism.{number_or}
-use Rattle.cp_lists.proofs.Items.{item_there, item_past, item_below}
+use Rattle.cp_lists.proofs.Items.{item_there, item_past, item_below, other_entry}
 use Rattle.cp_collapse.specs.Partitions.{is_own, lowest_before, blocks, place_in}
 use Rattle.cp_collapse.proofs.Lowest.{both, least, least_is}
 
@@ -131,9 +131,6 @@ pub count_own : (p : List ℕ) (n count : ℕ) → count ≡ lowest_before p n �
 count_own p n count e own =
     let next : suc n ≡ n + 1 = omega arith in
     ap (λ (m : ℕ). m + 1) e ∙ sym (rises_own p n (own_entry p n own)) ∙ ap (lowest_before p) next
-
-other_entry : (p : List ℕ) (n : ℕ) → n < length p → (item_at p n ≡ Some n → ⊥) → (l : ℕ) × (item_at p n ≡ Some l) × (l ≡ n → ⊥)
-other_entry p n less none = let r = item_there p n less in (r.0, r.1, λ e. none (r.1 ∙ ap Some e))
 
 pub count_other : (p : List ℕ) (n count : ℕ) → n < length p → count ≡ lowest_before p n → (item_at p n ≡ Some n → ⊥) → count ≡ lowest_before p (n + 1)
 count_other p n count less e none =

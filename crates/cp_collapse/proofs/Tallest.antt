@@ -10,7 +10,7 @@ use Rattle.cp_lists.proofs.Items.{item_below, item_there, map_of_item}
 use Rattle.cp_completeness.specs.Normal.{strand_under}
 use Rattle.cp_skel.specs.DeclaredPrefixes.{HasDeclaredPrefixes}
 use Rattle.cp_strand.specs.View.{strand_view}
-use Rattle.cp_strand.specs.Data.{StrandData as Strand}
+use Rattle.cp_model.specs.Data.{StrandData as Strand}
 use Rattle.cp_collapse.specs.SameSkeletons.{IsSameStrand, AreSameStrands, no_strands, same_strands}
 use Rattle.cp_collapse.specs.MergedStrands.{height_of, IsAsTall, IsTallestTo, AreMergedTo, AreMergedAlike, IsUnder}
 use Rattle.cp_collapse.specs.Partitions.{AreOfOneRole, IsPartition}

@@ -11,9 +11,7 @@ use Rattle.cp_lists.proofs.Items.{map_of_item}
 use Rattle.cp_completeness.specs.Normal.{strand_under, assumptions_under, from_problem_under, skeleton_under}
 use Rattle.cp_unify.specs.Bindings.{sort_of}
 use Rattle.cp_skel.specs.Extensions.{IsClosedPrefix}
-use Rattle.cp_term.specs.Table.{Declared}
-use Rattle.cp_strand.specs.Data.{InstanceData, StrandData}
-use Rattle.cp_skel.specs.Data.{SkeletonData, skeleton_of}
+use Rattle.cp_model.specs.Data.{Declared, InstanceData, StrandData, SkeletonData, skeleton_of}
 use Rattle.cp_strand.specs.View.{instance_as_data, strand_view}
 use Rattle.cp_skel.specs.View.{skeleton_view}
 use Rattle.cp_skel.specs.DeclaredPrefixes.{HasDeclaredPrefixes}

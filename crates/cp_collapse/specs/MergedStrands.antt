@@ -6,7 +6,7 @@ use Rattle.cp_model.specs.Strand.{Role}
 use Rattle.cp_model.specs.Skeleton.{SkeletonStrand, instance, listener, Skeleton}
 use Rattle.cp_completeness.specs.Normal.{strand_under}
 use Rattle.cp_strand.specs.View.{strand_view}
-use Rattle.cp_strand.specs.Data.{StrandData as Strand}
+use Rattle.cp_model.specs.Data.{StrandData as Strand}
 use Rattle.cp_collapse.specs.SameSkeletons.{AreSameStrands}
 use Rattle.cp_collapse.specs.Partitions.{lowest_before}
 use Rattle.cp_collapse.specs.Values.{declared_under}

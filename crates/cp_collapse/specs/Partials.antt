@@ -7,7 +7,7 @@ use Rattle.cp_model.specs.Homomorphism.{substitution_by}
 use Rattle.cp_model.specs.Skeleton.{Skeleton}
 use Rattle.cp_unify.specs.Bindings.{Binding, Meets, as_substitution}
 use Rattle.cp_unify.specs.Unifiers.{AreLaterToEarlier}
-use Rattle.cp_strand.specs.Data.{InstanceData}
+use Rattle.cp_model.specs.Data.{InstanceData}
 use Rattle.cp_collapse.specs.Partitions.{HaveEqualValues, IdentifiesValues}
 use Rattle.cp_collapse.specs.Collapses.{IsNeverIdentified}
 use Rattle.cp_collapse.specs.FirstPartitions.{ArePartitionsOfFirst, MayHave, AreExtendedTo, IsExactFor}

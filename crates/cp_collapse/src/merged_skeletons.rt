@@ -9,7 +9,7 @@ ghost use Rattle.cp_model.specs.Standing.{Standing, StandsIn, StandsApart};
 ghost use Rattle.cp_model.specs.Strand.{Protocol};
 ghost use Rattle.cp_skel.specs.DeclaredPrefixes.{HasDeclaredPrefixes};
 ghost use Rattle.cp_skel.specs.View.{skeleton_view};
-ghost use Rattle.cp_skel.specs.Data.{SkeletonData};
+ghost use Rattle.cp_model.specs.Data.{SkeletonData};
 ghost use Rattle.cp_skel.specs.Sound.{IsSound};
 ghost use Rattle.cp_collapse.specs.Collapses.{LiesOnOne, IsCollapsed, HasNoCycle, IsImpossible, AreCollapses, StandsThroughCollapse};
 ghost use Rattle.cp_collapse.specs.MergedParts.{parts_view, with_listed};

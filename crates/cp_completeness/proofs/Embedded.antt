@@ -1,5 +1,6 @@
 -- An embedding followed by a standing apart is a standing apart, through which the same standings of the problem factor.
-use Rattle.std.proofs.Common.{◌≡◌, List, [], ◌∷◌, map, refl, sym, ap, ap₂, ◌∙◌}
+use Rattle.std.proofs.Common.{[], map, refl, sym, ap, ◌∙◌}
+use Rattle.cp_lists.proofs.Mapped.{map_after}
 use Rattle.cp_model.specs.Term.{value_of, apply_to, after}
 use Rattle.cp_model.specs.Skeleton.{Skeleton}
 use Rattle.cp_model.specs.Standing.{Standing, StandsApart}
@@ -13,10 +14,6 @@ apart_through a b f g emb apart = λ s t role height terms role' height' terms' 
     let gt = emb.homomorphism.instances t role' height' terms' au in
     emb.injective s t role height terms role' height' terms' at au
     (apart (f.strands s) (f.strands t) role gs.to_height gs.to_terms role' gt.to_height gt.to_terms gs.on_instance gt.on_instance e)
-
-map_after : {A B C : Type 0} (f : A → B) (g : B → C) (h : A → C) → ((x : A) → h x ≡ g (f x)) → (xs : List A) → map g (map f xs) ≡ map h xs
-map_after f g h e [] = refl
-map_after f g h e (x ∷ xs) = ap₂ ◌∷◌ (sym (e x)) (map_after f g h e xs)
 
 pub factors_after : (problem a b : Skeleton) (f : SkeletonMap) (h g : Standing) → IsEmbedding a b f → FactorsThrough problem h b g → FactorsThrough problem h a (through f g)
 factors_after problem a b f h g emb factors = record {

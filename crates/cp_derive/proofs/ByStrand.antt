@@ -1,7 +1,6 @@
 -- The events gone through from behind, and what is picked of them.
-use Rattle.std.proofs.Common.{List, [], ◌++◌, map, reverse, length, ◌==◌, Bool, true, false, ◌≡◌, inl, inr, sym, subst, ap, ◌∙◌, append_assoc}
-use Rattle.std.proofs.lemmas.Bool.Decides.{eqb_tells}
-use Rattle.std.proofs.lemmas.List.{nil_from_length, map-append, reverse-append, reverse-reverse}
+use Rattle.std.proofs.Common.{List, [], ◌++◌, map, reverse, ◌≡◌, sym, subst, ap, ◌∙◌, append_assoc}
+use Rattle.std.proofs.lemmas.List.{map-append, reverse-append, reverse-reverse}
 use Rattle.cp_lists.proofs.Members.{in_append_left, in_append_right}
 use Rattle.cp_lists.specs.Lists.{IsIn}
 use Rattle.cp_model.specs.declared.node.Node.{Node}
@@ -32,10 +31,6 @@ module _ (k : Skeleton) (all left before on : List program.Occurrence) (split : 
       let whole : (ns ++ more) ++ reverse nodes ≡ ns ++ reverse new = append_assoc ns more (reverse nodes) ∙ ap (λ xs. ns ++ xs) (sym back) in
       subst (Picks k (map occurrence_view all)) whole
       (so_far (ns ++ more) (subst (λ os. Picks k os (ns ++ more)) (sym parts) (picked_both k (map occurrence_view before) (map occurrence_view on) ns more h p)))
-
-pub none_left : {A : Type 0} (empty : Bool) (xs : List A) → empty ≡ (length xs == 0) → empty ≡ true → xs ≡ []
-none_left empty xs is none =
-    elim (eqb_tells (length xs) 0) [ inl w ↦ nil_from_length xs w.1 | inr w ↦ let e : true ≡ false = sym none ∙ is ∙ w.0 in absurd (cc) ]
 
 -- None is left.
 pub all_gone_through : (k : Skeleton) (all left : List program.Occurrence) (nodes turned : List Node) → left ≡ [] → map occurrence_view all ≡ events_of k → turned ≡ reverse nodes →

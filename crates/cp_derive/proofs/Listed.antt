@@ -1,11 +1,7 @@
 -- What is in a list, and in what is left of it.
-use Rattle.std.proofs.Common.{ℕ, ◌+◌, ◌<◌, List, [], ◌∷◌, ◌++◌, ◌≡◌, ◌≢◌, ◌⊎◌, inl, inr, length, get_or, drop, sym, subst}
-use Rattle.cp_lists.proofs.Members.{in_append_left, in_last, in_pushed, next_or_rest}
+use Rattle.std.proofs.Common.{ℕ, ◌+◌, ◌<◌, List, [], ◌∷◌, ◌++◌, ◌≡◌, ◌≢◌, ◌⊎◌, length, get_or, drop, sym, subst}
+use Rattle.cp_lists.proofs.Members.{in_append_left, in_last, in_pushed, next_or_rest, other_than}
 use Rattle.cp_lists.specs.Lists.{IsIn}
-
-other_than : {A : Type 0} {x y : A} {ys : List A} → y ≢ x → (y ≡ x) ⊎ IsIn x ys → IsIn x ys
-other_than other (inl e) = absurd (other e)
-other_than other (inr h) = h
 
 -- An item that is not the next one is among those behind it.
 pub behind_other : {A : Type 0} (xs : List A) (i : ℕ) (x y : A) → i < length xs → y ≡ get_or xs i y → y ≢ x → IsIn x (drop i xs) → IsIn x (drop (i + 1) xs)

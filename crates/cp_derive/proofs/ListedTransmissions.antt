@@ -3,6 +3,7 @@ use Rattle.std.proofs.Common.{ℕ, suc, ◌+◌, ◌<◌, Bool, true, false, Lis
 use Rattle.std.proofs.Math.Seq.{drop-cons}
 use Rattle.cp_lists.proofs.Members.{in_cases}
 use Rattle.cp_lists.specs.Lists.{item_at, IsIn, here, there}
+use Rattle.cp_lists.proofs.Appended.{moved_behind}
 use Rattle.cp_model.specs.Term.{Term}
 use Rattle.cp_model.specs.Strand.{Event, send, recv}
 use Rattle.cp_model.specs.declared.node.Node.{Node}
@@ -13,7 +14,7 @@ use Rattle.cp_strand.specs.declared.protocol.Event.{Event as ProgramEvent}
 use Rattle.cp_strand.specs.declared.protocol.Event.TheVariants.{Send, Receive}
 use Rattle.cp_skel.specs.declared.events.Occurrence as program
 use Rattle.cp_skel.specs.Events.{Occurrence, occurrence_view, is_role_strand, events_of}
-use Rattle.cp_skel.proofs.EventLists.{moved, listed_event, listed_role, event_listed}
+use Rattle.cp_skel.proofs.EventLists.{listed_event, listed_role, event_listed}
 use Rattle.cp_derive.specs.Transmissions.{Transmission, if_sent, transmissions_among}
 
 -- What is sent among the events from a place on.
@@ -31,7 +32,7 @@ module _ (os : List program.Occurrence) (i : ℕ) (o : program.Occurrence) (old 
       let rest : List Transmission = transmissions_among (map occurrence_view (drop (suc i) os)) in
       let step : transmissions_among (map occurrence_view (drop i os)) ≡ record { node = o.node; message = t } ∷ rest =
       sent_from os i o h is ∙ ap (λ v. if_sent o.node (event_view v) o.by_role rest) e ∙ ap (λ b. if_sent o.node (send t) b rest) r in
-      rw add-one (moved old new (transmissions_among (map occurrence_view (drop i os))) rest whole (record { node = o.node; message = t }) n step all)
+      rw add-one (moved_behind old new (transmissions_among (map occurrence_view (drop i os))) rest whole (record { node = o.node; message = t }) n step all)
 
   not_sent : (e : ProgramEvent) (ts : List Transmission) → ((t : Term) → e ≡ Send t → ⊥) → if_sent o.node (event_view e) o.by_role ts ≡ ts
   not_sent (Send t) ts other = absurd (other t refl)

@@ -7,6 +7,7 @@ use Rattle.cp_lists.proofs.Items.{item_below, same_item}
 use Rattle.cp_lists.proofs.Members.{in_cases}
 use Rattle.cp_lists.specs.Lists.{item_at, IsIn, here, there}
 use Rattle.cp_lists.proofs.Least.{less_or_same}
+use Rattle.cp_lists.proofs.Appended.{moved_behind}
 use Rattle.cp_model.specs.Term.{Term}
 use Rattle.cp_model.specs.declared.node.Node.{Node}
 use Rattle.cp_model.specs.declared.node.OrderPair.{OrderPair}
@@ -14,7 +15,6 @@ use Rattle.cp_derive.specs.Given.{Given}
 use Rattle.cp_derive.specs.Transmissions.{Transmission}
 use Rattle.cp_derive.specs.Before.{LeadsToOther, ArePlacesBefore, message_onto, messages_at}
 use Rattle.cp_derive.proofs.Listed.{IsPushed, pushed}
-use Rattle.cp_skel.proofs.EventLists.{moved}
 
 -- These are the places below a bound.
 pub record ArePlacesBelow (pairs : List OrderPair) (n : Node) (ts : List Transmission) (bound : ℕ) (places : List ℕ) : Type 0 where
@@ -126,7 +126,7 @@ module _ (ps : List ℕ) (i : ℕ) (ts : List Transmission) (old new whole : Lis
   pub message_moved : (b : Bor Term) → o ≡ Some b → new ≡ old ++ (b.now ∷ []) → new ++ messages_at (drop (i + 1) ps) ts ≡ whole
   message_moved b is n =
       let rest : List Term = messages_at (drop (suc i) ps) ts in
-      rw add-one (moved old new (messages_at (drop i ps) ts) rest whole b.now n (next ∙ some_message (item_at ts (get_or ps i 0)) rest b at is) all)
+      rw add-one (moved_behind old new (messages_at (drop i ps) ts) rest whole b.now n (next ∙ some_message (item_at ts (get_or ps i 0)) rest b at is) all)
 
   pub message_skipped : ((b : Bor Term) → o ≡ Some b → ⊥) → new ≡ old → new ++ messages_at (drop (i + 1) ps) ts ≡ whole
   message_skipped none n =

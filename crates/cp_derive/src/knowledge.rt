@@ -10,12 +10,22 @@ use std::marker::Model;
 
 /// What the penetrator knows where these terms were sent and he cannot make the secret atoms. Contracts see both
 /// lists.
-#[derive(Drop)]
 pub struct Known {
     sent: Vec<Term>,
     secrets: Vec<Term>,
     /// What was sent, opened.
     opening: Opening,
+}
+
+// Where one is held it is dropped by one call, so that less is to be proved of who holds it.
+impl Drop for Known {
+    fn drop(self) {
+        let Known {
+            sent,
+            secrets,
+            opening,
+        } = self;
+    }
 }
 
 impl Model for Known {
@@ -79,7 +89,11 @@ impl Known {
     pub(crate) fn restarted(self, alloc: Global, sent: Vec<Term>) -> Result<Known, AllocError>
         ensures { IfOk result (λ k. k ≡ record { sent = sent.items; secrets = self.secrets }) }
     {
-        let Known { secrets, .. } = self;
+        let Known {
+            sent: _,
+            secrets,
+            opening: _,
+        } = self;
         Known::new(alloc, sent, secrets)
     }
 }

@@ -1,7 +1,7 @@
 -- The escape set of a test guards it.
-use Rattle.std.proofs.Common.{◌≡◌, ℕ, List, [], ◌∷◌, map, Some, true, refl, sym, ap, ◌∙◌, subst, ⊎_elim, ◌↔◌}
+use Rattle.std.proofs.Common.{◌≡◌, ℕ, List, [], map, Some, true, refl, sym, ap, ◌∙◌, subst, ⊎_elim, ◌↔◌}
 use Rattle.cp_lists.specs.Lists.{IsIn, here, there}
-use Rattle.cp_lists.proofs.Members.{in_append_left, not_in_none, only_item, from_map, into_map}
+use Rattle.cp_lists.proofs.Members.{in_append_left, not_in_none, only_item, from_map, into_map, nothing_there}
 use Rattle.cp_model.specs.Term.{Variable, Term, IsCarriedByTerm, itself_term, in_left_term, in_right_term, variables_of}
 use Rattle.cp_model.specs.Identity.{unchanged}
 use Rattle.cp_model.specs.Strand.{send, recv, payload, Declaration}
@@ -47,10 +47,6 @@ part_variables : {c t : Term} → IsPartOfPairs c t → IsCarriedByTerm c t
 part_variables whole_part = itself_term
 part_variables (part_of_left p) = in_left_term (part_variables p)
 part_variables (part_of_right p) = in_right_term (part_variables p)
-
-nothing_there : {A : Type 0} (xs : List A) → ((x : A) → IsIn x xs → ⊥) → xs ≡ []
-nothing_there [] h = refl
-nothing_there (x ∷ xs) h = absurd (h x here)
 
 -- An encryption that some occurrence gives.
 pub record IsGivenAbove (k : Skeleton) (n : Node) (c e : Term) : Type 0 where

@@ -9,9 +9,8 @@ use Rattle.cp_model.specs.Homomorphism.{substitution_by}
 use Rattle.cp_model.specs.Strand.{send, recv, Role}
 use Rattle.cp_model.specs.Bundle.{node_at}
 use Rattle.cp_model.specs.Skeleton.{SkeletonStrand, instance, skeleton_trace, skeleton_trace_or_none, term_event_at, Skeleton}
-use Rattle.cp_skel.specs.Data.{SkeletonData}
+use Rattle.cp_model.specs.Data.{SkeletonData, InstanceData, StrandData}
 use Rattle.cp_skel.specs.View.{skeleton_view}
-use Rattle.cp_strand.specs.Data.{InstanceData, StrandData}
 use Rattle.cp_strand.specs.View.{event_view, instance_view, instance_as_data, strand_view}
 use Rattle.cp_strand.specs.declared.protocol.Event as events
 use Rattle.cp_strand.specs.declared.protocol.Event.TheVariants as sent

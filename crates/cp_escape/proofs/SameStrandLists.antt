@@ -8,7 +8,7 @@ use Rattle.cp_model.specs.Strand.{Event, Role, prefix_of, variables_of_trace, va
 use Rattle.cp_model.specs.Skeleton.{SkeletonStrand, instance, listener}
 use Rattle.cp_collapse.specs.SameSkeletons.{IsSameStrand, same_instance, same_listener, AreSameStrands, no_strands, same_strands}
 use Rattle.cp_collapse.proofs.SameStrands.{instance_like, listener_like}
-use Rattle.cp_strand.specs.Data.{InstanceData, StrandData, listener_data}
+use Rattle.cp_model.specs.Data.{InstanceData, StrandData, listener_data}
 use Rattle.cp_strand.specs.View.{instance_view, strand_view}
 
 -- Instances that say the same have one role and one height, and their terms agree.

@@ -13,8 +13,8 @@ use Rattle.cp_skel.specs.Trees.{declared_view, variables_view}
 use Rattle.cp_strand.specs.View.{sort_view, event_view}
 use Rattle.cp_strand.specs.declared.protocol.Event as events
 use Rattle.cp_strand.specs.declared.protocol.Event.TheVariants as sent
-use Rattle.cp_term.specs.Table.{Declared, sorts}
-use Rattle.cp_term.specs.declared.variable.Sort as program_sort
+use Rattle.cp_model.specs.Data.{Declared, sorts}
+use Rattle.cp_model.specs.declared.sort.Sort as program_sort
 use Rattle.cp_escape.specs.UsedVariables.{is_new_in, variables_where, numbers}
 
 -- The variables of what is listed.

@@ -3,7 +3,7 @@ use Rattle.std.proofs.Common.{◌≡◌, List, map, Result, Ok, Err, IfOk, subst
 use Rattle.cp_model.specs.Strand.{Protocol}
 use Rattle.cp_model.specs.Skeleton.{Skeleton}
 use Rattle.cp_model.specs.Tree.{Pattern}
-use Rattle.cp_skel.specs.Data.{SkeletonData}
+use Rattle.cp_model.specs.Data.{SkeletonData}
 use Rattle.cp_skel.specs.View.{skeleton_view}
 use Rattle.cp_skel.specs.Trees.{variables_view, test_view}
 use Rattle.cp_skel.specs.declared.tree.Test.{Test}

@@ -1,8 +1,7 @@
 -- Tables of variables that grow.
 use Rattle.std.proofs.Common.{◌≡◌, ℕ, zero, suc, ◌+◌, List, [], ◌∷◌, ◌++◌, length, take, slice_get, Some, refl, sym, ap, ◌∙◌, add-one}
-use Rattle.cp_term.specs.Table.{Declared, roots, sorts}
-use Rattle.cp_term.specs.declared.variable.Sort.{Sort}
-use Rattle.cp_skel.specs.Data.{SkeletonData}
+use Rattle.cp_model.specs.Data.{Declared, roots, sorts, SkeletonData}
+use Rattle.cp_model.specs.declared.sort.Sort.{Sort}
 
 next_at : (vs : List Declared) (n : ℕ) (root : List ℕ) (sort : Sort) → slice_get (roots vs) n ≡ Some root → slice_get (sorts vs) n ≡ Some sort → take n vs ++ record { root = root; sort = sort } ∷ [] ≡ take (suc n) vs
 next_at [] n root sort e f = absurd (cc)

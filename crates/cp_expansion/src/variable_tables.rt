@@ -1,6 +1,6 @@
 // Tables of variables that grow as others have grown.
 ghost use Rattle.std.specs.Prelude.{◌≡◌, List, ◌++◌, IfOk};
-ghost use Rattle.cp_term.specs.Table.{Declared};
+ghost use Rattle.cp_model.specs.Data.{Declared};
 
 use cp_skel::Skeleton;
 use cp_term::{VarId, VarTable};

@@ -23,12 +23,6 @@ abbrev pub unless_any : {A : Type 0} → List A → List A → List A
 unless_any [] others = others
 unless_any (r ∷ rs) others = r ∷ rs
 
--- Where neither of two comes before a third, none of them does.
-pub among_two : {A : Type 0} (comes_before : A → A → Bool) (r s t : A) → comes_before r t ≡ false → comes_before s t ≡ false → (q : A) → IsIn q (r ∷ s ∷ []) → comes_before q t ≡ false
-among_two comes_before r s t g h q here = g
-among_two comes_before r s t g h q (there here) = h
-among_two comes_before r s t g h q (there (there m)) = elim m [ ]
-
 module _ {A : Type 0} (comes_before : A → A → Bool) where
   pub first_onto-append : (o : Option A) (a b : List A) → first_onto comes_before o (a ++ b) ≡ first_onto comes_before (first_onto comes_before o a) b
   first_onto-append o [] b = refl

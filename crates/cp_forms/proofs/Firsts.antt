@@ -2,13 +2,14 @@
 use Rattle.std.proofs.Common.{◌≡◌, List, [], ◌∷◌, ◌++◌, true, false, refl, ap, ◌∙◌}
 use Rattle.std.specs.Prelude.{Option, Some, None}
 use Rattle.cp_lists.specs.Lists.{here, there}
+use Rattle.cp_lists.proofs.Members.{among_two}
 use Rattle.cp_base.specs.declared.place.Refusal.{Refusal}
 use Rattle.cp_language.specs.FirstFault.{rank_of, comes_before, IsFirstFault}
 use Rattle.cp_language.specs.Roles.{unless_faulty}
 use Rattle.cp_language.proofs.OneAnswer.{not_before, not_before_self, not_both, one_first}
 use Rattle.cp_forms.specs.FirstFault.{first_onto, merged, onto_none}
 use Rattle.cp_forms.proofs.FirstOf as first
-use Rattle.cp_forms.proofs.FirstOf.{IsOrder, unless_any, among_two}
+use Rattle.cp_forms.proofs.FirstOf.{IsOrder, unless_any}
 
 behind_itself : (r : Refusal) → comes_before r r ≡ false
 behind_itself r = not_before_self r.place.line r.place.col (rank_of r.code)

@@ -57,7 +57,7 @@ fn drop_pairs(alloc: Global, k: &mut Skeleton) -> Result<(), AllocError>
 }
 
 /// What is left of a skeleton when pairs are dropped as long as one can be; none where none can. It is fit and lists all pairs of its
-/// order, and no strand of it can be deleted. The error is that memory ran out.
+/// order. The error is that memory ran out.
 fn dropped_of_all(alloc: Global, all: &Skeleton) -> Result<Option<Skeleton>, AllocError>
     requires lists { ListsOrder (skeleton_view all.now) all.now.order }
     requires fit { IsFit (skeleton_view all.now) }

@@ -6,8 +6,8 @@ use Rattle.cp_term.specs.Shapes.{IsShapeOf}
 use Rattle.cp_term.specs.declared.shape.Shape.{Shape}
 use Rattle.cp_term.specs.declared.shape.Shape.TheVariants.{Tag, Variable, Inverse, Ltk, Pubk, Pair, Encryption}
 use Rattle.cp_term.specs.Variables.{variable_term}
-use Rattle.cp_term.specs.declared.variable.Sort.{Sort}
-use Rattle.cp_term.specs.declared.variable.Sort.TheVariants.{Text, Datum, Name, Skey, Akey}
+use Rattle.cp_model.specs.declared.sort.Sort.{Sort}
+use Rattle.cp_model.specs.declared.sort.Sort.TheVariants.{Text, Datum, Name, Skey, Akey}
 use Rattle.cp_term.specs.declared.term.Term as program
 
 module _ (c : Term) where

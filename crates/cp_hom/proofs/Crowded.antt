@@ -1,9 +1,10 @@
 -- Where role strands are kept apart, there are no more of a role than there are where they go.
-use Rattle.std.proofs.Common.{◌≡◌, ◌≢◌, ℕ, zero, suc, ◌+◌, ◌<◌, ◌≤◌, List, [], ◌∷◌, length, map, drop, get_or, refl, sym, ap, ◌∙◌, subst, arith, inl, inr}
+use Rattle.std.proofs.Common.{◌≡◌, ℕ, zero, suc, ◌+◌, ◌<◌, ◌≤◌, List, [], ◌∷◌, length, map, drop, get_or, refl, sym, ap, ◌∙◌, subst, arith, inl, inr}
 use Rattle.std.specs.Prelude.{Some}
 use Rattle.std.proofs.lemmas.List.{drop_all, length-map}
-use Rattle.cp_lists.proofs.Members.{drop_read}
+use Rattle.cp_lists.proofs.Members.{drop_read, suc_in, in_sucs, not_zero}
 use Rattle.cp_lists.specs.Lists.{item_at, IsIn, here, there}
+use Rattle.cp_lists.proofs.Without.{taken_out}
 use Rattle.cp_model.specs.Term.{Substitution}
 use Rattle.cp_model.specs.Strand.{Role}
 use Rattle.cp_model.specs.Skeleton.{SkeletonStrand, instance, listener, Skeleton}
@@ -53,19 +54,6 @@ counted_all {A} view fact xs i count done so_far =
 abbrev AreDistinct : List ℕ → Type 0
 AreDistinct [] = Unit {0}
 AreDistinct (n ∷ ns) = (IsIn n ns → ⊥) × AreDistinct ns
-
-suc_in : (ns : List ℕ) (n : ℕ) → IsIn n ns → IsIn (suc n) (map suc ns)
-suc_in (m ∷ ns) n here = here
-suc_in (m ∷ ns) n (there p) = there (suc_in ns n p)
-suc_in [] n p = elim p [ ]
-
-in_sucs : (ns : List ℕ) (n : ℕ) → IsIn n (map suc ns) → (m : ℕ) × (n ≡ suc m) × IsIn m ns
-in_sucs [] n p = elim p [ ]
-in_sucs (m ∷ ns) n here = (m, refl, here)
-in_sucs (m ∷ ns) n (there p) = let h = in_sucs ns n p in (h.0, h.1, there h.2)
-
-not_zero : (ns : List ℕ) → IsIn zero (map suc ns) → ⊥
-not_zero ns p = let h = in_sucs ns zero p in let e : zero ≡ suc h.0 = h.1 in omega (arith, e)
 
 sucs_distinct : (ns : List ℕ) → AreDistinct ns → AreDistinct (map suc ns)
 sucs_distinct [] h = tt
@@ -123,21 +111,6 @@ module _ {A : Type 0} (fact : A → Type 0) where
   places_of (x ∷ xs) n (inr h) = let g = places_of xs n h.1 in (map suc g.0, without_first x xs n g.0 h.0 g.1)
 
 -- ---- distinct numbers with distinct images among others are no more than these
-
-taken_out : (k : ℕ) (ns : List ℕ) → IsIn k ns → (rest : List ℕ) × (length ns ≡ suc (length rest)) × ((j : ℕ) → IsIn j ns → j ≢ k → IsIn j rest)
-taken_out k [] p = elim p [ ]
-taken_out k (n ∷ ns) here = (ns, refl, first)
-  where
-    first : (j : ℕ) → IsIn j (k ∷ ns) → j ≢ k → IsIn j ns
-    first j here other = absurd (other refl)
-    first j (there q) other = q
-taken_out k (n ∷ ns) (there p) =
-    let r = taken_out k ns p in
-    (n ∷ r.0, ap suc r.1, λ j q other. later r.0 r.2 j q other)
-  where
-    later : (rest : List ℕ) → ((j : ℕ) → IsIn j ns → j ≢ k → IsIn j rest) → (j : ℕ) → IsIn j (n ∷ ns) → j ≢ k → IsIn j (n ∷ rest)
-    later rest h j here other = here
-    later rest h j (there q) other = there (h j q other)
 
 no_more : (f : ℕ → ℕ) (ns ms : List ℕ) → AreDistinct ns → ((i j : ℕ) → IsIn i ns → IsIn j ns → f i ≡ f j → i ≡ j) → ((i : ℕ) → IsIn i ns → IsIn (f i) ms) → length ns ≤ length ms
 no_more f [] ms distinct apart goes = omega arith

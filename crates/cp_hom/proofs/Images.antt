@@ -2,7 +2,7 @@
 use Rattle.std.proofs.Common.{◌≡◌, ◌≢◌, ℕ, ◌<◌, Bool, true, false, if◌then◌else◌, ◌==◌, List, [], ◌∷◌, ◌++◌, length, set, refl, sym, ap, ◌∙◌, subst, arith}
 use Rattle.std.specs.Prelude.{Option, Some, None}
 use Rattle.std.proofs.lemmas.Bool.Decides.{Decides-eqb}
-use Rattle.cp_lists.proofs.Items.{item_last, item_apart, item_past, set_here, set_elsewhere}
+use Rattle.cp_lists.proofs.Items.{item_apart, item_past, set_here, set_elsewhere, item_end}
 use Rattle.cp_lists.specs.Lists.{item_at, IsIn, here, there}
 use Rattle.cp_model.specs.Bundle.{node_at}
 use Rattle.cp_model.specs.declared.node.Node.{Node}
@@ -135,9 +135,6 @@ pub term_never : (ps : List Placement) (t u : Term) (r : List Binding) → Never
 term_never ps t u r h = λ f follows w. h f.terms follows.1 w
 
 -- ---- lists of images
-
-item_end : {A : Type 0} (xs : List A) (y : A) (s : ℕ) → length xs ≡ s → item_at (xs ++ (y ∷ [])) s ≡ Some y
-item_end xs y s e = ap (item_at (xs ++ (y ∷ []))) (sym e) ∙ item_last xs y
 
 by_number : (m n : ℕ) (P : Type 0) → (m ≡ n → P) → (m ≢ n → P) → P
 by_number m n P same other = choose (m == n) (Decides-eqb m n).0 (Decides-eqb m n).1

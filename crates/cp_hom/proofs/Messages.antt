@@ -7,7 +7,7 @@ use Rattle.cp_model.specs.Term.{Term, Substitution, apply_to}
 use Rattle.cp_model.specs.Strand.{Event, send, recv, payload, event_map, Role}
 use Rattle.cp_model.specs.Skeleton.{skeleton_trace}
 use Rattle.cp_model.specs.Homomorphism.{SkeletonMap, substitution_by}
-use Rattle.cp_strand.specs.Data.{InstanceData, StrandData}
+use Rattle.cp_model.specs.Data.{InstanceData, StrandData}
 use Rattle.cp_strand.specs.View.{instance_as_data, instance_view, strand_view}
 use Rattle.cp_hom.specs.PartialMaps.{PartialMap, IsExtended, IsNever, Finds}
 use Rattle.cp_hom.specs.Counterparts.{MakesEvents, MakesMessages, MakesPart}

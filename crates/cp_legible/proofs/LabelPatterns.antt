@@ -1,7 +1,7 @@
 -- The variables of the labels of a tree are declared, so that what is asked of them is well asked, and their patterns are patterns.
 use Rattle.std.proofs.Common.{◌≡◌, ◌⊎◌, inl, inr, ℕ, zero, suc, ◌<◌, List, [], map, Some, refl, ap, ◌∙◌, subst, ⊎_elim, arith}
 use Rattle.cp_lists.specs.Lists.{item_at, IsIn}
-use Rattle.cp_lists.proofs.Items.{item_of_map}
+use Rattle.cp_lists.proofs.Items.{item_of_map, front_or_behind}
 use Rattle.cp_lists.proofs.Members.{not_in_none}
 use Rattle.cp_model.specs.Strand.{Declaration, Role, Protocol}
 use Rattle.cp_model.specs.Skeleton.{Skeleton, IsSkeleton}
@@ -23,7 +23,6 @@ use Rattle.cp_general.proofs.SoundGeneralisations.{are_declared}
 use Rattle.cp_tree.specs.Made.{Made, made_of_root, Way, way_of}
 use Rattle.cp_tree.specs.Searched.{IsMarkedAmong, Becomes, is_dead, is_seen, is_realised, is_generalised, above_bound, at_limit, is_tested, IsTreeFrom}
 use Rattle.cp_tree.proofs.AskedOn.{IsWellAsked, last_asked}
-use Rattle.cp_tree.proofs.Numbered.{front_or_behind}
 use Rattle.cp_tree.proofs.Settled.{IsMadeOfChild, IsMadeOfGeneralisation, made_from}
 use Rattle.cp_tree.proofs.OwnVariables.{own_declared}
 use Rattle.cp_tree.proofs.SoundLabels.{made, settled_here, becomes_here, comes_behind, skeleton_here, made_label}

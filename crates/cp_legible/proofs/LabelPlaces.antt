@@ -1,7 +1,7 @@
 -- How each label of a tree was made, and that its parent and its children agree with it.
 use Rattle.std.proofs.Common.{◌≡◌, ◌⊎◌, inl, inr, ℕ, zero, suc, ◌+◌, List, [], ◌∷◌, length, map, Option, Some, None, refl, sym, ap, ◌∙◌, subst, ⊎_elim, arith}
 use Rattle.cp_lists.specs.Lists.{item_at, IsIn, here, there}
-use Rattle.cp_lists.proofs.Items.{at_place, item_of_map}
+use Rattle.cp_lists.proofs.Items.{at_place, item_of_map, front_or_behind}
 use Rattle.cp_lists.proofs.Members.{not_in_none, only_item, in_append, from_map}
 use Rattle.cp_model.specs.Strand.{Declaration}
 use Rattle.cp_model.specs.Skeleton.{Skeleton}
@@ -16,7 +16,6 @@ use Rattle.cp_covering.specs.Cohort.{Question, IsCohort}
 use Rattle.cp_tree.specs.Made.{Made, made_of_root, made_of_child, Way, way_of}
 use Rattle.cp_tree.specs.Searched.{IsMarkedAmong, IsTreeFrom}
 use Rattle.cp_tree.proofs.MadeChildren.{child_label}
-use Rattle.cp_tree.proofs.Numbered.{front_or_behind}
 use Rattle.cp_tree.proofs.Placed.{children_are}
 use Rattle.cp_tree.proofs.Settled.{IsOfMade, IsMadeOfChild, IsMadeOfGeneralisation, made_from}
 use Rattle.cp_tree.proofs.SoundLabels.{made, settled_here, of_made_here, label_here}

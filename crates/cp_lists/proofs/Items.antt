@@ -1,5 +1,5 @@
 -- What stands at the places of a list, and of lists that are made of others.
-use Rattle.std.proofs.Common.{◌≡◌, ◌≢◌, ◌⊎◌, inl, inr, ◌∙◌, ℕ, zero, suc, ◌+◌, ◌<◌, ◌≤◌, List, [], ◌∷◌, ◌++◌, Option, Some, None, option_map, map, length, get_or, slice_get, set, take, drop, refl, sym, ap, subst, arith}
+use Rattle.std.proofs.Common.{◌≡◌, ◌≢◌, ◌⊎◌, inl, inr, ◌∙◌, ℕ, zero, suc, ◌+◌, ◌<◌, ◌≤◌, List, [], ◌∷◌, ◌++◌, Option, Some, None, option_map, map, length, get_or, slice_get, set, take, drop, refl, sym, ap, subst, arith, ⊎_elim}
 use Rattle.cp_lists.specs.Lists.{item_at, IsIn, here, there}
 
 -- ---- places and items
@@ -151,3 +151,82 @@ set_elsewhere (x ∷ xs) zero y zero ne = absurd (ne refl)
 set_elsewhere (x ∷ xs) zero y (suc j) ne = refl
 set_elsewhere (x ∷ xs) (suc i) y zero ne = refl
 set_elsewhere (x ∷ xs) (suc i) y (suc j) ne = set_elsewhere xs i y j (λ e. ne (ap suc e))
+
+-- ---- lists of few items, and lists in two parts
+
+pub map_none : {A B : Type 0} (f : A → B) (xs : List A) (i : ℕ) → item_at xs i ≡ None → item_at (map f xs) i ≡ None
+map_none f [] i e = refl
+map_none f (x ∷ xs) zero e = absurd (cc)
+map_none f (x ∷ xs) (suc i) e = map_none f xs i e
+
+-- A list of one item.
+pub only_place : {A : Type 0} (x : A) (i : ℕ) {y : A} → item_at (x ∷ []) i ≡ Some y → (i ≡ 0) × (x ≡ y)
+only_place x zero e = let p : x ≡ _ = cc in (refl, p)
+only_place x (suc i) e = absurd (cc)
+
+-- The items of lists of one and of three.
+pub one_item : {A : Type 0} {x y : A} (i : ℕ) (P : ℕ → A → Type 0) → item_at (x ∷ []) i ≡ Some y → P 0 x → P i y
+one_item {x = x} {y = y} zero P q p = let e : x ≡ y = cc in subst (P 0) e p
+one_item (suc i) P q p = absurd (cc)
+
+pub each_of_three : {A : Type 0} {x y z w : A} (i : ℕ) (P : ℕ → A → Type 0) → item_at (x ∷ y ∷ z ∷ []) i ≡ Some w → P 0 x → P 1 y → P 2 z → P i w
+each_of_three {x = x} {w = w} zero P q a b c = let e : x ≡ w = cc in subst (P 0) e a
+each_of_three {y = y} {w = w} (suc zero) P q a b c = let e : y ≡ w = cc in subst (P 1) e b
+each_of_three {z = z} {w = w} (suc (suc zero)) P q a b c = let e : z ≡ w = cc in subst (P 2) e c
+each_of_three (suc (suc (suc i))) P q a b c = absurd (cc)
+
+pub some_within : {A : Type 0} (es : List A) (i : ℕ) → i < length es → item_at es i ≡ None → ⊥
+some_within [] i h e = absurd (omega arith)
+some_within (x ∷ es) zero h e = absurd (cc)
+some_within (x ∷ es) (suc i) h e = some_within es i (omega arith) e
+
+pub past_end : {A B : Type 0} (f : A → B) (xs : List A) (i : ℕ) (y : B) → length xs ≤ i → item_at (map f xs) i ≡ Some y → ⊥
+past_end f xs i y l at =
+    let r = item_of_map f xs i y at in
+    let below = item_below xs i r.0 r.1 in
+    omega (arith, l, below)
+
+-- An item of two lists strung together is in the first or in the second.
+pub at_append : {A : Type 0} (xs ys : List A) (i : ℕ) (z : A) → item_at (xs ++ ys) i ≡ Some z → ((item_at xs i ≡ Some z) × (i < length xs)) ⊎ ((j : ℕ) × (i ≡ length xs + j) × (item_at ys j ≡ Some z))
+at_append [] ys i z e = inr (i, omega arith, e)
+at_append (x ∷ xs) ys zero z e = inl (e, omega arith)
+at_append {A} (x ∷ xs) ys (suc i) z e = elim (at_append xs ys i z e) as (λ _. ((item_at (x ∷ xs) (suc i) ≡ Some z) × (suc i < length (x ∷ xs))) ⊎ ((j : ℕ) × (suc i ≡ length (x ∷ xs) + j) × (item_at ys j ≡ Some z))) [
+  | inl p ↦ inl (p.0, omega (arith, p.1))
+  | inr p ↦ inr (p.0, omega (arith, p.1), p.2)
+]
+
+pub some_same : {s t : List ℕ} → Some s ≡ Some t → s ≡ t
+some_same e = cc
+
+pub item_end : {A : Type 0} (xs : List A) (y : A) (s : ℕ) → length xs ≡ s → item_at (xs ++ (y ∷ [])) s ≡ Some y
+item_end xs y s e = ap (item_at (xs ++ (y ∷ []))) (sym e) ∙ item_last xs y
+
+pub end_cases : {A : Type 0} (xs : List A) (y : A) (i : ℕ) (x : A) → item_at (xs ++ (y ∷ [])) i ≡ Some x → ((i < length xs) × (item_at xs i ≡ Some x)) ⊎ ((i ≡ length xs) × (y ≡ x))
+end_cases [] y zero x e = inr (refl, cc)
+end_cases [] y (suc i) x e = absurd (cc)
+end_cases (z ∷ xs) y zero x e = inl (omega arith, e)
+end_cases (z ∷ xs) y (suc i) x e = by (end_cases xs y i x e)
+  where
+    by : ((i < length xs) × (item_at xs i ≡ Some x)) ⊎ ((i ≡ length xs) × (y ≡ x)) → ((suc i < length (z ∷ xs)) × (item_at xs i ≡ Some x)) ⊎ ((suc i ≡ length (z ∷ xs)) × (y ≡ x))
+    by (inl r) = let l = r.0 in inl (omega (arith, l), r.1)
+    by (inr r) = inr (ap suc r.0, r.1)
+
+pub other_entry : (p : List ℕ) (n : ℕ) → n < length p → (item_at p n ≡ Some n → ⊥) → (l : ℕ) × (item_at p n ≡ Some l) × (l ≡ n → ⊥)
+other_entry p n less none = let r = item_there p n less in (r.0, r.1, λ e. none (r.1 ∙ ap Some e))
+
+-- Of two lists, one behind the other, each item is one of the first, or one of the second so many places on.
+pub item_in_parts : {A : Type 0} (xs ys : List A) (i : ℕ) (y : A) → item_at (xs ++ ys) i ≡ Some y → (item_at xs i ≡ Some y) ⊎ ((q : ℕ) × (i ≡ length xs + q) × (item_at ys q ≡ Some y))
+item_in_parts [] ys i y at = inr (i, omega arith, at)
+item_in_parts (x ∷ xs) ys zero y at = inl at
+item_in_parts (x ∷ xs) ys (suc i) y at = ⊎_elim inl (λ r. inr (r.0, (let e = r.1 in omega (arith, e)), r.2)) (item_in_parts xs ys i y at)
+
+-- Behind other items each stands as many places further.
+pub item_further : {A : Type 0} (xs ys : List A) (i j : ℕ) (y : A) → j ≡ length xs + i → item_at ys i ≡ Some y → item_at (xs ++ ys) j ≡ Some y
+item_further [] ys i j y e at = let same : j ≡ i = omega (arith, e) in ap (item_at ys) same ∙ at
+item_further (x ∷ xs) ys i zero y e at = absurd (omega (arith, e))
+item_further (x ∷ xs) ys i (suc j) y e at = item_further xs ys i j y (omega (arith, e)) at
+
+pub front_or_behind : {A : Type 0} (xs ys : List A) (i : ℕ) (y : A) → item_at (xs ++ ys) i ≡ Some y → (item_at xs i ≡ Some y) ⊎ IsIn y ys
+front_or_behind [] ys i y at = inr (at_place ys i y at)
+front_or_behind (x ∷ xs) ys zero y at = inl at
+front_or_behind (x ∷ xs) ys (suc i) y at = front_or_behind xs ys i y at

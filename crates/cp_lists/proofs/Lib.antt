@@ -6,3 +6,5 @@ pub mod Mapped
 pub mod Without
 pub mod Reached
 pub mod Least
+pub mod Fronts
+pub mod SameLists

@@ -1,7 +1,7 @@
 -- What is in a list, and in lists that are made of others.
-use Rattle.std.proofs.Common.{◌≡◌, ◌⊎◌, inl, inr, ◌∙◌, ℕ, zero, suc, ◌+◌, ◌<◌, ◌≤◌, List, [], ◌∷◌, ◌++◌, Bool, true, false, if◌then◌else◌, map, length, get_or, drop, refl, sym, ap, subst, add-one, arith, ⊎_elim}
+use Rattle.std.proofs.Common.{◌≡◌, ◌⊎◌, inl, inr, ◌∙◌, ℕ, zero, suc, ◌+◌, ◌<◌, ◌≤◌, List, [], ◌∷◌, ◌++◌, Bool, true, false, if◌then◌else◌, map, length, get_or, drop, refl, sym, ap, subst, add-one, arith, ⊎_elim, ◌≢◌}
 use Rattle.std.specs.Prelude.{reverse}
-use Rattle.std.specs.List.{filter}
+use Rattle.std.specs.List.{filter, AllZip, remove}
 use Rattle.std.proofs.Math.Seq.{drop-cons}
 use Rattle.std.proofs.lemmas.List.{drop_all, drop_more, reverse-append}
 use Rattle.cp_lists.specs.Lists.{IsIn, here, there}
@@ -175,3 +175,92 @@ pub each_in : {A : Type 0} (xs ys : List A) (y : A) → ((i : ℕ) (d : A) → i
 each_in xs [] y h m = elim m [ ]
 each_in xs (z ∷ ys) y h here = h 0 y (omega arith)
 each_in xs (z ∷ ys) y h (there m) = each_in xs ys y (λ i d l. h (suc i) d (omega (arith, l))) m
+
+-- ---- what is true of all items, or of none
+
+pub below_end : (n m : ℕ) (ns : List ℕ) → n < m → ((k : ℕ) → IsIn k ns → n < k) → (k : ℕ) → IsIn k ns ⊎ IsIn k (m ∷ []) → n < k
+below_end n m ns l above k (inl i) = above k i
+below_end n m ns l above k (inr i) = subst (λ (x : ℕ). n < x) (sym (only_item i)) l
+
+pub nothing_there : {A : Type 0} (xs : List A) → ((x : A) → IsIn x xs → ⊥) → xs ≡ []
+nothing_there [] h = refl
+nothing_there (x ∷ xs) h = absurd (h x here)
+
+pub zip_listed : {A B : Type 0} (P Q : A → B → Type 0) (xs : List A) (ys : List B) → ((x : A) (y : B) → IsIn x xs → P x y → Q x y) → AllZip P xs ys → AllZip Q xs ys
+zip_listed P Q [] [] f all = tt
+zip_listed P Q [] (y ∷ ys) f all = absurd all
+zip_listed P Q (x ∷ xs) [] f all = absurd all
+zip_listed P Q (x ∷ xs) (y ∷ ys) f all = (f x y here all.0, zip_listed P Q xs ys (λ z w i. f z w (there i)) all.1)
+
+pub in_with_last : {A : Type 0} {x : A} (xs : List A) (y : A) → (x ≡ y) ⊎ IsIn x xs → IsIn x (xs ++ y ∷ [])
+in_with_last [] y (inl e) = at_head e
+in_with_last [] y (inr h) = elim h [ ]
+in_with_last {x = x} (z ∷ xs) y (inl e) = there (in_with_last xs y (inl e))
+in_with_last {x = x} (z ∷ xs) y (inr h) = of (head_or_behind h) (λ h'. in_with_last xs y (inr h'))
+  where
+    of : (x ≡ z) ⊎ IsIn x xs → (IsIn x xs → IsIn x (xs ++ y ∷ [])) → IsIn x (z ∷ xs ++ y ∷ [])
+    of (inl e) f = at_head e
+    of (inr h') f = there (f h')
+
+pub done_or_none : {A : Type 0} {x : A} (done : List A) → IsIn x done ⊎ IsIn x [] → IsIn x done
+done_or_none done (inl m) = m
+done_or_none done (inr m) = elim m [ ]
+
+-- Where neither of two comes before a third, none of them does.
+pub among_two : {A : Type 0} (comes_before : A → A → Bool) (r s t : A) → comes_before r t ≡ false → comes_before s t ≡ false → (q : A) → IsIn q (r ∷ s ∷ []) → comes_before q t ≡ false
+among_two comes_before r s t g h q here = g
+among_two comes_before r s t g h q (there here) = h
+among_two comes_before r s t g h q (there (there m)) = elim m [ ]
+
+pub filter-all : {A : Type 0} (p : A → Bool) (xs : List A) → ((v : A) → IsIn v xs → p v ≡ true) → filter p xs ≡ xs
+filter-all p [] h = refl
+filter-all p (x ∷ xs) h = ap (λ b. if b then x ∷ filter p xs else filter p xs) (h x here) ∙ ap (λ ys. x ∷ ys) (filter-all p xs (λ v i. h v (there i)))
+
+-- What is left of a list without one of its items was in it.
+pub was_in : {A : Type 0} (xs : List A) (d : ℕ) (x : A) → IsIn x (remove xs d) → IsIn x xs
+was_in [] zero x i = i
+was_in [] (suc d) x i = i
+was_in (y ∷ xs) zero x i = there i
+was_in (y ∷ xs) (suc d) x here = here
+was_in (y ∷ xs) (suc d) x (there i) = there (was_in xs d x i)
+
+pub other_than : {A : Type 0} {x y : A} {ys : List A} → y ≢ x → (y ≡ x) ⊎ IsIn x ys → IsIn x ys
+other_than other (inl e) = absurd (other e)
+other_than other (inr h) = h
+
+pub in_either : {A : Type 0} {x y : A} (xs : List A) → IsIn x (xs ++ y ∷ []) → IsIn x xs ⊎ (x ≡ y)
+in_either [] m = inr (only (head_or_behind m))
+  where
+    only : {B : Type 0} {x y : B} → (x ≡ y) ⊎ IsIn x [] → x ≡ y
+    only (inl e) = e
+    only (inr i) = elim i [ ]
+in_either (z ∷ zs) here = inl here
+in_either (z ∷ zs) (there m) = further (in_either zs m)
+  where
+    further : {B : Type 0} {x y z : B} {zs : List B} → IsIn x zs ⊎ (x ≡ y) → IsIn x (z ∷ zs) ⊎ (x ≡ y)
+    further (inl i) = inl (there i)
+    further (inr e) = inr e
+
+pub suc_in : (ns : List ℕ) (n : ℕ) → IsIn n ns → IsIn (suc n) (map suc ns)
+suc_in (m ∷ ns) n here = here
+suc_in (m ∷ ns) n (there p) = there (suc_in ns n p)
+suc_in [] n p = elim p [ ]
+
+pub in_sucs : (ns : List ℕ) (n : ℕ) → IsIn n (map suc ns) → (m : ℕ) × (n ≡ suc m) × IsIn m ns
+in_sucs [] n p = elim p [ ]
+in_sucs (m ∷ ns) n here = (m, refl, here)
+in_sucs (m ∷ ns) n (there p) = let h = in_sucs ns n p in (h.0, h.1, there h.2)
+
+pub not_zero : (ns : List ℕ) → IsIn zero (map suc ns) → ⊥
+not_zero ns p = let h = in_sucs ns zero p in let e : zero ≡ suc h.0 = h.1 in omega (arith, e)
+
+pub empty_in : (p : List ℕ) → length p ≡ 0 → IsIn p ([] ∷ [])
+empty_in [] e = here
+empty_in (x ∷ p) e = absurd (omega (arith, e))
+
+pub in-cons : {A : Type 0} (x y : A) (xs : List A) → IsIn x (y ∷ xs) → (x ≡ y → ⊥) → IsIn x xs
+in-cons x y xs here other = absurd (other refl)
+in-cons x y xs (there p) other = p
+
+pub in_either_half : {A : Type 0} (x : A) (xs : List A) → IsIn x (reverse xs ++ xs) → IsIn x xs
+in_either_half x xs i = ⊎_elim (from_reverse xs) (λ j. j) (in_append (reverse xs) xs i)

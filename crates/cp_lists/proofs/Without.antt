@@ -1,5 +1,5 @@
 -- A list without one of its items.
-use Rattle.std.proofs.Common.{◌≡◌, ◌⊎◌, inl, inr, suc, List, [], ◌∷◌, length, refl, ap}
+use Rattle.std.proofs.Common.{◌≡◌, ◌⊎◌, inl, inr, suc, List, [], ◌∷◌, length, refl, ap, ℕ, zero, ◌≤◌, arith, ◌≢◌}
 use Rattle.cp_lists.specs.Lists.{IsIn, here, there}
 use Rattle.cp_lists.proofs.Members.{in_cases}
 
@@ -33,3 +33,30 @@ without {A} {x} (there {y} {xs} m) = without_further x y xs (without m)
 pub no_fewer : {A : Type 0} {x : A} {xs : List A} → length xs ≡ 0 → IsIn x xs → ⊥
 no_fewer {xs = []} e m = elim m [ ]
 no_fewer {xs = y ∷ xs} e m = absurd (cc)
+
+-- More texts than a list has cannot all be in it.
+pub too_many : (n : ℕ) (f : ℕ → List ℕ) → ((i j : ℕ) → i ≤ n → j ≤ n → f i ≡ f j → i ≡ j) → (taken : List (List ℕ)) → length taken ≡ n → ((i : ℕ) → i ≤ n → IsIn (f i) taken) → ⊥
+too_many zero f different taken e all = no_fewer e (all 0 (omega arith))
+too_many (suc n) f different taken e all =
+    let w : Without (f (suc n)) taken = without (all (suc n) (omega arith)) in
+    let left : length w.rest ≡ n = omega (arith, e, w.shorter) in
+    too_many n f (λ i j p q. different i j (omega arith) (omega arith)) w.rest left (λ i p. still i p (w.kept (f i) (all i (omega arith))))
+  where
+    still : {rest : List (List ℕ)} (i : ℕ) → i ≤ n → (f (suc n) ≡ f i) ⊎ IsIn (f i) rest → IsIn (f i) rest
+    still i p (inl same) = let s : suc n ≡ i = different (suc n) i (omega arith) (omega arith) same in absurd (omega arith)
+    still i p (inr m) = m
+
+pub taken_out : (k : ℕ) (ns : List ℕ) → IsIn k ns → (rest : List ℕ) × (length ns ≡ suc (length rest)) × ((j : ℕ) → IsIn j ns → j ≢ k → IsIn j rest)
+taken_out k [] p = elim p [ ]
+taken_out k (n ∷ ns) here = (ns, refl, first)
+  where
+    first : (j : ℕ) → IsIn j (k ∷ ns) → j ≢ k → IsIn j ns
+    first j here other = absurd (other refl)
+    first j (there q) other = q
+taken_out k (n ∷ ns) (there p) =
+    let r = taken_out k ns p in
+    (n ∷ r.0, ap suc r.1, λ j q other. later r.0 r.2 j q other)
+  where
+    later : (rest : List ℕ) → ((j : ℕ) → IsIn j ns → j ≢ k → IsIn j rest) → (j : ℕ) → IsIn j (n ∷ ns) → j ≢ k → IsIn j (n ∷ rest)
+    later rest h j here other = here
+    later rest h j (there q) other = there (h j q other)

@@ -1,12 +1,13 @@
 -- Pairs that have no cycle.
-use Rattle.std.proofs.Common.{◌≡◌, ◌⊎◌, inl, inr, ℕ, zero, suc, ◌+◌, ◌<◌, ◌≤◌, List, [], ◌∷◌, ◌++◌, length, get_or, map, take, drop, Bool, true, false, ◌||◌, if◌then◌else◌, length-append, sym, ap, ◌∙◌, subst, arith}
+use Rattle.std.proofs.Common.{◌≡◌, ◌⊎◌, inl, inr, ℕ, ◌+◌, ◌<◌, ◌≤◌, List, [], ◌∷◌, ◌++◌, length, get_or, map, take, drop, Bool, true, false, ◌||◌, if◌then◌else◌, length-append, sym, ap, ◌∙◌, subst, arith}
 use Rattle.std.specs.Prelude.{Option, None, Some, nat_le, nat_lt}
 use Rattle.std.specs.List.Sorted.{IsPermutation}
 use Rattle.std.proofs.lemmas.Bool.{cond-false, ltb-true, false_from_ne_true}
 use Rattle.std.proofs.lemmas.List.{append-nil, drop_all, append_assoc, get_or_default}
 use Rattle.cp_lists.proofs.Permuted.{in_permuted}
-use Rattle.cp_lists.proofs.Members.{drop_read, in_append_left, in_append_right, from_map, into_map}
+use Rattle.cp_lists.proofs.Members.{drop_read, in_append_left, in_append_right, from_map, into_map, done_or_none}
 use Rattle.cp_lists.specs.Lists.{IsIn, here, there}
+use Rattle.cp_lists.proofs.Fronts.{in_longer_front, in_front}
 use Rattle.cp_model.specs.declared.node.Node.{Node}
 use Rattle.cp_model.specs.declared.node.OrderPair.{OrderPair}
 use Rattle.cp_model.specs.Order.{IsAtOrAfter, LeadsTo, on_strand, over_pair}
@@ -32,20 +33,8 @@ acyclic-within b ps qs f h e = some_acyclic ps qs f (h e)
 
 -- ---- the first so many of the pairs
 
-in_longer : {A : Type 0} {x : A} (n : ℕ) (xs ys : List A) → IsIn x (take n xs) → IsIn x (take n (xs ++ ys))
-in_longer zero xs ys m = elim m [ ]
-in_longer (suc n) [] ys m = elim m [ ]
-in_longer (suc n) (y ∷ xs) ys here = here
-in_longer (suc n) (y ∷ xs) ys (there m) = there (in_longer n xs ys m)
-
-in_front : {A : Type 0} {x : A} (n : ℕ) (xs ys : List A) → length xs ≤ n → IsIn x xs → IsIn x (take n (xs ++ ys))
-in_front n [] ys h m = elim m [ ]
-in_front zero (y ∷ xs) ys h m = absurd (omega (arith, h))
-in_front (suc n) (y ∷ xs) ys h here = here
-in_front (suc n) (y ∷ xs) ys h (there m) = there (in_front n xs ys (omega (arith, h)) m)
-
 front_up_to : (n : ℕ) (ps rs whole : List OrderPair) → ps ++ rs ≡ whole → IsAcyclicUpTo n whole → IsAcyclicUpTo n ps
-front_up_to n ps rs whole e = some_acyclic (take n ps) (take n whole) (λ p m. subst (λ qs. IsIn p (take n qs)) e (in_longer n ps rs m))
+front_up_to n ps rs whole e = some_acyclic (take n ps) (take n whole) (λ p m. subst (λ qs. IsIn p (take n qs)) e (in_longer_front n ps rs m))
 
 front_acyclic : (n : ℕ) (ps rs whole : List OrderPair) → length ps ≤ n → ps ++ rs ≡ whole → IsAcyclicUpTo n whole → IsAcyclic ps
 front_acyclic n ps rs whole h e = some_acyclic ps (take n whole) (λ p m. subst (λ qs. IsIn p (take n qs)) e (in_front n ps rs h m))
@@ -89,9 +78,6 @@ module _ (items : List program.Form) (k : ℕ) (f : program.Form) (lt : k < leng
 
 pub stated-all : (items : List program.Form) (k : ℕ) → length items ≤ k → (ps whole : List OrderPair) → ps ++ pairs_stated (map view (drop k items)) ≡ whole → ps ≡ whole
 stated-all items k h ps whole e = sym (append-nil ps) ∙ sym (ap (λ gs. ps ++ pairs_stated (map view gs)) (drop_all k items h)) ∙ e
-
-pub all-listed : {A : Type 0} (xs : List A) (k : ℕ) → length xs ≤ k → (done whole : List A) → done ++ drop k xs ≡ whole → done ≡ whole
-all-listed xs k h done whole e = sym (append-nil done) ∙ sym (ap (λ ys. done ++ ys) (drop_all k xs h)) ∙ e
 
 -- ---- a pair that closes no cycle
 
@@ -172,10 +158,6 @@ pub swept-step : {A : Type 0} (f : A → OrderPair) (xs : List A) (k : ℕ) (d :
 swept-step f xs k d old new h s raised e =
     let x = get_or xs k d in
     (f x ∷ s.0, swept-next (map f xs) (map f (drop k xs)) (map f (drop (k + 1) xs)) s.0 old new (f x) (ap (map f) (drop_read xs k x h (get_or_default xs k d x h))) s.1 raised e)
-
-done_or_none : {A : Type 0} {x : A} (done : List A) → IsIn x done ⊎ IsIn x [] → IsIn x done
-done_or_none done (inl m) = m
-done_or_none done (inr m) = elim m [ ]
 
 pub swept-all : (all rest done : List OrderPair) (tops : Tops) → rest ≡ [] → IsSwept all rest done tops → IsAcyclic all
 swept-all all rest done tops e s = some_acyclic all done (λ p m. done_or_none done (subst (λ ps. IsIn p done ⊎ IsIn p ps) e (s.each p m))) s.acyclic

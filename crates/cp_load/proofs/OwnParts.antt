@@ -9,7 +9,7 @@ use Rattle.cp_sexpr.specs.View.{view}
 use Rattle.cp_sexpr.specs.declared.form.Form as program
 use Rattle.cp_language.specs.Roles.{headed, forms_under, item_or_none, items_behind}
 use Rattle.cp_language.specs.Problems.{pair_of, pairs_in, is_precedes_item}
-use Rattle.cp_strand.specs.Data.{StrandData}
+use Rattle.cp_model.specs.Data.{StrandData}
 use Rattle.cp_strand.specs.View.{strand_view}
 
 -- ---- numbers of strands

@@ -2,7 +2,7 @@
 use Rattle.std.specs.Prelude.{◌≡◌, List, Option, Some}
 use Rattle.cp_lists.specs.Lists.{IsIn}
 use Rattle.cp_language.specs.Problems.{Problem}
-use Rattle.cp_skel.specs.Data.{SkeletonData, skeleton_of}
+use Rattle.cp_model.specs.Data.{SkeletonData, skeleton_of}
 use Rattle.cp_skel.specs.Sound.{IsSound}
 use Rattle.cp_skel.specs.View.{skeleton_view}
 use Rattle.cp_skel.specs.Trees.{variables_view}

@@ -4,8 +4,8 @@ use Rattle.cp_model.specs.Term.{SymmetricTerm, skey_variable, PairTerm, akey_var
 use Rattle.cp_term.specs.Keys.{key_as_term}
 use Rattle.cp_term.specs.Sorts.{is_atom_of_sort, is_of_sort}
 use Rattle.cp_term.specs.Variables.{variable_term}
-use Rattle.cp_term.specs.declared.variable.Sort.{Sort}
-use Rattle.cp_term.specs.declared.variable.Sort.TheVariants.{Text, Datum, Name, Skey, Akey}
+use Rattle.cp_model.specs.declared.sort.Sort.{Sort}
+use Rattle.cp_model.specs.declared.sort.Sort.TheVariants.{Text, Datum, Name, Skey, Akey}
 use Rattle.cp_unify.specs.Atoms.{atom_of}
 use Rattle.cp_unify.specs.Matched.{is_same_sort}
 use Rattle.cp_match.specs.Candidates.{may_equal}

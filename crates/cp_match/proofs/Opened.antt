@@ -1,10 +1,11 @@
 -- Patterns that are opened.
-use Rattle.std.proofs.Common.{◌≡◌, ℕ, zero, suc, ◌+◌, ◌<◌, true, false, List, [], ◌∷◌, ◌++◌, Some, map, length, get_or, drop, take, refl, sym, ap, ap₂, ◌∙◌, subst, arith, append_assoc}
+use Rattle.std.proofs.Common.{◌≡◌, ℕ, suc, ◌+◌, ◌<◌, true, false, List, [], ◌∷◌, ◌++◌, Some, map, length, get_or, drop, take, refl, sym, ap, ap₂, ◌∙◌, subst, arith, append_assoc}
 use Rattle.std.specs.Prelude.{slice_get}
 use Rattle.std.proofs.lemmas.List.{length-map, map-append, length-append}
 use Rattle.std.proofs.Math.Seq.{take-append_seam}
 use Rattle.cp_lists.specs.Lists.{item_at, IsIn}
 use Rattle.cp_lists.proofs.Items.{slice_get_item, map_of_item, item_of_map, take_of_item, drop_of_item, item_of_read}
+use Rattle.cp_lists.proofs.Fronts.{taken_more}
 use Rattle.cp_model.proofs.CarriedParts.{not_both}
 use Rattle.cp_model.proofs.SameTests.{variable_in, in_has_variable}
 use Rattle.cp_model.specs.Pattern.{IsPattern}
@@ -14,10 +15,10 @@ use Rattle.cp_model.specs.Term.{Sort, text_sort, datum_sort, name_sort, skey_sor
 use Rattle.cp_model.specs.Tree.{Pattern}
 use Rattle.cp_skel.specs.Trees.{declared_view, variables_view}
 use Rattle.cp_strand.specs.View.{sort_view}
-use Rattle.cp_term.specs.Table.{Declared, roots}
+use Rattle.cp_model.specs.Data.{Declared, roots}
 use Rattle.cp_term.specs.Variables.{variable_term}
-use Rattle.cp_term.specs.declared.variable.Sort as program
-use Rattle.cp_term.specs.declared.variable.Sort.TheVariants as sorts
+use Rattle.cp_model.specs.declared.sort.Sort as program
+use Rattle.cp_model.specs.declared.sort.Sort.TheVariants as sorts
 use Rattle.cp_unify.specs.Atoms.{atom_of}
 use Rattle.cp_unify.specs.Bindings.{Binding, put_term, as_substitution}
 use Rattle.cp_match.specs.Opened.{with_new, opened, identifier_or_x, declared_after, declared_as, new_bindings, HasDeclared}
@@ -72,12 +73,6 @@ pub record IsDeclaredSoFar (old : List Declared) (xs : List Variable) (i : ℕ) 
 
 pub declared_some : (old : List Declared) (xs : List Variable) (i : ℕ) (new : List Declared) → IsDeclaredSoFar old xs i new → HasDeclared (variables_view old) xs (variables_view new)
 declared_some old xs i new d = record { count = i; declared = d.declared }
-
-taken_more : {A : Type 0} (xs : List A) (i : ℕ) (x : A) → drop i xs ≡ x ∷ drop (suc i) xs → take (suc i) xs ≡ take i xs ++ (x ∷ [])
-taken_more [] zero x e = absurd (cc)
-taken_more [] (suc i) x e = absurd (cc)
-taken_more (y ∷ xs) zero x e = let same : y ≡ x = cc in ap (λ z. z ∷ []) same
-taken_more (y ∷ xs) (suc i) x e = ap (λ ys. y ∷ ys) (taken_more xs i x e)
 
 one_more : (i : ℕ) → i + 1 ≡ suc i
 one_more i = omega arith

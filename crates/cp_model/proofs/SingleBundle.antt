@@ -1,7 +1,7 @@
 -- The bundle of one regular strand that only transmits.
 use Rattle.std.proofs.Common.{◌≡◌, ℕ, zero, suc, ◌+◌, ◌*◌, ◌<◌, List, [], ◌∷◌, map, Some, refl, sym, ap, ◌∙◌, subst, arith}
 use Rattle.cp_lists.specs.Lists.{item_at, IsIn, here, there}
-use Rattle.cp_lists.proofs.Items.{place_of, item_of_map}
+use Rattle.cp_lists.proofs.Items.{place_of, item_of_map, only_place}
 use Rattle.cp_model.specs.Message.{Message, atom}
 use Rattle.cp_model.specs.Term.{Sort, text_sort, datum_sort, name_sort, skey_sort, akey_sort, Variable, AtomTerm, Term, atom_term, Substitution, apply_to, value_of_atom, after, atoms_by, IsDistinct}
 use Rattle.cp_model.specs.SortNumbers.{sort_number, sort_from, sort_back}
@@ -9,7 +9,7 @@ use Rattle.cp_model.specs.Strand.{Event, send, recv, event_map, OriginatesIn, Or
 use Rattle.cp_model.specs.Bundle.{node_at, trace_or_none, event_at, OriginatesAt, KeepsNon, KeepsPenetratorNon, KeepsUnique, IsListing}
 use Rattle.cp_model.specs.declared.node.Node.{Node}
 use Rattle.cp_model.proofs.LawEvents.{trace_after}
-use Rattle.cp_model.proofs.SingleTraces.{only_place, one_origin, origin_of_value, origin_of_term}
+use Rattle.cp_model.proofs.SingleTraces.{one_origin, origin_of_value, origin_of_term}
 
 sort_number_below : (s : Sort) → sort_number s < 5
 sort_number_below text_sort = omega arith

@@ -12,8 +12,8 @@ use Rattle.cp_model.specs.PointOfView.{IsPointOfView}
 use Rattle.cp_model.specs.Single.{IsOneSendingStrand}
 use Rattle.cp_model.specs.Example.{example_key, example_inverse, example_role, example_protocol, example_assumptions, example_skeleton}
 use Rattle.cp_lists.proofs.Members.{only_item, not_in_none}
+use Rattle.cp_lists.proofs.Items.{only_place}
 use Rattle.cp_model.proofs.StrandParts.{same_instance}
-use Rattle.cp_model.proofs.SingleTraces.{only_place}
 
 -- without pairs each step goes to a later place of a strand
 step_rises : {x y : Node} → OrderStep example_skeleton x y → x.index < y.index

@@ -1,6 +1,7 @@
 -- A skeleton of one sending strand is realised, and is its own complete list.
 use Rattle.std.proofs.Common.{◌≡◌, ℕ, zero, suc, ◌<◌, List, [], ◌∷◌, Some, refl, sym, ap, ◌∙◌, subst, le_refl}
 use Rattle.cp_lists.specs.Lists.{item_at, IsIn, here, one_step, more_steps}
+use Rattle.cp_lists.proofs.Items.{only_place}
 use Rattle.cp_model.specs.Message.{Message, atom}
 use Rattle.cp_model.specs.Term.{AtomTerm, Term, atom_term, Substitution, apply_to, apply_to_atom, Assignment, value_of, value_of_atom, after, atoms_by}
 use Rattle.cp_model.specs.Strand.{Event, send, recv, OriginatesInTerms, Role, Protocol, prefix_of, IsHeight, regular, trace_of}
@@ -12,7 +13,6 @@ use Rattle.cp_model.specs.Standing.{Standing, image_on, image_of, StandsOnRegula
 use Rattle.cp_model.specs.Homomorphism.{IsCompleteList}
 use Rattle.cp_model.specs.Single.{IsOneSendingStrand}
 use Rattle.cp_model.proofs.LawTerms.{atom_after}
-use Rattle.cp_model.proofs.SingleTraces.{only_place}
 use Rattle.cp_model.proofs.SingleBundle.{own_number, own_numbers_distinct, nodes_from, one_strand_listing, event_there, rises_along, no_reception, own_strand, keeps_non, keeps_penetrator_non, keeps_unique}
 
 -- A skeleton of one strand has events on strand 0 alone.

@@ -1,7 +1,6 @@
 -- Places of lists, and origination on values and on terms.
-use Rattle.std.proofs.Common.{◌≡◌, ℕ, zero, suc, ◌<◌, ◌⊎◌, inl, inr, List, [], ◌∷◌, map, Some, refl, sym, ap, ◌∙◌, subst}
+use Rattle.std.proofs.Common.{◌≡◌, ℕ, ◌<◌, ◌⊎◌, inl, inr, List, [], map, Some, refl, sym, ap, ◌∙◌, subst}
 use Rattle.std.proofs.lemmas.Bool.{cases_order}
-use Rattle.cp_lists.specs.Lists.{item_at}
 use Rattle.cp_model.specs.Message.{Message, atom, IsCarriedBy}
 use Rattle.cp_model.specs.Term.{Variable, AtomTerm, Term, atom_term, value_of, value_of_atom, atoms_by, IsDistinct}
 use Rattle.cp_model.specs.Strand.{Event, send, recv, payload, event_map, OriginatesIn, OriginatesInTerms}
@@ -9,11 +8,6 @@ use Rattle.cp_lists.proofs.Items.{map_of_item, item_of_map}
 use Rattle.cp_model.proofs.LawEvents.{payload_map}
 use Rattle.cp_model.proofs.CarriedValues.{carried_value}
 use Rattle.cp_model.proofs.SingleValues.{carried_term}
-
--- A list of one item.
-pub only_place : {A : Type 0} (x : A) (i : ℕ) {y : A} → item_at (x ∷ []) i ≡ Some y → (i ≡ 0) × (x ≡ y)
-only_place x zero e = let p : x ≡ _ = cc in (refl, p)
-only_place x (suc i) e = absurd (cc)
 
 -- What makes a transmission is one.
 sent_of : {A B : Type 0} (f : A → B) (e : Event A) {m : B} → event_map f e ≡ send m → (t : A) × (e ≡ send t) × (f t ≡ m)

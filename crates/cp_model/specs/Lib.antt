@@ -6,6 +6,7 @@ pub mod KeyMessage
 pub mod Bundle
 pub mod Run
 pub mod Skeleton
+pub mod Data
 pub mod Order
 pub mod OrderTests
 pub mod Standing

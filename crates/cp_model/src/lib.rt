@@ -10,6 +10,7 @@ mod node;
 mod origin;
 mod runs;
 mod single;
+mod sort;
 mod strand;
 
 pub use bundle::{Bundle, Run};
@@ -26,4 +27,5 @@ pub use single::{
     one_sending_strand_example, one_sending_strand_is_realised,
     one_strand_is_its_own_complete_list, skeleton_keeps_what_it_states, skeleton_maps_from_itself,
 };
+pub use sort::Sort;
 pub use strand::{Event, Strand};

@@ -3,8 +3,8 @@ use Rattle.std.proofs.Common.{◌≡◌, ℕ, zero, suc, ◌+◌, List, [], ◌�
 use Rattle.std.proofs.lemmas.Option.{same_Some}
 use Rattle.std.specs.Prelude.{Some, slice_get}
 use Rattle.cp_model.specs.Strand as strand
-use Rattle.cp_term.specs.declared.variable.Sort.{Sort}
-use Rattle.cp_term.specs.Table.{Declared, roots, sorts}
+use Rattle.cp_model.specs.declared.sort.Sort.{Sort}
+use Rattle.cp_model.specs.Data.{Declared, roots, sorts}
 use Rattle.cp_strand.specs.View.{sort_view}
 use Rattle.cp_skel.specs.Trees.{variables_view}
 

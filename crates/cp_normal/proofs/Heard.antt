@@ -4,6 +4,7 @@ use Rattle.std.proofs.Math.Seq.{drop-cons}
 use Rattle.std.proofs.lemmas.List.{append-nil, drop_all}
 use Rattle.cp_lists.specs.Lists.{item_at, IsIn, here}
 use Rattle.cp_lists.proofs.Members.{only_item, in_append, in_append_left, in_append_right}
+use Rattle.cp_lists.proofs.Fronts.{none_taken}
 use Rattle.cp_model.specs.Term.{AtomTerm, Term, tag_term, atom_term, pair_term, enc_term, IsCarriedByTerm, itself_term, in_left_term, in_right_term, in_plaintext_term}
 use Rattle.cp_model.specs.Strand.{Event, send, recv}
 use Rattle.cp_model.specs.Bundle.{node_at}
@@ -86,10 +87,6 @@ none_later x s (y ∷ xs) h =
     heard_both x (occurrences_on s 0 (is_role_strand y) (skeleton_trace y)) (occurrences_from (suc s) xs)
     ∙ ap (λ zs. zs ++ heard_among x (occurrences_from (suc s) xs)) (none_elsewhere x s 0 (is_role_strand y) (skeleton_trace y) (λ e. omega (arith, h, e)))
     ∙ none_later x (suc s) xs (omega (arith, h))
-
-none_taken : {A : Type 0} (n : ℕ) → ◌≡◌ {A = List A} (take n []) []
-none_taken zero = refl
-none_taken (suc n) = refl
 
 heard_from : (x : Node) (s t : ℕ) (xs : List SkeletonStrand) → x.strand ≡ s + t → heard_among x (occurrences_from s xs) ≡ heard_in (take x.index (skeleton_trace_or_none (item_at xs t)))
 heard_from x s t [] e = sym (ap heard_in (none_taken x.index))

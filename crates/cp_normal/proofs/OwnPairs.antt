@@ -9,12 +9,12 @@ use Rattle.std.specs.HashSet.{HashSet, contains}
 use Rattle.std.specs.List.{filter}
 use Rattle.cp_lists.specs.Lists.{IsIn, here, there}
 use Rattle.cp_lists.proofs.Members.{in_append, in_append_left, in_append_right, from_filter, into_filter}
+use Rattle.cp_lists.proofs.Appended.{moved_behind}
 use Rattle.cp_model.specs.Skeleton.{Skeleton}
 use Rattle.cp_model.specs.declared.node.Node.{Node}
 use Rattle.cp_model.specs.declared.node.OrderPair.{OrderPair}
 use Rattle.cp_model.specs.Order.{LeadsTo, on_strand, over_pair}
 use Rattle.cp_order.specs.LeadingNodes.{Target}
-use Rattle.cp_skel.proofs.EventLists.{moved}
 use Rattle.cp_normal.specs.Findings.{IsAddedPair, AreNormalPairs}
 use Rattle.cp_normal.specs.OwnPairs.{Key, key_of, is_same_key, has_key, AreKeysOf, is_other, AllLead}
 
@@ -45,7 +45,7 @@ module _ {A : Type 0} (f : A → Bool) (xs : List A) (i : ℕ) (old whole : List
   next_kept d b e = ap (filter f) (drop-cons xs i d l) ∙ ap (λ c. cond c (get_or xs i d ∷ filter f (drop (suc i) xs)) (filter f (drop (suc i) xs))) e
 
   pub other_added : (d : A) (new : List A) → f (get_or xs i d) ≡ true → new ≡ old ++ (get_or xs i d ∷ []) → new ++ filter f (drop (i + 1) xs) ≡ whole
-  other_added d new e n = rw add-one (moved old new (filter f (drop i xs)) (filter f (drop (suc i) xs)) whole (get_or xs i d) n (next_kept d true e) inv)
+  other_added d new e n = rw add-one (moved_behind old new (filter f (drop i xs)) (filter f (drop (suc i) xs)) whole (get_or xs i d) n (next_kept d true e) inv)
 
   pub own_passed : (d : A) → f (get_or xs i d) ≡ false → old ++ filter f (drop (i + 1) xs) ≡ whole
   own_passed d e = rw add-one (sym (ap (λ ys. old ++ ys) (next_kept d false e)) ∙ inv)

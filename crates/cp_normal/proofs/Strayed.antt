@@ -1,8 +1,8 @@
 -- The first of the unique values that stray.
-use Rattle.std.proofs.Common.{Bool, ◌≡◌, ◌⊎◌, inl, inr, ℕ, zero, suc, ◌+◌, ◌<◌, ◌≤◌, List, [], ◌∷◌, ◌++◌, length, get_or, map, Some, sym, ap, ◌∙◌, subst, arith}
+use Rattle.std.proofs.Common.{Bool, ◌≡◌, ◌⊎◌, inl, inr, ℕ, zero, suc, ◌+◌, ◌<◌, ◌≤◌, List, [], ◌∷◌, length, get_or, map, Some, sym, ap, ◌∙◌, subst, arith}
 use Rattle.std.proofs.lemmas.List.{get_or_default, map-id}
 use Rattle.cp_lists.specs.Lists.{item_at, IsIn}
-use Rattle.cp_lists.proofs.Items.{place_of, map_of_read, item_of_map, item_below}
+use Rattle.cp_lists.proofs.Items.{place_of, map_of_read, past_end, at_append}
 use Rattle.cp_lists.proofs.Members.{item_is_in, into_map}
 use Rattle.cp_model.specs.Term.{AtomTerm, Term, atom_term, IsCarriedByTerm}
 use Rattle.cp_model.specs.Strand.{Event, send, payload}
@@ -22,12 +22,6 @@ use Rattle.cp_normal.specs.StrayValues.{Strays, StraysOne, NoneBefore, IsFirstAt
 
 pub viewed_at : {A B : Type 0} (f : A → B) (xs : List A) (i : ℕ) (x d : A) → i < length xs → x ≡ get_or xs i d → item_at (map f xs) i ≡ Some (f x)
 viewed_at f xs i x d l e = map_of_read f xs i x l (e ∙ get_or_default xs i d x l)
-
-past_end : {A B : Type 0} (f : A → B) (xs : List A) (i : ℕ) (y : B) → length xs ≤ i → item_at (map f xs) i ≡ Some y → ⊥
-past_end f xs i y l at =
-    let r = item_of_map f xs i y at in
-    let below = item_below xs i r.0 r.1 in
-    omega (arith, l, below)
 
 module _ {A B : Type 0} (has : B → Type 0) (f : A → B) (xs : List A) (i : ℕ) where
   pub none_at_first : NoneBefore has (map f xs) 0
@@ -83,15 +77,6 @@ pub none_of_entries : (k : Skeleton) (o : Occurrence) (us : List UniqueAt) → u
 none_of_entries k o us same none h = none h.0 (subst (IsIn h.0) (sym same) (((listed-unique k).same h.0).1 h.1)) h.2
 
 -- ---- the order of the events
-
--- An item of two lists strung together is in the first or in the second.
-at_append : {A : Type 0} (xs ys : List A) (i : ℕ) (z : A) → item_at (xs ++ ys) i ≡ Some z → ((item_at xs i ≡ Some z) × (i < length xs)) ⊎ ((j : ℕ) × (i ≡ length xs + j) × (item_at ys j ≡ Some z))
-at_append [] ys i z e = inr (i, omega arith, e)
-at_append (x ∷ xs) ys zero z e = inl (e, omega arith)
-at_append {A} (x ∷ xs) ys (suc i) z e = elim (at_append xs ys i z e) as (λ _. ((item_at (x ∷ xs) (suc i) ≡ Some z) × (suc i < length (x ∷ xs))) ⊎ ((j : ℕ) × (suc i ≡ length (x ∷ xs) + j) × (item_at ys j ≡ Some z))) [
-  | inl p ↦ inl (p.0, omega (arith, p.1))
-  | inr p ↦ inr (p.0, omega (arith, p.1), p.2)
-]
 
 on_place : (s b : ℕ) (r : Bool) (es : List (Event Term)) (i : ℕ) (o : Occurrence) → item_at (occurrences_on s b r es) i ≡ Some o → o.node ≡ node_at s (b + i)
 on_place s b r [] i o e = absurd (cc)

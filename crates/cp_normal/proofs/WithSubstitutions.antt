@@ -8,7 +8,7 @@ use Rattle.cp_model.specs.Standing.{Standing}
 use Rattle.cp_model.specs.Homomorphism.{FactorsThrough}
 use Rattle.cp_model.proofs.LawTerms.{value_after}
 use Rattle.cp_unify.specs.Bindings.{Binding, as_substitution}
-use Rattle.cp_skel.specs.Data.{SkeletonData as Program}
+use Rattle.cp_model.specs.Data.{SkeletonData as Program}
 use Rattle.cp_normal.specs.Exact.{HasForms}
 use Rattle.cp_normal.specs.NormalForms.{IsNormalFormOf}
 use Rattle.cp_normal.specs.Formed.{Formed, IsFormedFrom, StandsAmongFormed, AreNormalForms, IsFormBeside}

@@ -8,7 +8,7 @@ use Rattle.cp_model.specs.Skeleton.{Skeleton, IsSkeleton}
 use Rattle.cp_model.specs.Standing.{Standing, StandsIn, StandsApart}
 use Rattle.cp_model.specs.Senders.{ArePaired}
 use Rattle.cp_unify.specs.Bindings.{Binding, as_substitution}
-use Rattle.cp_skel.specs.Data.{SkeletonData as Program}
+use Rattle.cp_model.specs.Data.{SkeletonData as Program}
 use Rattle.cp_skel.specs.View.{skeleton_view}
 use Rattle.cp_normal.specs.BySubstitution.{ComesBySubstitution}
 use Rattle.cp_normal.specs.Exact.{HasForms}

@@ -9,7 +9,7 @@ ghost use Rattle.cp_model.specs.Standing.{Standing};
 ghost use Rattle.cp_model.specs.Homomorphism.{FactorsThrough};
 ghost use Rattle.cp_unify.specs.Bindings.{Binding, as_substitution};
 ghost use Rattle.cp_completeness.specs.Normal.{LosesNoStanding};
-ghost use Rattle.cp_skel.specs.Data.{SkeletonData};
+ghost use Rattle.cp_model.specs.Data.{SkeletonData};
 ghost use Rattle.cp_normal.specs.BySubstitution.{ComesBySubstitution, ComeBySubstitutions};
 ghost use Rattle.cp_normal.specs.Exact.{HasForms};
 ghost use Rattle.cp_normal.specs.Formed.{Formed, StandsAmongFormed, AreNormalForms, IsFormBeside};

@@ -5,7 +5,7 @@ ghost use Rattle.cp_model.specs.Skeleton.{Skeleton as Plain, IsSkeleton};
 ghost use Rattle.cp_model.specs.Strand.{Protocol};
 ghost use Rattle.cp_completeness.specs.Normal.{LosesNoStanding};
 ghost use Rattle.cp_skel.specs.View.{skeleton_view};
-ghost use Rattle.cp_skel.specs.Data.{SkeletonData};
+ghost use Rattle.cp_model.specs.Data.{SkeletonData};
 ghost use Rattle.cp_normal.specs.BySubstitution.{ComeBySubstitutions};
 ghost use Rattle.cp_collapse.specs.Property.{Has};
 ghost use Rattle.cp_normal.specs.Candidates.{form_of, IsOpen, PutsForm, AreForms};

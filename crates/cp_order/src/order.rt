@@ -13,10 +13,16 @@ use std::rc::Rc;
 
 /// An order, by pairs of nodes. From when it is closed on it keeps closed pairs beside its own: pairs that order as its own
 /// do, and of which one alone leads wherever these lead, but for the order of one strand. Copies share them.
-#[derive(Drop)]
 pub struct Order {
     pairs: Vec<OrderPair>,
     closure: Option<Rc<ClosedPairs>>,
+}
+
+// Where one is held it is dropped by one call, so that less is to be proved of who holds it.
+impl Drop for Order {
+    fn drop(self) {
+        let Order { pairs, closure } = self;
+    }
 }
 
 impl Model for Order {

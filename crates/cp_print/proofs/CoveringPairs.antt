@@ -1,7 +1,8 @@
 -- Covering pairs.
-use Rattle.std.proofs.Common.{◌≡◌, ℕ, zero, suc, ◌&&◌, ◌==◌, List, [], ◌∷◌, ◌++◌, length, map, take, min, Bool, true, false, refl, ap, ◌∙◌, arith, if◌then◌else◌}
+use Rattle.std.proofs.Common.{◌≡◌, ℕ, suc, ◌&&◌, ◌==◌, List, [], ◌∷◌, ◌++◌, length, Bool, true, false, refl, ap, ◌∙◌, arith, if◌then◌else◌}
 use Rattle.std.specs.Prelude.{not, nat_le}
 use Rattle.std.proofs.lemmas.List.{length-map}
+use Rattle.cp_lists.proofs.Fronts.{length_min}
 use Rattle.cp_model.specs.Bundle.{node_at}
 use Rattle.cp_model.specs.declared.node.Node.{Node}
 use Rattle.cp_model.specs.Strand.{Event}
@@ -30,11 +31,6 @@ module _ (nodes : List Node) where
 -- without pairs nothing is covered
 pub none_cover : (nodes : List Node) → covering_from [] nodes nodes ≡ []
 none_cover nodes = none_from nodes nodes
-
-pub length_min : {A B : Type 0} (f : A → B) (n : ℕ) (xs : List A) → length (map f (take n xs)) ≡ min n (length xs)
-length_min f zero xs = omega arith
-length_min f (suc n) [] = omega arith
-length_min f (suc n) (x ∷ xs) = let h = length_min f n xs in omega arith
 
 pub ruleset lengths = (length_min, length-map)
 

@@ -1,6 +1,7 @@
 -- The marked variables of a label and of an instance, one by one.
-use Rattle.std.proofs.Common.{◌≡◌, ℕ, zero, suc, ◌+◌, ◌<◌, List, [], ◌∷◌, ◌++◌, length, get_or, drop, map, Bool, false, if◌then◌else◌, refl, sym, ap, ◌∙◌, add-one, arith}
+use Rattle.std.proofs.Common.{◌≡◌, ℕ, suc, ◌+◌, ◌<◌, List, [], ◌∷◌, ◌++◌, length, get_or, drop, map, Bool, false, if◌then◌else◌, sym, ap, ◌∙◌, add-one, arith}
 use Rattle.cp_lists.specs.Lists.{item_at}
+use Rattle.cp_lists.proofs.Fronts.{some_item}
 use Rattle.cp_model.specs.Term.{Variable, Substitution, atom_of_variable, apply_to_atom}
 use Rattle.cp_sexpr.specs.Syntax.{Form}
 use Rattle.cp_strand.specs.declared.protocol.Declaration.{Declaration}
@@ -9,12 +10,6 @@ use Rattle.cp_language.specs.Names.{sort_text}
 use Rattle.cp_language.specs.Printed.{variable, word, plain_list, atom_form}
 use Rattle.cp_language.specs.Report.{name_or_none}
 use Rattle.cp_print.specs.MarkedForms.{vars_by, maplets_by}
-
--- there is an item before the end
-pub some_item : {A : Type 0} (xs : List A) (n : ℕ) → n < length xs → (x : A) × (drop n xs ≡ x ∷ drop (suc n) xs)
-some_item [] n lt = absurd (omega arith)
-some_item (x ∷ xs) zero lt = (x, refl)
-some_item (x ∷ xs) (suc n) lt = some_item xs n (omega arith)
 
 -- a variable without a mark is passed over
 module _ (marks : List Bool) (n : ℕ) (ds : List Declaration) (lt : n < length ds) (e : get_or marks n false ≡ false) where

@@ -3,7 +3,7 @@ use Rattle.std.proofs.Common.{◌≡◌, List, [], ◌∷◌, false, Option, Som
 use Rattle.cp_base.specs.declared.place.Place.{Place}
 use Rattle.cp_base.specs.declared.place.Code.TheVariants.{BadShape}
 use Rattle.cp_lists.specs.Lists.{IsIn}
-use Rattle.cp_lists.proofs.Appended.{none_before, none_behind}
+use Rattle.cp_lists.proofs.Appended.{none_before, none_behind, none_of_four}
 use Rattle.cp_model.specs.Strand.{Declaration, Protocol}
 use Rattle.cp_sexpr.specs.Syntax.{Form, Forms}
 use Rattle.cp_language.specs.Words.{TopHead, protocol_form, problem_form, free_form, top_out_of_profile, no_top, top_head}
@@ -11,7 +11,6 @@ use Rattle.cp_language.specs.Faults.{fault_unless, place_of, items_of}
 use Rattle.cp_language.specs.Roles.{Headed, headed, text_of_symbol, items_behind, vars_faults, declarations_of, protocol_of}
 use Rattle.cp_language.specs.Problems.{protocol_named, body_faults, has_strand, roles_of, protocol_name_faults, problem_strands, problem_faults, Problem, protocol_or_none, problem_with, problem_of}
 use Rattle.cp_language.specs.Input.{protocol_names, top_faults, headed_top_faults, protocols_onto, protocols_behind, faults_from, faults_of, Entry, problem_by, stated_problem, entries_from, input_of}
-use Rattle.cp_wellformed.proofs.Terms.{none_of_four}
 use Rattle.cp_wellformed.proofs.Strands.{protocol_listed}
 use Rattle.cp_proper.specs.Proper.{IsStringText, IsSymbolText, IsProper, AreProper}
 use Rattle.cp_proper.specs.Spelled.{AreSpelledDeclarations, IsSpelledRole, IsSpelledProblem}

@@ -6,9 +6,9 @@ use Rattle.std.proofs.lemmas.Fmt.{decimal_injective}
 use Rattle.std.proofs.lemmas.List.{length-append, append_cancel_left}
 use Rattle.std.proofs.Math.Nat.{suc_inj}
 use Rattle.cp_lists.specs.Lists.{item_at, IsIn, here, there}
-use Rattle.cp_lists.proofs.Items.{at_place, item_in_front, place_of as place_in, item_behind}
+use Rattle.cp_lists.proofs.Items.{at_place, item_in_front, place_of as place_in, item_behind, some_same}
 use Rattle.cp_lists.proofs.Members.{in_append, in_append_left, in_last}
-use Rattle.cp_lists.proofs.Without.{Without, without, no_fewer}
+use Rattle.cp_lists.proofs.Without.{too_many}
 use Rattle.cp_model.specs.Term.{Variable}
 use Rattle.cp_model.specs.Strand.{Declaration}
 use Rattle.cp_language.specs.Words.{is_one_of}
@@ -19,18 +19,6 @@ use Rattle.cp_language.proofs.ValidTests.{one_of, is_one}
 
 numbered_differ : (x : List ℕ) (m n : ℕ) → m < 2 ^ 64 → n < 2 ^ 64 → numbered_name x m ≡ numbered_name x n → m ≡ n
 numbered_differ x m n p q e = decimal_injective m n p q (append_cancel_left (x ++ codes "-") (decimal m) (decimal n) e)
-
--- More texts than a list has cannot all be in it.
-too_many : (n : ℕ) (f : ℕ → List ℕ) → ((i j : ℕ) → i ≤ n → j ≤ n → f i ≡ f j → i ≡ j) → (taken : List (List ℕ)) → length taken ≡ n → ((i : ℕ) → i ≤ n → IsIn (f i) taken) → ⊥
-too_many zero f different taken e all = no_fewer e (all 0 (omega arith))
-too_many (suc n) f different taken e all =
-    let w : Without (f (suc n)) taken = without (all (suc n) (omega arith)) in
-    let left : length w.rest ≡ n = omega (arith, e, w.shorter) in
-    too_many n f (λ i j p q. different i j (omega arith) (omega arith)) w.rest left (λ i p. still i p (w.kept (f i) (all i (omega arith))))
-  where
-    still : {rest : List (List ℕ)} (i : ℕ) → i ≤ n → (f (suc n) ≡ f i) ⊎ IsIn (f i) rest → IsIn (f i) rest
-    still i p (inl same) = let s : suc n ≡ i = different (suc n) i (omega arith) (omega arith) same in absurd (omega arith)
-    still i p (inr m) = m
 
 -- Where the name that is found is taken, all that were tried are.
 tried : (fuel : ℕ) (taken : List (List ℕ)) (x : List ℕ) (n k : ℕ) → IsIn (first_numbered fuel taken x n) taken → n ≤ k → k ≤ n + fuel → IsIn (numbered_name x k) taken
@@ -68,14 +56,11 @@ name_is_free taken x small m = by (is_one_of x taken) refl m
 abbrev pub AreDifferent : List (List ℕ) → Type 0
 AreDifferent names = (i j : ℕ) (t : List ℕ) → item_at names i ≡ Some t → item_at names j ≡ Some t → i ≡ j
 
-some_name : {s t : List ℕ} → Some s ≡ Some t → s ≡ t
-some_name e = cc
-
 -- names that are given one by one are new, and different
 onto_new : (taken : List (List ℕ)) (ds : List Declaration) → length taken + length ds < 2 ^ 64 → (i : ℕ) (t : List ℕ) → item_at (names_onto taken ds) i ≡ Some t → IsIn t taken → ⊥
 onto_new taken [] small i t e m = absurd (cc)
 onto_new taken (d ∷ ds) small zero t e m =
-    name_is_free taken d.identifier (omega arith) (subst (λ (u : List ℕ). IsIn u taken) (sym (some_name e)) m)
+    name_is_free taken d.identifier (omega arith) (subst (λ (u : List ℕ). IsIn u taken) (sym (some_same e)) m)
 onto_new taken (d ∷ ds) small (suc i) t e m =
     let x : List ℕ = free_name taken d.identifier in
     let more : length (taken ++ x ∷ []) ≡ length taken + 1 = length-append taken (x ∷ []) in
@@ -87,11 +72,11 @@ onto_different taken (d ∷ ds) small zero zero t e f = refl
 onto_different taken (d ∷ ds) small zero (suc j) t e f =
     let x : List ℕ = free_name taken d.identifier in
     let more : length (taken ++ x ∷ []) ≡ length taken + 1 = length-append taken (x ∷ []) in
-    absurd (onto_new (taken ++ x ∷ []) ds (omega arith) j t f (subst (λ (u : List ℕ). IsIn u (taken ++ x ∷ [])) (some_name e) (in_last taken x)))
+    absurd (onto_new (taken ++ x ∷ []) ds (omega arith) j t f (subst (λ (u : List ℕ). IsIn u (taken ++ x ∷ [])) (some_same e) (in_last taken x)))
 onto_different taken (d ∷ ds) small (suc i) zero t e f =
     let x : List ℕ = free_name taken d.identifier in
     let more : length (taken ++ x ∷ []) ≡ length taken + 1 = length-append taken (x ∷ []) in
-    absurd (onto_new (taken ++ x ∷ []) ds (omega arith) i t e (subst (λ (u : List ℕ). IsIn u (taken ++ x ∷ [])) (some_name f) (in_last taken x)))
+    absurd (onto_new (taken ++ x ∷ []) ds (omega arith) i t e (subst (λ (u : List ℕ). IsIn u (taken ++ x ∷ [])) (some_same f) (in_last taken x)))
 onto_different taken (d ∷ ds) small (suc i) (suc j) t e f =
     let x : List ℕ = free_name taken d.identifier in
     let more : length (taken ++ x ∷ []) ≡ length taken + 1 = length-append taken (x ∷ []) in
@@ -100,7 +85,7 @@ onto_different taken (d ∷ ds) small (suc i) (suc j) t e f =
 -- the first of such names stands at no later place
 first_once : (x : List ℕ) (xs ys : List (List ℕ)) → AreDifferent (x ∷ xs) → ((i : ℕ) (t : List ℕ) → item_at ys i ≡ Some t → IsIn t (x ∷ xs) → ⊥) → (t : List ℕ) → Some x ≡ Some t → IsIn t xs ⊎ IsIn t ys → ⊥
 first_once x xs ys p new t e (inl m) = let r = place_in m in let z : 0 ≡ suc r.0 = p 0 (suc r.0) t e r.1 in absurd (omega arith)
-first_once x xs ys p new t e (inr m) = let r = place_in m in new r.0 t r.1 (subst (λ (u : List ℕ). IsIn u (x ∷ xs)) (some_name e) here)
+first_once x xs ys p new t e (inr m) = let r = place_in m in new r.0 t r.1 (subst (λ (u : List ℕ). IsIn u (x ∷ xs)) (some_same e) here)
 
 -- a list of different names, and different ones that are none of them
 both_different : (xs ys : List (List ℕ)) → AreDifferent xs → AreDifferent ys → ((i : ℕ) (t : List ℕ) → item_at ys i ≡ Some t → IsIn t xs → ⊥) → AreDifferent (xs ++ ys)
@@ -162,7 +147,7 @@ module _ (occurs : List Variable) where
           → item_at (if b then x ∷ later_names (taken ++ x ∷ []) occurs (suc n) ds else [] ∷ later_names taken occurs (suc n) ds) j ≡ Some t
           → ((k : ℕ) (u : List ℕ) → has_number occurs (suc n + k) ≡ true → item_at (later_names (taken ++ x ∷ []) occurs (suc n) ds) k ≡ Some u → IsIn u (taken ++ x ∷ []) → ⊥)
           → ((k : ℕ) (u : List ℕ) → has_number occurs (suc n + k) ≡ true → item_at (later_names taken occurs (suc n) ds) k ≡ Some u → IsIn u taken → ⊥) → ⊥
-      by true p zero g f with_x without_x = name_is_free taken d.identifier (omega arith) (subst (λ (u : List ℕ). IsIn u taken) (sym (some_name f)) m)
+      by true p zero g f with_x without_x = name_is_free taken d.identifier (omega arith) (subst (λ (u : List ℕ). IsIn u taken) (sym (some_same f)) m)
       by true p (suc k) g f with_x without_x = with_x k t (one_on n k g) f (in_append_left (x ∷ []) m)
       by false p zero g f with_x without_x = both_ways (has_number occurs n) p (itself_on n g)
       by false p (suc k) g f with_x without_x = without_x k t (one_on n k g) f m
@@ -189,8 +174,8 @@ module _ (occurs : List Variable) where
       by : (b : Bool) → has_number occurs n ≡ b → DifferFrom (suc n) (later_names (taken ++ x ∷ []) occurs (suc n) ds) → DifferFrom (suc n) (later_names taken occurs (suc n) ds)
           → DifferFrom n (if b then x ∷ later_names (taken ++ x ∷ []) occurs (suc n) ds else [] ∷ later_names taken occurs (suc n) ds)
       by true p with_x without_x zero zero t g h e f = refl
-      by true p with_x without_x zero (suc j) t g h e f = absurd (never j t h f (some_name e))
-      by true p with_x without_x (suc i) zero t g h e f = absurd (never i t g e (some_name f))
+      by true p with_x without_x zero (suc j) t g h e f = absurd (never j t h f (some_same e))
+      by true p with_x without_x (suc i) zero t g h e f = absurd (never i t g e (some_same f))
       by true p with_x without_x (suc i) (suc j) t g h e f = ap suc (with_x i j t (one_on n i g) (one_on n j h) e f)
       by false p with_x without_x zero j t g h e f = absurd (both_ways (has_number occurs n) p (itself_on n g))
       by false p with_x without_x (suc i) zero t g h e f = absurd (both_ways (has_number occurs n) p (itself_on n h))

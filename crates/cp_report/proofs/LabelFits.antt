@@ -6,6 +6,8 @@ use Rattle.std.proofs.Math.Nat.{suc_inj}
 use Rattle.cp_base.specs.declared.place.Place.{Place}
 use Rattle.cp_lists.specs.Lists.{item_at, IsIn, here, there}
 use Rattle.cp_lists.proofs.Items.{place_of}
+use Rattle.cp_lists.proofs.Appended.{none_and}
+use Rattle.cp_lists.proofs.Mapped.{nothing_mapped}
 use Rattle.cp_model.specs.Term.{Variable}
 use Rattle.cp_model.specs.Skeleton.{SkeletonStrand, term_event_at, IsNodeOf, Skeleton}
 use Rattle.cp_model.specs.Tree.{Operation, by_problem, by_collapse, by_contraction, by_displacement, by_added_strand, by_added_listener, by_generalising, Mark, shape, dead, seen, instance_of, limit_steps, limit_strands, Test, Label}
@@ -22,7 +24,7 @@ use Rattle.cp_report.specs.Skeletons.{declarations_of_label, scope_of, node_misf
 use Rattle.cp_report.specs.Labels.{is_among, has_child_in, has_parent_in, is_label_in, parent_misfits, children_misfits, operation_word, is_operation, makes_root, operation_misfits, operation_place_misfits, word_of_label, unrealised_misfits, test_misfits, escape_misfits, has_children, has_mark, mark_misfits, no_parent_misfits, wants_parent, missing_misfits, about_strands_misfits, items_misfits, numbered_misfits, label_misfits}
 use Rattle.cp_report.specs.FittingTrees.{IsOperationOn, IsTestOn, HasMarkOrChildren, IsParentOf, FitsIn}
 use Rattle.cp_report.specs.UpToNames.{renamed, renaming}
-use Rattle.cp_report.proofs.SpelledTerms.{StandsFor, none_and, printed_term_fits}
+use Rattle.cp_report.proofs.SpelledTerms.{StandsFor, printed_term_fits}
 use Rattle.cp_report.proofs.CoveringSkeletons.{there_too}
 use Rattle.cp_report.proofs.PrintedStrands.{items_back}
 use Rattle.cp_report.proofs.LabelItems.{label_items_in_order, front_in_order}
@@ -141,9 +143,6 @@ escape_fits items [] test e = refl
 escape_fits items (f ∷ fs) test e =
     ap (λ b. misfit_unless b no_place ++ lacking 1 no_place (items_of (forms_of (f ∷ fs))) ++ each_misfits (pattern_misfits (declarations_of_label items)) (items_of (forms_of (f ∷ fs)))) (test (λ q. absurd (cc)))
     ∙ ap (each_misfits (pattern_misfits (declarations_of_label items))) (items_back (f ∷ fs)) ∙ e
-
-nothing_mapped : {A B : Type 0} (g : A → B) (xs : List A) → xs ≡ [] → map g xs ≡ []
-nothing_mapped g xs e = ap (map g) e
 
 module _ (under : IsUnder) (whole : AppliesWhole) (p : Problem) (l : Label) (h : PrintedLabel p l) (labels : List Label) (i : ℕ) (fit : FitsIn p labels i l) (tree : Option (List Form)) (agrees : AgreesWith tree i l) where
   abbrev strands : List SkeletonStrand

@@ -5,6 +5,7 @@ use Rattle.std.proofs.lemmas.Simd.{map-map}
 use Rattle.cp_lists.specs.Lists.{item_at, IsIn, here, there}
 use Rattle.cp_lists.proofs.Items.{item_below}
 use Rattle.cp_lists.proofs.Members.{in_append_left, in_append_right, head_or_behind, at_head}
+use Rattle.cp_lists.proofs.Appended.{none_and}
 use Rattle.cp_model.specs.Senders.{ArePaired}
 use Rattle.cp_model.specs.Term.{Variable, variables_of}
 use Rattle.cp_model.specs.Strand.{Declaration}
@@ -25,7 +26,7 @@ use Rattle.cp_report.specs.Spelled.{Scope, pattern_misfits, pattern_of}
 use Rattle.cp_report.specs.Skeletons.{node_or_first, scope_of, declarations_of_label}
 use Rattle.cp_report.specs.Labels.{operation_word, operation_by, test_of, mark_of, mark_in, label_by, label_of}
 use Rattle.cp_report.specs.UpToNames.{renamed, renaming, IsSamePattern, IsSameTest, IsSameLabel}
-use Rattle.cp_report.proofs.SpelledTerms.{StandsFor, none_and, printed_term_fits}
+use Rattle.cp_report.proofs.SpelledTerms.{StandsFor, printed_term_fits}
 use Rattle.cp_report.proofs.DistinctNames.{as_many_names}
 use Rattle.cp_report.proofs.PrintedVariables.{rank, occurring_from, rank_behind, rank_less, number_occurs, one_to_one}
 use Rattle.cp_report.proofs.PrintedMaps.{numbers_same}

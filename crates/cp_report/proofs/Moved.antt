@@ -1,8 +1,8 @@
 -- Where forms stand does not matter for whether they fit: forms with one place everywhere have as many misfits, and their
 -- heads, identifiers and numbers are the same.
-use Rattle.std.proofs.Common.{◌≡◌, ℕ, zero, suc, List, [], ◌∷◌, ◌++◌, true, false, refl, sym, ◌∙◌, ap}
+use Rattle.std.proofs.Common.{◌≡◌, ℕ, zero, suc, List, [], ◌∷◌, ◌++◌, true, false, refl, ◌∙◌, ap}
 use Rattle.std.specs.Prelude.{Bool, map, option_map}
-use Rattle.std.proofs.lemmas.List.{map-append}
+use Rattle.cp_lists.proofs.Mapped.{both_mapped}
 use Rattle.cp_base.specs.declared.place.Place.{Place}
 use Rattle.cp_sexpr.specs.Syntax.{Form, symbol, string, number, list, Forms, none, more}
 use Rattle.cp_sexpr.specs.Pieces.{start}
@@ -24,10 +24,6 @@ abbrev pub IsMoved : (Form → List Place) → Type 0
 IsMoved kind = (f : Form) → kind (unplaced f) ≡ at_start (kind f)
 
 -- ---- lists of misfits
-
--- two parts, each of them mapped
-pub both_mapped : {A : Type 0} (g : A → A) (xs ys us vs : List A) → us ≡ map g xs → vs ≡ map g ys → us ++ vs ≡ map g (xs ++ ys)
-both_mapped g xs ys us vs e f = ap (λ zs. zs ++ vs) e ∙ ap (λ zs. map g xs ++ zs) f ∙ sym (map-append g xs ys)
 
 -- two parts, each of them moved
 pub both : (xs ys us vs : List Place) → us ≡ at_start xs → vs ≡ at_start ys → us ++ vs ≡ at_start (xs ++ ys)

@@ -2,6 +2,8 @@
 -- all at that place. Here those of terms, and what they stand for.
 use Rattle.std.proofs.Common.{◌≡◌, ℕ, zero, suc, List, [], ◌∷◌, ◌++◌, true, false, refl, ◌∙◌, ap}
 use Rattle.std.specs.Prelude.{Bool, Option, Some, None, map, drop, ◌||◌}
+use Rattle.cp_lists.proofs.Fronts.{rest_of_map}
+use Rattle.cp_lists.proofs.Mapped.{both_mapped}
 use Rattle.cp_base.specs.declared.place.Place.{Place}
 use Rattle.cp_base.specs.declared.place.Code.{Code}
 use Rattle.cp_base.specs.declared.place.Code.TheVariants.{BadShape, NotAtom, IllSorted, KeySort}
@@ -14,7 +16,7 @@ use Rattle.cp_sexpr.specs.ReadBack.{unplaced, all_unplaced}
 use Rattle.cp_language.specs.Words.{TermHead, cat, encrypt, long_term_key, public_key, private_key, inverse_key, operation_out_of_profile, no_operation, term_head}
 use Rattle.cp_language.specs.Faults.{fault, fault_unless, place_of, items_of}
 use Rattle.cp_language.specs.Terms.{variable_named, sort_by_head, sort_of, sorts_of, is_sort, is_atom, sort_faults, key_faults, lacks, exceeds, first_faults, all_faults, sorts_faults, last_key_faults, operation_faults, name_faults, applied_faults, undeclared, term_faults, each_term_faults, atom_faults, as_atom, applied, term_of, terms_of}
-use Rattle.cp_report.proofs.Moved.{all_moved, both_mapped, place_moved, items_moved}
+use Rattle.cp_report.proofs.Moved.{all_moved, place_moved, items_moved}
 use Rattle.cp_report.proofs.MovedTerms.{applied_value_moved}
 
 -- As many faults of the same kinds, all at one place.
@@ -61,10 +63,6 @@ first_moved (suc n) (e ∷ es) = two e (first_faults n es) _ _ refl (first_moved
 all_faults_moved : (each : List (List Refusal)) → all_faults (map faults_at_start each) ≡ faults_at_start (all_faults each)
 all_faults_moved [] = refl
 all_faults_moved (e ∷ es) = two e (all_faults es) _ _ refl (all_faults_moved es)
-
-rest_of_map : {A B : Type 0} (g : A → B) (xs : List A) → drop 1 (map g xs) ≡ map g (drop 1 xs)
-rest_of_map g [] = refl
-rest_of_map g (x ∷ xs) = refl
 
 -- ---- sorts
 

@@ -5,6 +5,7 @@ use Rattle.std.proofs.lemmas.Bool.{eq-eqb}
 use Rattle.cp_base.specs.declared.place.Place.{Place}
 use Rattle.cp_lists.specs.Lists.{item_at, IsIn, here, there}
 use Rattle.cp_lists.proofs.Items.{item_below}
+use Rattle.cp_lists.proofs.Appended.{none_and}
 use Rattle.cp_model.specs.Skeleton.{SkeletonStrand, skeleton_trace_or_none, term_event_at, IsNodeOf, Skeleton}
 use Rattle.cp_model.specs.Tree.{Operation, by_problem, by_collapse, by_contraction, by_displacement, by_added_strand, by_added_listener, by_generalising}
 use Rattle.cp_model.specs.declared.node.Node.{Node}
@@ -15,7 +16,6 @@ use Rattle.cp_report.specs.Misfits.{misfit_unless, each_misfits, entries_misfits
 use Rattle.cp_report.specs.Skeletons.{node_misfits}
 use Rattle.cp_report.specs.Labels.{is_number, OperationWord, operation_word, blocks, operation_misfits, operation_place_misfits}
 use Rattle.cp_report.specs.FittingTrees.{IsOperationOn}
-use Rattle.cp_report.proofs.SpelledTerms.{none_and}
 use Rattle.cp_report.proofs.PrintedMaps.{numbers_same}
 
 -- ---- nodes

@@ -5,7 +5,7 @@ use Rattle.std.proofs.lemmas.Bool.{both_ways, cases_Bool, false_from_ne_true, or
 use Rattle.std.proofs.Math.Bool.{or-false, or_assoc}
 use Rattle.cp_lists.specs.Lists.{item_at, IsIn, here, there}
 use Rattle.cp_lists.proofs.Items.{at_place, place_of as place_in}
-use Rattle.cp_lists.proofs.Members.{head_or_behind, at_head}
+use Rattle.cp_lists.proofs.Members.{head_or_behind, at_head, in_either}
 use Rattle.cp_model.specs.Term.{Sort, text_sort, datum_sort, name_sort, skey_sort, akey_sort, Variable, SymmetricTerm, skey_variable, ltk_term, PairTerm, akey_variable, pubk_term, KeyTerm, symmetric_term, asymmetric_term, AtomTerm, text_variable, datum_variable, name_variable, key_term, Term, tag_term, atom_term, pair_term, enc_term, variables_of_symmetric, variables_of_pair, variables_of_key, variables_of_atom, variables_of}
 use Rattle.cp_model.specs.Same.{same_sort, has_variable}
 use Rattle.cp_model.proofs.SameTests.{same_sort_itself, variable_is, variable_in, in_has_variable}
@@ -353,19 +353,6 @@ module _ (locals order : List Variable) (apart : AreApart order) (within : (y : 
       ap (λ (b : Bool). misfit_unless b l.at ++ clash_misfits (before ++ l.local ∷ []) ls) (keeps before l.local all (others l here))
       ∙ no_clash (before ++ l.local ∷ []) ls pushed (λ k m. others k (there m))
     where
-      in_either : {A : Type 0} {x y : A} (xs : List A) → IsIn x (xs ++ y ∷ []) → IsIn x xs ⊎ (x ≡ y)
-      in_either [] m = inr (only (head_or_behind m))
-        where
-          only : {B : Type 0} {x y : B} → (x ≡ y) ⊎ IsIn x [] → x ≡ y
-          only (inl e) = e
-          only (inr i) = elim i [ ]
-      in_either (z ∷ zs) here = inl here
-      in_either (z ∷ zs) (there m) = further (in_either zs m)
-        where
-          further : {B : Type 0} {x y z : B} {zs : List B} → IsIn x zs ⊎ (x ≡ y) → IsIn x (z ∷ zs) ⊎ (x ≡ y)
-          further (inl i) = inl (there i)
-          further (inr e) = inr e
-
       pushed : (k : Local) → IsIn k (before ++ l.local ∷ []) → IsOfOrder k
       pushed k m = by (in_either before m)
         where

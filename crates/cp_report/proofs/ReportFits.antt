@@ -5,7 +5,7 @@ use Rattle.std.proofs.lemmas.Bool.{false_from_ne_true}
 use Rattle.cp_base.specs.declared.place.Place.{Place}
 use Rattle.cp_lists.specs.Lists.{IsIn, here, there}
 use Rattle.cp_lists.proofs.Members.{in_append, head_or_behind, only_item}
-use Rattle.cp_lists.proofs.Appended.{none_in_both}
+use Rattle.cp_lists.proofs.Appended.{none_in_both, none_and}
 use Rattle.cp_model.specs.Senders.{ArePaired}
 use Rattle.cp_model.specs.Strand.{Protocol}
 use Rattle.cp_model.specs.Tree.{Label, Tree}
@@ -24,7 +24,6 @@ use Rattle.cp_report.specs.FittingTrees.{problem_onto, problems_in}
 use Rattle.cp_report.specs.UpToNames.{IsSameTree, IsSameEntry, IsReport}
 use Rattle.cp_report.specs.Laws.{ArePrinted}
 use Rattle.cp_report.proofs.Moved.{at_start}
-use Rattle.cp_report.proofs.SpelledTerms.{none_and}
 use Rattle.cp_report.proofs.PrintedStrands.{items_back}
 use Rattle.cp_report.proofs.MovedReports.{bare, misfits_in, misfits_moved, report_moved}
 

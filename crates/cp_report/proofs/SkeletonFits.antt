@@ -4,6 +4,7 @@ use Rattle.std.specs.Prelude.{Option, Some, None, map, codes}
 use Rattle.cp_base.specs.declared.place.Place.{Place}
 use Rattle.cp_lists.specs.Lists.{IsIn, here}
 use Rattle.cp_lists.proofs.Members.{in_append_left}
+use Rattle.cp_lists.proofs.Appended.{none_and}
 use Rattle.cp_model.specs.Senders.{ArePaired}
 use Rattle.cp_model.specs.Term.{Variable, AtomTerm, Substitution, apply_to_atom}
 use Rattle.cp_model.specs.Strand.{Role, Applies, AppliesAt}
@@ -22,7 +23,6 @@ use Rattle.cp_report.specs.Misfits.{misfit_unless, unless_misfit, lacking, each_
 use Rattle.cp_report.specs.Heads.{item_with, optional_misfits, place_or}
 use Rattle.cp_report.specs.Skeletons.{vars_misfits, scope_of, strand_misfits, strands_of_label, pairs_misfits, precedes_misfits, atoms_misfits, has_atoms, has_uniques, assumption_misfits, atoms_under, values_misfits, uniques_misfits, uniques_under, all_uniques_misfits, problem_variables, map_misfits, vars_item_misfits, strands_misfits, around_strands_misfits}
 use Rattle.cp_report.specs.UpToNames.{renaming, unique_renamed, IsSameStrand}
-use Rattle.cp_report.proofs.SpelledTerms.{none_and}
 use Rattle.cp_report.proofs.CoveringSkeletons.{covers_fit}
 use Rattle.cp_report.proofs.DistinctNames.{as_many_names}
 use Rattle.cp_report.proofs.PrintedVariables.{variables_fit, one_to_one}

@@ -4,7 +4,7 @@ use Rattle.std.specs.Prelude.{◌+◌, length, Bool, Some, None, codes}
 use Rattle.cp_base.specs.declared.place.Place.{Place}
 use Rattle.cp_lists.specs.Lists.{IsIn, here, there}
 use Rattle.cp_lists.proofs.Members.{in_append_left, in_append_right}
-use Rattle.cp_lists.proofs.Appended.{none_in_both, none_before}
+use Rattle.cp_lists.proofs.Appended.{none_in_both, none_before, none_and}
 use Rattle.cp_model.proofs.SameTests.{same_sort_itself}
 use Rattle.cp_model.specs.Term.{Sort, name_sort, skey_sort, akey_sort, text_sort, datum_sort, Variable, atom_of_variable, SymmetricTerm, skey_variable, ltk_term, PairTerm, akey_variable, pubk_term, KeyTerm, symmetric_term, asymmetric_term, AtomTerm, text_variable, datum_variable, name_variable, key_term, Term, tag_term, atom_term, pair_term, enc_term, variables_of_symmetric, variables_of_pair, variables_of_key, variables_of_atom, variables_of, inverse_term, apply_to, apply_to_atom, apply_to_key}
 use Rattle.cp_model.specs.Strand.{Declaration}
@@ -31,9 +31,6 @@ pub record StandsFor (s : Scope) (f : Form) (y : Variable) : Type 0 where
   pub no_cat : has_head (codes "cat" ∷ []) f ≡ false
   pub name : (at : Place) → name_misfits s at (f ∷ []) ≡ variable_misfits s name_sort f ++ []
   pub key_of : (private : Bool) (t : Term) → key_of_name private (f ∷ []) (t ∷ []) ≡ key_as_term (asymmetric_term private (pubk_term None (as_name t)))
-
-pub none_and : {A : Type 0} (xs ys : List A) → xs ≡ [] → ys ≡ [] → xs ++ ys ≡ []
-none_and xs ys e f = ap (λ zs. zs ++ ys) e ∙ f
 
 -- ---- items along a spine
 

@@ -4,6 +4,7 @@ use Rattle.std.specs.Prelude.{Option, Some, None, map, codes, ◌==◌, ◌||◌
 use Rattle.std.proofs.lemmas.Bool.{eq-eqb, or_right}
 use Rattle.cp_base.specs.declared.place.Place.{Place}
 use Rattle.cp_lists.specs.Lists.{item_at, IsIn, here, there}
+use Rattle.cp_lists.proofs.Appended.{none_and}
 use Rattle.cp_model.specs.Term.{Substitution}
 use Rattle.cp_model.specs.Senders.{ArePaired}
 use Rattle.cp_model.specs.Tree.{by_problem, by_collapse, by_contraction, by_displacement, by_added_strand, by_added_listener, by_generalising, Operation, Mark, shape, dead, seen, instance_of, limit_steps, limit_strands, Outcome, complete, at_step_limit, at_strand_limit, Test, Label, Tree, is_expanded, expanded_count, if_shape, shapes_of}
@@ -18,7 +19,6 @@ use Rattle.cp_report.specs.Labels.{is_among, is_number, has_child, has_parent, l
 use Rattle.cp_report.specs.ReadBack.{status_misfits, outcome_of, if_whole, ending_misfits, labels_in_front, behind_labels, labels_misfits, tree_misfits, tree_of}
 use Rattle.cp_report.specs.FittingTrees.{HasChild, IsParentOf, HasMarkOrChildren, FitsIn, TreeFits}
 use Rattle.cp_report.specs.UpToNames.{renaming, IsSameTest, IsSameLabel, IsSameTree}
-use Rattle.cp_report.proofs.SpelledTerms.{none_and}
 use Rattle.cp_report.proofs.SkeletonRead.{IsUnder}
 use Rattle.cp_report.proofs.LabelSkeleton.{PrintedLabel}
 use Rattle.cp_report.proofs.SkeletonFits.{AppliesWhole}

@@ -3,9 +3,8 @@ use Rattle.std.proofs.Common.{◌≡◌, List, ◌++◌, map, ap, ◌∙◌}
 use Rattle.cp_model.specs.Strand.{Declaration, Protocol}
 use Rattle.cp_model.specs.Skeleton.{Skeleton, IsSkeleton}
 use Rattle.cp_model.specs.PointOfView.{IsPointOfView}
-use Rattle.cp_term.specs.Table.{Declared}
+use Rattle.cp_model.specs.Data.{Declared, SkeletonData as Program}
 use Rattle.cp_skel.specs.View.{skeleton_view}
-use Rattle.cp_skel.specs.Data.{SkeletonData as Program}
 use Rattle.cp_collapse.specs.Collapses.{AreCollapses}
 use Rattle.cp_roots.specs.declared.root.Root.{Root as Made}
 use Rattle.cp_roots.specs.RootView.{root_view}

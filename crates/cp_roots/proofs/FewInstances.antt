@@ -10,13 +10,13 @@ use Rattle.cp_model.specs.Skeleton.{SkeletonStrand, instance, listener, Skeleton
 use Rattle.cp_model.specs.Problem.{numbers_from}
 use Rattle.cp_model.proofs.Numbers.{numbers_length}
 use Rattle.cp_lists.proofs.Items.{item_there}
+use Rattle.cp_lists.proofs.SameLists.{same_items}
 use Rattle.cp_skel.specs.Events.{is_role_strand}
 use Rattle.cp_strand.specs.View.{strand_view}
-use Rattle.cp_strand.specs.Data.{StrandData as Strand}
+use Rattle.cp_model.specs.Data.{StrandData as Strand}
 use Rattle.cp_collapse.specs.Partitions.{IsPartition, finest}
 use Rattle.cp_collapse.specs.Collapses.{no_collapses, AreCollapses}
 use Rattle.cp_collapse.proofs.Lowest.{at_numbers}
-use Rattle.cp_roots.proofs.Firsts.{same_items}
 
 -- How many of the strands are instances.
 abbrev instances : List SkeletonStrand → ℕ

@@ -6,6 +6,7 @@ use Rattle.cp_model.specs.Skeleton.{Skeleton}
 use Rattle.cp_model.specs.Problem.{numbers_from}
 use Rattle.cp_model.proofs.Numbers.{numbers_length}
 use Rattle.cp_lists.proofs.Items.{item_below, item_there, map_of_item}
+use Rattle.cp_lists.proofs.SameLists.{same_items}
 use Rattle.cp_collapse.specs.Partitions.{lowest_before, place_in, IsPartition}
 use Rattle.cp_collapse.proofs.Lowest.{numbers_at}
 use Rattle.cp_collapse.proofs.Places.{own_entry, one_at_place, place_of_entry}
@@ -29,16 +30,6 @@ first_is n (m ∷ ms) zero e low = first_here n m ms (cc)
 first_is n (m ∷ ms) (suc i) e low = first_next n m ms i (λ f. low 0 (omega arith) (ap Some f)) (first_is n ms i e (λ j l f. low (suc j) (omega (arith, l)) f))
 
 -- ---- lists with the same items
-
-pub same_items : {A : Type 0} (xs ys : List A) → length xs ≡ length ys → ((i : ℕ) (y : A) → item_at ys i ≡ Some y → item_at xs i ≡ Some y) → xs ≡ ys
-same_items [] [] e same = refl
-same_items [] (y ∷ ys) e same = absurd (omega (arith, e))
-same_items (x ∷ xs) [] e same = absurd (omega (arith, e))
-same_items (x ∷ xs) (y ∷ ys) e same =
-    let first : Some x ≡ Some y = same 0 y refl in
-    let f : x ≡ y = cc in
-    let rest : xs ≡ ys = same_items xs ys (omega (arith, e)) (λ i z at. same (suc i) z at) in
-    cc
 
 -- ---- the partition
 

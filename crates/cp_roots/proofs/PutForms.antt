@@ -1,15 +1,14 @@
 -- Normal forms that are put behind other roots.
 use Rattle.std.proofs.Common.{◌≡◌, ◌⊎◌, inl, inr, ℕ, List, [], ◌∷◌, ◌++◌, map, length, reverse, nat_eq, true, false, refl, sym, ap, ap₂, ◌∙◌, subst, append_assoc}
-use Rattle.std.proofs.lemmas.List.{reverse-append, reverse-reverse, map-append, append-nil}
+use Rattle.std.proofs.lemmas.List.{reverse-reverse, map-append, append-nil}
 use Rattle.cp_lists.specs.Lists.{IsIn, here}
 use Rattle.cp_model.specs.Skeleton.{Skeleton}
 use Rattle.cp_model.specs.Tree.{Operation, by_problem, by_collapse}
 use Rattle.cp_lists.proofs.Members.{in_append, in_append_left, in_append_right, from_reverse, only_item}
-use Rattle.cp_lists.proofs.Appended.{some_counted}
-use Rattle.cp_term.specs.Table.{Declared}
+use Rattle.cp_lists.proofs.Appended.{some_counted, next_first}
+use Rattle.cp_model.specs.Data.{Declared, SkeletonData as Program}
 use Rattle.cp_skel.specs.Trees.{operation_view}
 use Rattle.cp_skel.specs.View.{skeleton_view}
-use Rattle.cp_skel.specs.Data.{SkeletonData as Program}
 use Rattle.cp_skel.specs.declared.tree.Operation.{Operation as How}
 use Rattle.cp_roots.specs.declared.root.Root.{Root}
 use Rattle.cp_fingerprint.specs.FirstPlaces.{firsts}
@@ -23,9 +22,6 @@ abbrev pub root_of : How → Program → Root
 root_of by k = record { operation = by; skeleton = k; dead = false }
 
 -- ---- lists
-
-pub next_first : {A : Type 0} (left rest : List A) (x : A) → left ≡ rest ++ x ∷ [] → reverse left ≡ x ∷ reverse rest
-next_first left rest x e = ap reverse e ∙ reverse-append rest (x ∷ [])
 
 -- Roots with one more.
 have_more : (variables : List Declared) (old new : List Root) (r : Root) → new ≡ old ++ r ∷ [] → r.skeleton.variables ≡ variables → RootsHave variables old → RootsHave variables new

@@ -4,15 +4,15 @@ use Rattle.std.proofs.lemmas.List.{reverse-reverse, append-nil}
 use Rattle.cp_lists.specs.Lists.{IsIn, here}
 use Rattle.cp_model.specs.Skeleton.{Skeleton}
 use Rattle.cp_lists.proofs.Members.{in_append_left, in_append_right}
-use Rattle.cp_term.specs.Table.{Declared}
+use Rattle.cp_lists.proofs.Appended.{next_first}
+use Rattle.cp_model.specs.Data.{Declared, SkeletonData as Program}
 use Rattle.cp_skel.specs.View.{skeleton_view}
-use Rattle.cp_skel.specs.Data.{SkeletonData as Program}
 use Rattle.cp_roots.specs.declared.root.Root.{Root as Made}
 use Rattle.cp_roots.specs.RootView.{root_view}
 use Rattle.cp_roots.specs.Roots.{Root}
 use Rattle.cp_roots.specs.GatheredRoots.{AllHave, RootsHave, PutsCollapse}
 use Rattle.cp_roots.proofs.EachCollapse.{AreOfEach, roots_of, one_more}
-use Rattle.cp_roots.proofs.PutForms.{next_first, have_reversed}
+use Rattle.cp_roots.proofs.PutForms.{have_reversed}
 
 -- Of the collapses, which are taken from the end, those that are left are still to be done.
 pub record AreRootsSoFar (all left : List Program) (start now : List Made) : Type 0 where

@@ -1,5 +1,6 @@
 -- Terms that are paired from the last on.
 use Rattle.std.proofs.Common.{◌≡◌, List, [], ◌∷◌, ◌++◌, refl, sym, ap, ◌∙◌}
+use Rattle.cp_lists.proofs.Appended.{append-two}
 use Rattle.cp_model.specs.Term.{Term, pair_term}
 use Rattle.cp_language.specs.Terms.{paired, all_but_last, last_of}
 
@@ -17,10 +18,6 @@ pub last_of-append : (ts : List Term) (t : Term) → last_of (ts ++ t ∷ []) �
 last_of-append [] t = refl
 last_of-append (u ∷ []) t = refl
 last_of-append (u ∷ v ∷ ts) t = last_of-append (v ∷ ts) t
-
-pub append-two : {A : Type 0} (ts : List A) (a b : A) → (ts ++ a ∷ []) ++ b ∷ [] ≡ ts ++ a ∷ b ∷ []
-append-two [] a b = refl
-append-two (t ∷ ts) a b = ap (λ us. t ∷ us) (append-two ts a b)
 
 -- the last two terms become one
 pub paired-step : (whole before after : List Term) (left right pair : Term) → before ≡ after ++ left ∷ [] → pair ≡ pair_term left right

@@ -12,7 +12,7 @@ use Rattle.cp_model.specs.Tree.{Mark, dead, seen, Label, Tree, Outcome, Limits}
 use Rattle.cp_skel.specs.Trees.{variables_view}
 use Rattle.cp_roots.specs.Roots.{Root as PlainRoot}
 use Rattle.cp_roots.specs.Sound.{AreSound}
-use Rattle.cp_term.specs.Table.{Declared}
+use Rattle.cp_model.specs.Data.{Declared}
 use Rattle.cp_roots.specs.RootView.{root_view}
 use Rattle.cp_roots.specs.declared.root.Root.{Root}
 use Rattle.cp_tree.specs.Candidates.{Candidate, IsCandidate, CandidatesFrom, AreCandidates}

@@ -6,8 +6,7 @@ use Rattle.cp_model.specs.Strand.{Declaration, Protocol}
 use Rattle.cp_model.specs.Skeleton.{Skeleton, IsSkeleton}
 use Rattle.cp_model.specs.PointOfView.{IsPointOfView}
 use Rattle.cp_model.specs.Tree.{by_generalising}
-use Rattle.cp_term.specs.Table.{Declared}
-use Rattle.cp_skel.specs.Data.{SkeletonData}
+use Rattle.cp_model.specs.Data.{Declared, SkeletonData}
 use Rattle.cp_skel.specs.View.{skeleton_view}
 use Rattle.cp_skel.specs.Trees.{variables_view}
 use Rattle.cp_general.specs.Generalisation.{IsMostGeneral, GeneralisesTo, last_step, next_step}

@@ -1,10 +1,10 @@
 -- Labels that are sound for one problem, and others that are made behind them.
 use Rattle.std.proofs.Common.{◌≡◌, ⊎_elim, List, ◌++◌, Some, sym, ap, ◌∙◌}
 use Rattle.cp_lists.specs.Lists.{item_at, IsIn}
+use Rattle.cp_lists.proofs.Items.{front_or_behind}
 use Rattle.cp_model.specs.Strand.{Protocol}
 use Rattle.cp_model.specs.Skeleton.{Skeleton}
 use Rattle.cp_tree.specs.Sound.{IsSoundMade}
-use Rattle.cp_tree.proofs.Numbered.{front_or_behind}
 use Rattle.cp_search.specs.declared.made.Made.{Made}
 use Rattle.cp_search.specs.MadeLabels.{made_view}
 use Rattle.cp_search.specs.SettledLabels.{ForOneProblem, AreSoundMade}

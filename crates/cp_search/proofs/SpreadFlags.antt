@@ -2,10 +2,10 @@
 use Rattle.std.proofs.Common.{◌≡◌, ◌≢◌, ◌⊎◌, ◌↔◌, inl, inr, ℕ, zero, suc, ◌<◌, ◌≤◌, List, [], ◌∷◌, ◌++◌, length, get_or, take, drop, replicate, set, length-set, Bool, true, false, Some, arith, refl, sym, ap, ◌∙◌, subst}
 use Rattle.cp_lists.specs.Lists.{item_at, IsIn, here, there, Steps, one_step, more_steps}
 use Rattle.std.proofs.Math.Logic.{⊎_elim}
-use Rattle.std.proofs.Math.Seq.{take-append_seam}
 use Rattle.std.proofs.lemmas.Bool.{cases_eq}
 use Rattle.cp_lists.proofs.Items.{set_here, set_elsewhere, item_below, at_place}
 use Rattle.cp_lists.proofs.Members.{in_cases, not_in_none}
+use Rattle.cp_lists.proofs.Fronts.{all_written}
 use Rattle.cp_search.specs.declared.graph.Edge.{Edge}
 use Rattle.cp_search.specs.LeastNumber.{IsFlagged}
 use Rattle.cp_search.specs.Graph.{HasEdge, Leads, AreWithin, IsClosed, unflagged}
@@ -148,12 +148,6 @@ module _ (edges : List Edge) (flags : List Bool) (target : ℕ) (at_target : IsF
   -- All that leads to the target is flagged.
   all_flagged : ((n : ℕ) → IsFlagged flags n → Leads edges n target) → (n : ℕ) → IsFlagged flags n ↔ Leads edges n target
   all_flagged reach n = (reach n, flagged_of n)
-
--- What a slice that was written makes of the list.
-all_written : (old new : List Bool) (len : ℕ) → length new ≡ length old → length old ≡ len → take len (new ++ drop (length new) old) ≡ new
-all_written old new len count l =
-    let e : len ≡ length new = omega arith in
-    ap (λ (n : ℕ). take n (new ++ drop (length new) old)) e ∙ take-append_seam new (drop (length new) old)
 
 -- Of so many flags that of the target is set, and each that is set is of a number that leads to it.
 pub record AreLeading (edges : List Edge) (count target : ℕ) (flags : List Bool) : Type 0 where

@@ -7,7 +7,7 @@ use Rattle.cp_model.specs.Tree.{Pattern}
 use Rattle.cp_model.proofs.LawTerms.{term_composed}
 use Rattle.cp_completeness.specs.Normal.{skeleton_under}
 use Rattle.cp_unify.specs.Bindings.{Binding, as_substitution}
-use Rattle.cp_skel.specs.Data.{SkeletonData}
+use Rattle.cp_model.specs.Data.{SkeletonData}
 use Rattle.cp_skel.specs.View.{skeleton_view}
 use Rattle.cp_skel.specs.Trees.{declared_view, variables_view}
 use Rattle.cp_collapse.specs.SameSkeletons.{SaysTheSame}

@@ -1,7 +1,6 @@
 -- Pieces one after another: each fold over pieces, at one piece more.
-use Rattle.std.proofs.Common.{◌≡◌, ℕ, ◌+◌, ◌-◌, ◌<◌, ◌≤◌, List, [], ◌∷◌, ◌++◌, length, take, refl, sym, ap, ◌∙◌, subst, arith, length-append, ⊎_elim}
+use Rattle.std.proofs.Common.{◌≡◌, ℕ, ◌+◌, ◌-◌, ◌<◌, ◌≤◌, List, [], ◌∷◌, ◌++◌, length, refl, sym, ap, ◌∙◌, subst, arith, length-append, ⊎_elim}
 use Rattle.std.proofs.lemmas.Bool.{cases_lt}
-use Rattle.std.proofs.Math.Seq.{take-append_seam}
 use Rattle.cp_base.specs.declared.place.Place.{Place}
 use Rattle.cp_base.specs.declared.place.Code.TheVariants.{TooDeep}
 use Rattle.cp_sexpr.specs.Pieces.{Piece, blank, comment, opening, closing, quoted, token, spelling, IsPiece, BeginsWith, IsCut, after_byte, place_after, after_piece, after_pieces}
@@ -58,11 +57,6 @@ shorter text p rest b =
     let e = ap length b.spelled ∙ length-append (spelling p) rest in
     let n = length-spelling p b.piece in
     omega arith
-
-pub front_spelled : (text front rest : List ℕ) → text ≡ front ++ rest → take (length text - length rest) text ≡ front
-front_spelled text front rest e =
-    let n : length text - length rest ≡ length front = omega (arith, ap length e ∙ length-append front rest) in
-    ap (λ k. take k text) n ∙ ap (take (length front)) e ∙ take-append_seam front rest
 
 after_byte-line : (at : Place) (b : ℕ) → (after_byte at b).line ≤ at.line + 1
 after_byte-line at b = grind arith

@@ -2,6 +2,7 @@
 use Rattle.std.proofs.Common.{◌≡◌, ◌≢◌, ℕ, List, [], ◌∷◌, ◌++◌, length, refl, sym, ap, ap₂, ◌∙◌, subst, arith, append_assoc, cond, eqb, leb, Option, Some, None, Result, Ok, Err, length-append}
 use Rattle.std.proofs.lemmas.Bool.Decides.{nat_tests}
 use Rattle.std.specs.List.{AllByRecursion}
+use Rattle.cp_lists.proofs.SameLists.{head_same, tail_same}
 use Rattle.cp_base.specs.declared.place.Place.{Place}
 use Rattle.cp_base.specs.declared.place.Code.{Code}
 use Rattle.cp_base.specs.declared.place.Code.TheVariants.{BadByte, Unclosed}
@@ -14,12 +15,6 @@ use Rattle.cp_sexpr.proofs.Fronts.{length-spelling}
 use Rattle.cp_sexpr.proofs.Grammar.{written_is_built}
 
 -- ---- runs
-
-head_same : {a b : ℕ} {s t : List ℕ} → a ∷ s ≡ b ∷ t → a ≡ b
-head_same e = cc
-
-tail_same : {a b : ℕ} {s t : List ℕ} → a ∷ s ≡ b ∷ t → s ≡ t
-tail_same e = cc
 
 -- the longest run of bytes of a kind is one
 pub one_run : (P : ℕ → Type 0) (s t a b : List ℕ) → AllByRecursion P s → BeginsWithout P a → AllByRecursion P t → BeginsWithout P b → s ++ a ≡ t ++ b → (s ≡ t) × (a ≡ b)

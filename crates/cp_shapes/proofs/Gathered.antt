@@ -1,6 +1,6 @@
 -- Rows and marks that are made one after the other.
-use Rattle.std.proofs.Common.{◌≡◌, ◌⊎◌, inl, inr, ℕ, ◌+◌, ◌<◌, ◌≤◌, List, [], ◌∷◌, ◌++◌, length, get_or, map, Vec, Option, Some, refl, sym, ap, subst, ◌∙◌, arith}
-use Rattle.std.proofs.lemmas.List.{map-append, length_push, length-map}
+use Rattle.std.proofs.Common.{◌≡◌, ◌⊎◌, inl, inr, ℕ, ◌+◌, ◌<◌, List, [], ◌∷◌, ◌++◌, length, get_or, map, Vec, Option, Some, refl, sym, ap, subst, ◌∙◌, arith}
+use Rattle.std.proofs.lemmas.List.{map-append, length_push}
 use Rattle.cp_lists.specs.Lists.{item_at}
 use Rattle.cp_model.specs.Skeleton.{Skeleton}
 use Rattle.cp_shapes.specs.Shapes.{IsMarkOf, AreMarksOf}
@@ -56,7 +56,3 @@ module _ {A : Type 0} (ks : List Skeleton) (rs slice whole : List (Vec ℕ A)) (
 
 pub all_marks : (ks : List Skeleton) (marks : List (Option ℕ)) (n : ℕ) → AreMarksTo ks marks n → n ≡ length ks → AreMarksOf ks marks
 all_marks ks marks n are e = record { count = are.count ∙ e; each = are.each }
-
--- A loop over all items has come to their number.
-pub at_all : {A B : Type 0} (f : A → B) (xs : List A) (n : ℕ) → length xs ≤ n → n ≤ length xs → n ≡ length (map f xs)
-at_all f xs n l k = let e = length-map xs f in omega (arith, l, k, e)

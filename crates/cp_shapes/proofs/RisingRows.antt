@@ -2,14 +2,10 @@
 use Rattle.std.proofs.Common.{◌≡◌, ◌↔◌, ◌⊎◌, inl, inr, ℕ, zero, suc, ◌+◌, ◌<◌, List, [], ◌∷◌, ◌++◌, drop, sym, subst, arith}
 use Rattle.cp_lists.specs.Lists.{IsIn, here, there}
 use Rattle.cp_model.specs.Skeleton.{Skeleton}
-use Rattle.cp_lists.proofs.Members.{in_append, in_append_left, in_append_right, only_item}
+use Rattle.cp_lists.proofs.Members.{in_append, in_append_left, in_append_right, only_item, below_end}
 use Rattle.cp_lists.proofs.Least.{less_or_same}
 use Rattle.cp_shapes.specs.Shapes.{IsInstanceWithin}
 use Rattle.cp_shapes.specs.Rows.{IsRising, IsRowOf}
-
-below_end : (n m : ℕ) (ns : List ℕ) → n < m → ((k : ℕ) → IsIn k ns → n < k) → (k : ℕ) → IsIn k ns ⊎ IsIn k (m ∷ []) → n < k
-below_end n m ns l above k (inl i) = above k i
-below_end n m ns l above k (inr i) = subst (λ (x : ℕ). n < x) (sym (only_item i)) l
 
 pub rising_with : (ns : List ℕ) (m : ℕ) → IsRising ns → ((n : ℕ) → IsIn n ns → n < m) → IsRising (ns ++ m ∷ [])
 rising_with [] m r below = ((λ k i. elim i [ ]), tt)

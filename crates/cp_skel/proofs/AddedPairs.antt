@@ -6,7 +6,7 @@ use Rattle.cp_model.specs.Order.{LeadsTo}
 use Rattle.cp_model.specs.Skeleton.{Skeleton, Before, IsOrderPair}
 use Rattle.cp_order.specs.Closed.{KeepsOrder}
 use Rattle.cp_order.specs.LeadingNodes.{Target}
-use Rattle.cp_skel.specs.Data.{SkeletonData}
+use Rattle.cp_model.specs.Data.{SkeletonData}
 use Rattle.cp_skel.specs.Ordered.{IsOrdered, ordered_by}
 use Rattle.cp_skel.specs.Sound.{IsSound}
 use Rattle.cp_skel.specs.View.{skeleton_view}

@@ -1,5 +1,5 @@
 -- What is in the list of a skeleton's events, and the loops that make it.
-use Rattle.std.proofs.Common.{ℕ, zero, suc, ◌+◌, ◌<◌, Bool, true, false, List, [], ◌∷◌, ◌++◌, length, drop, append_assoc, add-one, Option, Some, None, ◌≡◌, inl, inr, refl, sym, subst, ap, ◌∙◌, arith}
+use Rattle.std.proofs.Common.{ℕ, zero, suc, ◌+◌, ◌<◌, Bool, true, false, List, [], ◌∷◌, ◌++◌, length, drop, add-one, Option, Some, None, ◌≡◌, inl, inr, refl, sym, subst, ap, ◌∙◌, arith}
 use Rattle.std.specs.Prelude.{option_map}
 use Rattle.cp_lists.specs.Lists.{item_at, IsIn, here, there}
 use Rattle.cp_model.specs.Term.{Term}
@@ -12,18 +12,10 @@ use Rattle.cp_strand.specs.View.{event_view}
 use Rattle.cp_strand.specs.declared.protocol.Event.{Event as ProgramEvent}
 use Rattle.cp_skel.specs.Events.{Occurrence, is_role_strand, occurrences_on, occurrences_from, events_of}
 use Rattle.cp_lists.proofs.Members.{in_cases, in_append, in_append_left, in_append_right}
-use Rattle.cp_lists.proofs.Items.{drop_of_item}
+use Rattle.cp_lists.proofs.Items.{drop_of_item, some_within}
+use Rattle.cp_lists.proofs.Appended.{moved_behind}
 
 -- ---- the loops that list them
-
-some_within : {A : Type 0} (es : List A) (i : ℕ) → i < length es → item_at es i ≡ None → ⊥
-some_within [] i h e = absurd (omega arith)
-some_within (x ∷ es) zero h e = absurd (cc)
-some_within (x ∷ es) (suc i) h e = some_within es i (omega arith) e
-
--- An item behind the old ones, taken from those that are left.
-pub moved : {A : Type 0} (old new left rest whole : List A) (x : A) → new ≡ old ++ (x ∷ []) → left ≡ x ∷ rest → old ++ left ≡ whole → new ++ rest ≡ whole
-moved old new left rest whole x n l e = ap (λ ys. ys ++ rest) n ∙ append_assoc old (x ∷ []) rest ∙ sym (ap (λ ys. old ++ ys) l) ∙ e
 
 pub event_added : (s i : ℕ) (r : Bool) (es : List (Event Term)) (found : Option ProgramEvent) (e : ProgramEvent) (old new whole : List Occurrence) →
     option_map event_view found ≡ item_at es i → found ≡ Some e → new ≡ old ++ (record { node = node_at s i; event = event_view e; by_role = r } ∷ []) →
@@ -31,7 +23,7 @@ pub event_added : (s i : ℕ) (r : Bool) (es : List (Event Term)) (found : Optio
 event_added s i r es found e old new whole at is n all =
     let here : item_at es i ≡ Some (event_view e) = sym at ∙ ap (option_map event_view) is in
     rw add-one
-    (moved old new (occurrences_on s i r (drop i es)) (occurrences_on s (suc i) r (drop (suc i) es)) whole
+    (moved_behind old new (occurrences_on s i r (drop i es)) (occurrences_on s (suc i) r (drop (suc i) es)) whole
     (record { node = node_at s i; event = event_view e; by_role = r }) n (ap (occurrences_on s i r) (drop_of_item es i (event_view e) here)) all)
 
 pub event_there : (i n : ℕ) (es : List (Event Term)) (found : Option ProgramEvent) → option_map event_view found ≡ item_at es i → i < n → n ≡ length es →

@@ -1,5 +1,5 @@
 -- The numbers of strands where one is gone.
-use Rattle.std.proofs.Common.{◌≡◌, ◌≢◌, ℕ, zero, suc, ◌-◌, ◌<◌, ◌≤◌, List, [], ◌∷◌, map, refl, sym, ap, ◌∙◌, arith}
+use Rattle.std.proofs.Common.{◌≡◌, ◌≢◌, ℕ, zero, suc, ◌-◌, ◌<◌, ◌≤◌, List, [], ◌∷◌, refl, sym, ap, ◌∙◌, arith}
 use Rattle.std.specs.List.{remove}
 use Rattle.cp_lists.specs.Lists.{item_at}
 use Rattle.cp_model.specs.Bundle.{node_at}
@@ -55,12 +55,6 @@ event_without strands d n = ap (λ x. item_at (skeleton_trace_or_none x) n.index
 
 pub event_kept : (strands : List SkeletonStrand) (d : ℕ) (n : Node) → n.strand ≢ d → term_event_at (remove strands d) (node_renumbered d n) ≡ term_event_at strands n
 event_kept strands d n h = event_without strands d (node_renumbered d n) ∙ ap (term_event_at strands) (node_again d n h)
-
-pub removed_map : {A B : Type 0} (f : A → B) (xs : List A) (d : ℕ) → map f (remove xs d) ≡ remove (map f xs) d
-removed_map f [] zero = refl
-removed_map f [] (suc d) = refl
-removed_map f (x ∷ xs) zero = refl
-removed_map f (x ∷ xs) (suc d) = ap (λ ys. f x ∷ ys) (removed_map f xs d)
 
 pub renumbered_restored : (d s : ℕ) → renumbered d (restored d s) ≡ s
 renumbered_restored zero s = refl

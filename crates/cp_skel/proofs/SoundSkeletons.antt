@@ -12,10 +12,8 @@ use Rattle.cp_model.specs.Given.{listed}
 use Rattle.cp_model.proofs.LawPrefixes.{in_front_of_trace}
 use Rattle.cp_skel.specs.Extensions.{AddsListener, AddsStrand, CanExtend, Extends, IsClosedPrefix}
 use Rattle.cp_order.specs.Closed.{KeepsOrder}
-use Rattle.cp_strand.specs.Data.{StrandData}
-use Rattle.cp_skel.specs.Data.{SkeletonData, skeleton_of}
+use Rattle.cp_model.specs.Data.{StrandData, SkeletonData, skeleton_of, Declared}
 use Rattle.cp_skel.specs.View.{skeleton_view}
-use Rattle.cp_term.specs.Table.{Declared}
 use Rattle.cp_skel.specs.Deletion.{ForgetsAssumptions, KeepsFromProblem, KeepsOrderOfOthers}
 use Rattle.cp_skel.specs.Ordered.{IsOrdered, ordered_by}
 use Rattle.cp_skel.specs.DeclaredPrefixes.{HasDeclaredPrefixes}

@@ -13,7 +13,7 @@ use Rattle.cp_model.specs.Given.{atoms_onto, uniques_onto, applying, unique_if_b
 use Rattle.cp_model.proofs.SameTests.{origin_found, finds_origin}
 use Rattle.cp_skel.specs.Given.{with_given_from}
 use Rattle.cp_strand.specs.View.{strand_view}
-use Rattle.cp_strand.specs.Data.{InstanceData, StrandData}
+use Rattle.cp_model.specs.Data.{InstanceData, StrandData}
 use Rattle.cp_model.proofs.Gathered.{onto-append, atoms, uniques}
 
 -- ---- where the atoms of roles originate

@@ -1,4 +1,4 @@
-pub mod Data
+pub mod Code
 pub mod View
 pub mod Parts
 pub mod Sound

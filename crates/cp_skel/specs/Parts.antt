@@ -1,5 +1,5 @@
 -- The skeleton that the fields of one stand for.
-use Rattle.cp_skel.specs.Data.{SkeletonData}
+use Rattle.cp_model.specs.Data.{SkeletonData}
 use Rattle.cp_skel.specs.declared.skeleton.Skeleton.TheInside.{Inside}
 
 abbrev pub skeleton_of_parts : Inside → SkeletonData

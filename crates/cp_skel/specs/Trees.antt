@@ -2,7 +2,7 @@
 use Rattle.std.specs.Prelude.{List, map, option_map}
 use Rattle.cp_model.specs.Strand as strand
 use Rattle.cp_model.specs.Tree as tree
-use Rattle.cp_term.specs.Table.{Declared}
+use Rattle.cp_model.specs.Data.{Declared}
 use Rattle.cp_strand.specs.View.{sort_view}
 use Rattle.cp_skel.specs.View.{skeleton_view}
 use Rattle.cp_skel.specs.declared.tree.Limits.{Limits}

@@ -16,7 +16,7 @@ pub struct UniqueAt {
 
 impl Model for UniqueAt {
     ghost use Rattle.cp_model.specs.Skeleton.{UniqueAt as Plain};
-    ghost use Rattle.cp_skel.specs.Data.{coded_unique};
+    ghost use Rattle.cp_skel.specs.Code.{coded_unique};
 
     ghost Value = { Plain };
 
@@ -73,16 +73,26 @@ impl Same for UniqueAt {
 }
 
 /// The three lists of assumptions.
-#[derive(Drop)]
 pub struct Assumptions {
     non_originating: Vec<Atom>,
     penetrator_non_originating: Vec<Atom>,
     uniquely_originating: Vec<UniqueAt>,
 }
 
+// Where one is held it is dropped by one call, so that less is to be proved of who holds it.
+impl Drop for Assumptions {
+    fn drop(self) {
+        let Assumptions {
+            non_originating,
+            penetrator_non_originating,
+            uniquely_originating,
+        } = self;
+    }
+}
+
 impl Model for Assumptions {
     ghost use Rattle.cp_model.specs.Skeleton.{Assumptions as Plain};
-    ghost use Rattle.cp_skel.specs.Data.{coded_assumptions};
+    ghost use Rattle.cp_skel.specs.Code.{coded_assumptions};
 
     ghost Value = { Plain };
 

@@ -10,7 +10,6 @@ use std::marker::Model;
 
 /// The way from a problem: a strand for each strand of the problem, and a term for each of its variables; and the
 /// images of the assumptions and the pairs that the problem itself states.
-#[derive(Drop)]
 pub struct FromProblem {
     strands: Vec<usize>,
     values: Vec<Term>,
@@ -18,9 +17,21 @@ pub struct FromProblem {
     pairs: Vec<OrderPair>,
 }
 
+// Where one is held it is dropped by one call, so that less is to be proved of who holds it.
+impl Drop for FromProblem {
+    fn drop(self) {
+        let FromProblem {
+            strands,
+            values,
+            assumptions,
+            pairs,
+        } = self;
+    }
+}
+
 impl Model for FromProblem {
     ghost use Rattle.cp_model.specs.Skeleton.{FromProblem as Plain};
-    ghost use Rattle.cp_skel.specs.Data.{coded_from_problem};
+    ghost use Rattle.cp_skel.specs.Code.{coded_from_problem};
 
     ghost Value = { Plain };
 

@@ -1,6 +1,6 @@
 // Skeletons, and the pairs of their orders.
 ghost use Rattle.std.specs.Prelude.{◌≡◌};
-ghost use Rattle.cp_skel.specs.Data.{skeleton_of};
+ghost use Rattle.cp_model.specs.Data.{skeleton_of};
 ghost use Rattle.cp_skel.specs.Sound.{IsSound};
 ghost use Rattle.cp_skel.specs.View.{skeleton_view};
 
@@ -19,7 +19,6 @@ use std::marker::Model;
 /// another strand, and its order has no cycle; its recorded origins are ones; and what its strands' roles give is assumed.
 /// Each entry of its map from the problem is one of its strands; and what the problem states itself it keeps: these
 /// assumptions are among its own, and these pairs are in its order.
-#[derive(Drop)]
 pub struct Skeleton {
     pub(crate) variables: VarTable,
     pub(crate) strands: Vec<Strand>,
@@ -28,8 +27,22 @@ pub struct Skeleton {
     pub(crate) from_problem: FromProblem,
 }
 
+// Where one is held it is dropped by one call, so that less is to be proved of who holds it.
+impl Drop for Skeleton {
+    fn drop(self) {
+        let Skeleton {
+            variables,
+            strands,
+            order,
+            assumptions,
+            from_problem,
+        } = self;
+    }
+}
+
 impl Model for Skeleton {
-    ghost use Rattle.cp_skel.specs.Data.{SkeletonData, coded_skeleton};
+    ghost use Rattle.cp_model.specs.Data.{SkeletonData};
+    ghost use Rattle.cp_skel.specs.Code.{coded_skeleton};
 
     ghost Value = { SkeletonData };
 

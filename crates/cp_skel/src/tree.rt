@@ -57,7 +57,6 @@ pub struct Test {
 }
 
 /// One label of a tree. Labels are numbered from 0 by their places.
-#[derive(Drop)]
 pub struct TreeNode {
     pub parent: Option<usize>,
     pub operation: Operation,
@@ -67,6 +66,22 @@ pub struct TreeNode {
     pub patterns: Vec<Pattern>,
     pub children: Vec<usize>,
     pub mark: Option<Mark>,
+}
+
+// Where one is held it is dropped by one call, so that less is to be proved of who holds it.
+impl Drop for TreeNode {
+    fn drop(self) {
+        let TreeNode {
+            parent,
+            operation,
+            skeleton,
+            unrealised,
+            test,
+            patterns,
+            children,
+            mark,
+        } = self;
+    }
 }
 
 /// The derivation tree of a problem.

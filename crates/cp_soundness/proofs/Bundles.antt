@@ -9,7 +9,7 @@ use Rattle.cp_model.specs.declared.node.Node.{Node}
 use Rattle.cp_model.specs.Skeleton.{SkeletonStrand, instance, listener, skeleton_trace, skeleton_trace_or_none, IsNodeOf, Skeleton}
 use Rattle.cp_lists.proofs.Items.{item_below, place_of, map_of_item, item_of_map, item_still, item_of_push, at_place}
 use Rattle.cp_model.proofs.LawEvents.{trace_after}
-use Rattle.cp_lists.proofs.Members.{head_or_behind, at_head}
+use Rattle.cp_lists.proofs.Members.{head_or_behind, at_head, in_with_last}
 use Rattle.cp_soundness.proofs.SameNodes.{same_node_or_not}
 use Rattle.cp_soundness.proofs.Histories.{Entry, IsAfter, after_previous, after_sender, EntryStep, entry_step, Leads, HasHappened, HappenedFor, Chain, came_after, came_for, before_both}
 use Rattle.cp_soundness.proofs.States.{own_values, strand_for, home, IsStrandOf, for_strand, for_derivation, IsEventOf, State}
@@ -45,23 +45,13 @@ abbrev pub oldest_first : List Entry → List Entry
 oldest_first [] = []
 oldest_first (e ∷ es) = oldest_first es ++ e ∷ []
 
-in_last : {A : Type 0} {x : A} (xs : List A) (y : A) → (x ≡ y) ⊎ IsIn x xs → IsIn x (xs ++ y ∷ [])
-in_last [] y (inl e) = at_head e
-in_last [] y (inr h) = elim h [ ]
-in_last {x = x} (z ∷ xs) y (inl e) = there (in_last xs y (inl e))
-in_last {x = x} (z ∷ xs) y (inr h) = of (head_or_behind h) (λ h'. in_last xs y (inr h'))
-  where
-    of : (x ≡ z) ⊎ IsIn x xs → (IsIn x xs → IsIn x (xs ++ y ∷ [])) → IsIn x (z ∷ xs ++ y ∷ [])
-    of (inl e) f = at_head e
-    of (inr h') f = there (f h')
-
 listed_oldest : (es : List Entry) {e : Entry} → IsIn e es → IsIn e (oldest_first es)
 listed_oldest [] h = elim h [ ]
 listed_oldest (f ∷ es) {e} h = of (head_or_behind h) (λ h'. listed_oldest es h')
   where
     of : (e ≡ f) ⊎ IsIn e es → (IsIn e es → IsIn e (oldest_first es)) → IsIn e (oldest_first es ++ f ∷ [])
-    of (inl q) r = in_last (oldest_first es) f (inl q)
-    of (inr h') r = in_last (oldest_first es) f (inr (r h'))
+    of (inl q) r = in_with_last (oldest_first es) f (inl q)
+    of (inr h') r = in_with_last (oldest_first es) f (inr (r h'))
 
 oldest_listed : (es : List Entry) (i : ℕ) {e : Entry} → item_at (oldest_first es) i ≡ Some e → IsIn e es
 oldest_listed [] i h = absurd (cc)

@@ -11,9 +11,9 @@ use Rattle.cp_model.specs.Derivable.{DerivableAt, sent_before}
 use Rattle.cp_model.specs.Realisation.{OriginatesAtTerm, KeepsAssumptions, AllDerivable}
 use Rattle.cp_model.specs.Example.{example_role, example_protocol}
 use Rattle.cp_lists.proofs.Members.{only_item}
+use Rattle.cp_lists.proofs.Items.{only_place}
 use Rattle.cp_model.proofs.StrandParts.{same_instance}
 use Rattle.cp_model.proofs.SingleExample.{not_carried, example_gives, example_origin}
-use Rattle.cp_model.proofs.SingleTraces.{only_place}
 use Rattle.cp_soundness.specs.Heard.{heard_term, heard_pair, heard_skeleton}
 use Rattle.cp_soundness.proofs.SameNodes.{same_node}
 

@@ -10,14 +10,14 @@ use Rattle.cp_model.specs.Skeleton.{SkeletonStrand, instance, listener, skeleton
 use Rattle.cp_model.specs.declared.node.OrderPair.{OrderPair}
 use Rattle.cp_model.specs.Realisation.{AllDerivable}
 use Rattle.cp_model.specs.Standing.{image_of}
-use Rattle.cp_lists.proofs.Items.{item_before, map_of_item, item_of_map}
+use Rattle.cp_lists.proofs.Items.{item_before, map_of_item, item_of_map, each_of_three}
 use Rattle.cp_lists.proofs.Reached.{steps_append}
 use Rattle.cp_model.proofs.LawStandings.{strand_of_event, event_on}
 use Rattle.cp_lists.proofs.Members.{head_or_behind, at_head, of_each}
 use Rattle.cp_soundness.proofs.SameNodes.{same_node}
 use Rattle.cp_soundness.proofs.Histories.{Entry, entry_at, Leads, HasHappened, HappenedFor, SentFor, Chain, AreKept, has_kept, leads_kept, may_happen_at, HasComeTo}
 use Rattle.cp_soundness.proofs.States.{own_values, own_standing, strand_for, home, for_strand, IsEventOf, State}
-use Rattle.cp_soundness.proofs.Strands.{three, three_chained, each_of_three, into}
+use Rattle.cp_soundness.proofs.Strands.{three, three_chained, into}
 use Rattle.cp_soundness.proofs.Derivations.{supply, image_event, derive}
 use Rattle.cp_soundness.proofs.WovenNodes.{image_at, Woven, weave}
 use Rattle.cp_soundness.proofs.Sorted.{Sorted}

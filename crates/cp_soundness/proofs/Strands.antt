@@ -1,5 +1,5 @@
 -- Strands of the penetrator, each added with all its events.
-use Rattle.std.proofs.Common.{◌≡◌, ℕ, zero, suc, List, [], ◌∷◌, length, Some, refl, sym, ap, subst, ◌⊎◌, inl, inr}
+use Rattle.std.proofs.Common.{◌≡◌, ℕ, suc, List, [], ◌∷◌, length, Some, refl, sym, ap, subst, ◌⊎◌, inl, inr}
 use Rattle.cp_lists.specs.Lists.{item_at, IsIn, here, there, one_step}
 use Rattle.cp_model.specs.Message.{Message}
 use Rattle.cp_model.specs.Strand.{Event, send, recv, Penetrator, penetrator_trace}
@@ -7,6 +7,7 @@ use Rattle.cp_model.specs.Bundle.{node_at}
 use Rattle.cp_model.specs.declared.node.Node.{Node}
 use Rattle.cp_model.specs.Skeleton.{Skeleton}
 use Rattle.cp_lists.proofs.Members.{of_each}
+use Rattle.cp_lists.proofs.Items.{one_item, each_of_three}
 use Rattle.cp_soundness.proofs.Histories.{Entry, entry_at, after_previous, after_sender, entry_step, Leads, HasHappened, SentFor, Chain, AreKept, sent_kept, may_come_next, HasComeTo, has_come_next}
 use Rattle.cp_soundness.proofs.States.{State, IsAllowed, come_to_free, with_strand}
 
@@ -44,17 +45,6 @@ pub record Added (k : Skeleton) (taken : List Node) (st : State k taken) (label 
   pub first : IsIn (entry_at number 0 e d label) state.entries
   pub second : IsIn (entry_at number 1 f g label) state.entries
   pub third : IsIn (entry_at number 2 (send m) label label) state.entries
-
--- The items of lists of one and of three.
-one_item : {A : Type 0} {x y : A} (i : ℕ) (P : ℕ → A → Type 0) → item_at (x ∷ []) i ≡ Some y → P 0 x → P i y
-one_item {x = x} {y = y} zero P q p = let e : x ≡ y = cc in subst (P 0) e p
-one_item (suc i) P q p = absurd (cc)
-
-pub each_of_three : {A : Type 0} {x y z w : A} (i : ℕ) (P : ℕ → A → Type 0) → item_at (x ∷ y ∷ z ∷ []) i ≡ Some w → P 0 x → P 1 y → P 2 z → P i w
-each_of_three {x = x} {w = w} zero P q a b c = let e : x ≡ w = cc in subst (P 0) e a
-each_of_three {y = y} {w = w} (suc zero) P q a b c = let e : y ≡ w = cc in subst (P 1) e b
-each_of_three {z = z} {w = w} (suc (suc zero)) P q a b c = let e : z ≡ w = cc in subst (P 2) e c
-each_of_three (suc (suc (suc i))) P q a b c = absurd (cc)
 
 module _ (k : Skeleton) (taken : List Node) (st : State k taken) (label : Node) where
   abbrev IsNew : Penetrator → Entry → Type 0

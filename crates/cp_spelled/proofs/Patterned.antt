@@ -4,7 +4,7 @@ use Rattle.std.specs.Prelude.{Option, Some, None, codes}
 use Rattle.std.proofs.lemmas.List.{append_assoc, append-nil}
 use Rattle.cp_lists.specs.Lists.{IsIn, here}
 use Rattle.cp_lists.proofs.Members.{in_append, in_append_left, in_append_right, only_item}
-use Rattle.cp_lists.proofs.Appended.{none_in_both}
+use Rattle.cp_lists.proofs.Appended.{none_in_both, some_behind}
 use Rattle.cp_base.specs.declared.place.Place.{Place}
 use Rattle.cp_model.specs.Term.{Sort, text_sort, datum_sort, name_sort, skey_sort, akey_sort, Variable, symmetric_term, skey_variable, ltk_term, asymmetric_term, akey_variable, pubk_term, KeyTerm, Term, tag_term, enc_term, inverse_term, variables_of, variables_of_key}
 use Rattle.cp_model.specs.Strand.{Declaration}
@@ -18,7 +18,7 @@ use Rattle.cp_language.specs.Problems.{is_known}
 use Rattle.cp_language.specs.Terms.{TermSort, variable_named, sort_of_variable, is_sort, term_of_variable, paired, all_but_last, last_of, as_key, as_name, key_as_term, applied, key_of_name}
 use Rattle.cp_report.specs.Misfits.{misfit, misfit_unless, unless_misfit, lacking, all_misfits, symbol_misfits, any_number_misfits}
 use Rattle.cp_report.specs.Spelled as report
-use Rattle.cp_report.specs.Spelled.{Local, LocalAt, Scope, sort_or_none, names_sort, local_with, local_by, local_of, local_at, is_local, variable_of_local, place_of_local, variable_in, sort_in, sort_of_head, known_or, key_misfits, local_misfits, is_of_sort, variable_misfits, variables_misfits, name_misfits, last_key_misfits, applied_misfits, term_misfits, each_term_misfits, term_in, terms_in, locals_in, locals_in_each}
+use Rattle.cp_report.specs.Spelled.{Local, LocalAt, Scope, sort_or_none, names_sort, local_with, local_by, local_at, variable_of_local, place_of_local, sort_of_head, known_or, key_misfits, local_misfits, is_of_sort, variable_misfits, variables_misfits, name_misfits, last_key_misfits, applied_misfits, term_misfits, each_term_misfits, term_in, terms_in, locals_in, locals_in_each}
 use Rattle.cp_spelled.proofs.Gathered.{holds}
 
 -- The variables of a label, and the locals of a pattern.
@@ -87,10 +87,6 @@ module _ (ds : List Declaration) (ls : List Local) where
   known_sort : (o : Option Sort) (q : Place) (p : Place) (n : ℕ) → misfit_unless (is_known o) p ≡ [] → (l : Local) × (local_with o (number q n) ≡ Some l)
   known_sort None q p n e = absurd (cc)
   known_sort (Some r) q p n e = (record { sort = r; number = n }, refl)
-
-  some_behind : {A : Type 0} (xs : List A) (y : A) → xs ++ y ∷ [] ≡ [] → ⊥
-  some_behind [] y e = cc
-  some_behind (x ∷ xs) y e = cc
 
   local-stated : (at : Place) (fs : Forms) → local_misfits at (items_of fs) ≡ [] → IsStated fs
   local-stated at none e = absurd (cc)

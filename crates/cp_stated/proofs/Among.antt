@@ -1,9 +1,9 @@
 -- Tests of members, of carried values and of the order, exactly.
-use Rattle.std.proofs.Common.{◌≡◌, ℕ, zero, suc, List, [], ◌∷◌, map, Bool, true, false, not, ◌&&◌, refl, sym, ap, ◌∙◌}
+use Rattle.std.proofs.Common.{◌≡◌, ℕ, List, [], map, Bool, true, false, not, ◌&&◌, refl, sym, ap, ◌∙◌}
 use Rattle.std.specs.Prelude.{Some, None}
 use Rattle.std.proofs.lemmas.Bool.Decides.{same_from_decides}
 use Rattle.cp_lists.specs.Lists.{item_at, IsIn}
-use Rattle.cp_lists.proofs.Items.{map_of_item}
+use Rattle.cp_lists.proofs.Items.{map_of_item, map_none}
 use Rattle.cp_model.specs.Term.{AtomTerm, Term}
 use Rattle.cp_model.specs.Strand.{Event}
 use Rattle.cp_model.specs.Skeleton.{UniqueAt}
@@ -34,11 +34,6 @@ led-to false true c h i = refl
 led-to false false c h i = absurd (cc)
 
 -- ---- the event at a place
-
-map_none : {A B : Type 0} (f : A → B) (xs : List A) (i : ℕ) → item_at xs i ≡ None → item_at (map f xs) i ≡ None
-map_none f [] i e = refl
-map_none f (x ∷ xs) zero e = absurd (cc)
-map_none f (x ∷ xs) (suc i) e = map_none f xs i e
 
 pub sent-there : (f : Event Term → Event Term) (es plain : List (Event Term)) (i : ℕ) (e : Event Term) (v : AtomTerm) → es ≡ plain → Some e ≡ item_at es i → carries_value v (Some (f e)) ≡ carries_value v (item_at (map f plain) i)
 sent-there f es plain i e v same is = ap (carries_value v) (sym (map_of_item f plain i e (sym (is ∙ ap (λ xs. item_at xs i) same))))

@@ -13,10 +13,8 @@ use Rattle.cp_model.proofs.Gathered.{atoms, uniques, onto-takes, onto-only}
 use Rattle.cp_sexpr.specs.Syntax.{Form}
 use Rattle.cp_language.specs.Faults.{place_of}
 use Rattle.cp_language.specs.Problems.{Problem}
-use Rattle.cp_strand.specs.Data.{StrandData}
+use Rattle.cp_model.specs.Data.{StrandData, Declared, skeleton_of}
 use Rattle.cp_strand.specs.View.{strand_view}
-use Rattle.cp_term.specs.Table.{Declared}
-use Rattle.cp_skel.specs.Data.{skeleton_of}
 use Rattle.cp_skel.specs.View.{skeleton_view}
 use Rattle.cp_report.specs.Misfits.{stands_before, misfit_unless, lacking}
 use Rattle.cp_report.specs.Heads.{entries_of, entries_under, item_with, optional_misfits, place_or}

@@ -5,18 +5,18 @@ use Rattle.std.proofs.lemmas.Bool.{ltb-false}
 use Rattle.std.proofs.lemmas.List.{drop_all, append_assoc, append-nil}
 use Rattle.cp_lists.specs.Lists.{item_at}
 use Rattle.cp_lists.proofs.Members.{drop_read}
-use Rattle.cp_lists.proofs.Items.{item_there, drop_of_item, slice_get_item, map_of_item}
+use Rattle.cp_lists.proofs.Items.{slice_get_item, map_of_item}
+use Rattle.cp_lists.proofs.Fronts.{next_of}
 use Rattle.cp_base.specs.declared.place.Place.{Place}
 use Rattle.cp_model.specs.Term.{Variable}
 use Rattle.cp_model.specs.Strand.{Declaration}
 use Rattle.cp_model.specs.Skeleton.{SkeletonStrand}
 use Rattle.cp_model.specs.Same.{has_variable}
-use Rattle.cp_term.specs.Table.{Declared, sorts}
-use Rattle.cp_term.specs.declared.variable.Sort.{Sort}
+use Rattle.cp_model.specs.Data.{Declared, sorts, StrandData}
+use Rattle.cp_model.specs.declared.sort.Sort.{Sort}
 use Rattle.cp_sexpr.specs.View.{view}
 use Rattle.cp_sexpr.specs.declared.form.Form as program
 use Rattle.cp_language.specs.Faults.{place_of}
-use Rattle.cp_strand.specs.Data.{StrandData}
 use Rattle.cp_strand.specs.View.{sort_view, declaration_view, strand_view}
 use Rattle.cp_strand.specs.declared.protocol.Declaration as declared
 use Rattle.cp_skel.specs.Trees.{variables_view}
@@ -25,11 +25,6 @@ use Rattle.cp_report.specs.Skeletons.{declared_in_prefix, named_declarations, st
 use Rattle.cp_variables.specs.FirstMisfit.{first_onto}
 use Rattle.cp_forms.proofs.FirstOf.{first_onto-append}
 use Rattle.cp_stated.specs.ProblemMap.{strands_of_problem_misfits}
-
-next_of : {A : Type 0} (xs : List A) (k : ℕ) → k < length xs → (x : A) × (item_at xs k ≡ Some x) × (drop k xs ≡ x ∷ drop (k + 1) xs)
-next_of xs k h =
-    let found = item_there xs k h in
-    (found.0, found.1, drop_of_item xs k found.0 found.1 ∙ ap (λ n. found.0 ∷ drop n xs) (sym (add-one k)))
 
 -- ---- a strand for each of the problem's
 

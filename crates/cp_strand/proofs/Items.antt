@@ -2,11 +2,7 @@
 use Rattle.std.proofs.Common.{◌≡◌, ℕ, zero, suc, ◌+◌, ◌<◌, ◌≤◌, List, [], ◌∷◌, length, get_or, map, drop, refl, sym, ap, ◌∙◌, subst}
 use Rattle.std.proofs.lemmas.List.{drop_all}
 use Rattle.cp_lists.specs.Lists.{IsIn, here, there}
-use Rattle.cp_lists.proofs.Members.{drop_read, in_rest}
-
-pub in-cons : {A : Type 0} (x y : A) (xs : List A) → IsIn x (y ∷ xs) → (x ≡ y → ⊥) → IsIn x xs
-in-cons x y xs here other = absurd (other refl)
-in-cons x y xs (there p) other = p
+use Rattle.cp_lists.proofs.Members.{drop_read, in_rest, in-cons}
 
 -- A search for y through xs, each of which shows a value, as far as place i.
 module _ {A B : Type 0} (f : A → B) (y : B) (xs : List A) (i : ℕ) where

@@ -1,5 +1,5 @@
 -- Comparing two lists of one length, item by item.
-use Rattle.std.proofs.Common.{◌≡◌, ℕ, suc, ◌<◌, ◌≤◌, List, [], ◌∷◌, map, length, get_or, refl, ap₂, arith}
+use Rattle.std.proofs.Common.{◌≡◌, ℕ, suc, ◌<◌, ◌≤◌, List, [], ◌∷◌, length, get_or, refl, ap₂, arith}
 
 -- The first n items are the same.
 abbrev pub AreSameTo : {A : Type 0} → ℕ → List A → List A → Type 0
@@ -14,13 +14,3 @@ same_of_all (x ∷ xs) (y ∷ ys) e all =
 
 pub same_lists : {A : Type 0} (xs ys : List A) (n : ℕ) → length xs ≤ n → length xs ≡ length ys → AreSameTo n xs ys → xs ≡ ys
 same_lists xs ys n done e all = same_of_all xs ys e (λ i x y l p q. all i x y (omega (arith, l, done)) p q)
-
--- Where what two items show tells them apart, what two lists show does.
-pub same_shown : {A B : Type 0} (v : A → B) → ((x y : A) → v x ≡ v y → x ≡ y) → (xs ys : List A) → map v xs ≡ map v ys → xs ≡ ys
-same_shown v apart [] [] e = refl
-same_shown v apart [] (y ∷ ys) e = absurd (cc)
-same_shown v apart (x ∷ xs) [] e = absurd (cc)
-same_shown v apart (x ∷ xs) (y ∷ ys) e =
-    let f : v x ≡ v y = cc in
-    let g : map v xs ≡ map v ys = cc in
-    ap₂ (λ z zs. z ∷ zs) (apart x y f) (same_shown v apart xs ys g)

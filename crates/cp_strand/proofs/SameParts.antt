@@ -1,8 +1,8 @@
 -- Sorts, declarations and events are the same where what they stand for is.
 use Rattle.std.proofs.Common.{◌≡◌, refl, sym, ap, ap₂, ◌∙◌}
 use Rattle.cp_model.specs.Term as model
-use Rattle.cp_term.specs.declared.variable.Sort.{Sort}
-use Rattle.cp_term.specs.declared.variable.Sort.TheVariants.{Text, Datum, Name, Skey, Akey}
+use Rattle.cp_model.specs.declared.sort.Sort.{Sort}
+use Rattle.cp_model.specs.declared.sort.Sort.TheVariants.{Text, Datum, Name, Skey, Akey}
 use Rattle.cp_strand.specs.declared.protocol.Declaration.{Declaration}
 use Rattle.cp_strand.specs.declared.protocol.Event.{Event}
 use Rattle.cp_strand.specs.declared.protocol.Event.TheVariants.{Send, Receive}

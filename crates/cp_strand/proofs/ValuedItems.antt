@@ -1,25 +1,15 @@
 -- The terms of an instance, declaration by declaration, and what they are.
-use Rattle.std.proofs.Common.{◌≡◌, ℕ, zero, suc, ◌+◌, ◌<◌, ◌≤◌, List, [], ◌∷◌, ◌++◌, length, get_or, map, drop, refl, sym, ap, ◌∙◌, add-one, append_assoc, Bool, true, false, if◌then◌else◌}
+use Rattle.std.proofs.Common.{◌≡◌, ℕ, suc, ◌+◌, ◌<◌, ◌≤◌, List, [], ◌∷◌, ◌++◌, length, get_or, map, drop, sym, ap, ◌∙◌, add-one, append_assoc, Bool, true, false, if◌then◌else◌}
 use Rattle.std.specs.Prelude.{Option}
 use Rattle.std.proofs.lemmas.List.{append-nil, drop_all}
 use Rattle.cp_lists.specs.Lists.{item_at}
 use Rattle.cp_lists.proofs.Members.{drop_read}
+use Rattle.cp_lists.proofs.Fronts.{item-zero, drop-one}
 use Rattle.cp_model.specs.Term.{Variable, Term}
 use Rattle.cp_model.specs.Strand as strand
 use Rattle.cp_strand.specs.View.{sort_view, declaration_view}
 use Rattle.cp_strand.specs.declared.protocol.Declaration.{Declaration}
 use Rattle.cp_strand.specs.Valued.{term_or, valued}
-
-item-zero : {A : Type 0} (k : ℕ) (xs : List A) → item_at (drop k xs) 0 ≡ item_at xs k
-item-zero zero [] = refl
-item-zero zero (x ∷ xs) = refl
-item-zero (suc k) [] = refl
-item-zero (suc k) (x ∷ xs) = item-zero k xs
-
-drop-one : {A : Type 0} (k : ℕ) (xs : List A) → drop 1 (drop k xs) ≡ drop (suc k) xs
-drop-one zero xs = refl
-drop-one (suc k) [] = refl
-drop-one (suc k) (x ∷ xs) = drop-one k xs
 
 chosen : (b c : Bool) (x : Variable) (o p : Option Term) (r s : List Term) → b ≡ c → (if b then term_or x o ∷ r else term_or x p ∷ s) ≡ (if c then term_or x o ∷ r else term_or x p ∷ s)
 chosen b c x o p r s e = ap (λ (d : Bool). if d then term_or x o ∷ r else term_or x p ∷ s) e

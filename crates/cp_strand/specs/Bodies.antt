@@ -1,7 +1,7 @@
 -- The strand that the body of a handle stands for, and the events that it holds of an instance.
 use Rattle.std.specs.Prelude.{◌≡◌, map, IfSome}
 use Rattle.cp_model.specs.Skeleton.{skeleton_trace}
-use Rattle.cp_strand.specs.Data.{StrandData, listener_data}
+use Rattle.cp_model.specs.Data.{StrandData, listener_data}
 use Rattle.cp_strand.specs.View.{event_view, instance_view, instance_as_data}
 use Rattle.cp_strand.specs.declared.strand.Body.{Body}
 use Rattle.cp_strand.specs.declared.strand.Body.TheVariants.{Instance, Listener}

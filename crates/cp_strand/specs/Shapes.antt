@@ -1,5 +1,5 @@
 -- What a strand is made of.
-use Rattle.cp_strand.specs.Data.{StrandData, listener_data}
+use Rattle.cp_model.specs.Data.{StrandData, listener_data}
 use Rattle.cp_strand.specs.View.{instance_as_data}
 use Rattle.cp_strand.specs.declared.strand.StrandShape.{StrandShape}
 use Rattle.cp_strand.specs.declared.strand.StrandShape.TheVariants.{Instance, Listener}

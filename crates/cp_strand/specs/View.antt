@@ -3,12 +3,12 @@ use Rattle.cp_model.specs.Term as model
 use Rattle.cp_model.specs.Strand as strand
 use Rattle.cp_model.specs.Skeleton as skeleton
 use Rattle.cp_model.specs.Homomorphism.{substitution_by}
-use Rattle.cp_term.specs.declared.variable.Sort.{Sort}
-use Rattle.cp_term.specs.declared.variable.Sort.TheVariants as sorts
+use Rattle.cp_model.specs.declared.sort.Sort.{Sort}
+use Rattle.cp_model.specs.declared.sort.Sort.TheVariants as sorts
 use Rattle.cp_strand.specs.declared.protocol.Declaration.{Declaration}
 use Rattle.cp_strand.specs.declared.protocol.Event.{Event}
 use Rattle.cp_strand.specs.declared.protocol.Event.TheVariants as events
-use Rattle.cp_strand.specs.Data.{InstanceData, StrandData, instance_data, listener_data}
+use Rattle.cp_model.specs.Data.{InstanceData, StrandData, instance_data, listener_data}
 
 -- The sort.
 abbrev pub sort_view : Sort → model.Sort

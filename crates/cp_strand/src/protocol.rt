@@ -39,7 +39,6 @@ impl Event {
 
 /// A role: its name, its variables, its events, and its assumptions. It declares the variables of its events. Beside these it is
 /// kept whether it is small; contracts see nothing of that.
-#[derive(Drop)]
 pub struct Role {
     name: Text,
     variables: Vec<Declaration>,
@@ -48,6 +47,21 @@ pub struct Role {
     penetrator_non_originating: Vec<Atom>,
     uniquely_originating: Vec<Atom>,
     is_small: bool,
+}
+
+// Where one is held it is dropped by one call, so that less is to be proved of who holds it.
+impl Drop for Role {
+    fn drop(self) {
+        let Role {
+            name,
+            variables,
+            trace,
+            non_originating,
+            penetrator_non_originating,
+            uniquely_originating,
+            is_small,
+        } = self;
+    }
 }
 
 /// The messages of a small role have fewer parts than this.
@@ -86,7 +100,7 @@ fn are_small(events: &[Event]) -> bool {
 
 impl Model for Role {
     ghost use Rattle.cp_model.specs.Strand.{Role as Plain};
-    ghost use Rattle.cp_strand.specs.Data.{coded_role};
+    ghost use Rattle.cp_strand.specs.Code.{coded_role};
 
     ghost Value = { Plain };
 
@@ -206,7 +220,7 @@ pub struct Protocol {
 
 impl Model for Protocol {
     ghost use Rattle.cp_model.specs.Strand.{Protocol as Plain};
-    ghost use Rattle.cp_strand.specs.Data.{coded_protocol};
+    ghost use Rattle.cp_strand.specs.Code.{coded_protocol};
 
     ghost Value = { Plain };
 

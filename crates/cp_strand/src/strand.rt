@@ -1,7 +1,7 @@
 // Strands of skeletons, as handles that copies share.
 ghost use Rattle.std.specs.Prelude.{◌≡◌, IfOk};
 ghost use Rattle.cp_strand.specs.Bodies.{strand_of_body, HasItsEvents};
-ghost use Rattle.cp_strand.specs.Data.{listener_data};
+ghost use Rattle.cp_model.specs.Data.{listener_data};
 ghost use Rattle.cp_strand.specs.Shapes.{strand_of_shape};
 ghost use Rattle.cp_strand.specs.View.{instance_as_data};
 
@@ -22,7 +22,8 @@ pub struct Instance {
 }
 
 impl Model for Instance {
-    ghost use Rattle.cp_strand.specs.Data.{InstanceData, coded_instance};
+    ghost use Rattle.cp_model.specs.Data.{InstanceData};
+    ghost use Rattle.cp_strand.specs.Code.{coded_instance};
 
     ghost Value = { InstanceData };
 
@@ -80,7 +81,8 @@ pub struct Strand {
 }
 
 impl Model for Strand {
-    ghost use Rattle.cp_strand.specs.Data.{StrandData, coded_strand};
+    ghost use Rattle.cp_model.specs.Data.{StrandData};
+    ghost use Rattle.cp_strand.specs.Code.{coded_strand};
 
     ghost Value = { StrandData };
 

@@ -1,7 +1,7 @@
 -- Generalising brings in no strings.
-use Rattle.std.proofs.Common.{ℕ, zero, suc, List, [], ◌∷◌, sym, subst}
-use Rattle.std.specs.List.{remove}
+use Rattle.std.proofs.Common.{ℕ, List, [], sym, subst}
 use Rattle.cp_lists.specs.Lists.{IsIn, here, there}
+use Rattle.cp_lists.proofs.Members.{was_in}
 use Rattle.cp_model.specs.Term.{AtomTerm}
 use Rattle.cp_model.specs.declared.node.OrderPair.{OrderPair}
 use Rattle.cp_model.specs.Skeleton.{UniqueAt, Skeleton}
@@ -11,14 +11,6 @@ use Rattle.cp_general.specs.Steps.{Deletes, Drops}
 use Rattle.cp_general.specs.Generalisation.{StepsTo, deletes, drops, GeneralisesTo, last_step, next_step}
 use Rattle.cp_proper.specs.Spelled.{IsSpelledAtom, AreSpelledAtoms, IsSpelledSkeleton}
 use Rattle.cp_strings.proofs.Under.{in_order_spelled}
-
--- What is left of a list without one of its items was in it.
-was_in : {A : Type 0} (xs : List A) (d : ℕ) (x : A) → IsIn x (remove xs d) → IsIn x xs
-was_in [] zero x i = i
-was_in [] (suc d) x i = i
-was_in (y ∷ xs) zero x i = there i
-was_in (y ∷ xs) (suc d) x here = here
-was_in (y ∷ xs) (suc d) x (there i) = there (was_in xs d x i)
 
 module _ (S I : List ℕ → Type 0) where
   -- ---- values that are left

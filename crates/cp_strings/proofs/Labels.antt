@@ -1,7 +1,7 @@
 -- The labels of a search's tree have no other strings and no other identifiers than the problem and the protocol's roles.
 use Rattle.std.proofs.Common.{◌≡◌, ◌⊎◌, inl, inr, ℕ, zero, suc, ◌<◌, List, [], map, Option, Some, None, refl, sym, ap, ◌∙◌, subst, ⊎_elim, arith}
 use Rattle.cp_lists.specs.Lists.{item_at, IsIn}
-use Rattle.cp_lists.proofs.Items.{at_place, place_of, item_of_map}
+use Rattle.cp_lists.proofs.Items.{at_place, place_of, item_of_map, front_or_behind}
 use Rattle.cp_lists.proofs.Members.{not_in_none}
 use Rattle.cp_model.specs.Strand.{Declaration, Role, Protocol}
 use Rattle.cp_model.specs.Skeleton.{Skeleton, IsSkeleton}
@@ -14,7 +14,6 @@ use Rattle.cp_roots.specs.Sound.{AreSound}
 use Rattle.cp_expansion.specs.Expansion.{Expansion, IsExpansionOf}
 use Rattle.cp_tree.specs.Made.{Made, made_of_root, Way, way_of}
 use Rattle.cp_tree.specs.Searched.{IsMarkedAmong, Becomes, is_dead, is_seen, is_realised, is_generalised, above_bound, at_limit, is_tested, IsTreeFrom, IsTreeOf}
-use Rattle.cp_tree.proofs.Numbered.{front_or_behind}
 use Rattle.cp_tree.proofs.Settled.{IsMadeOfChild, IsMadeOfGeneralisation, made_from}
 use Rattle.cp_tree.proofs.SoundOrGeneralised.{IsSoundLabel, where_unrealised}
 use Rattle.cp_tree.proofs.SoundExpansions.{well_asked, expands_soundly}

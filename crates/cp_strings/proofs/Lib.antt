@@ -13,6 +13,5 @@ pub mod Children
 pub mod Enclosed
 pub mod Expansions
 pub mod Labels
-pub mod Among
 pub mod SoundRoots
 pub mod OwnVariables

@@ -1,5 +1,5 @@
 -- Entries of the table of variables.
-use Rattle.cp_term.specs.Table.{Declared}
+use Rattle.cp_model.specs.Data.{Declared}
 use Rattle.cp_term.specs.declared.variable.Entry.{Entry}
 
 -- What an entry is seen as.

@@ -11,5 +11,4 @@ pub mod Shapes
 pub mod Size
 pub mod Sorts
 pub mod Spines
-pub mod Table
 pub mod Variables

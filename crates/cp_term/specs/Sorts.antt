@@ -1,8 +1,8 @@
 -- The sorts of terms.
 use Rattle.std.specs.Prelude.{Bool, true, false}
 use Rattle.cp_model.specs.Term.{symmetric_term, asymmetric_term, AtomTerm, text_variable, datum_variable, name_variable, key_term, Term, tag_term, atom_term, pair_term, enc_term}
-use Rattle.cp_term.specs.declared.variable.Sort.{Sort}
-use Rattle.cp_term.specs.declared.variable.Sort.TheVariants.{Text, Datum, Name, Skey, Akey}
+use Rattle.cp_model.specs.declared.sort.Sort.{Sort}
+use Rattle.cp_model.specs.declared.sort.Sort.TheVariants.{Text, Datum, Name, Skey, Akey}
 
 -- The atom is of this sort.
 abbrev pub is_atom_of_sort : Sort → AtomTerm → Bool

@@ -3,8 +3,8 @@ use Rattle.std.specs.Prelude.{ℕ, false}
 use Rattle.cp_model.specs.Message.{Message, atom, text, datum, name, key, symmetric, asymmetric}
 use Rattle.cp_model.specs.Term.{skey_variable, akey_variable, symmetric_term, asymmetric_term, text_variable, datum_variable, name_variable, Term, atom_term, Assignment}
 use Rattle.cp_term.specs.Keys.{key_as_term}
-use Rattle.cp_term.specs.declared.variable.Sort.{Sort}
-use Rattle.cp_term.specs.declared.variable.Sort.TheVariants.{Text, Datum, Name, Skey, Akey}
+use Rattle.cp_model.specs.declared.sort.Sort.{Sort}
+use Rattle.cp_model.specs.declared.sort.Sort.TheVariants.{Text, Datum, Name, Skey, Akey}
 
 -- The variable of this sort and number, as a term.
 abbrev pub variable_term : Sort → ℕ → Term

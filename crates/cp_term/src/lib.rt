@@ -13,6 +13,7 @@ mod term;
 mod variable;
 
 pub use cp_base::Text;
+pub use cp_model::Sort;
 pub use laws::{carried_at_a_position, positions_are_those_found, test_of_equality};
 pub use makers::{enc, invert, ltk, pair, pubk, tag, var};
 pub use path::{Path, Step};
@@ -21,4 +22,4 @@ pub use position::{at, carries, depth, paths_of};
 pub use shape::{Shape, is_of_sort};
 pub use substitution::{Valuation, name_for, substituted};
 pub use term::Term;
-pub use variable::{Sort, VarId, VarTable};
+pub use variable::{VarId, VarTable};

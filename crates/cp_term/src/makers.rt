@@ -8,8 +8,9 @@ ghost use Rattle.cp_term.specs.Keys.{name_of, key_as_term, IsName, IsKey};
 ghost use Rattle.cp_term.specs.Variables.{variable_term, value_of_variable};
 
 use crate::term::{Node, Term};
-use crate::variable::{Sort, VarId};
+use crate::variable::VarId;
 use cp_base::{Text, copy_if_any};
+use cp_model::Sort;
 use std::alloc::{AllocError, Global};
 
 /// The tag with this text.

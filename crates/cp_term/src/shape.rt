@@ -4,8 +4,9 @@ ghost use Rattle.cp_term.specs.Shapes.{IsShapeOf};
 ghost use Rattle.cp_term.specs.Sorts.{is_of_sort};
 
 use crate::term::{Node, Term};
-use crate::variable::{Sort, VarId};
+use crate::variable::VarId;
 use cp_base::Text;
+use cp_model::Sort;
 
 /// What a term is made of, one level deep.
 #[derive(Clone, Copy)]

@@ -9,7 +9,8 @@ ghost use Rattle.cp_term.specs.Variables.{variable_term};
 use crate::makers::{enc, invert, ltk, pair, pubk, var};
 use crate::shape::Shape;
 use crate::term::Term;
-use crate::variable::{Sort, VarId};
+use crate::variable::VarId;
+use cp_model::Sort;
 use std::alloc::{AllocError, Global};
 
 /// What gives variables terms of their sorts.

@@ -1,24 +1,13 @@
-// Variables: their sorts, their numbers, and the table in which they are declared.
+// Variables: their numbers, and the table in which they are declared, with their sorts.
 ghost use Rattle.std.specs.Prelude.{◌≡◌, ◌<◌, ◌++◌, [], ◌∷◌, length, map, slice_get, Some, IfOk, OnOk, OnErr};
 ghost use Rattle.cp_term.specs.Entries.{declared_by};
-ghost use Rattle.cp_term.specs.Table.{roots, sorts};
+ghost use Rattle.cp_model.specs.Data.{roots, sorts};
 
 use cp_base::Text;
+use cp_model::Sort;
 use std::alloc::{AllocError, Global};
 use std::marker::Model;
 use std::rc::Rc;
-
-/// The sort of a variable: one of the five sorts of atoms.
-#[derive(Clone, Copy, Debug, PartialEq, Eq)]
-pub enum Sort {
-    Text,
-    Datum,
-    Name,
-    /// Symmetric keys.
-    Skey,
-    /// Asymmetric keys.
-    Akey,
-}
 
 /// A variable: its number, which is its place in the table of variables, counted from 0.
 #[derive(Clone, Copy, Debug, PartialEq, Eq)]
@@ -90,7 +79,7 @@ pub struct VarTable {
 
 impl Model for VarTable {
     ghost use Rattle.std.specs.Prelude.{List, map};
-    ghost use Rattle.cp_term.specs.Table.{Declared};
+    ghost use Rattle.cp_model.specs.Data.{Declared};
 
     ghost Value = { List Declared };
 

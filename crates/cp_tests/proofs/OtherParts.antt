@@ -1,22 +1,21 @@
 -- A skeleton is sound with a shorter way from its problem, and with its assumptions in another order, or twice.
-use Rattle.std.proofs.Common.{◌≡◌, ◌⊎◌, ⊎_elim, ℕ, zero, suc, List, [], ◌∷◌, ◌++◌, take, reverse, refl, sym, ap, ◌∙◌, subst}
+use Rattle.std.proofs.Common.{◌≡◌, ◌⊎◌, ⊎_elim, ℕ, List, [], ◌++◌, take, reverse, refl, sym, ap, ◌∙◌, subst}
 use Rattle.cp_lists.specs.Lists.{IsIn, here, there}
 use Rattle.cp_model.specs.declared.node.Node.{Node}
 use Rattle.cp_model.specs.Term.{AtomTerm}
 use Rattle.cp_model.specs.Strand.{Protocol}
 use Rattle.cp_model.specs.Skeleton.{UniqueAt, Skeleton, FromProblem, Assumptions, Before, IsSkeleton}
 use Rattle.cp_model.specs.declared.node.OrderPair.{OrderPair}
-use Rattle.cp_lists.proofs.Members.{in_append, in_append_left, in_append_right, from_reverse}
+use Rattle.cp_lists.proofs.Members.{in_append, in_append_left, in_append_right, in_either_half}
+use Rattle.cp_lists.proofs.Fronts.{in_first}
 use Rattle.cp_skel.specs.JoinedAssumptions.{joined}
-use Rattle.cp_strand.specs.Data.{StrandData}
-use Rattle.cp_skel.specs.Data.{SkeletonData, skeleton_of}
+use Rattle.cp_model.specs.Data.{StrandData, SkeletonData, skeleton_of, Declared}
 use Rattle.cp_skel.specs.Ordered.{ordered_by}
 use Rattle.cp_skel.specs.Sound.{IsSound}
 use Rattle.cp_skel.specs.View.{skeleton_view}
 use Rattle.cp_skel.proofs.CarriedHomomorphisms.{before_too}
 use Rattle.cp_skel.proofs.Grown.{Grows, pairs-stay, origin-stays, cycles-stay-out}
 use Rattle.cp_skel.proofs.SoundSkeletons.{parts_sound}
-use Rattle.cp_term.specs.Table.{Declared}
 use Rattle.cp_tests.specs.Rebuilt.{HasSame, IsShorterWay}
 
 abbrev with_other : Skeleton → Assumptions → FromProblem → Skeleton
@@ -62,14 +61,6 @@ module _ (k : Skeleton) (a : Assumptions) (f : FromProblem) where
 pub same_way : (old new : FromProblem) → new ≡ old → IsShorterWay old new
 same_way old new e = subst (IsShorterWay old) (sym e) (record { strands = λ n i. i; assumptions = refl; pairs = λ p i. i })
 
--- the first of a list are some of it
-in_first : {A : Type 0} (n : ℕ) (s : A) (xs : List A) → IsIn s (take n xs) → IsIn s xs
-in_first zero s [] i = elim i [ ]
-in_first zero s (x ∷ xs) i = elim i [ ]
-in_first (suc n) s [] i = elim i [ ]
-in_first (suc n) s (x ∷ xs) here = here
-in_first (suc n) s (x ∷ xs) (there i) = there (in_first n s xs i)
-
 -- a way to the first of the strands and of the pairs
 pub shorter_way : (strands pairs : ℕ) (old new : FromProblem) → new.strands ≡ take strands old.strands → new.assumptions ≡ old.assumptions → new.pairs ≡ take pairs old.pairs → IsShorterWay old new
 shorter_way strands pairs old new same assumptions ordered =
@@ -84,9 +75,6 @@ pub same_has : (old new : Assumptions) → new ≡ old → HasSame old new
 same_has old new e = subst (HasSame old) (sym e) (record { non = λ v i. i; penetrator_non = λ v i. i; unique = λ u i. i; no_others = λ u i. i })
 
 -- assumptions backwards, and then once more
-
-in_either_half : {A : Type 0} (x : A) (xs : List A) → IsIn x (reverse xs ++ xs) → IsIn x xs
-in_either_half x xs i = ⊎_elim (from_reverse xs) (λ j. j) (in_append (reverse xs) xs i)
 
 abbrev mixed : Assumptions → Assumptions
 mixed a = record {

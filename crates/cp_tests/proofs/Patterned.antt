@@ -11,8 +11,8 @@ use Rattle.cp_model.proofs.SameTests.{variable_in}
 use Rattle.cp_strand.specs.View.{sort_view}
 use Rattle.cp_term.specs.Patterns.{variable_with, locals_of, pattern_by}
 use Rattle.cp_term.specs.Variables.{variable_term}
-use Rattle.cp_term.specs.declared.variable.Sort as program
-use Rattle.cp_term.specs.declared.variable.Sort.TheVariants as sorts
+use Rattle.cp_model.specs.declared.sort.Sort as program
+use Rattle.cp_model.specs.declared.sort.Sort.TheVariants as sorts
 use Rattle.cp_guarding.specs.Within.{has_all_but}
 use Rattle.cp_guarding.proofs.AllWithin.{within_tested}
 use Rattle.cp_tests.specs.Patterns.{AreNumbersIn, HaveOneSort}

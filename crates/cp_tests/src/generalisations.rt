@@ -120,15 +120,35 @@ fn is_generalisation(alloc: Global, k: &Skeleton, wanted: &Skeleton) -> Result<b
     are_alike(alloc, &generalise(alloc, k)?, wanted)
 }
 
+/// Whether the skeleton goes to none, and is its own generalisation.
+fn is_most_general(alloc: Global, k: &Skeleton) -> Result<bool, AllocError> {
+    let goes = generalised(alloc, k)?.is_some();
+    Ok(!goes && is_generalisation(alloc, k, k)?)
+}
+
+/// Whether the skeleton goes to the one that is wanted, which is its generalisation.
+fn becomes(alloc: Global, k: &Skeleton, wanted: &Skeleton) -> Result<bool, AllocError> {
+    Ok(goes_to(alloc, k, wanted)? && is_generalisation(alloc, k, wanted)?)
+}
+
+/// Whether the skeleton becomes the one that the text states.
+fn becomes_stated(alloc: Global, row: &Row, k: &Skeleton, text: &str) -> Result<bool, Fail> {
+    let wanted = stated(alloc, row, text)?;
+    Ok(becomes(alloc, k, &wanted)?)
+}
+
+/// Whether the answers for the row's skeleton are right.
+fn is_right_of(alloc: Global, row: &Row, k: &Skeleton) -> Result<bool, Fail> {
+    match row.3 {
+        Some(text) => becomes_stated(alloc, row, k, text),
+        None => Ok(is_most_general(alloc, k)?),
+    }
+}
+
 /// Whether the row's answers are right.
 fn is_right(alloc: Global, row: &Row) -> Result<bool, Fail> {
-    let &(_, skeleton, _, found) = row;
-    let k = stated(alloc, row, skeleton)?;
-    let Some(text) = found else {
-        return Ok(generalised(alloc, &k)?.is_none() && is_generalisation(alloc, &k, &k)?);
-    };
-    let wanted = stated(alloc, row, text)?;
-    Ok(goes_to(alloc, &k, &wanted)? && is_generalisation(alloc, &k, &wanted)?)
+    let k = stated(alloc, row, row.1)?;
+    is_right_of(alloc, row, &k)
 }
 
 #[test]

@@ -87,11 +87,16 @@ fn written(alloc: Global, text: &str) -> Result<Vec<u8>, Fail> {
     Ok(lines)
 }
 
+/// Whether the forms of the text are written so.
+fn is_written(alloc: Global, text: &str, wanted: &str) -> Result<bool, Fail> {
+    let lines = written(alloc, text)?;
+    Ok(lines.as_slice() == wanted.as_bytes())
+}
+
 #[test]
 fn normal_spelling(rt: HostRuntime) -> Result<(), Fail> {
     for &(text, wanted) in WRITTEN {
-        let lines = written(rt.alloc(), text)?;
-        assert!(rt; lines.as_slice() == wanted.as_bytes(), "{text}");
+        assert!(rt; is_written(rt.alloc(), text, wanted)?, "{text}");
     }
     Ok(())
 }

@@ -140,13 +140,24 @@ fn changed(alloc: Global, k: &Skeleton, change: Change) -> Result<Vec<Skeleton>,
     }
 }
 
-/// The labels of what becomes of the problem that the last form states, with assumptions as a report lists them.
-fn labels_after(alloc: Global, forms: &[Form], change: Change) -> Result<Vec<u8>, Fail> {
+/// What becomes of the problem that the last form states.
+fn changed_last(alloc: Global, forms: &[Form], change: Change) -> Result<Vec<Skeleton>, Fail> {
     let k = last_problem(alloc, forms)?;
-    let mut all = changed(alloc, &k, change)?;
-    for k in &mut all {
+    changed(alloc, &k, change)
+}
+
+/// Lists the assumptions of these skeletons as a report does.
+fn list_all(alloc: Global, skeletons: &mut [Skeleton]) -> Result<(), AllocError> {
+    for k in skeletons {
         k.list_assumptions(alloc)?;
     }
+    Ok(())
+}
+
+/// The labels of what becomes of the problem that the last form states, with assumptions as a report lists them.
+fn labels_after(alloc: Global, forms: &[Form], change: Change) -> Result<Vec<u8>, Fail> {
+    let mut all = changed_last(alloc, forms, change)?;
+    list_all(alloc, &mut all)?;
     labels(alloc, forms, all)
 }
 

@@ -33,23 +33,43 @@ fn tree(alloc: Global, text: &[u8]) -> Result<Tree, Fail> {
     })
 }
 
-/// What is printed of the tree's shapes, where the forms state its problem.
-fn printed(alloc: Global, forms: &[Form], tree: Tree) -> Result<Vec<u8>, Fail> {
-    let input = input_of(alloc, forms)?;
+/// That tree, alone.
+fn trees(alloc: Global, text: &[u8]) -> Result<Vec<Tree>, Fail> {
     let mut trees = Vec::new(alloc);
-    trees.push(tree)?;
+    trees.push(tree(alloc, text)?)?;
+    Ok(trees)
+}
+
+/// What is printed of the trees' shapes, where the forms state their problems.
+fn printed(alloc: Global, forms: &[Form], trees: &[Tree]) -> Result<Vec<u8>, Fail> {
+    let input = input_of(alloc, forms)?;
     let mut shapes = Vec::new(alloc);
-    print_shapes(alloc, &input, &trees, &mut shapes)?;
+    print_shapes(alloc, &input, trees, &mut shapes)?;
     Ok(shapes)
+}
+
+/// What is printed of that tree's shapes.
+fn printed_of(alloc: Global, text: &[u8]) -> Result<Vec<u8>, Fail> {
+    let forms = forms_of(alloc, text)?;
+    let trees = trees(alloc, text)?;
+    printed(alloc, &forms, &trees)
+}
+
+/// What is printed of the shapes of the problem's tree.
+fn shapes(alloc: Global) -> Result<Vec<u8>, Fail> {
+    let text = joined(alloc, &[NEEDHAM_SCHROEDER, PROBLEM])?;
+    printed_of(alloc, &text)
+}
+
+/// Whether that is the protocol and the shapes.
+fn are_as_wanted(alloc: Global) -> Result<bool, Fail> {
+    let shapes = shapes(alloc)?;
+    let wanted = joined(alloc, &[NEEDHAM_SCHROEDER, SHAPES])?;
+    Ok(shapes.as_slice() == wanted.as_slice())
 }
 
 #[test]
 fn shapes_alone(rt: HostRuntime) -> Result<(), Fail> {
-    let alloc = rt.alloc();
-    let text = joined(alloc, &[NEEDHAM_SCHROEDER, PROBLEM])?;
-    let forms = forms_of(alloc, &text)?;
-    let shapes = printed(alloc, &forms, tree(alloc, &text)?)?;
-    let wanted = joined(alloc, &[NEEDHAM_SCHROEDER, SHAPES])?;
-    assert!(rt; shapes.as_slice() == wanted.as_slice());
+    assert!(rt; are_as_wanted(rt.alloc())?);
     Ok(())
 }

@@ -86,6 +86,20 @@ fn declaring(alloc: Global, declared: &str) -> Result<Skeleton, Fail> {
     last_problem(alloc, &forms)
 }
 
+/// The patterns of these terms over the variables of the table, which are local from this number on.
+fn patterns_over(
+    alloc: Global,
+    variables: &VarTable,
+    first: usize,
+    terms: &[Term],
+) -> Result<Vec<Pattern>, Fail> {
+    let mut patterns = Vec::new(alloc);
+    for term in terms {
+        patterns.push(pattern_of(alloc, variables, first, term)?)?;
+    }
+    Ok(patterns)
+}
+
 /// The patterns of these terms over variables that are declared so, which are local from this number on.
 fn patterns_of(
     alloc: Global,
@@ -94,11 +108,8 @@ fn patterns_of(
     terms: &[&str],
 ) -> Result<Vec<Pattern>, Fail> {
     let table = declaring(alloc, declared)?;
-    let mut patterns = Vec::new(alloc);
-    for term in &terms_of(alloc, declared, terms)? {
-        patterns.push(pattern_of(alloc, table.variables(), first, term)?)?;
-    }
-    Ok(patterns)
+    let terms = terms_of(alloc, declared, terms)?;
+    patterns_over(alloc, table.variables(), first, &terms)
 }
 
 /// A test: a node of a skeleton, and the critical term there.

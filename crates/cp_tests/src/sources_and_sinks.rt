@@ -37,11 +37,8 @@ fn statuses_codes_and_texts(rt: HostRuntime) -> Result<(), Fail> {
     Ok(())
 }
 
-#[test]
-fn source_in_memory(rt: HostRuntime) -> Result<(), Fail> {
-    let alloc = rt.alloc();
-    let bytes = b"abcdef".to_vec(alloc)?;
-    let mut source = MemSource::new(bytes, [1, 3].to_vec(alloc)?);
+/// Whether the source fails at the second and the fourth call, and gives its six bytes at the others.
+fn gives_six(source: &mut MemSource) -> bool {
     let mut buf = [b'.'; 4];
     for (answer, front) in [
         (Ok(4), b"abcd"),
@@ -50,16 +47,28 @@ fn source_in_memory(rt: HostRuntime) -> Result<(), Fail> {
         (Err(Failed), b"efcd"),
         (Ok(0), b"efcd"),
     ] {
-        assert!(rt; source.take(&mut buf) == answer);
-        assert!(rt; buf == *front);
+        if !(source.take(&mut buf) == answer && buf == *front) {
+            return false;
+        }
     }
-    Ok(())
+    true
+}
+
+/// Whether a source of six bytes that fails at these calls does so.
+fn source_gives_six(alloc: Global) -> Result<bool, AllocError> {
+    let bytes = b"abcdef".to_vec(alloc)?;
+    let mut source = MemSource::new(bytes, [1, 3].to_vec(alloc)?);
+    Ok(gives_six(&mut source))
 }
 
 #[test]
-fn sink_in_memory(rt: HostRuntime) -> Result<(), Fail> {
-    let alloc = rt.alloc();
-    let mut sink = MemSink::new(alloc, 5, [1].to_vec(alloc)?)?;
+fn source_in_memory(rt: HostRuntime) -> Result<(), Fail> {
+    assert!(rt; source_gives_six(rt.alloc())?);
+    Ok(())
+}
+
+/// Whether the sink fails at the second call and where it is full, and holds what it is given at the others.
+fn holds_five(sink: &mut MemSink) -> bool {
     for (piece, answer, held) in [
         ("abc", Ok(3), "abc"),
         ("d", Err(Failed), "abc"),
@@ -67,8 +76,22 @@ fn sink_in_memory(rt: HostRuntime) -> Result<(), Fail> {
         ("fg", Err(Failed), "abcde"),
         ("", Ok(0), "abcde"),
     ] {
-        assert!(rt; sink.put(piece.as_bytes()) == answer && sink.bytes() == held.as_bytes());
+        if !(sink.put(piece.as_bytes()) == answer && sink.bytes() == held.as_bytes()) {
+            return false;
+        }
     }
+    true
+}
+
+/// Whether a sink with room for five bytes that fails at this call does so.
+fn sink_holds_five(alloc: Global) -> Result<bool, AllocError> {
+    let mut sink = MemSink::new(alloc, 5, [1].to_vec(alloc)?)?;
+    Ok(holds_five(&mut sink))
+}
+
+#[test]
+fn sink_in_memory(rt: HostRuntime) -> Result<(), Fail> {
+    assert!(rt; sink_holds_five(rt.alloc())?);
     Ok(())
 }
 
@@ -213,24 +236,44 @@ pub(crate) fn has_ended(ended: &Ended, status: Status, wanted: &[u8]) -> bool {
         && ended.errs.bytes() == line_of(status).as_bytes()
 }
 
-/// Whether the run of a row ends and puts as the row says.
-fn is_right(alloc: Global, row: &Row) -> Result<bool, AllocError> {
-    let &(line, takes, room, puts, status, pieces) = row;
-    let input = joined(alloc, &[NEEDHAM_SCHROEDER, INITIATOR])?;
-    let mut source = MemSource::new(input, takes.to_vec(alloc)?);
-    let ended = run_over(alloc, line, &mut source, room, puts)?;
+/// Whether the run of a row over the source ends and puts as the row says.
+fn is_right_over(alloc: Global, row: &Row, source: &mut MemSource) -> Result<bool, AllocError> {
+    let &(line, _, room, puts, status, pieces) = row;
+    let ended = run_over(alloc, line, source, room, puts)?;
     let out = joined(alloc, pieces)?;
     Ok(has_ended(&ended, status, out.as_slice()))
+}
+
+/// Whether the run of a row ends and puts as the row says.
+fn is_right(alloc: Global, row: &Row) -> Result<bool, AllocError> {
+    let input = joined(alloc, &[NEEDHAM_SCHROEDER, INITIATOR])?;
+    let mut source = MemSource::new(input, row.1.to_vec(alloc)?);
+    is_right_over(alloc, row, &mut source)
+}
+
+/// Whether the source's input is too long.
+fn is_too_long(alloc: Global, source: &mut MemSource) -> Result<bool, AllocError> {
+    let ended = run_over(alloc, COMMAND, source, 100, &[])?;
+    Ok(ended.status == Status::TooLong)
+}
+
+/// Whether so many bytes are left in the source.
+fn has_left(alloc: Global, source: &mut MemSource, count: usize) -> Result<bool, AllocError> {
+    let mut rest = vec![in alloc; 0; 60_000]?;
+    Ok(source.take(&mut rest) == Ok(count))
+}
+
+/// Whether so many spaces are too many, and all but one more than may be taken are left.
+fn leaves_rest(alloc: Global) -> Result<bool, AllocError> {
+    let spaces = vec![in alloc; b' '; 1_100_000]?;
+    let mut source = MemSource::new(spaces, Vec::new(alloc));
+    Ok(is_too_long(alloc, &mut source)? && has_left(alloc, &mut source, 51_423)?)
 }
 
 // Of too long an input one byte too many is taken, and no more.
 #[test]
 fn what_is_left_of_too_long_an_input(rt: HostRuntime) -> Result<(), Fail> {
-    let spaces = vec![in rt.alloc(); b' '; 1_100_000]?;
-    let mut source = MemSource::new(spaces, Vec::new(rt.alloc()));
-    let ended = run_over(rt.alloc(), COMMAND, &mut source, 100, &[])?;
-    let mut rest = vec![in rt.alloc(); 0; 60_000]?;
-    assert!(rt; ended.status == Status::TooLong && source.take(&mut rest) == Ok(51_423));
+    assert!(rt; leaves_rest(rt.alloc())?);
     Ok(())
 }
 

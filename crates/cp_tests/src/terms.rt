@@ -71,30 +71,58 @@ fn is_path(paths: &[Path], place: usize, steps: &[Step]) -> bool {
         .is_some_and(|path| path.as_slice() == steps)
 }
 
+/// Whether the encryption carries its text and itself, and not its key.
+fn carries_text(alloc: Global, sealed: &Term) -> Result<bool, AllocError> {
+    let n = variable(alloc, Sort::Text)?;
+    let k = variable(alloc, Sort::Skey)?;
+    Ok(!carries(sealed, &k) && carries(sealed, &n) && carries(sealed, sealed) && depth(&n) == 1)
+}
+
+/// Whether that is so of a text under a symmetric key, which is two deep.
+fn sealed_carries_text(alloc: Global) -> Result<bool, AllocError> {
+    let sealed = sealed(alloc)?;
+    Ok(depth(&sealed) == 2 && carries_text(alloc, &sealed)?)
+}
+
 // An encryption does not carry its key.
 #[test]
 fn carried(rt: HostRuntime) -> Result<(), Fail> {
-    let sealed = sealed(rt.alloc())?;
-    let n = variable(rt.alloc(), Sort::Text)?;
-    let k = variable(rt.alloc(), Sort::Skey)?;
-    assert!(rt; !carries(&sealed, &k) && carries(&sealed, &n) && carries(&sealed, &sealed));
-    assert!(rt; depth(&n) == 1 && depth(&sealed) == 2);
+    assert!(rt; sealed_carries_text(rt.alloc())?);
     Ok(())
+}
+
+/// Whether all of the paths lead to the part.
+fn all_lead(whole: &Term, paths: &[Path], part: &Term) -> bool {
+    for path in paths {
+        if !leads(whole, path, part) {
+            return false;
+        }
+    }
+    true
+}
+
+/// Whether the part stands to the left, and to the right in what is encrypted, and nowhere else.
+fn has_positions(alloc: Global, whole: &Term, part: &Term) -> Result<bool, AllocError> {
+    let paths = paths_of(alloc, whole, part)?;
+    Ok(
+        paths.len() == 2
+            && is_path(&paths, 0, &[Step::Left])
+            && is_path(&paths, 1, &[Step::Right, Step::Plaintext])
+            && all_lead(whole, &paths, part),
+    )
+}
+
+/// Whether that is so of the text n in a pair of it and what is encrypted, which is three deep.
+fn text_has_positions(alloc: Global) -> Result<bool, AllocError> {
+    let whole = text_and_sealed(alloc)?;
+    let n = variable(alloc, Sort::Text)?;
+    Ok(depth(&whole) == 3 && has_positions(alloc, &whole, &n)?)
 }
 
 // Of two positions the left one comes first.
 #[test]
 fn positions(rt: HostRuntime) -> Result<(), Fail> {
-    let whole = text_and_sealed(rt.alloc())?;
-    let n = variable(rt.alloc(), Sort::Text)?;
-    let paths = paths_of(rt.alloc(), &whole, &n)?;
-    assert!(rt; paths.len() == 2 && depth(&whole) == 3);
-    assert!(rt;
-        is_path(&paths, 0, &[Step::Left]) && is_path(&paths, 1, &[Step::Right, Step::Plaintext])
-    );
-    for path in &paths {
-        assert!(rt; leads(&whole, path, &n));
-    }
+    assert!(rt; text_has_positions(rt.alloc())?);
     Ok(())
 }
 
@@ -106,15 +134,44 @@ fn ends_there(whole: &Term, path: &mut Path) -> Result<bool, AllocError> {
     Ok(is_off && path.len() == 1)
 }
 
+/// The path of one step to the right.
+fn to_right(alloc: Global) -> Result<Path, AllocError> {
+    let mut path = Path::new(alloc);
+    path.push(Step::Right)?;
+    Ok(path)
+}
+
+/// Whether the path leads to what is encrypted.
+fn leads_to_sealed(alloc: Global, whole: &Term, path: &Path) -> Result<bool, AllocError> {
+    let sealed = sealed(alloc)?;
+    Ok(leads(whole, path, &sealed))
+}
+
+/// Whether the path is one step to the right.
+fn is_to_right(alloc: Global, path: &Path) -> Result<bool, AllocError> {
+    let again = Path::from_slice(alloc, &[Step::Right])?;
+    Ok(again.as_slice() == path.as_slice())
+}
+
+/// Whether one step to the right leads to what is encrypted, and a step to the left of it to nothing.
+fn goes_right(alloc: Global, whole: &Term) -> Result<bool, AllocError> {
+    let mut path = to_right(alloc)?;
+    Ok(
+        leads_to_sealed(alloc, whole, &path)?
+            && ends_there(whole, &mut path)?
+            && is_to_right(alloc, &path)?,
+    )
+}
+
+/// Whether that is so of a pair of the text n and what is encrypted.
+fn pair_goes_right(alloc: Global) -> Result<bool, AllocError> {
+    let whole = text_and_sealed(alloc)?;
+    goes_right(alloc, &whole)
+}
+
 #[test]
 fn paths(rt: HostRuntime) -> Result<(), Fail> {
-    let whole = text_and_sealed(rt.alloc())?;
-    let mut path = Path::new(rt.alloc());
-    path.push(Step::Right)?;
-    assert!(rt; leads(&whole, &path, &sealed(rt.alloc())?));
-    assert!(rt; ends_there(&whole, &mut path)?);
-    let again = Path::from_slice(rt.alloc(), &[Step::Right])?;
-    assert!(rt; again.as_slice() == path.as_slice());
+    assert!(rt; pair_goes_right(rt.alloc())?);
     Ok(())
 }
 
@@ -177,12 +234,23 @@ fn is_shared(alloc: Global) -> Result<bool, AllocError> {
     Ok(matches!(shared.shape(), Shape::Ltk(_, _)))
 }
 
+/// Whether a public key for signing is another than that for no purpose.
+fn has_purpose(alloc: Global) -> Result<bool, AllocError> {
+    let public = key_of_name(alloc, None)?;
+    let signing = key_of_name(alloc, Some("sign"))?;
+    Ok(!public.same(&signing) && is_for_signing(&signing))
+}
+
+/// Whether the tag is a tag.
+fn is_tag(alloc: Global) -> Result<bool, AllocError> {
+    let hello = tag(alloc, "hello")?;
+    Ok(is_hello(&hello))
+}
+
 #[test]
 fn keys_of_names(rt: HostRuntime) -> Result<(), Fail> {
-    let public = key_of_name(rt.alloc(), None)?;
-    let signing = key_of_name(rt.alloc(), Some("sign"))?;
-    assert!(rt; !public.same(&signing) && is_for_signing(&signing));
-    assert!(rt; is_shared(rt.alloc())? && is_hello(&tag(rt.alloc(), "hello")?));
+    assert!(rt; has_purpose(rt.alloc())?);
+    assert!(rt; is_shared(rt.alloc())? && is_tag(rt.alloc())?);
     Ok(())
 }
 
@@ -196,22 +264,50 @@ pub(crate) fn pattern(alloc: Global) -> Result<Pattern, AllocError> {
     Ok(Pattern::new(term, locals))
 }
 
+/// Whether the first of the patterns has the term of the second, with the text 0 alone as a local.
+fn is_same(again: &Pattern, pattern: &Pattern) -> bool {
+    again.term().same(pattern.term()) && matches!(again.locals(), [id] if id.number() == 0)
+}
+
+/// Whether the copy of a pattern is so.
+fn is_copied(alloc: Global) -> Result<bool, AllocError> {
+    let pattern = pattern(alloc)?;
+    let again = pattern.copy()?;
+    Ok(is_same(&again, &pattern))
+}
+
 #[test]
 fn patterns(rt: HostRuntime) -> Result<(), Fail> {
-    let pattern = pattern(rt.alloc())?;
-    let again = pattern.copy()?;
-    assert!(rt; again.term().same(pattern.term()));
-    assert!(rt; matches!(again.locals(), [id] if id.number() == 0));
+    assert!(rt; is_copied(rt.alloc())?);
     Ok(())
+}
+
+/// A long chain of a text.
+fn long(alloc: Global) -> Result<Term, AllocError> {
+    let n = variable(alloc, Sort::Text)?;
+    chain(alloc, &n, &n, 300_000)
+}
+
+/// Whether the chain is that deep and itself, and the other term stands nowhere in it.
+fn is_long(alloc: Global, chain: &Term, other: &Term) -> Result<bool, AllocError> {
+    Ok(
+        depth(chain) == 300_001
+            && chain.same(chain)
+            && !carries(chain, other)
+            && paths_of(alloc, chain, other)?.is_empty(),
+    )
+}
+
+/// Whether that is so of a long chain and a tag.
+fn is_long_without_tag(alloc: Global) -> Result<bool, AllocError> {
+    let chain = long(alloc)?;
+    let other = tag(alloc, "other")?;
+    is_long(alloc, &chain, &other)
 }
 
 // The work on a chain and its drop are loops: neither needs a deep stack.
 #[test]
 fn long_chain(rt: HostRuntime) -> Result<(), Fail> {
-    let n = variable(rt.alloc(), Sort::Text)?;
-    let chain = chain(rt.alloc(), &n, &n, 300_000)?;
-    let other = tag(rt.alloc(), "other")?;
-    assert!(rt; depth(&chain) == 300_001 && chain.same(&chain) && !carries(&chain, &other));
-    assert!(rt; paths_of(rt.alloc(), &chain, &other)?.is_empty());
+    assert!(rt; is_long_without_tag(rt.alloc())?);
     Ok(())
 }

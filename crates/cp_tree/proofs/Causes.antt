@@ -1,7 +1,7 @@
 -- Each mark has its cause.
 use Rattle.std.proofs.Common.{◌≡◌, ◌⊎◌, inl, inr, ◌<◌, ◌≤◌, ℕ, List, [], ◌∷◌, length, map, true, false, Option, Some, None, refl, sym, ap, ◌∙◌, subst, ⊎_elim}
 use Rattle.cp_lists.specs.Lists.{item_at, IsIn, here}
-use Rattle.cp_lists.proofs.Items.{item_of_map}
+use Rattle.cp_lists.proofs.Items.{item_of_map, front_or_behind}
 use Rattle.cp_lists.proofs.Members.{only_item}
 use Rattle.cp_model.specs.Strand.{Declaration, Protocol}
 use Rattle.cp_model.specs.Skeleton.{Skeleton}
@@ -18,7 +18,6 @@ use Rattle.cp_tree.specs.Made.{Made, made_of_root, made_of_generalisation, Way, 
 use Rattle.cp_tree.specs.Searched.{mark_by, is_dead, is_seen, is_realised, is_generalised, above_bound, at_limit, is_tested, IsMarkedAmong, as_shape, as_instance, IsTreeFrom}
 use Rattle.cp_tree.specs.Edges.{IsLeaf}
 use Rattle.cp_tree.specs.Marked.{IsShapeAmong, IsDeadRoot, IsSeenInLeast, IsGeneralised}
-use Rattle.cp_tree.proofs.Numbered.{front_or_behind}
 use Rattle.cp_tree.proofs.Picked.{item_of, skeleton_at_place, place_of_item, place_before}
 use Rattle.cp_tree.proofs.CandidatesEmbed.{as_labels, as_candidates, one_label}
 use Rattle.cp_tree.proofs.Settled.{made_from}

@@ -1,7 +1,7 @@
 -- The labels of a tree declare their variables, the problem's first.
 use Rattle.std.proofs.Common.{◌≡◌, ◌⊎◌, inl, inr, ℕ, zero, suc, ◌<◌, List, [], map, Some, None, refl, sym, ap, ◌∙◌, subst, ⊎_elim, arith}
 use Rattle.cp_lists.specs.Lists.{item_at, IsIn}
-use Rattle.cp_lists.proofs.Items.{item_of_map}
+use Rattle.cp_lists.proofs.Items.{item_of_map, front_or_behind}
 use Rattle.cp_lists.proofs.Members.{in_append}
 use Rattle.cp_model.specs.Term.{Variable, variables_of}
 use Rattle.cp_model.specs.Strand.{Declaration, Role, Protocol}
@@ -31,7 +31,6 @@ use Rattle.cp_tree.proofs.SoundExpansions.{well_asked}
 use Rattle.cp_tree.proofs.Settled.{IsMadeOfChild, IsMadeOfGeneralisation, made_from}
 use Rattle.cp_tree.proofs.SoundOrGeneralised.{IsSoundLabel, label_declared, where_unrealised}
 use Rattle.cp_tree.proofs.SoundLabels.{settled_here, becomes_here, comes_behind, label_sound, sound_below, made}
-use Rattle.cp_tree.proofs.Numbered.{front_or_behind}
 
 -- ---- what is declared
 

@@ -2,13 +2,13 @@
 use Rattle.std.proofs.Common.{◌≡◌, ℕ, ◌+◌, List, length, map, Some, sym, ap, ◌∙◌, subst, arith}
 use Rattle.std.proofs.lemmas.List.{length-map}
 use Rattle.cp_lists.specs.Lists.{item_at, IsIn}
-use Rattle.cp_lists.proofs.Items.{place_of, at_place, map_of_item}
+use Rattle.cp_lists.proofs.Items.{place_of, at_place, map_of_item, item_further}
 use Rattle.cp_model.specs.Strand.{Declaration, Protocol}
 use Rattle.cp_model.specs.Tree.{Label, Tree, Limits}
 use Rattle.cp_roots.specs.Roots.{Root}
 use Rattle.cp_tree.specs.Made.{Made, made_of_root, way_of, IsEdge, to_child}
 use Rattle.cp_tree.specs.Searched.{IsMarkedAmong, IsTreeFrom}
-use Rattle.cp_tree.proofs.Numbered.{item_behind, number_of, number_there}
+use Rattle.cp_tree.proofs.Numbered.{number_of, number_there}
 use Rattle.cp_tree.proofs.Settled.{IsMadeFrom, made_of}
 use Rattle.cp_tree.proofs.SoundLabels.{made, SettledHere, becomes_here, parent_here, HasMadeLabel, made_label}
 
@@ -24,7 +24,7 @@ module _ (protocol : Protocol) (variables : List Declaration) (limits : Limits) 
   given_at i q l x s at =
       let count : length (map (made_of_root variables) roots) ≡ length roots = length-map roots (made_of_root variables) in
       let place : (length roots + s.offset) + q ≡ length (map (made_of_root variables) roots) + (s.offset + q) = omega (arith, count) in
-      item_behind (map (made_of_root variables) roots) from.children (s.offset + q) ((length roots + s.offset) + q) x place (s.behind q x at)
+      item_further (map (made_of_root variables) roots) from.children (s.offset + q) ((length roots + s.offset) + q) x place (s.behind q x at)
 
   -- The label that was made so is among the children.
   pub record IsLabelOfMade (numbers : List ℕ) (x : Made) : Type 0 where

@@ -1,7 +1,7 @@
 -- Where no step may be made each label is that of a root, or was made by generalising from one of these.
 use Rattle.std.proofs.Common.{◌≡◌, ◌⊎◌, inl, inr, ℕ, ◌<◌, List, map, Option, Some, None, sym, ap, ◌∙◌, subst, ⊎_elim, arith}
 use Rattle.cp_lists.specs.Lists.{item_at}
-use Rattle.cp_lists.proofs.Items.{item_of_map}
+use Rattle.cp_lists.proofs.Items.{item_of_map, front_or_behind}
 use Rattle.cp_model.specs.Strand.{Declaration, Protocol}
 use Rattle.cp_model.specs.Skeleton.{Skeleton}
 use Rattle.cp_model.specs.Tree.{Mark, Label, Tree, Limits}
@@ -12,7 +12,6 @@ use Rattle.cp_tree.specs.Made.{Made, made_of_root, Way, way_of}
 use Rattle.cp_tree.specs.Searched.{IsMarkedAmong, IsTreeFrom}
 use Rattle.cp_tree.specs.Placed.{IsGeneralisedRoot, IsOfRoot, AreRootsGeneralised}
 use Rattle.cp_tree.proofs.GeneralisedOnce.{not_further}
-use Rattle.cp_tree.proofs.Numbered.{front_or_behind}
 use Rattle.cp_tree.proofs.Placed.{label_of_root, roots_are_first}
 use Rattle.cp_tree.proofs.Settled.{IsUnexpanded, IsExpanded, IsOfMade, IsMadeOfChild, IsMadeOfGeneralisation, IsMadeFromOne, made_from}
 use Rattle.cp_tree.proofs.SoundLabels.{made, SettledHere, settled_here, of_made_here}

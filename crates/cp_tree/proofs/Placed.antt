@@ -1,8 +1,9 @@
 -- The labels of the roots come first, and each other label is a child of the one from which it was made.
-use Rattle.std.proofs.Common.{◌≡◌, ◌↔◌, ◌⊎◌, inl, inr, ℕ, zero, suc, ◌+◌, List, [], ◌∷◌, ◌++◌, length, map, Option, Some, None, refl, sym, ap, ◌∙◌, subst, ⊎_elim, arith}
+use Rattle.std.proofs.Common.{◌≡◌, ◌↔◌, ◌⊎◌, ℕ, suc, ◌+◌, List, [], ◌∷◌, length, map, Option, Some, None, refl, sym, ap, ◌∙◌, subst, ⊎_elim, arith}
 use Rattle.std.proofs.lemmas.List.{length-map}
 use Rattle.cp_lists.specs.Lists.{item_at, IsIn}
-use Rattle.cp_lists.proofs.Items.{at_place, map_of_item, item_of_map, item_still}
+use Rattle.cp_lists.proofs.Items.{at_place, map_of_item, item_of_map, item_still, item_in_parts}
+use Rattle.cp_lists.proofs.SameLists.{same_parts}
 use Rattle.cp_model.specs.Strand.{Declaration, Protocol}
 use Rattle.cp_model.specs.Problem.{numbers_from}
 use Rattle.cp_model.specs.Tree.{Mark, Label, Tree, Limits, is_expanded}
@@ -11,16 +12,10 @@ use Rattle.cp_roots.specs.Roots.{Root}
 use Rattle.cp_tree.specs.Made.{Made, made_of_root, Way, way_of}
 use Rattle.cp_tree.specs.Searched.{AreSettled, all_settled, then_settled, IsMarkedAmong, children_of, IsTreeFrom}
 use Rattle.cp_tree.specs.Placed.{IsLabelOfRoot, RootsAreFirst}
-use Rattle.cp_tree.proofs.Numbered.{numbers_append, same_parts, number_there}
+use Rattle.cp_tree.proofs.Numbered.{numbers_append, number_there}
 use Rattle.cp_tree.proofs.Settled.{IsOfMade, of_made, unexpanded, made_of}
 use Rattle.cp_tree.proofs.SoundLabels.{made, SettledHere, settled_here, of_made_here, parent_here, made_label}
 use Rattle.cp_tree.proofs.MadeChildren.{child_label}
-
--- Of two lists, one behind the other, each item is one of the first, or one of the second so many places on.
-item_in_parts : {A : Type 0} (xs ys : List A) (i : ℕ) (y : A) → item_at (xs ++ ys) i ≡ Some y → (item_at xs i ≡ Some y) ⊎ ((q : ℕ) × (i ≡ length xs + q) × (item_at ys q ≡ Some y))
-item_in_parts [] ys i y at = inr (i, omega arith, at)
-item_in_parts (x ∷ xs) ys zero y at = inl at
-item_in_parts (x ∷ xs) ys (suc i) y at = ⊎_elim inl (λ r. inr (r.0, (let e = r.1 in omega (arith, e)), r.2)) (item_in_parts xs ys i y at)
 
 module _ (protocol : Protocol) (limits : Limits) (ways : List Way) (marks : ℕ → Option Mark → Type 0) where
   -- A label of which something made is the child with this number.

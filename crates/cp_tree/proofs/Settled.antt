@@ -2,8 +2,9 @@
 use Rattle.std.proofs.Common.{◌≡◌, ◌⊎◌, inl, inr, ℕ, zero, suc, ◌+◌, ◌<◌, List, [], ◌∷◌, ◌++◌, length, take, false, Option, Some, None, refl, sym, ap, ◌∙◌, subst, ⊎_elim, arith}
 use Rattle.std.proofs.lemmas.List.{length-map}
 use Rattle.cp_lists.specs.Lists.{item_at, IsIn}
-use Rattle.cp_lists.proofs.Items.{item_still}
+use Rattle.cp_lists.proofs.Items.{item_still, item_further}
 use Rattle.cp_lists.proofs.Members.{in_append, from_map, not_in_none, only_item}
+use Rattle.cp_lists.proofs.SameLists.{same_parts}
 use Rattle.cp_model.specs.Strand.{Protocol}
 use Rattle.cp_model.specs.declared.node.Node.{Node}
 use Rattle.cp_model.specs.Skeleton.{Skeleton}
@@ -16,7 +17,7 @@ use Rattle.cp_expansion.specs.Expansion.{Expansion, IsExpansionOf}
 use Rattle.cp_general.specs.Generalisation.{GeneralisesTo}
 use Rattle.cp_tree.specs.Made.{Made, made_of_child, made_of_generalisation, Way}
 use Rattle.cp_tree.specs.Searched.{leaf, Becomes, is_dead, is_seen, is_realised, is_generalised, above_bound, at_limit, is_tested, AreSettled, all_settled, then_settled, children_of}
-use Rattle.cp_tree.proofs.Numbered.{item_behind, numbers_append, same_parts}
+use Rattle.cp_tree.proofs.Numbered.{numbers_append}
 
 module _ (protocol : Protocol) (limits : Limits) (ways : List Way) (marks : ℕ → Option Mark → Type 0) where
   -- ---- what becomes of one
@@ -142,7 +143,7 @@ module _ (protocol : Protocol) (limits : Limits) (ways : List Way) (marks : ℕ 
       let rest : children_of ls ≡ numbers_from (n + length fs) gs = parts.1 in
       let r = settled_at (suc i) (before + is_expanded x.test) (n + length fs) ms ls gs s rest place l at in
       let later : (n + length fs) + r.offset ≡ n + (length fs + r.offset) = omega arith in
-      let there_later : (q : ℕ) (y : Made) → item_at r.gives q ≡ Some y → item_at (fs ++ gs) ((length fs + r.offset) + q) ≡ Some y = (λ q y p. item_behind fs gs (r.offset + q) ((length fs + r.offset) + q) y (omega arith) (r.behind q y p)) in
+      let there_later : (q : ℕ) (y : Made) → item_at r.gives q ≡ Some y → item_at (fs ++ gs) ((length fs + r.offset) + q) ≡ Some y = (λ q y p. item_further fs gs (r.offset + q) ((length fs + r.offset) + q) y (omega arith) (r.behind q y p)) in
       record {
         so = r.so;
         at_made = r.at_made;

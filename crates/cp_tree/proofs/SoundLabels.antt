@@ -1,7 +1,7 @@
 -- Each label of a tree from sound roots is sound, or was made by generalising from one that is.
 use Rattle.std.proofs.Common.{◌≡◌, ◌⊎◌, inl, inr, ℕ, zero, suc, ◌<◌, List, ◌++◌, length, map, false, Some, sym, ap, ◌∙◌, subst, ⊎_elim, arith}
 use Rattle.cp_lists.specs.Lists.{item_at, IsIn}
-use Rattle.cp_lists.proofs.Items.{item_of_map}
+use Rattle.cp_lists.proofs.Items.{item_of_map, front_or_behind}
 use Rattle.cp_model.specs.Strand.{Declaration, Protocol}
 use Rattle.cp_model.specs.Skeleton.{Skeleton}
 use Rattle.cp_model.specs.PointOfView.{HasDeclaredVariables}
@@ -11,7 +11,6 @@ use Rattle.cp_roots.specs.Sound.{AreSound}
 use Rattle.cp_tree.specs.Made.{Made, made_of_root, way_of}
 use Rattle.cp_tree.specs.Searched.{IsMarkedAmong, Becomes, IsTreeFrom}
 use Rattle.cp_tree.specs.Sound.{IsSoundMade, ExpandsSoundly}
-use Rattle.cp_tree.proofs.Numbered.{front_or_behind}
 use Rattle.cp_tree.proofs.Settled.{IsOfMade, of_made, IsMadeOfChild, IsMadeOfGeneralisation, IsSettledAt, settled_at, label_of_made, made_from}
 use Rattle.cp_tree.proofs.SoundOrGeneralised.{IsSoundLabel, where_unrealised, where_further}
 

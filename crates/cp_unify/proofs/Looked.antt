@@ -7,8 +7,8 @@ use Rattle.cp_lists.proofs.Members.{drop_read}
 use Rattle.cp_model.specs.Term.{Sort, text_sort, datum_sort, name_sort, skey_sort, akey_sort, Variable, skey_variable, ltk_term, akey_variable, pubk_term, symmetric_term, asymmetric_term, AtomTerm, text_variable, datum_variable, name_variable, key_term, Term, tag_term, atom_term, pair_term, enc_term, atom_of_variable, apply_to}
 use Rattle.cp_model.proofs.LawTerms.{term_unchanged}
 use Rattle.cp_term.specs.Variables.{variable_term}
-use Rattle.cp_term.specs.declared.variable.Sort.{Sort as ProgramSort}
-use Rattle.cp_term.specs.declared.variable.Sort.TheVariants.{Text, Datum, Name, Skey, Akey}
+use Rattle.cp_model.specs.declared.sort.Sort.{Sort as ProgramSort}
+use Rattle.cp_model.specs.declared.sort.Sort.TheVariants.{Text, Datum, Name, Skey, Akey}
 use Rattle.cp_unify.specs.Atoms.{IsAtom, atom_of}
 use Rattle.cp_unify.specs.Bindings.{Binding, sort_of, variable_of, as_substitution}
 use Rattle.cp_unify.specs.Matched.{bound_term}

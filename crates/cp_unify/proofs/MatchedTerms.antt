@@ -18,8 +18,8 @@ use Rattle.cp_unify.specs.Matched.{is_listed, bound_term, is_same_sort, matched_
 use Rattle.cp_unify.specs.Matches.{is_number_of, numbered, ChangesOnly, BindsOnly, IsMatch, HasNoMatch}
 use Rattle.cp_term.specs.Keys.{key_as_term, IsKey}
 use Rattle.cp_term.specs.Variables.{variable_term}
-use Rattle.cp_term.specs.declared.variable.Sort.{Sort as ProgramSort}
-use Rattle.cp_term.specs.declared.variable.Sort.TheVariants.{Text, Datum, Name, Skey, Akey}
+use Rattle.cp_model.specs.declared.sort.Sort.{Sort as ProgramSort}
+use Rattle.cp_model.specs.declared.sort.Sort.TheVariants.{Text, Datum, Name, Skey, Akey}
 use Rattle.cp_term.specs.Sorts.{is_atom_of_sort, is_of_sort}
 use Rattle.cp_unify.proofs.Found.{swap}
 use Rattle.cp_unify.proofs.Members.{among_left, among_right}

@@ -9,13 +9,23 @@ use std::alloc::{AllocError, Global};
 use std::marker::Model;
 
 /// A substitution: bindings of variables, of which the first counts where a variable has several.
-#[derive(Drop)]
 pub struct Subst {
     bindings: Vec<Binding>,
     /// Set where the bindings are known to be solved, so that unifying beside them need not solve them again.
     is_solved: bool,
     /// Where the bindings of each number begin; empty where they are few, or where numbers are great.
     places: Vec<usize>,
+}
+
+// Where one is held it is dropped by one call, so that less is to be proved of who holds it.
+impl Drop for Subst {
+    fn drop(self) {
+        let Subst {
+            bindings,
+            is_solved,
+            places,
+        } = self;
+    }
 }
 
 impl Model for Subst {
@@ -86,10 +96,14 @@ impl Subst {
         ensures { IfOk result (λ s. s ≡ binding ∷ self) }
     {
         let number = binding.variable().number();
-        let mut bindings = self.bindings;
+        let Subst {
+            mut bindings,
+            is_solved: _,
+            places,
+        } = self;
         let alloc = *bindings.allocator();
         bindings.insert(0, binding)?;
-        let places = places_with(alloc, self.places, &bindings, number)?;
+        let places = places_with(alloc, places, &bindings, number)?;
         Ok(Subst {
             bindings,
             is_solved: false,
@@ -137,10 +151,15 @@ impl Subst {
         requires { IsSolved self }
         ensures { result ≡ self }
     {
+        let Subst {
+            bindings,
+            is_solved: _,
+            places,
+        } = self;
         Subst {
-            bindings: self.bindings,
+            bindings,
             is_solved: true,
-            places: self.places,
+            places,
         }
     }
 }

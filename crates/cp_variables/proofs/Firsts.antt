@@ -3,9 +3,10 @@ use Rattle.std.proofs.Common.{◌≡◌, ℕ, List, [], ◌∷◌, true, false, 
 use Rattle.std.specs.Prelude.{Option, Some, None, nat_lt, ◌==◌, ◌||◌, ◌&&◌}
 use Rattle.std.proofs.lemmas.Bool.Decides.{nat_tests}
 use Rattle.cp_lists.specs.Lists.{here, there}
+use Rattle.cp_lists.proofs.Members.{among_two}
 use Rattle.cp_base.specs.declared.place.Place.{Place}
 use Rattle.cp_forms.proofs.FirstOf as first
-use Rattle.cp_forms.proofs.FirstOf.{IsOrder, among_two}
+use Rattle.cp_forms.proofs.FirstOf.{IsOrder}
 use Rattle.cp_report.specs.Misfits.{stands_before, IsFirstMisfit, unless_misfit}
 use Rattle.cp_report.proofs.OneAnswer.{not_before, one_first}
 use Rattle.cp_variables.specs.FirstMisfit.{first_onto, merged, onto_none}

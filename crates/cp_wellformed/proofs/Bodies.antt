@@ -2,7 +2,7 @@
 use Rattle.std.proofs.Common.{◌≡◌, ◌≢◌, ℕ, List, [], ◌∷◌, ◌++◌, length, Bool, true, false, ◌==◌, not, Option, Some, None, refl, sym, ap, ◌∙◌, subst, if◌then◌else◌, append_assoc, eq-eqb}
 use Rattle.std.proofs.lemmas.Bool.{both_ways}
 use Rattle.std.proofs.lemmas.List.{append-nil}
-use Rattle.cp_lists.proofs.Appended.{none_before, none_behind}
+use Rattle.cp_lists.proofs.Appended.{none_before, none_behind, none_of_four}
 use Rattle.cp_base.specs.declared.place.Place.{Place}
 use Rattle.cp_base.specs.declared.place.Code.TheVariants.{BadNode, CyclicOrder}
 use Rattle.cp_base.specs.declared.place.Refusal.{Refusal}
@@ -16,7 +16,7 @@ use Rattle.cp_language.specs.Faults.{fault, fault_unless, place_of, items_of}
 use Rattle.cp_language.specs.Terms.{atom_faults, exceeds}
 use Rattle.cp_language.specs.Roles.{Headed, headed, item_or_none, items_behind, list_items, unless_faulty, each_faults, headed_item_faults, item_faults, forms_under, is_non_item, is_penetrator_non_item, is_unique_item}
 use Rattle.cp_language.specs.Problems.{instance_faults, listener_faults, node_of, node_faults, on_one_strand, reaches, closes_cycle, is_transmission, is_reception, direction_faults, pair_of_nodes, order_faults, pair_items_faults, pair_faults, between_strands, pair_of, pairs_in, pairs_faults, unique_faults, Stage, misplaced_unless, problem_item_faults, is_assumption_or_order, is_precedes_item, stage_after, pairs_if, body_faults, before_items}
-use Rattle.cp_wellformed.proofs.Terms.{none_of_four, holds}
+use Rattle.cp_wellformed.proofs.Terms.{holds}
 use Rattle.cp_wellformed.proofs.Items.{under_one, unless_parts}
 use Rattle.cp_wellformed.proofs.Strands.{IsFaultless, AreFaultless}
 

@@ -10,7 +10,7 @@ use Rattle.cp_model.specs.Strand.{Event, send, recv, payload, event_map, Declara
 use Rattle.cp_model.specs.Homomorphism.{text_in, datum_in, name_in, skey_in, akey_in, substitution_by}
 use Rattle.cp_model.specs.Problem.{declared_sort, IsDeclared}
 use Rattle.cp_lists.proofs.Members.{in_append_left, in_append_right, only_item}
-use Rattle.cp_lists.proofs.Appended.{none_before, none_behind}
+use Rattle.cp_lists.proofs.Appended.{none_before, none_behind, none_of_four}
 use Rattle.cp_sexpr.specs.Syntax.{Form, symbol, string, number, list, none, more}
 use Rattle.cp_language.specs.Words.{is_one_of}
 use Rattle.cp_model.specs.Same.{has_variable}
@@ -20,7 +20,7 @@ use Rattle.cp_language.specs.Problems.{is_known, role_variable_faults, mapped_fa
 use Rattle.cp_model.proofs.SameTests.{in_has_variable}
 use Rattle.cp_model.proofs.DeclaredVariables.{still_declared}
 use Rattle.cp_language.proofs.ValidTests.{one_of}
-use Rattle.cp_wellformed.proofs.Terms.{none_of_four, holds, AreDeclared, none_declared, both_declared, IsOfSort, variable_of_sort, variable_declared, term_variables_declared, term_of_sort}
+use Rattle.cp_wellformed.proofs.Terms.{holds, AreDeclared, none_declared, both_declared, IsOfSort, variable_of_sort, variable_declared, term_variables_declared, term_of_sort}
 use Rattle.cp_wellformed.proofs.Names.{named_itself}
 use Rattle.cp_wellformed.proofs.Roles.{IsSoundRole, prefix_declared}
 

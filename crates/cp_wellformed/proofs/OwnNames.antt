@@ -1,11 +1,12 @@
 -- Names in input without faults are of one thing each: a role's name of one role of its protocol, and an identifier that a
 -- problem declares of one variable.
-use Rattle.std.proofs.Common.{◌≡◌, ℕ, suc, ◌<◌, List, [], ◌∷◌, ◌++◌, length, Bool, true, false, Option, Some, None, refl, sym, ◌∙◌, if◌then◌else◌}
+use Rattle.std.proofs.Common.{◌≡◌, ℕ, suc, ◌<◌, List, [], ◌∷◌, ◌++◌, length, Bool, true, false, Some, refl, sym, ◌∙◌, if◌then◌else◌}
 use Rattle.std.proofs.lemmas.Bool.{or_parts, cond-true, cond-false}
 use Rattle.cp_base.specs.declared.place.Place.{Place}
 use Rattle.cp_base.specs.declared.place.Code.TheVariants.{DuplicateRole}
 use Rattle.cp_lists.specs.Lists.{item_at, IsIn, here, there}
 use Rattle.cp_lists.proofs.Items.{item_in_front}
+use Rattle.cp_lists.proofs.Appended.{none_of_four}
 use Rattle.cp_model.specs.Term.{Variable}
 use Rattle.cp_model.specs.Strand.{Declaration, Role}
 use Rattle.cp_model.specs.Same.{same_text}
@@ -16,7 +17,6 @@ use Rattle.cp_language.specs.Faults.{fault}
 use Rattle.cp_language.specs.Terms.{variable_from, variable_named}
 use Rattle.cp_language.specs.Roles.{text_of_symbol, vars_faults, declarations_of, events_of, trace_faults, each_faults, item_faults, role_item_faults, name_faults_at, role_faults, role_of, roles_faults, roles_in}
 use Rattle.cp_language.specs.Problems.{role_named}
-use Rattle.cp_wellformed.proofs.Terms.{none_of_four}
 use Rattle.cp_wellformed.proofs.EachRole.{of_roles}
 use Rattle.cp_wellformed.proofs.Names.{AreDistinct, other_way, named_itself}
 

@@ -18,7 +18,7 @@ use Rattle.cp_language.specs.Roles.{Headed, headed, text_of_symbol, vars_faults,
 use Rattle.cp_model.specs.Given.{given_non, given_penetrator_non, given_uniques, with_given}
 use Rattle.cp_language.specs.Problems.{protocol_named, role_named, Stage, body_faults, has_strand, before_items, roles_of, protocol_name_faults, problem_strands, problem_faults, own_uniques, own_assumptions, own_skeleton, Problem, protocol_or_none, problem_with, problem_of}
 use Rattle.cp_language.specs.Input.{protocol_names, top_faults, headed_top_faults, protocols_onto, protocols_behind, faults_from, faults_of, Entry, problem_by, stated_problem, entries_from, input_of}
-use Rattle.cp_wellformed.proofs.Terms.{none_of_four, AreDeclared, none_declared, both_declared}
+use Rattle.cp_wellformed.proofs.Terms.{AreDeclared, none_declared, both_declared}
 use Rattle.cp_wellformed.specs.Role.{IsWellFormedRole}
 use Rattle.cp_wellformed.proofs.Names.{AreDistinct, variables_distinct, named_itself}
 use Rattle.cp_wellformed.proofs.OwnNames.{HaveOwnNames, role_found, declared_named}
@@ -28,7 +28,7 @@ use Rattle.cp_wellformed.proofs.Strands.{IsSoundStrand, AreSoundStrands, protoco
 use Rattle.cp_wellformed.proofs.Bodies.{SaysBody, says_body}
 use Rattle.cp_wellformed.proofs.Values.{AtomsDeclared, atoms_declared, stated_declared}
 use Rattle.cp_lists.proofs.Items.{at_place}
-use Rattle.cp_lists.proofs.Appended.{none_before, none_behind}
+use Rattle.cp_lists.proofs.Appended.{none_before, none_behind, none_of_four}
 use Rattle.cp_model.proofs.Gathered.{onto-keeps, onto-takes, onto-only, atoms, uniques as gathered_uniques}
 use Rattle.cp_wellformed.proofs.Atoms.{onto_declared, given_declared, given_there, non_given, penetrator_non_given}
 use Rattle.cp_wellformed.proofs.Uniques as uniques

@@ -5,7 +5,7 @@ use Rattle.std.proofs.lemmas.List.{length-append}
 use Rattle.cp_base.specs.declared.place.Place.{Place}
 use Rattle.cp_base.specs.declared.place.Code.TheVariants.{BadHeight, UnknownRole}
 use Rattle.cp_lists.specs.Lists.{IsIn, here, there}
-use Rattle.cp_lists.proofs.Appended.{none_before}
+use Rattle.cp_lists.proofs.Appended.{none_before, none_of_three}
 use Rattle.cp_model.specs.Term.{variables_of}
 use Rattle.cp_model.specs.Strand.{Declaration, Role, Protocol, IsHeight, variables_of_prefix}
 use Rattle.cp_model.specs.Skeleton.{SkeletonStrand, instance, listener}
@@ -15,7 +15,7 @@ use Rattle.cp_language.specs.Words.{ItemHead, role_item, non_item, penetrator_no
 use Rattle.cp_language.specs.Terms.{term_faults}
 use Rattle.cp_language.specs.Roles.{headed, text_of_symbol, item_or_none, items_behind}
 use Rattle.cp_language.specs.Problems.{protocol_named, role_named, is_known, role_name_faults, height_faults, number_of, maplets_faults_of, instance_faults, listener_faults, Strands, instance_by, strand_by, fresh_of, with_strand, strands_from}
-use Rattle.cp_wellformed.proofs.Terms.{none_of_three, holds, AreDeclared, term_variables_declared}
+use Rattle.cp_wellformed.proofs.Terms.{holds, AreDeclared, term_variables_declared}
 use Rattle.cp_wellformed.proofs.Roles.{AreSoundRoles}
 use Rattle.cp_wellformed.proofs.Instances.{TakesToDeclared, Extends, instance_takes}
 

@@ -10,7 +10,7 @@ use Rattle.cp_model.specs.Term.{Sort, text_sort, datum_sort, name_sort, skey_sor
 use Rattle.cp_model.specs.Strand.{Declaration}
 use Rattle.cp_model.specs.Problem.{declared_sort, IsDeclared}
 use Rattle.cp_lists.proofs.Members.{in_append}
-use Rattle.cp_lists.proofs.Appended.{none_before, none_behind}
+use Rattle.cp_lists.proofs.Appended.{none_before, none_behind, none_of_three, none_of_four}
 use Rattle.cp_sexpr.specs.Syntax.{Form, symbol, string, number, list, Forms, none, more}
 use Rattle.cp_model.specs.Same.{same_text}
 use Rattle.cp_language.specs.Words.{TermHead, cat, encrypt, long_term_key, public_key, private_key, inverse_key, operation_out_of_profile, no_operation, term_head}
@@ -19,18 +19,6 @@ use Rattle.cp_language.specs.Terms.{variable_from, variable_named, TermSort, of_
 use Rattle.cp_model.proofs.SameTests.{sort_is}
 
 -- ---- no fault in two lists of faults is none in each
-
--- as of two lists
-pub none_of_three : {A : Type 0} (xs ys zs : List A) → xs ++ ys ++ zs ≡ [] → (xs ≡ []) × (ys ≡ []) × (zs ≡ [])
-none_of_three [] [] zs e = (refl, refl, e)
-none_of_three [] (y ∷ ys) zs e = absurd (cc)
-none_of_three (x ∷ xs) ys zs e = absurd (cc)
-
-pub none_of_four : {A : Type 0} (ws xs ys zs : List A) → ws ++ xs ++ ys ++ zs ≡ [] → (ws ≡ []) × (xs ≡ []) × (ys ≡ []) × (zs ≡ [])
-none_of_four [] [] [] zs e = (refl, refl, refl, e)
-none_of_four [] [] (y ∷ ys) zs e = absurd (cc)
-none_of_four [] (x ∷ xs) ys zs e = absurd (cc)
-none_of_four (w ∷ ws) xs ys zs e = absurd (cc)
 
 pub holds : (b : Bool) (at : Place) (c : Code) → fault_unless b at c ≡ [] → b ≡ true
 holds true at c e = refl

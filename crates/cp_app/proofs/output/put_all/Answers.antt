@@ -1,6 +1,7 @@
 use Rattle.std.proofs.Common.{◌≡◌, ◌++◌, [], take, refl, sym, arith}
 use Rattle.std.proofs.lemmas.List.{append-nil}
-use Rattle.cp_app.proofs.PutPieces.{both_parts, PutUpTo-more, PutUpTo-stop, Puts-ok, Puts-none, some_left, HasPut-err}
+use Rattle.cp_lists.proofs.Fronts.{both_parts, some_left}
+use Rattle.cp_app.proofs.PutPieces.{PutUpTo-more, PutUpTo-stop, Puts-ok, Puts-none, HasPut-err}
 use Rattle.cp_app.proofs.output.put_all.Goals as goal
 
 pub returns-in_err-count-clause-put : goal.returns-in_err-count-clause-put

@@ -1,5 +1,6 @@
 use Rattle.std.proofs.Common.{arith}
-use Rattle.cp_app.proofs.PutPieces.{both_parts, PutUpTo-more, PutUpTo-stop, PutUpTo-last, HasPut-err}
+use Rattle.cp_lists.proofs.Fronts.{both_parts}
+use Rattle.cp_app.proofs.PutPieces.{PutUpTo-more, PutUpTo-stop, PutUpTo-last, HasPut-err}
 use Rattle.cp_app.proofs.output.put_pieces.Goals as goal
 
 pub returns-in_err-put_all-clause-put : goal.returns-in_err-put_all-clause-put

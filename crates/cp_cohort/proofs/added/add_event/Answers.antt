@@ -1,11 +1,12 @@
 use Rattle.std.proofs.Common.{add-one, ◌≡◌, length, map, ap, arith}
 use Rattle.std.proofs.lemmas.Result.{on_ok_weaker}
+use Rattle.cp_lists.proofs.Mapped.{length_of}
 use Rattle.cp_skel.specs.Trees.{variables_view}
 use Rattle.cp_skel.specs.View.{skeleton_view}
 use Rattle.cp_strand.specs.View.{strand_view}
 use Rattle.cp_covering.specs.Cohort.{is_reception}
 use Rattle.cp_cohort.specs.Views.{question_view}
-use Rattle.cp_cohort.proofs.ChildLists.{puts_nothing, puts_other, length_of}
+use Rattle.cp_cohort.proofs.ChildLists.{puts_nothing, puts_other}
 use Rattle.cp_cohort.proofs.GrownReleases.{added_pair_at, added_at}
 use Rattle.cp_cohort.proofs.added.add_event.Goals.{In_ok-grown}
 use Rattle.cp_cohort.proofs.added.add_event.Goals as goal

@@ -1,10 +1,11 @@
 use Rattle.std.proofs.Common.{◌≡◌, ◌<◌, ◌≤◌, length, ap, ◌∙◌, arith}
+use Rattle.cp_lists.proofs.Mapped.{length_of}
 use Rattle.cp_model.specs.Problem.{numbers_from}
 use Rattle.cp_model.specs.Strand.{Role}
 use Rattle.cp_strand.specs.View.{event_view}
 use Rattle.cp_covering.specs.Cohort.{AddsEvent}
 use Rattle.cp_cohort.specs.Views.{question_view}
-use Rattle.cp_cohort.proofs.ChildLists.{puts_first, puts_next, puts_last, number_there, numbers_past, length_of}
+use Rattle.cp_cohort.proofs.ChildLists.{puts_first, puts_next, puts_last, number_there, numbers_past}
 use Rattle.cp_cohort.proofs.added.add_role.Goals as goal
 
 pub loop-index-init : goal.loop-index-init

@@ -1,12 +1,13 @@
 use Rattle.std.proofs.Common.{◌≡◌, ◌<◌, ◌≤◌, List, length, ap, ◌∙◌, sym, arith, map}
 use Rattle.cp_lists.specs.Lists.{item_at}
 use Rattle.cp_lists.proofs.Items.{map_of_read}
+use Rattle.cp_lists.proofs.Mapped.{length_of}
 use Rattle.cp_model.specs.Problem.{numbers_from}
 use Rattle.cp_model.specs.Skeleton.{SkeletonStrand}
 use Rattle.cp_strand.specs.View.{strand_view}
 use Rattle.cp_covering.specs.Cohort.{DisplacesStrand}
 use Rattle.cp_cohort.specs.Views.{question_view}
-use Rattle.cp_cohort.proofs.ChildLists.{puts_first, puts_next, puts_last, number_there, numbers_past, length_of}
+use Rattle.cp_cohort.proofs.ChildLists.{puts_first, puts_next, puts_last, number_there, numbers_past}
 use Rattle.cp_cohort.proofs.displaced.displace.Goals as goal
 
 pub loop-number-init : goal.loop-number-init

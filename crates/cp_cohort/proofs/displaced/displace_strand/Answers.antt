@@ -1,13 +1,14 @@
 use Rattle.std.proofs.Common.{◌≡◌, ◌<◌, ◌≤◌, Some, length, ap, sym, ◌∙◌, arith}
 use Rattle.cp_lists.specs.Lists.{item_at}
+use Rattle.cp_lists.proofs.Mapped.{length_of}
 use Rattle.cp_model.specs.Problem.{numbers_from}
 use Rattle.cp_model.specs.Skeleton.{SkeletonStrand, listener}
 use Rattle.cp_model.specs.Strand.{Role}
-use Rattle.cp_strand.specs.Data.{StrandData}
+use Rattle.cp_model.specs.Data.{StrandData}
 use Rattle.cp_strand.specs.View.{event_view, strand_view}
 use Rattle.cp_covering.specs.Cohort.{DisplacesEvent, of_listener, of_node, of_role}
 use Rattle.cp_cohort.specs.Views.{question_view}
-use Rattle.cp_cohort.proofs.ChildLists.{puts_nothing, puts_other, puts_first, puts_next, puts_last, number_there, numbers_past, length_of}
+use Rattle.cp_cohort.proofs.ChildLists.{puts_nothing, puts_other, puts_first, puts_next, puts_last, number_there, numbers_past}
 use Rattle.cp_cohort.proofs.GrownReleases.{listens}
 use Rattle.cp_cohort.proofs.displaced.displace_strand.Goals.{After-trace-events}
 use Rattle.cp_cohort.proofs.displaced.displace_strand.Goals as goal

@@ -1,6 +1,6 @@
 use Rattle.std.proofs.Common.{sym, subst}
 use Rattle.std.proofs.lemmas.Result.{IfOk-weaker}
-use Rattle.cp_skel.specs.Data.{SkeletonData}
+use Rattle.cp_model.specs.Data.{SkeletonData}
 use Rattle.cp_skel.specs.View.{skeleton_view}
 use Rattle.cp_cohort.specs.Children.{IsThere}
 use Rattle.cp_cohort.proofs.FitValues.{grown_in_copy}

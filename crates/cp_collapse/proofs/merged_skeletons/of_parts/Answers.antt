@@ -1,6 +1,6 @@
 use Rattle.std.proofs.Common.{List, sym, ap, subst, ◌∙◌}
 use Rattle.cp_model.specs.declared.node.OrderPair.{OrderPair}
-use Rattle.cp_skel.specs.Data.{SkeletonData, skeleton_of}
+use Rattle.cp_model.specs.Data.{SkeletonData, skeleton_of}
 use Rattle.cp_skel.specs.Sound.{IsSound}
 use Rattle.cp_skel.specs.View.{skeleton_view}
 use Rattle.cp_collapse.specs.MergedParts.{with_listed}

@@ -1,8 +1,7 @@
 use Rattle.std.proofs.Common.{◌∙◌, List, map, sym, ap, subst}
 use Rattle.cp_completeness.specs.Normal.{assumptions_under, from_problem_under, skeleton_under}
 use Rattle.cp_unify.specs.Bindings.{as_substitution}
-use Rattle.cp_strand.specs.Data.{StrandData}
-use Rattle.cp_skel.specs.Data.{SkeletonData}
+use Rattle.cp_model.specs.Data.{StrandData, SkeletonData}
 use Rattle.cp_strand.specs.View.{strand_view}
 use Rattle.cp_skel.specs.View.{skeleton_view}
 use Rattle.cp_skel.proofs.SoundSkeletons.{sound_prefixes}

@@ -1,7 +1,8 @@
 use Rattle.std.proofs.Common.{map}
+use Rattle.cp_lists.proofs.Fronts.{none_if_empty}
 use Rattle.cp_skel.specs.View.{skeleton_view}
 use Rattle.cp_skel.specs.Events.{occurrence_view}
-use Rattle.cp_derive.proofs.ByStrand.{before_among, on_among, none_left, picked_in_front, all_gone_through}
+use Rattle.cp_derive.proofs.ByStrand.{before_among, on_among, picked_in_front, all_gone_through}
 use Rattle.cp_derive.proofs.receptions.unrealised_by_strand.Goals as goal
 
 pub unrealised_among-requires-clause-among : goal.unrealised_among-requires-clause-among
@@ -22,4 +23,4 @@ loop-left-preserved c = record {
 pub returns : goal.returns
 returns c =
     all_gone_through (skeleton_view c.args.k.now) c.args.occurrences.now c.loop-left.left.now c.loop-left.nodes.items c.reverse-2.new.self.items
-    (none_left c.is_empty.result c.loop-left.left.now c.is_empty.ensures c.loop-left-test.false) c.requires.listed c.reverse-2.ensures.items c.loop-left.invariant.picks
+    (none_if_empty c.is_empty.result c.loop-left.left.now c.is_empty.ensures c.loop-left-test.false) c.requires.listed c.reverse-2.ensures.items c.loop-left.invariant.picks

@@ -2,7 +2,7 @@ use Rattle.std.proofs.Common.{◌∙◌, ap, sym, subst}
 use Rattle.cp_model.specs.Skeleton.{IsNodeOf, term_event_at}
 use Rattle.cp_model.specs.Derivable.{DerivableAt}
 use Rattle.cp_model.proofs.CarriedParts.{not_both}
-use Rattle.cp_skel.specs.Data.{SkeletonData}
+use Rattle.cp_model.specs.Data.{SkeletonData}
 use Rattle.cp_skel.specs.View.{skeleton_view}
 use Rattle.cp_general.proofs.FitTests.{some_if, none_if}
 use Rattle.cp_general.proofs.dropped_pair.derived_in_order.Goals as goal

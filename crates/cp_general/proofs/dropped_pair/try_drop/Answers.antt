@@ -4,7 +4,7 @@ use Rattle.std.proofs.lemmas.Result.{IfOk-weaker}
 use Rattle.cp_model.specs.Strand.{recv}
 use Rattle.cp_model.specs.Skeleton.{Skeleton}
 use Rattle.cp_model.specs.Derivable.{DerivableAt}
-use Rattle.cp_skel.specs.Data.{SkeletonData}
+use Rattle.cp_model.specs.Data.{SkeletonData}
 use Rattle.cp_skel.specs.Ordered.{ordered_by}
 use Rattle.cp_skel.specs.View.{skeleton_view}
 use Rattle.cp_general.proofs.Dropped.{keeps_of, of_keeps, sound_of, leaves_of, never_of, never_keeps}

@@ -2,7 +2,7 @@ use Rattle.std.proofs.Common.{inr, sym, subst}
 use Rattle.std.proofs.lemmas.Result.{IfOk-weaker}
 use Rattle.cp_model.specs.Homomorphism.{Embeds}
 use Rattle.cp_model.proofs.LawEmbeddings.{embeds_same}
-use Rattle.cp_skel.specs.Data.{SkeletonData}
+use Rattle.cp_model.specs.Data.{SkeletonData}
 use Rattle.cp_skel.specs.View.{skeleton_view}
 use Rattle.cp_general.proofs.SoundGeneralisations.{is_fit, is_most_general, embeds_back}
 use Rattle.cp_general.proofs.generalisation.generalise.Goals as goal

@@ -1,7 +1,7 @@
 use Rattle.std.proofs.Common.{List, map, sym, subst₂}
 use Rattle.cp_strand.specs.View.{strand_view}
 use Rattle.cp_skel.specs.View.{skeleton_view}
-use Rattle.cp_strand.specs.Data.{StrandData}
+use Rattle.cp_model.specs.Data.{StrandData}
 use Rattle.cp_model.proofs.CarriedParts.{not_both}
 use Rattle.cp_hom.specs.RoleCounts.{HaveRoom}
 use Rattle.cp_hom.proofs.Crowded.{embedding_has_room}

@@ -3,7 +3,7 @@ use Rattle.cp_model.specs.Homomorphism.{SkeletonMap, IsEmbedding}
 use Rattle.cp_model.specs.declared.node.OrderPair.{OrderPair}
 use Rattle.cp_strand.specs.View.{strand_view}
 use Rattle.cp_skel.specs.View.{skeleton_view}
-use Rattle.cp_strand.specs.Data.{StrandData}
+use Rattle.cp_model.specs.Data.{StrandData}
 use Rattle.cp_model.proofs.CarriedParts.{not_both}
 use Rattle.cp_hom.specs.Maps.{map_view}
 use Rattle.cp_hom.specs.PartialMaps.{partial_view, map_of}

@@ -2,7 +2,7 @@ use Rattle.std.proofs.Common.{List, map, subst, subst₂}
 use Rattle.cp_strand.specs.View.{strand_view}
 use Rattle.cp_skel.specs.View.{skeleton_view}
 use Rattle.cp_model.specs.Homomorphism.{SkeletonMap}
-use Rattle.cp_strand.specs.Data.{StrandData}
+use Rattle.cp_model.specs.Data.{StrandData}
 use Rattle.cp_hom.specs.PartialMaps.{partial_view, Places}
 use Rattle.cp_hom.specs.Counterparts.{Takes, IsBlocked, IsElsewhere, KeepsPairs, KeepsOrderApart}
 use Rattle.cp_hom.specs.declared.partials.Placement.{Placement}

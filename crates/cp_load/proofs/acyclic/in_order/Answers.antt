@@ -1,6 +1,7 @@
 use Rattle.std.proofs.Common.{map}
+use Rattle.cp_lists.proofs.Fronts.{all-listed}
 use Rattle.cp_load.specs.declared.acyclic.Ranked.{Ranked}
-use Rattle.cp_load.proofs.NoCycles.{all-listed, each-permuted}
+use Rattle.cp_load.proofs.NoCycles.{each-permuted}
 use Rattle.cp_load.proofs.acyclic.in_order.Goals as goal
 
 pub returns : goal.returns

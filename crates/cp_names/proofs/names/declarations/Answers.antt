@@ -1,7 +1,7 @@
 use Rattle.std.proofs.Common.{◌≡◌, ◌+◌, ◌++◌, map, drop, sym, ap, ◌∙◌}
 use Rattle.std.specs.Prelude.{slice_get, Some}
 use Rattle.std.proofs.lemmas.List.{map_push}
-use Rattle.cp_term.specs.Table.{roots, sorts}
+use Rattle.cp_model.specs.Data.{roots, sorts}
 use Rattle.cp_strand.specs.View.{declaration_view}
 use Rattle.cp_skel.specs.Trees.{variables_view}
 use Rattle.cp_names.proofs.Tables.{entry_more}

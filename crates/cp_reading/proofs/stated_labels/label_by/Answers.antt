@@ -1,7 +1,7 @@
 use Rattle.std.proofs.Common.{[], ◌∷◌, map, ap, ◌∙◌}
 use Rattle.std.specs.Prelude.{codes, option_map}
 use Rattle.cp_sexpr.specs.View.{view}
-use Rattle.cp_skel.specs.Data.{SkeletonData}
+use Rattle.cp_model.specs.Data.{SkeletonData}
 use Rattle.cp_skel.specs.Trees.{variables_view, operation_view, test_view}
 use Rattle.cp_skel.specs.View.{skeleton_view}
 use Rattle.cp_load.specs.Drafts.{draft_view}

@@ -1,6 +1,6 @@
 use Rattle.std.proofs.Common.{refl, sym, ap, ◌∙◌}
 use Rattle.cp_lists.proofs.Appended.{none_counted}
-use Rattle.cp_skel.specs.Data.{SkeletonData}
+use Rattle.cp_model.specs.Data.{SkeletonData}
 use Rattle.cp_skel.specs.View.{skeleton_view}
 use Rattle.cp_roots.proofs.PutForms.{dead_root, living_roots}
 use Rattle.cp_roots.proofs.gathered_roots.first_roots.Goals as goal

@@ -1,12 +1,12 @@
 use Rattle.std.proofs.Common.{◌≡◌, [], sym, ap, ◌∙◌, subst, arith}
 use Rattle.std.proofs.lemmas.Result.{err_from_is_err_and, IfErr-weaker}
+use Rattle.cp_lists.proofs.Fronts.{front_spelled}
 use Rattle.cp_sexpr.specs.UnfinishedForms.{building_of, places_of, RefusesEnd}
 use Rattle.cp_sexpr.specs.Pieces.{BeginsWith, spelling, place_after}
 use Rattle.cp_sexpr.specs.Reading.{IsErrorOf}
 use Rattle.cp_sexpr.specs.Written.{IsWritten}
 use Rattle.cp_sexpr.specs.CutPieces.{piece_of}
 use Rattle.cp_sexpr.specs.View.{views}
-use Rattle.cp_sexpr.proofs.Fronts.{front_spelled}
 use Rattle.cp_sexpr.proofs.Readings.{IfOk-both, read_piece, read_all, read_refused, read_piece_refused, read_end_refused, read_line, read_col}
 use Rattle.cp_sexpr.proofs.reader.read.Goals as goal
 

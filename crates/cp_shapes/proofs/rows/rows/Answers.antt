@@ -1,7 +1,8 @@
 use Rattle.std.proofs.Common.{map}
+use Rattle.cp_lists.proofs.Mapped.{at_all}
 use Rattle.cp_skel.specs.View.{skeleton_view}
 use Rattle.cp_shapes.specs.Rows.{IsRowOf}
-use Rattle.cp_shapes.proofs.Gathered.{next_row, all_rows, at_all}
+use Rattle.cp_shapes.proofs.Gathered.{next_row, all_rows}
 use Rattle.cp_shapes.proofs.rows.rows.Goals as goal
 
 pub loop-instance-preserved : goal.loop-instance-preserved

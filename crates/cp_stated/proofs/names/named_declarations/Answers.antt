@@ -3,7 +3,7 @@ use Rattle.std.specs.Prelude.{slice_get, Some}
 use Rattle.std.proofs.lemmas.Bool.{ltb-false}
 use Rattle.std.proofs.lemmas.List.{map_push}
 use Rattle.cp_model.specs.Strand.{Declaration}
-use Rattle.cp_term.specs.Table.{sorts}
+use Rattle.cp_model.specs.Data.{sorts}
 use Rattle.cp_strand.specs.View.{sort_view, declaration_view}
 use Rattle.cp_stated.proofs.NumberedLists.{name-taken, names-past, names-done}
 use Rattle.cp_stated.proofs.names.named_declarations.Goals as goal

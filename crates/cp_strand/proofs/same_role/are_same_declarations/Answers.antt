@@ -1,6 +1,6 @@
 use Rattle.std.proofs.Common.{map, ap}
+use Rattle.cp_lists.proofs.SameLists.{same_shown}
 use Rattle.cp_strand.specs.View.{declaration_view}
-use Rattle.cp_strand.proofs.SameLists.{same_shown}
 use Rattle.cp_strand.proofs.SameParts.{same_declaration}
 use Rattle.cp_strand.proofs.same_role.are_same_declarations.Goals as goal
 

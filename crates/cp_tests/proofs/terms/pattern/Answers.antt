@@ -1,7 +1,7 @@
 use Rattle.std.proofs.Common.{ℕ, List, [], ◌∷◌, ◌++◌, ap, ap₂, ◌∙◌}
 use Rattle.cp_model.specs.Term.{skey_variable, symmetric_term, enc_term}
 use Rattle.cp_term.specs.Variables.{variable_term}
-use Rattle.cp_term.specs.declared.variable.Sort.TheVariants.{Text, Skey}
+use Rattle.cp_model.specs.declared.sort.Sort.TheVariants.{Text, Skey}
 use Rattle.cp_term.proofs.LocalVariables.{text_under_key_is_pattern}
 use Rattle.cp_tests.proofs.terms.pattern.Goals as goal
 

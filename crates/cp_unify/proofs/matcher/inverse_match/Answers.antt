@@ -2,7 +2,7 @@ use Rattle.std.proofs.Common.{◌≡◌}
 use Rattle.std.proofs.lemmas.Result.{IfOk-weaker}
 use Rattle.std.specs.Option.{option_map}
 use Rattle.cp_term.specs.Variables.{variable_term}
-use Rattle.cp_term.specs.declared.variable.Sort.TheVariants.{Akey}
+use Rattle.cp_model.specs.declared.sort.Sort.TheVariants.{Akey}
 use Rattle.cp_unify.specs.Matched.{is_listed, matched}
 use Rattle.cp_unify.proofs.MatchedTerms.{asymmetric_of, not_akey, asymmetric_is_key, inverse_matched}
 use Rattle.cp_unify.proofs.matcher.inverse_match.Goals as goal

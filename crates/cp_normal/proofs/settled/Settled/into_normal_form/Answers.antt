@@ -1,5 +1,5 @@
 use Rattle.std.proofs.Common.{ap, refl}
-use Rattle.cp_skel.specs.Data.{SkeletonData}
+use Rattle.cp_model.specs.Data.{SkeletonData}
 use Rattle.cp_skel.specs.View.{skeleton_view}
 use Rattle.cp_normal.proofs.Gathered.{form_made}
 use Rattle.cp_normal.proofs.SoundForms.{form_sound}

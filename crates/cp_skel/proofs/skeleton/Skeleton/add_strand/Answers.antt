@@ -10,13 +10,13 @@ use Rattle.cp_skel.proofs.Changed.{strand-added}
 use Rattle.cp_skel.proofs.SoundSkeletons.{strand_sound}
 use Rattle.cp_skel.proofs.skeleton.Skeleton.add_strand.Goals as goal
 
-abbrev before : goal.After-drop-self-inside-3 → Skeleton
+abbrev before : goal.After-drop-self-inside → Skeleton
 before c = skeleton_view (skeleton_of_parts c.self.inside)
 
-abbrev behind : goal.After-drop-self-inside-3 → Skeleton
+abbrev behind : goal.After-drop-self-inside → Skeleton
 behind c = record { strands = map strand_view c.push.new.self.items; pairs = (before c).pairs; assumptions = c.append.new.self; from_problem = (before c).from_problem }
 
-adds : (c : goal.After-drop-self-inside-3) → AddsStrand c.args.role.now.value c.args.height c.args.values.now (before c) (behind c)
+adds : (c : goal.After-drop-self-inside) → AddsStrand c.args.role.now.value c.args.height c.args.values.now (before c) (behind c)
 adds c =
     let i = c.in_ok-instance.instance in
     let strands = c.self.inside.strands in

@@ -1,6 +1,7 @@
 use Rattle.std.proofs.Common.{◌≡◌, map, ap, sym, ◌∙◌, subst}
 use Rattle.std.specs.List.{remove}
 use Rattle.cp_lists.specs.Lists.{IsIn}
+use Rattle.cp_lists.proofs.Mapped.{removed_map}
 use Rattle.cp_model.specs.Skeleton.{Skeleton}
 use Rattle.cp_skel.specs.Bridges.{IsWithoutStrand}
 use Rattle.cp_skel.specs.Deletion.{ForgetsAssumptions, KeepsOrderOfOthers}
@@ -8,15 +9,14 @@ use Rattle.cp_skel.specs.Ordered.{IsOrdered}
 use Rattle.cp_skel.specs.Parts.{skeleton_of_parts}
 use Rattle.cp_strand.specs.View.{strand_view}
 use Rattle.cp_skel.specs.View.{skeleton_view}
-use Rattle.cp_skel.proofs.NumbersWithout.{removed_map}
 use Rattle.cp_skel.proofs.OrderWithout.{keeps_order_anew, is_ordered_anew}
 use Rattle.cp_skel.proofs.SoundSkeletons.{sound_ordered, deleted_sound}
 use Rattle.cp_skel.proofs.skeleton.Skeleton.delete_strand.Goals as goal
 
-abbrev before : goal.After-drop-self-inside-11 → Skeleton
+abbrev before : goal.After-drop-self-inside-3 → Skeleton
 before c = skeleton_view (skeleton_of_parts c.self.inside)
 
-abbrev left : goal.After-drop-self-inside-11 → Skeleton
+abbrev left : goal.After-drop-self-inside-3 → Skeleton
 left c = record {
   strands = map strand_view c.remove.new.self.items;
   pairs = c.close.new.self;
@@ -24,18 +24,18 @@ left c = record {
   from_problem = c.in_ok-from_problem.from_problem;
 }
 
-strands_left : (c : goal.After-drop-self-inside-11) → (left c).strands ≡ remove (before c).strands c.args.strand
+strands_left : (c : goal.After-drop-self-inside-3) → (left c).strands ≡ remove (before c).strands c.args.strand
 strands_left c = ap (map strand_view) c.remove.ensures.items ∙ removed_map strand_view c.self.inside.strands.items c.args.strand
 
-without : (c : goal.After-drop-self-inside-11) → IsWithoutStrand c.args.strand (before c).pairs c.of-order.result
+without : (c : goal.After-drop-self-inside-3) → IsWithoutStrand c.args.strand (before c).pairs c.of-order.result
 without c =
     subst (IsWithoutStrand c.args.strand (before c).pairs) (sym c.of-order.ensures)
     (subst (λ ps. IsWithoutStrand c.args.strand ps c.in_ok-pairs.pairs.items) c.pairs.ensures c.in_ok-pairs.ensures)
 
-ordered : (c : goal.After-drop-self-inside-11) → IsOrdered (left c)
+ordered : (c : goal.After-drop-self-inside-3) → IsOrdered (left c)
 ordered c = is_ordered_anew (before c) (left c) c.args.strand c.of-order.result (strands_left c) (without c) c.in_ok-close.ensures.keeps (sound_ordered (before c) c.self.invariant)
 
-others : (c : goal.After-drop-self-inside-11) → KeepsOrderOfOthers c.args.strand (before c) (left c)
+others : (c : goal.After-drop-self-inside-3) → KeepsOrderOfOthers c.args.strand (before c) (left c)
 others c = keeps_order_anew (before c) (left c) c.args.strand c.of-order.result (strands_left c) (without c) c.in_ok-close.ensures.keeps (sound_ordered (before c) c.self.invariant)
 
 pub invariant_of-self : goal.invariant_of-self

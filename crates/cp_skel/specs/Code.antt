@@ -1,5 +1,4 @@
--- Skeletons as contracts see those of the program: plain data, with lists of terms in place of substitutions. What they
--- mean is in View.
+-- How the plain data of skeletons are told apart. What they mean is in View.
 use Rattle.std.specs.Prelude.{◌≡◌, ℕ, ◌==◌, if◌then◌else◌, List, refl}
 use Rattle.std.specs.Coded.{Coded, code_by, coded_ℕ, coded_list, coded×}
 use Rattle.cp_model.specs.Term.{AtomTerm, Term}
@@ -7,26 +6,10 @@ use Rattle.cp_model.specs.declared.node.Node.{Node}
 use Rattle.cp_model.specs.Skeleton.{UniqueAt, Assumptions, FromProblem}
 use Rattle.cp_model.specs.declared.node.OrderPair.{OrderPair}
 use Rattle.cp_term.specs.Code.{coded_atom, coded_term}
-use Rattle.cp_term.specs.Table.{Declared}
-use Rattle.cp_term.specs.declared.variable.Sort as program
-use Rattle.cp_term.specs.declared.variable.Sort.TheVariants as sorts
-use Rattle.cp_strand.specs.Data.{StrandData, coded_atoms, coded_strand}
-
--- A skeleton with its table of variables, its strands, the pairs of its order, its assumptions, and the way from its
--- problem.
-pub record SkeletonData : Type 0 where
-  pub variables : List Declared
-  pub strands : List StrandData
-  pub order : List OrderPair
-  pub assumptions : Assumptions
-  pub from_problem : FromProblem
-
--- The skeleton of these parts.
-abbrev pub skeleton_of : List Declared → List StrandData → List OrderPair → Assumptions → FromProblem → SkeletonData
-skeleton_of variables strands order assumptions from_problem =
-    record { variables = variables; strands = strands; order = order; assumptions = assumptions; from_problem = from_problem }
-
--- ---- how such data are told apart
+use Rattle.cp_model.specs.Data.{Declared, StrandData, SkeletonData}
+use Rattle.cp_model.specs.declared.sort.Sort as program
+use Rattle.cp_model.specs.declared.sort.Sort.TheVariants as sorts
+use Rattle.cp_strand.specs.Code.{coded_atoms, coded_strand}
 
 abbrev coded_node : Coded Node
 coded_node = code_by (ℕ × ℕ) (coded× coded_ℕ coded_ℕ) (λ n. (n.strand, n.index)) (λ p. record { strand = p.0; index = p.1 }) (λ n. refl)

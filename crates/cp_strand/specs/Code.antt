@@ -1,25 +1,11 @@
--- Strands as contracts see those of the program: plain data, with lists of terms in place of substitutions. What they
--- mean is in View.
+-- How the plain data of roles, protocols and strands are told apart. What they mean is in View.
 use Rattle.std.specs.Prelude.{◌≡◌, ◌⊎◌, ℕ, List, refl}
 use Rattle.std.specs.Coded.{Coded, code_by, coded_ℕ, coded_list, coded×, coded⊎}
 use Rattle.std.proofs.Common.{inl, inr}
 use Rattle.cp_model.specs.Term.{AtomTerm, Term}
 use Rattle.cp_model.specs.Strand.{Declaration, Event, send, recv, Role, Protocol}
+use Rattle.cp_model.specs.Data.{InstanceData, StrandData, instance_data, listener_data}
 use Rattle.cp_term.specs.Code.{coded_atom, coded_term, coded_sort}
-
--- An instance of a role, of some height, with a term for each of the role's variables.
-pub record InstanceData : Type 0 where
-  pub role : Role
-  pub height : ℕ
-  pub values : List Term
-
--- A strand: an instance of a role, of some height, with a term for each of the role's variables; or a listener to a
--- message.
-pub data StrandData : Type 0 where
-  instance_data : Role → ℕ → List Term → StrandData
-  listener_data : Term → StrandData
-
--- ---- how such data are told apart
 
 abbrev coded_declaration : Coded Declaration
 coded_declaration = code_by (List ℕ × _) (coded× (coded_list coded_ℕ) coded_sort) (λ d. (d.identifier, d.sort)) (λ p. record { identifier = p.0; sort = p.1 }) (λ d. refl)
