@@ -9,8 +9,8 @@ use cp_skel::{Node, Operation, Skeleton};
 use cp_term::Path;
 use std::alloc::AllocError;
 
-/// A child of a test: its skeleton, the operation that made it, and the position at which the event that the operation names
-/// carries the critical term. The position of a child by a listener is the path of no step.
+/// A child of a test: its skeleton, the operation that made it, and the position at which the event that the operation names, of
+/// an added strand its last one, carries the critical term. The position of a child by a listener is the path of no step.
 #[derive(Drop)]
 pub struct Child {
     pub skeleton: Skeleton,

@@ -68,8 +68,8 @@ fn children_of(
 ///
 /// Contracted: at a position of a transmission of a role strand before the node, outside the patterns, a term that is not the
 /// critical one is unified with it. Displaced: at a position of a transmission of a role strand that is not before the node, on
-/// another strand, a term is unified with the critical one, where the strand is high enough and the event is put before the node,
-/// unless that closes a cycle. Added: so it is with a new strand of each role, for each transmission. There the position is to be
+/// another strand, which grows up to it where it is lower, a term is unified with the critical one, and the event is put before the
+/// node, unless that closes a cycle. Added: so it is with a new strand of each role, for each transmission. There the position is to be
 /// outside the patterns, and each earlier event of the strand carries the critical term inside them alone. A listener is added on
 /// the key of a critical encryption, if that cannot be derived at the node, else on its plaintext; and on the inverse of each
 /// pattern's key; on each such term once. Each child is in normal form.

@@ -45,7 +45,7 @@ fn is_among(pairs: &[OrderPair], pair: OrderPair) -> bool
     false
 }
 
-/// The first place, from this one on, at which the pair stands.
+/// The first place, from this one on, at which the pair stands. Clauses say whether there is one.
 fn place_from(pairs: &[OrderPair], from: usize, pair: OrderPair) -> Option<usize>
     ensures some { IfSome result (λ _. IsIn pair pairs.now) }
     ensures none { IfNone result (IsIn pair (drop from pairs.now) → ⊥) }
@@ -110,7 +110,7 @@ fn others(alloc: Global, pairs: &[OrderPair], pair: OrderPair) -> Result<Vec<Ord
     Ok(others)
 }
 
-/// Whether a pair of the skeleton, which lists all of its order, covers, where neither the problem states it nor a unique value adds
+/// Whether a pair of the skeleton, which lists all of its order, covers, and neither the problem states it nor a unique value adds
 /// it. The error is that memory ran out.
 fn may_drop(
     alloc: Global,

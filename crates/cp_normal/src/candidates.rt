@@ -79,7 +79,8 @@ fn put_settled(
 }
 
 /// Whether a skeleton, where these are its events, stays: its assumptions do not contradict what its nodes carry, and no
-/// unique value strays in it. Where one strays, its branches are put behind others. The error is that memory ran out.
+/// unique value strays in it. Where nothing contradicts and one strays, its branches are put behind others. The error is that
+/// memory ran out.
 fn stays(
     alloc: Global,
     form: &Form,
@@ -140,8 +141,9 @@ fn narrow_among(
     put_staying(alloc, form, stays, occurrences, next)
 }
 
-/// Puts what a skeleton in which unique values may stray leads to behind others: nothing where it contradicts itself, its
-/// branches where a unique value strays, and else itself. Its events are listed here, and nowhere else.
+/// Puts what a skeleton in which unique values may stray leads to behind others: nothing where its assumptions contradict what its
+/// nodes carry, its branches where a unique value strays, nothing where the pairs of its normal form close a cycle, and else itself.
+/// Its events are listed here, and nowhere else.
 fn narrow(alloc: Global, form: Form, next: &mut Vec<Candidate>) -> Result<(), AllocError>
     ensures { OnOk result (Puts (variants.Open form) next.old.items next.new.items) }
 {

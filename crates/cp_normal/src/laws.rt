@@ -15,16 +15,16 @@ ghost use Rattle.cp_collapse.specs.SameSkeletons.{SaysTheSame};
 ghost use Rattle.cp_normal.specs.Findings.{AreNormalPairs, IsContradictory};
 ghost use Rattle.cp_normal.specs.NormalForms.{NarrowsTo, IsNormal, IsNormalFormOf};
 
-/// A skeleton that contradicts itself stands apart in no bundle; and where normalising adds pairs, it adds only such as
-/// lose no standing.
+/// A skeleton over a protocol that contradicts itself stands apart in no bundle; and each pair that normalising adds goes from
+/// a recorded origin to a reception that carries the value.
 pub fn contradictory_skeletons_stand_nowhere()
     ensures nowhere { (protocol : Protocol) (k : Skeleton) → IsSkeleton protocol k → IsContradictory k → LosesNoStanding protocol k [] }
     ensures added { (k : Skeleton) (pairs : List OrderPair) → AreNormalPairs k pairs → AddOnlyOriginPairs k pairs }
 {}
 
-/// A normal form of a skeleton over a protocol is one, and is a normal form of itself; it carries a homomorphism from
-/// the problem where the skeleton does, and then keeps what the problem states where the skeleton does; and where a
-/// skeleton is normal its assumptions are true of it. What is narrowed by steps is the skeleton under one substitution,
+/// A normal form of a skeleton over a protocol is one, and is a normal form of itself; it carries a homomorphism from a
+/// problem that maps to itself where the skeleton does, and then keeps what the problem states, if that states it itself,
+/// where the skeleton does; and where a skeleton is normal its assumptions are true of it. What is narrowed by steps is the skeleton under one substitution,
 /// strand by strand at its place; and where both stand in a bundle by one standing, that standing solves the
 /// substitution: each term keeps its value under it.
 pub fn normal_forms_keep_what_is_stated()

@@ -65,7 +65,7 @@ pub(crate) fn normal_pairs_among(
     Ok(Some(pairs))
 }
 
-/// The pairs of the skeleton's normal form: its own, and those from recorded origins of unique values to the receptions
+/// The pairs of the skeleton's normal form, where no unique value strays in it: its own, and those from recorded origins of unique values to the receptions
 /// of other strands, listeners too, that carry the value. There is no normal form where some node carries a
 /// non-originating value, where a unique value has two recorded origins or does not originate at its own, and where the
 /// pairs close a cycle. The error is that memory ran out.

@@ -50,7 +50,7 @@ struct Expansion {
     children: Vec<usize>,
 }
 
-/// How the label is expanded, as the items of its form state it. The scope has the variables that they declare. The error
+/// How the label is expanded, as the items of its form state it. The patterns have to fit the scope's variables. The error
 /// is that memory ran out.
 fn expansion_stated(
     alloc: Global,

@@ -49,7 +49,8 @@ fn labels_misfits(
     Ok(())
 }
 
-/// One status form has to stand behind labels with these counts, before the next form of the input, which stands here.
+/// One status form has to stand behind labels with these counts, before the next form of the input, which stands here (behind the
+/// last one it is the first form's place).
 fn ending_misfits(counts: Counts, next: Place, behind: &[Form], first: &mut FirstMisfit)
     ensures { first.new ≡ first_onto first.old (ending_form_misfits counts next (map view behind.now)) }
 {
@@ -76,7 +77,8 @@ fn family_if_whole<'a>(
     }
 }
 
-/// Where what stands behind a problem, before the next form of the input, which stands here, is no tree for it.
+/// Where what stands behind a problem, before the next form of the input, which stands here (behind the last one it is the first
+/// form's place), is no tree for it.
 fn tree_misfits(
     alloc: Global,
     problem: &Draft,
@@ -101,7 +103,8 @@ fn tree_misfits(
 }
 
 /// Where what stands behind a form of the input, which states this problem if it states one, before the next form of the
-/// input, which stands here, is not what has to stand there. The error is that memory ran out.
+/// input, which stands here (behind the last one it is the first form's place), is not what has to stand there. The error is that
+/// memory ran out.
 pub fn behind_misfits(
     alloc: Global,
     problem: Option<&Draft>,

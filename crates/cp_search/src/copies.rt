@@ -54,8 +54,8 @@ fn first_copy(
 }
 
 /// The label in which one is seen that is made from this label, or from none: the first that is isomorphic to it and from which
-/// its parent cannot be reached. Which labels lead to the parent is asked only where one is isomorphic from which an edge may go. The
-/// error is that memory ran out.
+/// its parent cannot be reached. Which labels lead to the parent is asked only where one is isomorphic that is the parent itself or
+/// from which an edge may go. The error is that memory ran out.
 pub(crate) fn copied_label(
     alloc: Global,
     made: &Labels,
