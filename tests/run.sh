@@ -1,7 +1,7 @@
 #!/bin/sh
 # Runs a built program, whose path is the first word, over all cases beside this file: see README.md. The second word, which
 # may be left out, is the path of the program that searches again what a report says, and it runs over the wanted reports.
-# Prints a line for each case that fails, then 'N passed, M failed', and ends with status 0 only where M is 0.
+# Prints a line for each case that fails, then 'N passed, M failed', and ends with status 0 only if M is 0.
 set -u
 LC_ALL=C
 export LC_ALL
@@ -54,12 +54,12 @@ copies() {
     awk -v n="$1" -v text="$2" 'BEGIN { while (n-- > 0) printf "%s", text }' </dev/null
 }
 
-# The line of the file, or $2 where there is none.
+# The line of the file, or $2 if there is no such file.
 line_of() {
     if [ -f "$1" ]; then cat "$1"; else printf '%s' "$2"; fi
 }
 
-# Runs the program on the file $1 with the words of the file $2, one a line, or, where there is none, those behind it.
+# Runs the program on the file $1 with the words of the file $2, one a line, or, if it is not there, with those after it.
 run_words() {
     input=$1
     words=$2
@@ -88,6 +88,21 @@ for input in ../examples/*.scm; do
         echo "failed: ${input#../}: no report of it"
     }
 done
+
+# The table of the examples has one row for each of them, and no other that names such a file; labels and shapes in it are
+# those of the report, of each problem in order.
+awk -F ' *[|] *' '/^[|] `[^`]*[.]scm`/ { split($2, cell, "`"); print cell[2] "|" $5 "|" $6 }' ../examples/README.md >"$dir/rows"
+{
+    cut -d '|' -f 1 "$dir/rows"
+    for input in ../examples/*.scm; do basename "$input"; done
+} | sort -u >"$dir/names"
+while IFS= read -r name; do
+    status=0
+    awk -F '|' -v name="$name" '$1 == name' "$dir/rows" >"$dir/output" 2>"$dir/error" || status=$?
+    awk -v name="$name" '/^[(]status / { gsub(/[^0-9]+/, " "); labels = labels comma $1; shapes = shapes comma $3; comma = ", " }
+        END { print name "|" labels "|" shapes }' "examples/$name" >"$dir/row" 2>>"$dir/error"
+    judge "the row of examples/$name" 0 "$dir/row" ''
+done <"$dir/names"
 
 tab=$(printf '\t')
 while IFS="$tab" read -r name line column code; do
@@ -230,7 +245,7 @@ run "$dir/input" analyse --limit 0
 tail -n 1 "$dir/output" >"$dir/last" && mv "$dir/last" "$dir/output"
 judge "a role's message of 300,000 items" 0 "$dir/status" ''
 
-# The last run wrote, behind the forms of its input, the lines of $dir/wanted. $1 names the case.
+# The last run wrote, after the forms of its input, the lines of $dir/wanted. $1 names the case.
 labels() {
     sed -n '/^(label 0$/,$p' "$dir/output" >"$dir/last" && mv "$dir/last" "$dir/output"
     judge "$1" 0 "$dir/wanted" ''
@@ -316,7 +331,317 @@ status=0
 "$program" analyse --limit 0 <../examples/two-initiators.scm 2>"$dir/error" >/dev/full || status=$?
 judge 'a full device' 5 - 'write fault'
 
-# The report $1 is what the search answers, under the words of the file $2 or, where there is none, those behind it.
+# Runs a tool of the folder tools with these words, and the file $dir/input on its input.
+tool() {
+    name=$1
+    shift
+    status=0
+    "../tools/$name" "$@" <"$dir/input" >"$dir/output" 2>"$dir/error" || status=$?
+}
+
+# The charts of the examples' reports, and of a report with each form of a term and a listener that sends on; and what is
+# said if there is nothing to draw.
+draws() {
+    : >"$dir/input"
+    for wanted in drawn/*.txt; do
+        report=examples/$(basename "$wanted" .txt).scm
+        tool draw "$report"
+        judge "draw: $report" 0 "$wanted" ''
+    done
+    for report in examples/*.scm; do
+        [ -f "drawn/$(basename "$report" .scm).txt" ] || {
+            failed=$((failed + 1))
+            echo "failed: $report: no chart of it"
+        }
+    done
+
+    run ../examples/yahalom.scm shapes
+    mv "$dir/output" "$dir/input"
+    tool draw
+    judge 'draw: a report of shapes alone' 0 drawn/yahalom.txt ''
+
+    cat >"$dir/problems" <<'END'
+(defprotocol p basic
+  (defrole says (vars (a b name) (k j akey) (n text)) (trace
+    (send (cat (cat a "to") (cat b (enc n (cat "x  y" (cat n a)) (invk k)))))
+    (recv (enc n (pubk "sign" a) (invk (invk j))))
+    (send (invk (pubk "sign" b)))
+    (recv (invk (privk a)))) (uniq-orig n)))
+(defskeleton p (vars (a b name) (i akey) (m text))
+  (defstrand says 4 (a a) (b b) (k (privk a)) (j (invk i)) (n m))
+  (deflistener (cat "heard" (cat m a)))
+  (precedes ((0 0) (1 0)) ((1 1) (0 1)))
+  (pen-non-orig (privk "sign" b)))
+(defskeleton p (vars (a name) (k skey)) (deflistener (enc a k)) (non-orig k))
+END
+    cat >"$dir/wanted" <<'END'
+Problem 1, protocol p: complete, 1 shape
+========================================
+
+Shape 1 of 1: label 0
+
+    strand 0
+    says, height 4
+    --------------------------------------------------------
+1.  0 send (cat (cat a "to") b (enc m "x  y" m a (pubk a)))
+    |   m fresh
+4.  1 recv (enc m (pubk "sign" a) (invk i))
+    |   made by the penetrator
+5.  2 send (privk "sign" b)
+6.  3 recv (pubk a)
+        made by the penetrator
+
+    strand 1
+    listener
+    --------------------------------------------------------
+2.  0 hears (cat "heard" m a)
+    |   made by the penetrator
+3.  1 sends it on
+
+order         0 0 before 1 0, 1 1 before 0 1
+pen-non-orig  (privk "sign" b)
+uniq-orig     m at 0 0
+
+
+Problem 2, protocol p: complete, no shapes
+==========================================
+END
+    run "$dir/problems" analyse
+    mv "$dir/output" "$dir/input"
+    tool draw --width 60
+    judge 'draw: each form of a term' 0 "$dir/wanted" ''
+
+    : >"$dir/input"
+    tool draw
+    judge 'draw: nothing' 1 "$dir/nothing" 'draw: standard input: there is no problem to draw'
+    tool draw ../examples/challenge.scm
+    judge 'draw: an input' 1 "$dir/nothing" 'draw: ../examples/challenge.scm: no report: a problem without a status form'
+    printf '(label 0\n (shape' >"$dir/input"
+    tool draw
+    judge 'draw: half a report' 1 "$dir/nothing" "draw: standard input: 2:2: this '(' is not closed"
+    tool draw "$dir/none"
+    judge 'draw: no file' 2 "$dir/nothing" "draw: $dir/none: No such file or directory"
+    status=0
+    ../tools/draw examples/otway-rees.scm 2>"$dir/error" | true
+    judge 'draw: a reader that is gone' 0 - ''
+    ../tools/draw examples/challenge.scm 2>"$dir/error" >/dev/full || status=$?
+    judge 'draw: a full device' 2 - 'draw: standard output: No space left on device'
+}
+
+# What is said of inputs that the program refuses here, or refused in a line, and of others. The table of codes has those of
+# the tables in docs/LANGUAGE.md.
+tells_why() {
+    : >"$dir/input"
+    cat >"$dir/wanted" <<'END'
+refusals/atom_uniq_tag_problem.scm:2:107: NotAtom
+  .. (vars (a b name) (n m text) (k skey) (e akey) (d data)) (defstrand r 1 (n n)) (uniq-orig n "n" zz))
+                                                                                                ^
+Assumptions are about values of an atom sort (text, data, name, skey, akey), and this is a pair, a tag or an encryption.
+END
+    tool why --program "$program" refusals/atom_uniq_tag_problem.scm
+    judge 'why: a refused input' 3 "$dir/wanted" ''
+    echo 'refused 2:107 NotAtom' >"$dir/input"
+    tool why --line - refusals/atom_uniq_tag_problem.scm
+    judge 'why: the line on the input' 3 "$dir/wanted" ''
+
+    {
+        printf ';\n(herald\t'
+        copies 50 'ten bytes '
+        printf '1x '
+        copies 50 'ten bytes '
+    } >"$dir/long.scm"
+    cat >"$dir/wanted" <<END
+$dir/long.scm:2:509: BadNumber
+  ..ten bytes ten bytes ten bytes ten bytes ten bytes 1x ten bytes ten bytes ten bytes ten bytes ten byt..
+                                                      ^
+What begins with a digit must be a number of at most nine digits.
+END
+    tool why --line 'refused 2:509 BadNumber' "$dir/long.scm"
+    judge 'why: a long line' 3 "$dir/wanted" ''
+    cat >"$dir/wanted" <<END
+$dir/long.scm:2:8: BadByte
+  (herald ten bytes ten bytes ten bytes ten bytes ten bytes ten bytes ten bytes ten bytes ten bytes te..
+         ^
+$(../tools/why --codes | sed -n 's/^BadByte //p')
+END
+    tool why --line 'refused 2:8 BadByte' "$dir/long.scm"
+    judge 'why: a tab' 3 "$dir/wanted" ''
+
+    echo "../examples/challenge.scm: accepted" >"$dir/wanted"
+    tool why --program "$program" ../examples/challenge.scm
+    judge 'why: an accepted input' 0 "$dir/wanted" ''
+    echo '../examples/challenge.scm: The words after FILE are no command of the program.' >"$dir/wanted"
+    tool why --program "$program" ../examples/challenge.scm analyse --limit
+    judge 'why: no command' 2 "$dir/wanted" ''
+    copies 1048577 ' ' >"$dir/long.scm"
+    echo "$dir/long.scm: The input is longer than 1,048,576 bytes, the most that the program reads." >"$dir/wanted"
+    tool why --program "$program" "$dir/long.scm"
+    judge 'why: too long' 7 "$dir/wanted" ''
+
+    tool why --line 'refused 9:1 BadByte' ../examples/challenge.scm
+    judge 'why: no such place' 1 "$dir/nothing" 'why: ../examples/challenge.scm has no place 9:1'
+    tool why --line 'refused' ../examples/challenge.scm
+    judge 'why: no refusal' 1 "$dir/nothing" 'why: no refusal: refused'
+    cp ../examples/challenge.scm "$dir/$(printf '\303\274').scm"
+    printf '%s\n' "$dir/\\xfc.scm: accepted" >"$dir/wanted"
+    PYTHONIOENCODING=ascii
+    export PYTHONIOENCODING
+    tool why --program "$program" "$dir/$(printf '\303\274').scm"
+    unset PYTHONIOENCODING
+    judge 'why: a name that cannot be printed' 0 "$dir/wanted" ''
+    tool why "$dir/none"
+    judge 'why: no file' 1 "$dir/nothing" "why: $dir/none: No such file or directory"
+
+    awk -F ' *[|] *' '
+        /^\| *code *\|/ { on = 1; next }
+        !/^\|/ { on = 0 }
+        on && !/^\|-/ { count = split($2, codes, ", *"); for (i = 1; i <= count; i++) print codes[i] }
+    ' ../docs/LANGUAGE.md | sort >"$dir/wanted"
+    tool why --codes
+    sed 's/ .*//' "$dir/output" | sort >"$dir/last" && mv "$dir/last" "$dir/output"
+    judge 'why: the codes' 0 "$dir/wanted" ''
+}
+
+# The label forms and status forms of a report.
+answers() {
+    awk '/^\(/ { on = /^\((label|status) / } on' "$1"
+}
+
+# What the files of a folder hold, each with its name before it.
+files_of() {
+    (cd "$1" && for file in *; do echo "== $file" && cat "$file"; done) >"$dir/output"
+}
+
+# A file of two protocols and three problems is cut, and the reports of its parts are made.
+splits() {
+    cat >"$dir/many.scm" <<'END'
+(herald "many") ; problems
+(defprotocol one basic ; "
+  (defrole r (vars (n text)) (trace (send n))))
+(comment ")" left out)
+(defprotocol two basic (defrole r (vars (n text) (k skey)) (trace (send (enc n k)) (recv n))))
+(defskeleton two (vars (n text) (k skey)) (defstrand r 2 (n n) (k k)) (non-orig k) (uniq-orig n)) ; )
+(defskeleton one (vars (n text)) (defstrand r 1 (n n))
+  ; kept
+  (uniq-orig n)) (defskeleton two (vars (n text)) (deflistener n))
+END
+    cat >"$dir/wanted" <<'END'
+== many-1.scm
+(herald "many")
+(defprotocol two basic (defrole r (vars (n text) (k skey)) (trace (send (enc n k)) (recv n))))
+(defskeleton two (vars (n text) (k skey)) (defstrand r 2 (n n) (k k)) (non-orig k) (uniq-orig n))
+== many-2.scm
+(herald "many")
+(defprotocol one basic ; "
+  (defrole r (vars (n text)) (trace (send n))))
+(defskeleton one (vars (n text)) (defstrand r 1 (n n))
+  ; kept
+  (uniq-orig n))
+== many-3.scm
+(herald "many")
+(defprotocol two basic (defrole r (vars (n text) (k skey)) (trace (send (enc n k)) (recv n))))
+(defskeleton two (vars (n text)) (deflistener n))
+END
+    : >"$dir/input"
+    tool split -o "$dir/parts" "$dir/many.scm"
+    judge 'split: what it says' 0 "$dir/nothing" ''
+    files_of "$dir/parts"
+    judge 'split: its files' 0 "$dir/wanted" ''
+
+    run "$dir/many.scm" analyse
+    answers "$dir/output" >"$dir/wanted"
+    for part in "$dir"/parts/*.scm; do
+        run "$part" analyse
+        answers "$dir/output"
+    done >"$dir/last"
+    mv "$dir/last" "$dir/output"
+    judge 'split: the answers' 0 "$dir/wanted" ''
+
+    echo >>"$dir/parts/many-2.scm"
+    touch -t 200101010000 "$dir"/parts/*.scm
+    touch -t 200201010000 "$dir/old"
+    tool split -o "$dir/parts" "$dir/many.scm"
+    find "$dir/parts" -type f -newer "$dir/old" >"$dir/output"
+    echo "$dir/parts/many-2.scm" >"$dir/wanted"
+    judge 'split: only what changed' 0 "$dir/wanted" ''
+
+    sed -n '1,3p' "$dir/many.scm" >"$dir/ten.scm"
+    copies 10 '(defskeleton one (vars) (defstrand r 1))' >>"$dir/ten.scm"
+    tool split -o "$dir/ten" "$dir/ten.scm"
+    ls "$dir/ten" >"$dir/output"
+    for number in 01 02 03 04 05 06 07 08 09 10; do echo "ten-$number.scm"; done >"$dir/wanted"
+    judge 'split: ten problems' 0 "$dir/wanted" ''
+
+    while IFS="$tab" read -r case input why; do
+        # shellcheck disable=SC2059
+        printf "$input" >"$dir/bad.scm"
+        tool split -o "$dir/none" "$dir/bad.scm"
+        [ ! -e "$dir/none" ] || echo 'something is written' >>"$dir/error"
+        judge "split: $case" 1 "$dir/nothing" "split: $dir/bad.scm: $why"
+    done <<END
+no problem${tab}(herald "x")${tab}there is no problem
+an open list${tab}(a\\n (b (c)${tab}2:2: this '(' is not closed
+a list too many${tab}(a ; (\\n))${tab}2:2: this ')' closes no list
+an open string${tab}(a "b\\n")${tab}1:4: this string is not closed on its line
+a byte${tab}(a \\200)${tab}1:4: this byte may not stand here
+a byte in a string${tab}(a "\\t")${tab}1:5: this byte may not stand here
+END
+    tool split "$dir/none"
+    judge 'split: no file' 2 "$dir/nothing" "split: $dir/none: No such file or directory"
+}
+
+# Makes the reports of the folder $dir/parts, with these words, and leaves out what make says of its own.
+makes() {
+    status=0
+    make -k -j 2 -f ../tools/reports.mk "CPSA=$program" "PROBLEMS=$dir/parts" "$@" >"$dir/output" 2>"$dir/last" || status=$?
+    grep -v '^make' "$dir/last" >"$dir/error"
+}
+
+# The reports of those parts and of a refused input: what is refused is named, and what is there is not made again.
+makes_reports() {
+    cp refusals/algebra_diffie_hellman.scm "$dir/parts/bad.scm"
+    makes
+    judge 'reports.mk: a refused input' 2 - "$dir/parts/bad.scm: refused 1:16 OutOfProfile"
+    status=0
+    : >"$dir/error"
+    ls "$dir/parts" >"$dir/output"
+    printf '%s\n' bad.scm many-1.report many-1.scm many-2.report many-2.scm many-3.report many-3.scm >"$dir/wanted"
+    judge 'reports.mk: its files' 0 "$dir/wanted" ''
+    run "$dir/parts/many-2.scm" shapes
+    judge 'reports.mk: a report' 0 "$dir/parts/many-2.report" ''
+
+    rm "$dir/parts/bad.scm" "$dir/parts/many-1.report"
+    echo kept >"$dir/parts/many-2.report"
+    echo kept >"$dir/wanted"
+    makes
+    mv "$dir/parts/many-2.report" "$dir/output"
+    judge 'reports.mk: again' 0 "$dir/wanted" ''
+    run "$dir/parts/many-1.scm" shapes
+    judge 'reports.mk: a report that was lost' 0 "$dir/parts/many-1.report" ''
+
+    cp "$dir/endless" "$dir/parts/endless.scm"
+    makes 'WORDS=analyse --limit 1'
+    judge 'reports.mk: a limit' 0 "$dir/nothing" ''
+    run "$dir/endless" analyse --limit 1
+    judge 'reports.mk: the report at a limit' 1 "$dir/parts/endless.report" ''
+    makes "PROBLEMS=$dir/none"
+    judge 'reports.mk: no inputs' 2 "$dir/nothing" "no inputs: $dir/none/*.scm"
+}
+
+if command -v python3 >/dev/null 2>&1; then
+    draws
+    tells_why
+    splits
+    if command -v make >/dev/null 2>&1; then
+        makes_reports
+    else
+        echo 'skipped: tools/reports.mk, as there is no make'
+    fi
+else
+    echo 'skipped: the tools, as there is no python3'
+fi
+
+# The report $1 is what the search answers, with the words of the file $2 or, if it is not there, those after it.
 searched() {
     run_words "$@"
     echo "as searched: $(grep -c '^(label ' "$1") labels" >"$dir/wanted"
@@ -350,7 +675,7 @@ changed() {
     differs "$dir/report" "$2" "the challenge, $1"
 }
 
-# The checker on the wanted reports, but for those of shapes alone, and then on reports that the search does not answer.
+# The checker on the wanted reports, except those of shapes alone, and then on reports that the search does not answer.
 if [ -n "$checker" ]; then
     program=$checker
     for report in examples/*.scm; do
@@ -364,7 +689,7 @@ if [ -n "$checker" ]; then
         comes_back "${case}output.scm" "${case}words" analyse --limit 0
     done
 
-    # Reports in which one line, or several together, are another text: where that is no report, and, behind '-', what fits as well.
+    # Reports in which one line, or several together, are another text: the place at which that is no report, or '-' if it is one.
     while IFS="$tab" read -r report number text place; do
         [ "$text" != '""' ] || text=
         awk -v first="${number%-*}" -v last="${number#*-}" -v text="$text" \
@@ -405,23 +730,23 @@ is_judged() {
     grep -qxF -e "$1" "$dir/judged"
 }
 
-# Whether cp_tests::$1, which names a file and a test in it, is a test of that crate.
+# Whether $1, as CRATE::FILE::TEST, is a test of that crate.
 is_test() {
-    source=../crates/cp_tests/src/${1%%::*}.rt
-    [ -f "$source" ] && grep -qx "mod ${1%%::*};" ../crates/cp_tests/src/lib.rt &&
-        awk -v text="fn ${1#*::}(" 'marked && index($0, text) == 1 { found = 1 } { marked = ($0 == "#[test]") } END { exit !found }' "$source"
+    sources=../crates/${1%%::*}/src
+    tested=${1#*::}
+    [ -f "$sources/${tested%%::*}.rt" ] && grep -qx "mod ${tested%%::*};" "$sources/lib.rt" &&
+        awk -v text="fn ${tested#*::}(" 'marked && index($0, text) == 1 { found = 1 } { marked = ($0 == "#[test]") } END { exit !found }' "$sources/${tested%%::*}.rt"
 }
 
 # Whether $1 is the name of a case or of a test.
 stands() {
     case $1 in
-        cp_tests::*) is_test "${1#cp_tests::}" ;;
+        cp_tests::* | cp_input_tests::*) is_test "$1" ;;
         *) is_judged "$1" ;;
     esac
 }
 
-# Each row that was worked out stands where its line says: behind what is asked and what is wanted the names of cases, as
-# they are judged above, and of tests.
+# Each row of the table has what is asked, what is wanted, and then names: of cases, as they are judged above, and of tests.
 while IFS="$tab" read -r asked wanted places; do
     if [ -z "$wanted" ] || [ -z "$places" ]; then
         failed=$((failed + 1))

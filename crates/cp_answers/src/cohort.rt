@@ -1,4 +1,4 @@
-//! The law by which the answers to an authentication test leave out no execution.
+//! The cohort law: the answers to an authentication test leave out no execution.
 ghost use Rattle.std.specs.Prelude.{List, []};
 ghost use Rattle.cp_model.specs.Term.{Term};
 ghost use Rattle.cp_model.specs.Strand.{Protocol};
@@ -13,15 +13,15 @@ ghost use Rattle.cp_guard.specs.Guards.{Guards};
 ghost use Rattle.cp_answers.specs.Covering.{IsCovering};
 ghost use Rattle.cp_answers.specs.NoneLeftOut.{LeavesNoneOut, IsMapInRange};
 
-/// Skeletons that cover a test, under patterns that guard it, leave out no standing of the skeleton: whenever it stands apart
-/// in a bundle, one of them does, by a standing through which the skeleton's goes. So where there are none it stands apart
-/// in no bundle.
+/// Skeletons that cover a test, under patterns that guard it, leave out no standing of the tested skeleton: whenever it stands
+/// apart in a bundle, one of them does, by a standing through which the tested skeleton's factors. So if there are none, the
+/// skeleton stands apart in no bundle.
 pub fn covering_leaves_none_out()
     ensures { (protocol : Protocol) (k : Skeleton) (n : Node) (c : Term) (ps : List Pattern) (ks : List Skeleton) → IsSkeleton protocol k → IsTest k n c → Guards ps k n c → IsCovering protocol k n c ps ks → LeavesNoneOut protocol k ks }
 {}
 
-/// Where a list leaves out no standing of a skeleton, each standing of a problem that factors through the skeleton factors
-/// through one of the list; and where the list is empty the skeleton stands apart in no bundle.
+/// If a list leaves out no standing of a skeleton, each standing of a problem that factors through the skeleton factors through
+/// one of the list. If the list is empty, the skeleton stands apart in no bundle.
 pub fn none_left_out_factors()
     ensures covers { (protocol : Protocol) (problem k : Skeleton) (ks : List Skeleton) (b : Bundle) (f h : Standing) → IsMapInRange k → LeavesNoneOut protocol k ks → IsBundle protocol b → StandsIn k b h → StandsApart k h
         → FactorsThrough problem f k h → Covers ks problem b f }

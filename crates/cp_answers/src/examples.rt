@@ -1,4 +1,4 @@
-//! An example that meets the premises of the cohort law.
+//! Examples that meet the premises of the cohort law.
 ghost use Rattle.std.specs.Prelude.{[], ◌∷◌};
 ghost use Rattle.cp_model.specs.Skeleton.{IsSkeleton};
 ghost use Rattle.cp_guard.specs.Critical.{IsTest};
@@ -8,9 +8,9 @@ ghost use Rattle.cp_answers.specs.NoneLeftOut.{LeavesNoneOut, IsMapInRange};
 ghost use Rattle.cp_answers.specs.Example.{protocol, locked, heard, reception, sent_before};
 ghost use Rattle.cp_answers.specs.LetOut as let_out;
 
-/// An encryption is heard, under a key that does not originate. It cannot be derived there, no patterns guard the test, and one
-/// skeleton covers it, in which a strand of the one role that sends such encryptions has sent it before; a listener on the
-/// key would hear what does not originate. So wherever it is heard such a strand has sent it.
+/// An encryption is heard, under a non-originating key. It is not derivable there, and the empty set of patterns guards the test.
+/// One skeleton covers it, in which a strand of the one role that sends such encryptions has sent it before; a listener on the
+/// key would hear a non-originating value. So wherever the encryption is heard, such a strand has sent it.
 pub fn heard_encryption_example()
     ensures skeleton { IsSkeleton protocol heard }
     ensures in_range { IsMapInRange heard }
@@ -20,10 +20,10 @@ pub fn heard_encryption_example()
     ensures leaves_none_out { LeavesNoneOut protocol heard (sent_before ∷ []) }
 {}
 
-/// A text that originates uniquely is sent under a key that does not originate, and then heard with no key. It cannot be
-/// derived there, the encryption that was sent guards the test as a pattern without locals, and one skeleton covers it, in
-/// which a strand of another role has opened that encryption: under another key it would have heard the text before, a second
-/// strand that sends it would be a second origin, and a listener on the key would hear what does not originate.
+/// A text that originates uniquely is sent under a non-originating key, and then heard in the clear. It is not derivable there,
+/// and the encryption that was sent, as a pattern without locals, guards the test. One skeleton covers it, in which a strand of
+/// another role has opened that encryption. Under another key that strand would have heard the text before; a second strand that
+/// sends the text would be a second origin; a listener on the key would hear a non-originating value.
 pub fn opened_encryption_example()
     ensures skeleton { IsSkeleton let_out.protocol let_out.let_out }
     ensures in_range { IsMapInRange let_out.let_out }

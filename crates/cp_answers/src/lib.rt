@@ -1,4 +1,5 @@
-//! The cohort law: what answers an authentication test leaves out no execution; and the law of trees that are made so.
+//! The cohort law: the answers to an authentication test leave out no execution. And the law of trees: a lawful tree leaves out
+//! none either.
 #![tactic(auto)]
 
 mod cohort;

@@ -1,4 +1,4 @@
-//! The law of trees: along the edges of a lawful tree no standing of the problem is lost.
+//! The law of trees: no standing of the problem is lost along the edges of a lawful tree.
 ghost use Rattle.std.specs.Prelude.{ℕ, List, [], ◌∷◌};
 ghost use Rattle.cp_model.specs.Strand.{Protocol};
 ghost use Rattle.cp_model.specs.Skeleton.{Skeleton, IsSkeleton};
@@ -10,8 +10,8 @@ ghost use Rattle.cp_model.specs.Tree.{Label, shapes_of, skeletons_left};
 ghost use Rattle.cp_answers.specs.Lawful.{PassesOn, skeletons_at, IsLawful, IsWithinLimits};
 ghost use Rattle.cp_answers.specs.NoneLeftOut.{LeavesNoneOut, IsMapInRange};
 
-/// Where the roots of a lawful tree are a complete list for the problem, so are its shapes with its labels at a limit; and its
-/// shapes alone, where no label is at a limit.
+/// If the roots of a lawful tree are a complete list for the problem, so are its shapes together with its labels at a limit; if
+/// no label is at a limit, its shapes alone are.
 pub fn lawful_trees_are_complete()
     ensures left { (protocol : Protocol) (problem : Skeleton) (labels : List Label) (edges : ℕ → List ℕ) (roots : List ℕ) → IsLawful protocol problem labels edges
         → IsCompleteList protocol problem (skeletons_at labels roots) → IsCompleteList protocol problem (skeletons_left labels) }
@@ -19,8 +19,8 @@ pub fn lawful_trees_are_complete()
         → IsCompleteList protocol problem (skeletons_at labels roots) → IsWithinLimits labels → IsCompleteList protocol problem (shapes_of labels) }
 {}
 
-/// What passes standings on: a list that leaves out no standing of the skeleton, or loses none; a skeleton that embeds in it;
-/// and no skeleton at all, where it stands apart in no bundle.
+/// A skeleton passes the standings of a problem on to a list that leaves out or loses none of its standings, and to a skeleton
+/// that embeds in it. If it stands apart in no bundle, it passes them on to the empty list.
 pub fn standings_pass_on()
     ensures none_left_out { (protocol : Protocol) (problem k : Skeleton) (ks : List Skeleton) → IsMapInRange k → LeavesNoneOut protocol k ks → PassesOn protocol problem k ks }
     ensures none_lost { (protocol : Protocol) (problem k : Skeleton) (ks : List Skeleton) → LosesNoStanding protocol k ks → PassesOn protocol problem k ks }

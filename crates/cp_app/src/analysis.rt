@@ -1,4 +1,4 @@
-// The analysis of the problems of an input.
+// Searches every problem of an input.
 ghost use Rattle.std.specs.Prelude.{◌≡◌, ◌<◌, ◌^◌, [], ◌∷◌, ◌++◌, length, map, option_map, IfOk, OnOk};
 ghost use Rattle.std.specs.List.{AllZip, filter_map};
 ghost use Rattle.cp_load.specs.Inputs.{problem_view};
@@ -16,14 +16,14 @@ use cp_search::search;
 use cp_skel::{Limits, Outcome, Tree, TreeNode};
 use std::alloc::{AllocError, Global};
 
-// A label has fewer variables than a number can count, since its table can tell how many there are.
+// A label has fewer than 2^64 variables: its table can say how many it has.
 fn has_few_variables(label: &TreeNode)
     ensures { length (label_view label.now).variables < 2 ^ 64 }
 {
     let _ = label.skeleton.variables().len();
 }
 
-// Each label has.
+// The same for each of these labels.
 fn have_few_variables(labels: &[TreeNode])
     ensures { HaveFewVariables (map label_view labels.now) }
 {
@@ -32,7 +32,7 @@ fn have_few_variables(labels: &[TreeNode])
     }
 }
 
-// The tree of a problem.
+// Searches one problem and returns its tree.
 fn tree_of(alloc: Global, problem: &Problem, limits: Limits) -> Result<Tree, AllocError>
     requires analysable { IsAnalysable (problem_view problem.now) }
     ensures { IfOk result (λ t. IsAnalysisOf (limits_view limits) (problem_view problem.now) (tree_view t)) }
@@ -44,7 +44,7 @@ fn tree_of(alloc: Global, problem: &Problem, limits: Limits) -> Result<Tree, All
     Ok(tree)
 }
 
-// Puts the tree of a problem behind others.
+// Appends the tree of a problem to `trees`.
 fn add_tree(
     alloc: Global,
     problem: &Problem,
@@ -59,7 +59,7 @@ fn add_tree(
     Ok(())
 }
 
-// The trees of the problems, in order.
+// Searches each problem, in order, and returns one tree for each.
 pub(crate) fn trees_of(
     alloc: Global,
     problems: &[Option<Problem>],

@@ -1,4 +1,4 @@
-// The whole input from a source.
+// Reads the whole input from a source.
 ghost use Rattle.std.specs.Prelude.{◌≡◌, ◌≤◌, ℕ, List, [], length, Some, IfOk, IfErr};
 ghost use Rattle.cp_app.specs.Headline.{most_bytes};
 ghost use Rattle.cp_app.specs.Steps.{HasStopped};
@@ -10,10 +10,11 @@ use cp_base::Source;
 use cp_sexpr::MAX_LENGTH;
 use std::alloc::Global;
 
-// How many bytes are asked for at once.
+// The number of bytes asked for at once.
 const BUFFER_LENGTH: usize = 4_096;
 
-// Reads the source to its end, or to one byte more than an input may have.
+// Reads the source to its end and returns its bytes. It stops after one byte more than an input may have, with the error
+// `TooLong`.
 pub(crate) fn read_all<S: Source>(alloc: Global, source: &mut S) -> Result<Vec<u8>, Stopped>
     ensures short { IfOk result (λ bytes. length bytes.items ≤ most_bytes) }
     ensures whole { (input : List ℕ) → S.left source.old ≡ Some input

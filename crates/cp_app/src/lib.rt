@@ -1,4 +1,4 @@
-//! The top call: words, input, analysis and report.
+//! The top call, [`run`]: it executes the command that some words spell, from the bytes of a source to the bytes of a report.
 #![tactic(auto)]
 
 mod analysis;

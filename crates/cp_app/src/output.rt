@@ -1,4 +1,4 @@
-// Whole texts to a sink that may take less than it is given.
+// Puts whole texts on a sink that may take less than it is given.
 ghost use Rattle.std.specs.Prelude.{◌≡◌, ◌≤◌, ℕ, List, map, Some, OnErr};
 ghost use Rattle.std.specs.List.{concat};
 ghost use Rattle.cp_base.specs.declared.status.Status.TheVariants.{Refused};
@@ -10,7 +10,7 @@ ghost use Rattle.cp_app.specs.Steps.{HasPut};
 use cp_base::{Failed, Refusal, Sink, Status};
 use itoa::Buffer;
 
-// Puts the whole piece, going on with the rest where the sink takes less.
+// Puts the whole piece. If the sink takes only a prefix, this goes on with the rest.
 pub(crate) fn put_all<O: Sink>(out: &mut O, piece: &[u8]) -> Result<(), Failed>
     ensures put { (before : List ℕ) → O.held out.old ≡ Some before
         → HasPut before piece.now (O.held out.new) result }
@@ -26,7 +26,7 @@ pub(crate) fn put_all<O: Sink>(out: &mut O, piece: &[u8]) -> Result<(), Failed>
     Ok(())
 }
 
-// Puts the whole text in pieces, which end where these numbers say.
+// Puts the whole text, cut into pieces that end at these byte offsets.
 pub(crate) fn put_pieces<O: Sink>(out: &mut O, text: &[u8], ends: &[usize]) -> Result<(), Failed>
     ensures put { (before : List ℕ) → O.held out.old ≡ Some before
         → HasPut before text.now (O.held out.new) result }
@@ -43,7 +43,7 @@ pub(crate) fn put_pieces<O: Sink>(out: &mut O, text: &[u8], ends: &[usize]) -> R
     put_all(out, rest)
 }
 
-// Puts these pieces one after another.
+// Puts these pieces in order.
 fn put_each<O: Sink>(out: &mut O, pieces: &[&[u8]]) -> Result<(), Failed>
     ensures put { (before : List ℕ) → O.held out.old ≡ Some before
         → HasPut before (concat (map (λ piece. piece.now) pieces.now)) (O.held out.new) result }
@@ -55,7 +55,7 @@ fn put_each<O: Sink>(out: &mut O, pieces: &[&[u8]]) -> Result<(), Failed>
     Ok(())
 }
 
-// Puts the line of a refusal.
+// Puts the line for a refusal.
 fn put_refusal<O: Sink>(out: &mut O, refusal: Refusal) -> Result<(), Failed>
     ensures put { (before : List ℕ) → O.held out.old ≡ Some before
         → HasPut before (status_line (Refused refusal)) (O.held out.new) result }
@@ -69,7 +69,7 @@ fn put_refusal<O: Sink>(out: &mut O, refusal: Refusal) -> Result<(), Failed>
     put_each(out, &[b"refused ", line, b":", col, b" ", code, b"\n"])
 }
 
-// Puts the line of a status.
+// Puts the line for a status; `Done` and `Limit` have none.
 fn put_status<O: Sink>(out: &mut O, status: Status) -> Result<(), Failed>
     ensures put { (before : List ℕ) → O.held out.old ≡ Some before
         → HasPut before (status_line status) (O.held out.new) result }
@@ -87,12 +87,12 @@ fn put_status<O: Sink>(out: &mut O, status: Status) -> Result<(), Failed>
     }
 }
 
-// Puts the line of a status, or a front of it where the sink fails.
+// Puts the line for a status, or a prefix of it if the sink fails.
 pub(crate) fn put_line<E: Sink>(errs: &mut E, status: Status)
     ensures line { (before : List ℕ) → E.held errs.old ≡ Some before
         → HasLine (status_line status) before (E.held errs.new) (E.faults errs.old) (E.faults errs.new) }
     ensures none { IsAnalysed status → errs.new ≡ errs.old }
 {
-    // The status stays as it was where its line cannot be put.
+    // If the line cannot be put, the status stays the same.
     let _ = put_status(errs, status);
 }

@@ -1,4 +1,4 @@
-// Why a run makes no output.
+// Why a run prints no report.
 ghost use Rattle.std.specs.Prelude.{◌≡◌};
 ghost use Rattle.cp_app.specs.Steps.{status_of};
 
@@ -7,21 +7,21 @@ use cp_load::LoadError;
 use cp_sexpr::ReadError;
 use std::alloc::AllocError;
 
-// Why a run that has a command makes no output.
+// Why a run that was given a command prints no report.
 #[derive(Clone, Copy, Debug, PartialEq, Eq)]
 pub(crate) enum Stopped {
-    // The input is refused so.
+    // The input is refused, at this place and with this code.
     Refused(Refusal),
     // The source failed.
     ReadFault,
-    // The input is longer than a run may read.
+    // The input has more bytes than a run reads.
     TooLong,
-    // A growth in memory was refused.
+    // Memory ran out.
     Memory,
 }
 
 impl Stopped {
-    // The status that the run ends with.
+    // The status of a run that stops for this reason.
     pub(crate) fn status(self) -> Status
         ensures { result ≡ status_of self }
     {

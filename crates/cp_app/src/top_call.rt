@@ -28,7 +28,8 @@ use cp_skel::Tree;
 use cp_words::{Command, CommandName, WordsError, read_command};
 use std::alloc::{AllocError, Global};
 
-// What is printed of a report, where each of its top forms ends, and whether every outcome in the report is complete.
+// What is printed of a report, the byte offset at which each of its top forms ends, and whether every outcome in the report is
+// complete.
 #[derive(Drop)]
 struct Report {
     text: Vec<u8>,
@@ -36,7 +37,7 @@ struct Report {
     complete: bool,
 }
 
-// The status of a report that was put.
+// The status of a run whose report was put.
 fn outcomes_status(complete: bool) -> Status
     ensures { result ≡ outcomes_status complete }
 {
@@ -47,7 +48,7 @@ fn outcomes_status(complete: bool) -> Status
     }
 }
 
-// Appends what the command prints, and where each of its top forms ends.
+// Appends what the command prints to `text`, and to `ends` the end of each of its top forms.
 fn print_by(
     alloc: Global,
     name: CommandName,
@@ -64,7 +65,7 @@ fn print_by(
     }
 }
 
-// The report of an input, or why there is none.
+// The report on an input, or the reason why there is none.
 fn report_of(alloc: Global, command: Command, input: &[u8]) -> Result<Report, Stopped>
     requires short { length input.now ≤ most_bytes }
     ensures report { IfOk result (λ report. IsWholeReport (command_view command) input.now report.text.items report.complete) }
@@ -84,7 +85,7 @@ fn report_of(alloc: Global, command: Command, input: &[u8]) -> Result<Report, St
     })
 }
 
-// The report of what the source holds, or why there is none.
+// The report on the source's bytes, or the reason why there is none.
 fn make_report<S: Source>(
     alloc: Global,
     command: Command,
@@ -101,7 +102,7 @@ fn make_report<S: Source>(
     report_of(alloc, command, &input)
 }
 
-// Puts a report, one top form a piece.
+// Puts a report, one piece for each top form.
 fn put_report<O: Sink>(out: &mut O, report: &Report) -> Result<(), Failed>
     ensures put { (before : List ℕ) → O.held out.old ≡ Some before
         → HasPut before report.now.text.items (O.held out.new) result }
@@ -110,7 +111,7 @@ fn put_report<O: Sink>(out: &mut O, report: &Report) -> Result<(), Failed>
     put_pieces(out, &report.text, &report.ends)
 }
 
-// Puts what the command prints of the report of what the source holds.
+// Reads the source, analyses its bytes and puts what the command prints.
 fn analyse<S: Source, O: Sink>(
     alloc: Global,
     command: Command,
@@ -133,7 +134,7 @@ fn analyse<S: Source, O: Sink>(
     }
 }
 
-// Executes the command that the words name.
+// Executes the command that these words spell.
 fn execute<S: Source, O: Sink>(
     alloc: Global,
     words: &[String],
@@ -155,36 +156,42 @@ fn execute<S: Source, O: Sink>(
     }
 }
 
-/// Runs the command that the words name, over a source, a sink for its output and a sink for errors.
+/// Runs the command that the words spell, over a source, a sink for its output and a sink for errors.
 ///
-/// The words are a name for the program and the command. The command `analyse [--limit N] [--bound N]` reads the source
-/// to its end, at most one byte more than 1,048,576, searches for the shapes of each problem within these limits, makes the
-/// whole text of the report, and only then puts it. The command `shapes`, with the same options, does
-/// the same, and leaves out of the text the labels that are not marked as shapes. The status says how that ended:
+/// `words` starts with the program's name; the command follows. `analyse [--limit N] [--bound N]` reads the source to its end,
+/// but at most 1,048,577 bytes, searches for the shapes of each problem within these limits, builds the whole text of the report,
+/// and only then puts it on `out`. `shapes`, with the same options, does the same, but omits from the text each label that is not
+/// marked as a shape. The status says how the run ended:
 ///
-/// - `Done`: the whole text was put, and each outcome in the report is complete;
+/// - `Done`: the whole text was put, and every outcome in the report is complete;
 /// - `Limit`: the whole text was put, and some outcome is a limit;
-/// - `Usage`: exactly where the words are no command, and nothing was read;
-/// - `TooLong`: exactly where the source held more than 1,048,576 bytes, if it does not fail before and memory lasts;
-/// - `Refused`: exactly where the input is not well formed, under the same condition; at the place of the first fault;
+/// - `Usage`: exactly if the words are no command; nothing was read;
+/// - `TooLong`: exactly if the words are a command and the source held more than 1,048,576 bytes, unless the source fails or
+///   memory runs out;
+/// - `Refused`: exactly if the words are a command and the input, of at most 1,048,576 bytes, is not well formed, with the same
+///   exceptions; it gives the place and the code of the first fault;
 /// - `ReadFault`, `WriteFault`: the source, or the sink for the output, failed;
-/// - `Memory`: a growth in memory was refused.
+/// - `Memory`: memory ran out.
 ///
-/// The report is over all of the input, which is well formed and was read to its end: the forms in order, and behind each
-/// problem its tree, whose labels have their variables. The tree is true of its problem: each label denotes a skeleton over
-/// the protocol, carries a homomorphism from the problem and keeps what the problem states itself; shapes are realised, and
-/// none embeds in another; where the tree is complete, whenever the problem stands in a bundle that standing factors through
-/// a shape, and at a limit through a shape or a label at a limit; and a limit is the outcome only where it was reached.
-/// Besides, each tree is one that the rules of the search make, label by label.
+/// The report covers the whole input, which is well formed and was read to its end: the forms in order, each problem followed by
+/// its tree. Each label declares its problem's variables, and every variable that occurs in it. The tree is true of its problem:
 ///
-/// Whoever reads the forms of the report back gets these very trees, each label with its skeleton and its map from the problem, the
-/// same but for the names of variables, the places of forms, and the pairs that generate an order. So does who reads the text
-/// that `analyse` puts, where it can be read at all; and it can where its numbers have at most nine digits and at most 200 lists
-/// stand inside each other.
+/// - each label denotes a skeleton over the protocol, carries a homomorphism from the problem and keeps what the problem itself
+///   states;
+/// - each shape is realised, and no shape embeds in another one of its problem;
+/// - if the tree is complete, each standing of the problem in a bundle factors through a shape; at a limit, through a shape or a
+///   label at the limit;
+/// - the outcome is a limit only if that limit was reached.
 ///
-/// At `WriteFault` a front of such a text was put, which is shorter than it, and at the other statuses but `Done` and
-/// `Limit` nothing was. Each status but `Done` and `Limit` has a line on the sink for errors. What is said of the input and the output holds where the source tells what it had left and the sink what it
-/// holds.
+/// Moreover, each tree is one that the rules of the search make, label by label.
+///
+/// Reading the forms of the report back gives the same trees, each label with its skeleton and its map from the problem, up to
+/// the names of variables, the places of forms, and the pairs that generate an order. The same holds for the text that `analyse`
+/// puts, if that text can be read; it can if its numbers have at most nine digits and its lists are nested at most 200 deep.
+///
+/// At `WriteFault` a proper prefix of such a text was put. At every other status except `Done` and `Limit`, nothing was put on
+/// `out`. Each status except `Done` and `Limit` has a line on the sink for errors, or a prefix of it if that sink fails. What is
+/// said of the input and the output holds if the source tells what it has left and the sinks tell what they hold.
 pub fn run<S: Source, O: Sink, E: Sink>(
     alloc: Global,
     words: &[String],
@@ -192,12 +199,12 @@ pub fn run<S: Source, O: Sink, E: Sink>(
     out: &mut O,
     errs: &mut E,
 ) -> Status
-    // Exactly the words that are no command are refused, and then nothing is read.
+    // Words that are no command, and no others, end in `Usage`; then nothing is read.
     ensures usage { (result ≡ Usage) ↔ (command_of (map string_bytes words.now) ≡ None) }
     ensures usage_reads_nothing { result ≡ Usage → source.new ≡ source.old }
 
-    // What was put is what the command prints of a report of the whole input, with trees that are true of its problems; at a
-    // write fault a front of it.
+    // What was put is what the command prints of a report on the whole input, with trees that are true of its problems; at a
+    // write fault, a proper prefix of that.
     ensures reported { WheneverGiven (command_of (map string_bytes words.now)) (S.left source.old) (O.held out.old) (λ command input before. IsAnalysed result → HasReported command input before (S.left source.new) (O.held out.new) result) }
     ensures broken_off { WheneverGiven (command_of (map string_bytes words.now)) (S.left source.old) (O.held out.old) (λ command input before. result ≡ WriteFault → HasBrokenOff command input before (S.left source.new) (O.held out.new)) }
 
@@ -205,7 +212,7 @@ pub fn run<S: Source, O: Sink, E: Sink>(
     ensures searched { WheneverGiven (command_of (map string_bytes words.now)) (S.left source.old) (O.held out.old) (λ command input before. IsAnalysed result → HasReportedSearch command input before (S.left source.new) (O.held out.new) result) }
     ensures searched_before_fault { WheneverGiven (command_of (map string_bytes words.now)) (S.left source.old) (O.held out.old) (λ command input before. result ≡ WriteFault → HasBrokenOffSearch command input before (S.left source.new) (O.held out.new)) }
 
-    // Whoever reads back the forms of the report, or what `analyse` put, gets the trees of the report.
+    // Reading back the forms of the report, or what `analyse` put, gives the trees of the report.
     ensures read_back { WheneverGiven (command_of (map string_bytes words.now)) (S.left source.old) (O.held out.old) (λ command input before. IsAnalysed result → HasReportedReadBack command input before (S.left source.new) (O.held out.new) result) }
 
     // Only accepted input is analysed, and it is read to its end.
@@ -213,7 +220,7 @@ pub fn run<S: Source, O: Sink, E: Sink>(
         → (IsAnalysed result ⊎ (result ≡ WriteFault))
         → (S.left source.new ≡ Some []) × ((fs : Forms) × IsAccepted input fs) }
 
-    // Exactly the input that is not accepted is refused, for its first fault.
+    // Input that is not accepted, and no other, is refused, for its first fault.
     ensures refused { (r : RefusalData) (input : List ℕ) → result ≡ Refused r
         → S.left source.old ≡ Some input → HasRefused input (S.left source.new) r }
     ensures only_refused { (command : CommandData) (r : RefusalData) (input : List ℕ)
@@ -221,7 +228,7 @@ pub fn run<S: Source, O: Sink, E: Sink>(
         → S.left source.old ≡ Some input → length input ≤ most_bytes → IsRefusedFor input r
         → (result ≡ Refused r) ⊎ ((result ≡ ReadFault) ⊎ (result ≡ Memory)) }
 
-    // Exactly the input of more than the most bytes is too long.
+    // Input longer than `most_bytes`, and no other, is too long.
     ensures too_long { (input : List ℕ) → S.left source.old ≡ Some input → result ≡ TooLong
         → WasTooLong input (S.left source.new) }
     ensures only_too_long { (command : CommandData) (input : List ℕ)
@@ -231,18 +238,18 @@ pub fn run<S: Source, O: Sink, E: Sink>(
     ensures took_at_most { (input : List ℕ) → S.left source.old ≡ Some input
         → TookAtMost input (S.left source.new) }
 
-    // A fault comes only where it was counted.
+    // A fault is reported only if the source or the sink counted one.
     ensures read_fault { result ≡ ReadFault → Rose (S.faults source.old) (S.faults source.new) }
     ensures write_fault { result ≡ WriteFault → Rose (O.faults out.old) (O.faults out.new) }
     ensures nothing_put { puts_nothing result ≡ true → out.new ≡ out.old }
 
-    // The line of the status.
+    // The line of the status on the sink for errors.
     ensures error_line { (before : List ℕ) → E.held errs.old ≡ Some before
         → HasLine (status_line result) before (E.held errs.new)
         (E.faults errs.old) (E.faults errs.new) }
     ensures no_line { IsAnalysed result → errs.new ≡ errs.old }
 
-    // Accepted input is analysed.
+    // Accepted input is analysed, unless a fault is counted or memory runs out.
     ensures completes { (command : CommandData) (input : List ℕ) (fs : Forms)
         → command_of (map string_bytes words.now) ≡ Some command → S.left source.old ≡ Some input
         → IsAccepted input fs → (Rose (S.faults source.old) (S.faults source.new) → ⊥)

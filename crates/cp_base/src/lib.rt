@@ -1,5 +1,6 @@
-// What every layer stands on: texts, places in a text, the codes of refusals, statuses, and the outside world as a
-// source of bytes and a sink for bytes, both in memory and over real streams.
+//! The base of all other crates: texts, places in a text, the codes of refusals, statuses, and the outside world as a source of
+//! bytes and a sink for bytes, both in memory and over real streams. Every call that returns `AllocError` fails only when memory
+//! runs out.
 #![tactic(auto)]
 
 mod memory;

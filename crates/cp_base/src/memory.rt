@@ -1,4 +1,4 @@
-// A source and a sink in memory, which fail at the calls that they are told to fail at.
+// A source and a sink in memory, which fail at chosen calls.
 ghost use Rattle.std.specs.Prelude.{◌≡◌, ◌≤◌, ◌<◌, ◌+◌, ◌-◌, ◌⊎◌, ◌++◌, ◌↔◌, ℕ, List, [], length, min, take, drop, Option, Some, None, IfOk, OnOk, OnErr, IsErr, IsTrue};
 ghost use Rattle.cp_base.specs.InMemory.{IsNamed, IsFull, call_after, one_more};
 ghost use Rattle.cp_base.specs.Outside.{Rose, Takes, Puts};
@@ -9,7 +9,7 @@ use crate::status::Failed;
 use std::alloc::{AllocError, Global};
 use std::marker::Model;
 
-// The calls of an object: which of them fail, the number of the next, and how often a call has failed.
+// The calls to an object: which of them fail, the number of the next one, and how many have failed.
 #[derive(Drop)]
 struct Calls {
     failing: Vec<u64>,
@@ -28,7 +28,7 @@ impl Calls {
         }
     }
 
-    // Goes on to the next call. The error is that this one is named to fail, which is counted.
+    // Goes on to the next call. Fails, and counts the fault, if that call was chosen to fail.
     fn begin(&mut self) -> Result<(), Failed>
         ensures named { IsErr result ↔ IsNamed self.old.next self.old.failing.items }
         ensures next { OnOk result (self.new ≡ record self.old { next = call_after self.old.next }) }
@@ -74,7 +74,7 @@ fn number_after(call: Option<u64>) -> Option<u64>
     }
 }
 
-// Copies as many bytes from the front of the one to the front of the other as both have.
+// Copies as many bytes from the start of `from` to the start of `to` as both have.
 fn copy_front(from: &[u8], to: &mut [u8]) -> usize
     ensures count { result ≡ min (length from.now) (length to.old) }
     ensures copied { to.new ≡ take result from.now ++ drop result to.old }
@@ -84,8 +84,8 @@ fn copy_front(from: &[u8], to: &mut [u8]) -> usize
     count
 }
 
-/// A source over bytes in memory. It fails at the calls of [`Source::take`] whose numbers it was given, from 0,
-/// and in every other call gives all that fits.
+/// A source over bytes in memory. It fails at the calls of [`Source::take`] with the given numbers, from 0. Every other call
+/// gives as many bytes as are left and fit.
 #[derive(Drop)]
 pub struct MemSource {
     bytes: Vec<u8>,
@@ -110,7 +110,7 @@ impl Model for MemSource {
 }
 
 impl MemSource {
-    /// A source that has these bytes left and fails at the calls with these numbers.
+    /// A source with these bytes left, which fails at the calls with these numbers.
     pub fn new(bytes: Vec<u8>, failing: Vec<u64>) -> MemSource
         ensures { result ≡ record {
           left = bytes.items;
@@ -138,12 +138,12 @@ impl Source for MemSource {
         ensures never_falls { self.old.faults ≤ self.new.faults }
         ensures moved { Takes (Some self.old.left) (Some self.new.left) buf.old buf.new result }
 
-        // It fails exactly at the named calls, and else gives all that fits.
+        // It fails exactly at the chosen calls; every other call gives all that fits.
         ensures fails { IsErr result ↔ IsNamed self.old.next self.old.failing }
         ensures all { IfOk result (λ n. n ≡ min (length self.old.left) (length buf.old)) }
         ensures buffer { OnErr result (buf.new ≡ buf.old) }
 
-        // The names stay, each call has the next number, and each fault is counted.
+        // The chosen numbers stay, each call has the next number, and each fault is counted.
         ensures failing { self.new.failing ≡ self.old.failing }
         ensures next { self.new.next ≡ call_after self.old.next }
         ensures no_fault { OnOk result (self.new.faults ≡ self.old.faults) }
@@ -156,8 +156,8 @@ impl Source for MemSource {
     }
 }
 
-/// A sink that keeps bytes in memory, up to its room. It fails at the calls of [`Sink::put`] whose numbers it was
-/// given, from 0, and where its room is full and the piece is not empty; every other call takes all that fits.
+/// A sink that keeps bytes in memory, up to its room. It fails at the calls of [`Sink::put`] with the given numbers, from 0, and
+/// at a call with a nonempty piece when its room is full. Every other call takes as many bytes as fit.
 #[derive(Drop)]
 pub struct MemSink {
     room: usize,
@@ -183,8 +183,8 @@ impl Model for MemSink {
 }
 
 impl MemSink {
-    /// An empty sink with room for so many bytes, which fails at the calls with these numbers. It reserves its
-    /// room here, or answers the error, and takes no memory later.
+    /// An empty sink with room for `room` bytes, which fails at the calls with these numbers. The room is reserved here; on
+    /// failure the error is returned. The sink takes no memory later.
     pub fn new(alloc: Global, room: usize, failing: Vec<u64>) -> Result<MemSink, AllocError>
         ensures { IfOk result (λ sink. sink ≡ record {
           held = [];
@@ -222,13 +222,13 @@ impl Sink for MemSink {
         ensures never_falls { self.old.faults ≤ self.new.faults }
         ensures moved { Puts (Some self.old.held) (Some self.new.held) bytes.now result }
 
-        // It fails exactly at the named calls and where its room is full, and else takes all that fits.
+        // It fails exactly at the chosen calls and when its room is full; every other call takes all that fits.
         ensures fails { IsErr result ↔
             (IsNamed self.old.next self.old.failing ⊎ IsFull self.old bytes.now) }
         ensures all { IfOk result (λ n. n ≡ min (length bytes.now) (self.old.room - length self.old.held)) }
         ensures fits { length self.new.held ≤ self.new.room }
 
-        // The room and the names stay, each call has the next number, and each fault is counted.
+        // The room and the chosen numbers stay, each call has the next number, and each fault is counted.
         ensures room { self.new.room ≡ self.old.room }
         ensures failing { self.new.failing ≡ self.old.failing }
         ensures next { self.new.next ≡ call_after self.old.next }

@@ -12,53 +12,53 @@ pub struct Place {
 /// Why a text is refused.
 #[derive(Clone, Copy, Debug, PartialEq, Eq)]
 pub enum Code {
-    /// A byte that may not stand there.
+    /// A byte that is not allowed at its place.
     BadByte,
-    /// A string without its closing quote.
+    /// A string without a closing quote.
     OpenString,
-    /// A closing parenthesis with no list open.
+    /// A closing parenthesis while no list is open.
     Unbalanced,
-    /// A list inside too many others.
+    /// A list nested too deeply.
     TooDeep,
-    /// A token that begins with a digit and is no number.
+    /// A token that begins with a digit but is not a number.
     BadNumber,
     /// A list that is not closed.
     Unclosed,
-    /// A list whose head names nothing that is allowed there.
+    /// A list whose head names no form that is allowed there.
     UnknownForm,
     /// A part of the language that this program does not analyse.
     OutOfProfile,
-    /// An item of another shape than the one that is asked for there, or a list that lacks an item.
+    /// An item of the wrong shape, or a list that lacks an item.
     BadShape,
-    /// A protocol's name that stands for the second time.
+    /// The name of a protocol, given for the second time.
     DuplicateProtocol,
-    /// A role's name that stands for the second time in one protocol.
+    /// The name of a role, given for the second time in one protocol.
     DuplicateRole,
-    /// A name that is no protocol's.
+    /// A name that no protocol has.
     UnknownProtocol,
-    /// A name that is no role's.
+    /// A name that no role has.
     UnknownRole,
-    /// A symbol that is no sort's.
+    /// A symbol that names no sort.
     UnknownSort,
-    /// A variable that is declared of the sort of all messages.
+    /// A variable declared of the sort of all messages.
     MesgVar,
-    /// An identifier that is declared, or mapped in one instance, for the second time.
+    /// An identifier declared for the second time, or mapped for the second time in one instance.
     DuplicateVar,
-    /// A height of 0, or of more events than the role has.
+    /// A height of 0, or greater than the number of the role's events.
     BadHeight,
     /// An identifier that is not declared.
     UnknownVar,
     /// A mapped variable that does not occur in the instance's events.
     NotInPrefix,
-    /// A term whose sort is not the one that is asked for there.
+    /// A term of the wrong sort.
     IllSorted,
-    /// A key of an encryption that has the sort of no key.
+    /// An encryption key whose sort is not that of a key.
     KeySort,
-    /// An item of an assumption that is no atom.
+    /// An item of an assumption that is not an atom.
     NotAtom,
-    /// An atom that a role assumes to be uniquely originating and that originates nowhere in the role.
+    /// An atom that a role assumes uniquely originating, but that originates nowhere in the role.
     RoleUniqNoOrigin,
-    /// An atom that a problem assumes to be uniquely originating and that originates on none of its strands.
+    /// An atom that a problem assumes uniquely originating, but that originates on none of its strands.
     UniqNowhere,
     /// A node that does not exist, or that has the wrong direction for its side of a pair.
     BadNode,
@@ -67,7 +67,7 @@ pub enum Code {
 }
 
 impl Code {
-    /// The code's name, as it is printed.
+    /// The name of the code as it is printed, e.g. `BadByte`.
     pub fn name(self) -> &'static str
         ensures { result.now ≡ code_text self }
     {
@@ -102,7 +102,7 @@ impl Code {
     }
 }
 
-/// A text is refused at this place for this reason.
+/// The refusal of a text: its place and its code.
 #[derive(Clone, Copy, Debug, PartialEq, Eq)]
 pub struct Refusal {
     pub place: Place,

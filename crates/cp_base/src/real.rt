@@ -1,5 +1,5 @@
-// A source and a sink over real streams, such as standard input, output and error. They count the faults of the
-// streams, and pass on what a stream tells of its bytes; the standard streams tell nothing.
+// A source and a sink over real streams, such as standard input, output and error. They count the faults of a stream, and tell of
+// its bytes what the stream tells; the standard streams tell nothing.
 ghost use Rattle.std.specs.Prelude.{◌≡◌, ◌≤◌, ◌<◌, ℕ, List, Option, None, length, take, IfOk, OnOk, OnErr};
 ghost use Rattle.std.specs.Io.KnownBytes.{ReadConsumes, Appends};
 ghost use Rattle.cp_base.specs.InMemory.{one_more};
@@ -27,7 +27,7 @@ impl<S> Model for Counted<S> {
 }
 
 impl<S> Counted<S> {
-    /// The source or the sink over this stream, such as `rt.stdin()` or `rt.stdout()`, with no fault counted yet.
+    /// The source or sink over this stream, such as `rt.stdin()` or `rt.stdout()`. No fault is counted yet.
     pub fn new(stream: S) -> Counted<S>
         ensures { result ≡ record { stream = stream; faults = 0 } }
     {
@@ -46,7 +46,7 @@ impl<R: Read> Source for Counted<R> {
         ensures never_falls { self.old.faults ≤ self.new.faults }
         ensures moved { Takes None None buf.old buf.new result }
 
-        // What is taken is what the reader gives, where it tells that.
+        // The bytes taken are those that the reader gives, if the reader tells them.
         ensures bytes { ReadConsumes (R.remaining self.old.stream) (R.remaining self.new.stream)
             result buf.new }
 
@@ -64,7 +64,7 @@ impl<R: Read> Source for Counted<R> {
     }
 }
 
-// Writes some of the bytes and flushes; a writer that takes none of a piece that is not empty has failed.
+// Writes some of the bytes and flushes. It fails if the writer takes nothing of a nonempty piece.
 fn write_through<W: Write>(writer: &mut W, bytes: &[u8]) -> Result<usize, Failed>
     ensures count { IfOk result (λ n. n ≤ length bytes.now) }
     ensures progress { IfOk result (λ n. 0 < length bytes.now → 0 < n) }
@@ -88,7 +88,7 @@ impl<W: Write> Sink for Counted<W> {
 
     ghost held = { λ _. None };
 
-    /// Writes, and flushes what it wrote. A flush that fails is a fault, though the bytes may have gone.
+    /// Writes some of the bytes and flushes. A failed flush is a fault, although the bytes may have gone out.
     fn put(&mut self, bytes: &[u8]) -> Result<usize, Failed>
         ensures count { IfOk result (λ n. n ≤ length bytes.now) }
         ensures progress { IfOk result (λ n. 0 < length bytes.now → 0 < n) }
@@ -96,7 +96,7 @@ impl<W: Write> Sink for Counted<W> {
         ensures never_falls { self.old.faults ≤ self.new.faults }
         ensures moved { Puts None None bytes.now result }
 
-        // What is put is what the writer takes, where it tells that.
+        // The bytes put are those that the writer takes, if the writer tells them.
         ensures bytes { IfOk result (λ n. Appends (W.contents self.old.stream) (W.contents self.new.stream)
             (take n bytes.now)) }
 

@@ -1,4 +1,4 @@
-// Where bytes go.
+// Sinks for bytes.
 ghost use Rattle.std.specs.Prelude.{◌≤◌, ◌<◌, ℕ, List, Option, length, IfOk, OnErr};
 ghost use Rattle.cp_base.specs.Outside.{Rose, Puts};
 
@@ -6,15 +6,14 @@ use crate::status::Failed;
 
 /// A sink for bytes that may fail.
 pub trait Sink {
-    /// What the sink has taken, where it tells it.
+    /// What the sink has taken, if it tells.
     ghost held: { Self → Option (List ℕ) };
 
-    /// How often the sink has failed: a count that stops at the greatest u64.
+    /// How often the sink has failed: a count that stops at `u64::MAX`.
     ghost faults: { Self → ℕ };
 
-    /// Puts some bytes from the front of the piece, and answers how many: at least one of a piece that is not
-    /// empty, since a sink that can take none of it has failed. A call that fails leaves what the sink holds
-    /// as it was.
+    /// Puts a prefix of the bytes and returns its length: at least one of a nonempty piece. A sink that can take none of a
+    /// nonempty piece fails. A failed call leaves what the sink holds unchanged.
     fn put(&mut self, bytes: &[u8]) -> Result<usize, Failed>
         ensures count { IfOk result (λ n. n ≤ length bytes.now) }
         ensures progress { IfOk result (λ n. 0 < length bytes.now → 0 < n) }

@@ -1,4 +1,4 @@
-// Where bytes come from.
+// Sources of bytes.
 ghost use Rattle.std.specs.Prelude.{◌≤◌, ℕ, List, Option, length, IfOk, OnErr};
 ghost use Rattle.cp_base.specs.Outside.{Rose, Takes};
 
@@ -6,17 +6,16 @@ use crate::status::Failed;
 
 /// A source of bytes that may fail.
 pub trait Source {
-    /// What the source still holds, where it tells it.
+    /// What the source still holds, if it tells.
     ghost left: { Self → Option (List ℕ) };
 
-    /// How often the source has failed: a count that stops at the greatest u64.
+    /// How often the source has failed: a count that stops at `u64::MAX`.
     ghost faults: { Self → ℕ };
 
-    /// Takes some of the bytes that are left into the front of the buffer, and answers how many.
+    /// Takes some of the remaining bytes into the start of the buffer and returns how many.
     ///
-    /// 0 for a buffer that is not empty is the end: a source that tells what it holds answers it only there,
-    /// and nothing more is known of one that does not tell. A call that fails leaves what the source holds
-    /// as it was.
+    /// 0 for a nonempty buffer means the end. A source that tells what it holds returns 0 only there; of one that does not tell,
+    /// nothing more is known. A failed call leaves what the source holds unchanged.
     fn take(&mut self, buf: &mut [u8]) -> Result<usize, Failed>
         ensures count { IfOk result (λ n. n ≤ length buf.old) }
         ensures failed { OnErr result (Rose (faults self.old) (faults self.new)) }

@@ -4,33 +4,34 @@ ghost use Rattle.cp_base.specs.Statuses.{status_number};
 
 use crate::place::Refusal;
 
-/// Something outside of the program failed: a read or a write.
+/// A fault outside the program: a read or a write failed.
 #[derive(Clone, Copy, Debug, PartialEq, Eq)]
 pub struct Failed;
 
 /// How a run ends.
 #[derive(Clone, Copy, Debug, PartialEq, Eq)]
 pub enum Status {
-    /// Every output was put, and no search met a limit.
+    /// The whole output was put, and no search met a limit.
     Done,
-    /// Every output was put, and some search met a limit.
+    /// The whole output was put, and some search met a limit.
     Limit,
     /// The words are not a command.
     Usage,
-    /// The input is refused.
+    /// The input is refused, at this place and with this code.
     Refused(Refusal),
     /// The source failed.
     ReadFault,
     /// The sink for the output failed.
     WriteFault,
-    /// A growth in memory was refused.
+    /// Memory ran out.
     Memory,
-    /// The input is longer than a run may read.
+    /// The input has more bytes than a run reads.
     TooLong,
 }
 
 impl Status {
-    /// The number that the program ends with.
+    /// The exit status of the program: 0 for `Done`, 1 for `Limit`, 2 for `Usage`, 3 for `Refused`, 4 for `ReadFault`, 5 for
+    /// `WriteFault`, 6 for `Memory`, 7 for `TooLong`.
     pub fn number(self) -> u8
         ensures { result ≡ status_number self }
     {

@@ -1,4 +1,4 @@
-// A text: what a symbol, a string, a tag, a name or a variable's root holds.
+// Texts: the contents of symbols, strings, tags, names and variables' roots.
 ghost use Rattle.std.specs.Prelude.{◌≡◌, ◌↔◌, ℕ, List, IfOk, IsTrue};
 ghost use Rattle.std.specs.String.{string_bytes};
 
@@ -6,14 +6,14 @@ use arrayvec::ArrayString;
 use std::alloc::{AllocError, Global};
 use std::marker::Model;
 
-/// What a text is held in: one of at most 16 bytes in itself, any other in memory of its own.
+/// The storage of a text: at most 16 bytes in place, a longer one in memory of its own.
 #[derive(Drop)]
 enum Held {
     Short(ArrayString<16>),
     Long(String),
 }
 
-/// A text. Contracts see its bytes. Short ones take no memory of their own.
+/// A text. Contracts see its bytes. A text of at most 16 bytes takes no memory of its own.
 #[derive(Drop)]
 pub struct Text {
     held: Held,
@@ -29,7 +29,7 @@ impl Model for Text {
 }
 
 impl Text {
-    /// A text of these characters. The error is that memory ran out.
+    /// A text with these characters.
     pub fn new(alloc: Global, text: &str) -> Result<Text, AllocError>
         ensures { IfOk result (λ t. t ≡ text.now) }
     {
@@ -40,7 +40,7 @@ impl Text {
         Ok(Text { held })
     }
 
-    /// A copy of this text. The error is that memory ran out.
+    /// A copy of this text.
     pub fn copy(&self) -> Result<Text, AllocError>
         ensures { IfOk result (λ t. t ≡ self.now) }
     {
@@ -51,7 +51,7 @@ impl Text {
         Ok(Text { held })
     }
 
-    /// The text.
+    /// The text as a string slice.
     pub fn as_str(&self) -> &str
         ensures { result.now ≡ self.now }
     {
@@ -68,7 +68,7 @@ impl Text {
         self.as_str().as_bytes()
     }
 
-    /// Whether this is the same text as the other.
+    /// Whether the two texts are equal.
     pub fn same(&self, other: &Text) -> bool
         ensures { IsTrue result ↔ (self.now ≡ other.now) }
     {
@@ -76,7 +76,7 @@ impl Text {
     }
 }
 
-/// Whether of two texts that may be absent both are, or both are the same text.
+/// Whether both texts are absent, or both are present and equal.
 pub fn same_if_any(one: &Option<Text>, other: &Option<Text>) -> bool
     ensures { IsTrue result ↔ (one.now ≡ other.now) }
 {
@@ -87,7 +87,7 @@ pub fn same_if_any(one: &Option<Text>, other: &Option<Text>) -> bool
     }
 }
 
-/// A copy of a text that may be absent. The error is that memory ran out.
+/// A copy of the text, if there is one.
 pub fn copy_if_any(text: &Option<Text>) -> Result<Option<Text>, AllocError>
     ensures { IfOk result (λ t. t ≡ text.now) }
 {

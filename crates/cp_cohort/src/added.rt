@@ -1,4 +1,4 @@
-// Children with a strand added, whose last event is put before the node, to release the critical term.
+// Children with an added strand: its last event is put before the node and releases the critical term.
 ghost use Rattle.std.specs.Prelude.{◌<◌, length, OnOk};
 ghost use Rattle.cp_guard.specs.Critical.{IsTest};
 ghost use Rattle.cp_model.specs.Problem.{numbers_from};
@@ -15,7 +15,7 @@ use cp_skel::{Node, Protocol, Role};
 use std::alloc::{AllocError, Global};
 use std::rc::Rc;
 
-/// Puts what an event of a role gives behind others.
+/// Appends the children for a new strand that ends with this event of the role.
 fn add_event(
     alloc: Global,
     question: &Question,
@@ -44,7 +44,7 @@ fn add_event(
     )
 }
 
-/// Puts what the events of a role give behind others.
+/// Appends the children for a new strand of the role, event by event.
 fn add_role(
     alloc: Global,
     question: &Question,
@@ -61,7 +61,7 @@ fn add_role(
     Ok(())
 }
 
-/// Puts the children with a strand added behind others.
+/// Appends all children with an added strand.
 pub(crate) fn add(
     alloc: Global,
     protocol: &Protocol,

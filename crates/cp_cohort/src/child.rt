@@ -9,8 +9,8 @@ use cp_skel::{Node, Operation, Skeleton};
 use cp_term::Path;
 use std::alloc::AllocError;
 
-/// A child of a test: its skeleton, the operation that made it, and the position at which the event that the operation names, of
-/// an added strand its last one, carries the critical term. The position of a child by a listener is the path of no step.
+/// A child of a test: its skeleton; the operation that made it; and the path at which the event named by the operation (for an
+/// added strand, its last event) carries the critical term. The path of a listener's child is empty.
 #[derive(Drop)]
 pub struct Child {
     pub skeleton: Skeleton,
@@ -18,7 +18,7 @@ pub struct Child {
     pub path: Path,
 }
 
-/// How a child is made. Strands and nodes are those of the child's own skeleton.
+/// How a child is made. Strands and nodes are numbered as in the child's own skeleton.
 #[derive(Clone, Copy)]
 pub(crate) enum Made {
     Contracted(Node),
@@ -28,7 +28,7 @@ pub(crate) enum Made {
 }
 
 impl Made {
-    /// The operation.
+    /// The operation, as a report names it.
     fn operation(self) -> Operation
         ensures { operation_view result ≡ made_view self }
     {
@@ -41,7 +41,7 @@ impl Made {
     }
 }
 
-/// A skeleton as a child. The error is that memory ran out.
+/// Makes a child of a skeleton.
 fn as_child(skeleton: Skeleton, made: Made, path: &Path) -> Result<Child, AllocError>
     ensures { IfOk result (λ c. child_view c ≡ child_of (made_view made) path.now skeleton) }
 {
@@ -53,7 +53,7 @@ fn as_child(skeleton: Skeleton, made: Made, path: &Path) -> Result<Child, AllocE
     })
 }
 
-/// Puts a skeleton behind others as a child.
+/// Appends a skeleton as a child.
 fn put_child(
     skeleton: Skeleton,
     made: Made,
@@ -67,7 +67,7 @@ fn put_child(
     Ok(())
 }
 
-/// What a child is made of.
+/// Something from which a child's skeleton can be taken.
 pub(crate) trait HasSkeleton {
     /// The child's skeleton.
     ghost skeleton: { Self → SkeletonData };
@@ -93,7 +93,7 @@ impl HasSkeleton for Tried {
     }
 }
 
-/// Puts skeletons, or what was tried, behind others as children.
+/// Appends the skeleton of each item as a child.
 pub(crate) fn put_children<T: HasSkeleton + Drop>(
     made_of: Vec<T>,
     made: Made,

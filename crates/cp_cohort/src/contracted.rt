@@ -1,4 +1,4 @@
-// Contracted children: the term at a position of what was sent before is made the critical one.
+// Contracted children: a term at a position of an earlier transmission is unified with the critical term.
 ghost use Rattle.std.specs.Prelude.{◌↔◌, IsTrue, IfOk, OnOk};
 ghost use Rattle.cp_guard.specs.Inside.{IsInside};
 ghost use Rattle.cp_model.specs.Identity.{unchanged};
@@ -21,7 +21,7 @@ use cp_term::{Path, Term, at};
 use cp_unify::Subst;
 use std::alloc::{AllocError, Global};
 
-/// Puts the normal forms of a skeleton behind others as children.
+/// Appends the normal forms of a skeleton as children.
 pub(crate) fn put_forms(
     alloc: Global,
     skeleton: Skeleton,
@@ -35,7 +35,7 @@ pub(crate) fn put_forms(
     put_children(forms, made, path, children)
 }
 
-/// Whether a position of a message is inside the question's patterns. The error is that memory ran out.
+/// Whether a position of a message lies inside the question's patterns.
 fn is_guarded(
     alloc: Global,
     question: &Question,
@@ -48,7 +48,7 @@ fn is_guarded(
     is_inside(alloc, question.patterns, &nothing, message, path.as_slice())
 }
 
-/// Puts what a position of a transmission before the node gives behind others.
+/// Appends the children for one position of an earlier transmission.
 fn contract_at(
     alloc: Global,
     question: &Question,
@@ -82,7 +82,7 @@ fn contract_at(
     )
 }
 
-/// Puts what an event gives behind others.
+/// Appends the contracted children for one event.
 fn contract_event(
     alloc: Global,
     question: &Question,
@@ -108,7 +108,7 @@ fn contract_event(
     Ok(())
 }
 
-/// Puts the contracted children behind others.
+/// Appends all contracted children.
 pub(crate) fn contract(
     alloc: Global,
     question: &Question,

@@ -1,4 +1,4 @@
-// Displaced children: an event of a strand that is there is put before the node, to release the critical term.
+// Displaced children: an event of an existing strand is put before the node and releases the critical term.
 ghost use Rattle.std.specs.Prelude.{◌≡◌, ◌≢◌, ◌<◌, Some, length, OnOk};
 ghost use Rattle.cp_guard.specs.Critical.{IsTest};
 ghost use Rattle.cp_model.specs.Problem.{numbers_from};
@@ -17,7 +17,7 @@ use crate::transmissions::is_sent;
 use cp_skel::{Instance, Node, Strand, StrandShape, comes_before};
 use std::alloc::{AllocError, Global};
 
-/// Puts what an event of the role of the instance on this strand gives behind others.
+/// Appends the children for one event of the role of the instance on this strand.
 fn displace_event(
     alloc: Global,
     question: &Question,
@@ -52,7 +52,7 @@ fn displace_event(
     )
 }
 
-/// Puts what a strand gives behind others.
+/// Appends the displaced children for one strand.
 fn displace_strand(
     alloc: Global,
     question: &Question,
@@ -78,7 +78,7 @@ fn displace_strand(
     Ok(())
 }
 
-/// Puts the displaced children behind others.
+/// Appends all displaced children.
 pub(crate) fn displace(
     alloc: Global,
     question: &Question,

@@ -1,4 +1,4 @@
-// Skeletons with a strand that is higher, or one more, in which new variables take the places of those of its role.
+// Skeletons with one strand made longer, or with one strand more. New variables take the places of the role's.
 ghost use Rattle.std.specs.Prelude.{◌≡◌, ◌++◌, ◌≤◌, ℕ, suc, length, map, IfOk, OnOk};
 ghost use Rattle.cp_model.specs.Strand.{IsHeight, variables_of_trace};
 ghost use Rattle.cp_skel.specs.Trees.{variables_view};
@@ -17,7 +17,7 @@ use cp_term::{Sort, Term, VarId, var};
 use std::alloc::{AllocError, Global};
 use std::rc::Rc;
 
-/// Declares a new variable in place of one of a role, and puts it behind others as a term.
+/// Declares a new variable for one of a role's, and appends it to `values`.
 fn declare_one(
     alloc: Global,
     declaration: &Declaration,
@@ -32,7 +32,7 @@ fn declare_one(
     Ok(())
 }
 
-/// Whether the variable of this sort occurs in the events and not in the earlier ones.
+/// Whether the variable of this sort occurs in `events` but not in `earlier`.
 fn is_added(earlier: &[Event], events: &[Event], id: VarId, sort: Sort) -> bool
     ensures { result ≡ is_added (variables_of_trace (map event_view earlier.now)) (variables_of_trace (map event_view events.now))
         (record { sort = sort_view sort; number = id }) }
@@ -40,8 +40,8 @@ fn is_added(earlier: &[Event], events: &[Event], id: VarId, sort: Sort) -> bool
     occurs(events, id, sort) && !occurs(earlier, id, sort)
 }
 
-/// Declares new variables in the places of those of a role that occur in its prefix of this height and not in the one before,
-/// and answers them, in the order in which the role declares them.
+/// Declares a new variable for each variable of the role that occurs in its prefix of length `height` but not in that of length
+/// `before`. Returns the new variables in the order in which the role declares theirs.
 fn declare_added(
     alloc: Global,
     role: &Role,
@@ -66,7 +66,7 @@ fn declare_added(
     Ok(values)
 }
 
-/// Lets the instance on this strand of a skeleton grow to this height, where it is lower. The error is that memory ran out.
+/// Extends the instance on this strand to this height, unless it is that high already.
 fn grow(
     alloc: Global,
     strand: usize,
@@ -87,7 +87,7 @@ fn grow(
     k.extend(alloc, strand, height, &values)
 }
 
-/// Adds a strand of the role of this height to a skeleton, with new variables. The error is that memory ran out.
+/// Adds a strand of the role, of this height, with new variables.
 fn add_instance(
     alloc: Global,
     role: &Rc<Role>,
@@ -103,7 +103,7 @@ fn add_instance(
     Ok(())
 }
 
-/// A skeleton, where the instance on this strand is at least of this height. The error is that memory ran out.
+/// The skeleton after the instance on this strand is extended to this height, unless it is that high already.
 fn grown_to(
     alloc: Global,
     strand: usize,
@@ -120,7 +120,7 @@ fn grown_to(
     Ok(k)
 }
 
-/// The skeleton, where the instance on this strand is at least of this height.
+/// The question's skeleton with the instance on this strand at least this high.
 pub(crate) fn with_events(
     alloc: Global,
     question: &Question,
@@ -136,7 +136,7 @@ pub(crate) fn with_events(
     grown_to(alloc, strand, instance, height, copied)
 }
 
-/// A skeleton with a strand of the role of this height. The error is that memory ran out.
+/// A skeleton with one more strand of the role, of this height.
 fn with_instance(
     alloc: Global,
     role: &Rc<Role>,
@@ -151,7 +151,7 @@ fn with_instance(
     Ok(k)
 }
 
-/// The skeleton with a strand of the role of this height.
+/// The question's skeleton with one more strand of the role, of this height.
 pub(crate) fn with_strand(
     alloc: Global,
     question: &Question,

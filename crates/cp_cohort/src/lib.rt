@@ -1,4 +1,8 @@
-//! The cohort of an authentication test: its children, all of them, in their order.
+//! The cohort of an authentication test: all its children, in order. For the method see S. Doghmi, J. Guttman, F. Thayer,
+//! Searching for Shapes in Cryptographic Protocols, TACAS 2007, and M. Liskov, P. Rowe, F. Thayer, Completeness of CPSA, 2011;
+//! which children there are, and their order, is told at [`cohort`].
+//!
+//! Every call that returns `AllocError` fails only when memory runs out.
 #![tactic(auto)]
 
 mod added;

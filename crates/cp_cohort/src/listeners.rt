@@ -1,4 +1,4 @@
-// Children with a listener added, on what may set the critical term free and on what opens the patterns.
+// Children with an added listener, on a key or plaintext that may release the critical term, or on a key that opens a pattern.
 ghost use Rattle.std.specs.Prelude.{◌≡◌, ◌∷◌, [], length, IfOk, OnOk};
 ghost use Rattle.cp_guard.specs.Critical.{IsTest};
 ghost use Rattle.cp_covering.specs.Cohort.{Listens, OpensPattern, AreListeners};
@@ -18,8 +18,8 @@ use cp_skel::{Node, Skeleton};
 use cp_term::{Path, Pattern, Shape, Term, invert};
 use std::alloc::{AllocError, Global};
 
-/// Puts what may set the critical term free behind others: where it is an encryption, its key, if that cannot be derived at
-/// the node, and else its plaintext.
+/// If the critical term is an encryption, appends the term that may release it: its key, if the key is not derivable at the node,
+/// otherwise its plaintext.
 fn add_freeing(alloc: Global, question: &Question, terms: &mut Vec<Term>) -> Result<(), AllocError>
     requires { IsNodeOf (question_view question.now).skeleton.strands (question_view question.now).node }
     ensures { OnOk result (FreesOnto (question_view question.now) terms.old.items terms.new.items) }
@@ -36,7 +36,7 @@ fn add_freeing(alloc: Global, question: &Question, terms: &mut Vec<Term>) -> Res
     add_term(key, terms)
 }
 
-/// The inverse of a pattern's key.
+/// The inverse of a pattern's key, which opens the pattern.
 fn opening(alloc: Global, pattern: &Pattern) -> Result<Term, AllocError>
     ensures { IfOk result (λ t. OpensPattern pattern.now (t ∷ [])) }
 {
@@ -46,7 +46,7 @@ fn opening(alloc: Global, pattern: &Pattern) -> Result<Term, AllocError>
     }
 }
 
-/// What is to be heard, each term once.
+/// The terms on which listeners are added, each once.
 fn heard(alloc: Global, question: &Question) -> Result<Vec<Term>, AllocError>
     requires { IsNodeOf (question_view question.now).skeleton.strands (question_view question.now).node }
     ensures { IfOk result (λ ts. AreHeard (question_view question.now) ts.items) }
@@ -61,8 +61,8 @@ fn heard(alloc: Global, question: &Question) -> Result<Vec<Term>, AllocError>
     Ok(terms)
 }
 
-/// Adds a listener on the term to a copy of the question's skeleton, puts its transmission before the node, and answers its
-/// number. The error is that memory ran out.
+/// Adds a listener on the term to a copy of the question's skeleton, and puts the listener's transmission before the node.
+/// Returns the new strand's number.
 fn add_before(
     alloc: Global,
     question: &Question,
@@ -85,7 +85,7 @@ fn add_before(
     Ok(strand)
 }
 
-/// Puts what a listener on the term gives in a copy of the question's skeleton behind others. The error is that memory ran out.
+/// Appends the children for a listener on the term, built in this copy of the question's skeleton.
 fn listen_in(
     alloc: Global,
     question: &Question,
@@ -102,7 +102,7 @@ fn listen_in(
     put_forms(alloc, k, Made::AddedListener(strand), &path, children)
 }
 
-/// Puts what a listener on the term gives behind others.
+/// Appends the children for a listener on the term.
 fn listen_to(
     alloc: Global,
     question: &Question,
@@ -116,7 +116,7 @@ fn listen_to(
     listen_in(alloc, question, term, k, children)
 }
 
-/// Puts the children with a listener added behind others.
+/// Appends all children with an added listener.
 pub(crate) fn listen(
     alloc: Global,
     question: &Question,

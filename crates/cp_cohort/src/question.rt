@@ -1,8 +1,9 @@
-// What is asked of a cohort.
+// What a cohort is computed for.
 use cp_skel::{Leading, Node, Skeleton};
 use cp_term::{Pattern, Term};
 
-/// Under which patterns which component of the message received at a node of a skeleton is to be released.
+/// The test and the patterns of a cohort: the critical component of the message received at a node of a skeleton is to be
+/// released from these patterns.
 #[derive(Clone, Copy)]
 pub(crate) struct Question<'a> {
     pub(crate) skeleton: &'a Skeleton,

@@ -1,4 +1,4 @@
-// Children in which an event of a strand is to release the critical term.
+// Children in which an event of a strand releases the critical term.
 ghost use Rattle.std.specs.Prelude.{◌≡◌, Some, IfOk, OnOk};
 ghost use Rattle.cp_model.specs.Strand.{Event as PlainEvent, payload};
 ghost use Rattle.cp_model.specs.Skeleton.{IsNodeOf, IsOrderPair, term_event_at};
@@ -20,7 +20,7 @@ use cp_skel::{Node, Skeleton};
 use cp_term::{Path, Term, at};
 use std::alloc::{AllocError, Global};
 
-/// The message of the event at a node, which is there.
+/// The message at a node that exists.
 fn message_at(alloc: Global, k: &Skeleton, node: Node) -> Result<Term, AllocError>
     requires { IsNodeOf (skeleton_view k.now).strands node }
     ensures { IfOk result (λ t. (e : PlainEvent Plain) → term_event_at (skeleton_view k.now).strands node ≡ Some e → t ≡ payload e) }
@@ -34,8 +34,7 @@ fn message_at(alloc: Global, k: &Skeleton, node: Node) -> Result<Term, AllocErro
     event.payload().copy()
 }
 
-/// Puts what a position of the message that is sent at a node gives behind others, where that node has been put before the
-/// question's.
+/// Appends the children for one position of the message sent at a node, which has already been put before the question's node.
 fn release_at(
     alloc: Global,
     question: &Question,
@@ -71,8 +70,8 @@ fn release_at(
     put_children(settled, made, path, children)
 }
 
-/// Puts what the positions of the message that is sent at a node give behind others, at which the critical term could be,
-/// where that node has been put before the question's.
+/// Appends the children for each position of the message sent at a node at which the critical term may stand. The node has
+/// already been put before the question's node.
 fn release_each(
     alloc: Global,
     question: &Question,
@@ -92,8 +91,8 @@ fn release_each(
     Ok(())
 }
 
-/// Puts a node of a grown skeleton before the question's, and what the positions of the message that is sent there give behind
-/// others: nothing, where that closes a cycle. The error is that memory ran out.
+/// Puts a node of the grown skeleton before the question's node and appends the children for the positions of its message.
+/// Appends none if that order closes a cycle.
 fn release_before(
     alloc: Global,
     question: &Question,
@@ -112,7 +111,7 @@ fn release_before(
     release_each(alloc, question, grown, node, &message, made, children)
 }
 
-/// Puts what the positions of the message that is sent at a node of a grown skeleton give behind others.
+/// Appends the children for the positions of the message sent at a node of the grown skeleton.
 pub(crate) fn release(
     alloc: Global,
     question: &Question,

@@ -1,4 +1,4 @@
-// Which events of a role are transmissions.
+// Tells the transmissions of a role from its receptions.
 ghost use Rattle.std.specs.Prelude.{◌≡◌, ◌<◌, ◌+◌, ◌^◌, Some, length, true, false};
 ghost use Rattle.cp_lists.specs.Lists.{item_at};
 ghost use Rattle.cp_model.specs.Strand.{send, recv};
@@ -7,7 +7,8 @@ ghost use Rattle.cp_model.specs.Term.{Term as Plain};
 use cp_skel::{Event, Role};
 use std::rc::Rc;
 
-/// Whether the event of this index of the role sends its message; else it receives it. The height behind it fits a word.
+/// Whether the event at this index is a transmission; otherwise it is a reception. The height that includes the event fits in 64
+/// bits.
 pub(crate) fn is_sent(role: &Rc<Role>, index: usize) -> bool
     requires { index < length role.now.value.trace }
     ensures height { index + 1 < 2 ^ 64 }

@@ -26,11 +26,10 @@ use cp_skel::{Leading, Node, Protocol, Skeleton};
 use cp_term::{Pattern, Term};
 use std::alloc::{AllocError, Global};
 
-/// For how many children there is room from the start: few tests have more, and a list that grows is moved.
+/// The initial capacity for children: few tests have more, and a list that outgrows it is moved.
 const ROOM: usize = 8;
 
-/// Puts the children of a test into an empty list: contracted, displaced, with a strand added, with a listener added. The error
-/// is that memory ran out.
+/// Puts the children of a test into an empty list: contracted, displaced, with an added strand, with an added listener.
 fn put_all(
     alloc: Global,
     protocol: &Protocol,
@@ -48,7 +47,7 @@ fn put_all(
     listen(alloc, question, children)
 }
 
-/// The children of a test. The error is that memory ran out.
+/// The children of a test.
 fn children_of(
     alloc: Global,
     protocol: &Protocol,
@@ -63,23 +62,26 @@ fn children_of(
     Ok(children)
 }
 
-/// The children of a test under patterns that guard it, all of them, in their order: contracted, displaced, with a strand added,
-/// with a listener added; within these by strand or role, then by event, then by position, in preorder.
+/// The cohort of a test under patterns that guard it: all children, in this order: contracted, displaced, with an added strand,
+/// with an added listener; within each kind by strand or role, then by event, then by position in preorder. Each child is in
+/// normal form.
 ///
-/// Contracted: at a position of a transmission of a role strand before the node, outside the patterns, a term that is not the
-/// critical one is unified with it. Displaced: at a position of a transmission of a role strand that is not before the node, on
-/// another strand, which grows up to it where it is lower, a term is unified with the critical one, and the event is put before the
-/// node, unless that closes a cycle. Added: so it is with a new strand of each role, for each transmission. There the position is to be
-/// outside the patterns, and each earlier event of the strand carries the critical term inside them alone. A listener is added on
-/// the key of a critical encryption, if that cannot be derived at the node, else on its plaintext; and on the inverse of each
-/// pattern's key; on each such term once. Each child is in normal form.
+/// - Contracted: at a position outside the patterns, in a transmission of a role strand before the node, a term other than the
+///   critical one is unified with the critical term.
+/// - Displaced: a transmission of a role strand, on another strand and not before the node, is put before the node, unless that
+///   closes a cycle; the strand is extended up to it if necessary. A term at a position of that transmission is unified with the
+///   critical term. The position must be outside the patterns, and each earlier event of the strand must carry the critical term
+///   inside the patterns alone.
+/// - Added strand: the same with a new strand of each role, for each transmission of the role.
+/// - Added listener: on the key of a critical encryption if that key is not derivable at the node, otherwise on the plaintext;
+///   and on the inverse of each pattern's key. Each such term is heard once.
 ///
-/// So the children leave out no execution: where the skeleton is one over the protocol, with declared variables, whenever it
-/// stands apart in a bundle over the protocol, some child does, and the skeleton's standing goes through the child's along a
-/// homomorphism; there are no children only where it stands apart in no bundle. Each child is then a skeleton over the
-/// protocol, which keeps what the skeleton keeps of its problem; and it is what its operation says.
+/// The children miss no execution. Let the skeleton be one over the protocol with declared variables. Whenever it stands apart in
+/// a bundle over the protocol, some child does too, and the skeleton's standing factors through the child's along a homomorphism;
+/// so there are no children only if the skeleton stands apart in no bundle. Each child is then a skeleton over the protocol that
+/// keeps what the skeleton keeps of its problem, and what its operation says of it is true.
 ///
-/// The node and the term have to be a test of the skeleton, which the patterns guard. The error is that memory ran out.
+/// The node and the term must be a test of the skeleton, and the patterns must guard it.
 pub fn cohort(
     alloc: Global,
     protocol: &Protocol,

@@ -1,4 +1,4 @@
-// The places of the blocks of a partition.
+// The places that the blocks of a partition take.
 ghost use Rattle.std.specs.Prelude.{◌≡◌, ◌↔◌, ◌≤◌, Some, length, IsTrue};
 ghost use Rattle.cp_model.specs.Homomorphism.{strand_in};
 ghost use Rattle.cp_lists.specs.Lists.{item_at};
@@ -17,7 +17,7 @@ fn is_lowest(lowest: &[usize], strand: usize) -> bool
     }
 }
 
-/// How many of the first strands are the lowest of their blocks.
+/// How many of the first `end` strands are the lowest of their blocks.
 fn lowest_within(lowest: &[usize], end: usize) -> usize
     requires { end ≤ length lowest.now }
     ensures count { result ≡ lowest_before lowest.now end }
@@ -33,7 +33,8 @@ fn lowest_within(lowest: &[usize], end: usize) -> usize
     count
 }
 
-/// How many of the strands with smaller numbers than `end` are the lowest of their blocks. A strand past the list is alone.
+/// How many of the strands with numbers below `end` are the lowest of their blocks. A strand past the end of the list is alone in
+/// its block.
 fn lowest_before(lowest: &[usize], end: usize) -> usize
     ensures { result ≡ lowest_before lowest.now end }
 {
@@ -44,7 +45,7 @@ fn lowest_before(lowest: &[usize], end: usize) -> usize
     }
 }
 
-/// The number of the lowest strand of a strand's block; a strand past the list is alone.
+/// The number of the lowest strand of a strand's block. A strand past the end of the list is alone in its block.
 fn strand_in(lowest: &[usize], strand: usize) -> usize
     ensures { result ≡ strand_in lowest.now strand }
 {
@@ -54,14 +55,14 @@ fn strand_in(lowest: &[usize], strand: usize) -> usize
     }
 }
 
-/// The place of the block of a strand.
+/// The place of a strand's block.
 pub(crate) fn place_in(lowest: &[usize], strand: usize) -> usize
     ensures { result ≡ place_in lowest.now strand }
 {
     lowest_before(lowest, strand_in(lowest, strand))
 }
 
-/// The node at the place of its strand's block.
+/// The node, moved to the place of its strand's block.
 pub(crate) fn node_in(lowest: &[usize], node: Node) -> Node
     ensures { result ≡ node_in lowest.now node }
 {
@@ -71,7 +72,7 @@ pub(crate) fn node_in(lowest: &[usize], node: Node) -> Node
     }
 }
 
-/// The pair between the places of its strands' blocks.
+/// The pair, with both nodes moved to the places of their strands' blocks.
 pub(crate) fn pair_in(lowest: &[usize], pair: &OrderPair) -> OrderPair
     ensures { result ≡ pair_in lowest.now pair.now }
 {

@@ -1,4 +1,4 @@
-// Whether the pairs that unique values add close a cycle.
+// Tests whether pairs close a cycle.
 ghost use Rattle.std.specs.Prelude.{◌↔◌, map, IsTrue, IfOk};
 ghost use Rattle.cp_collapse.specs.Property.{Has};
 ghost use Rattle.cp_collapse.specs.Cycles.{LeadsOn, IsClosedAt};
@@ -6,14 +6,14 @@ ghost use Rattle.cp_collapse.specs.Cycles.{LeadsOn, IsClosedAt};
 use cp_skel::{Leading, Node, OrderPair, UniqueAt};
 use std::alloc::{AllocError, Global};
 
-/// Whether the pair goes from the node to one that leads to the other node.
+/// Whether the pair goes from `node` to one that leads to the node of `leading`.
 fn leads_on(leading: &Leading<'_>, node: Node, pair: &OrderPair) -> bool
     ensures { IsTrue result ↔ LeadsOn leading.now.pairs node leading.now.node pair.now }
 {
     pair.earlier == node && leading.has(pair.later)
 }
 
-/// Whether one of the pairs goes from the node to one that leads to the other node.
+/// Whether some pair goes from `node` to one that leads to the node of `leading`.
 fn some_leads_on(leading: &Leading<'_>, node: Node, pairs: &[OrderPair]) -> bool
     ensures { IsTrue result ↔ Has (λ p. LeadsOn leading.now.pairs node leading.now.node p) pairs.now }
 {

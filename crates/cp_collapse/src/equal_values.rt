@@ -1,4 +1,4 @@
-// Equal values of two instances of one role.
+// Unifies the values of two instances of one role.
 ghost use Rattle.std.specs.Prelude.{IfOk, MatchOption};
 ghost use Rattle.cp_skel.specs.Extensions.{IsClosedPrefix};
 ghost use Rattle.cp_collapse.specs.FirstPartitions.{IsExactFor};
@@ -11,9 +11,8 @@ use cp_unify::{Subst, unify};
 use std::alloc::{AllocError, Global};
 use std::rc::Rc;
 
-/// Bindings that are met where the given ones are and two instances of one role have equal values: the same value of each
-/// variable that is in both prefixes, which is in that of the lower height. None where no assignment that meets the given
-/// ones gives them equal values.
+/// Most general bindings that imply the given ones and make the values of two instances of one role equal, for each variable that
+/// occurs in both prefixes, that is, in the shorter one. `None` if no assignment that meets the given bindings makes them equal.
 pub(crate) fn unify_instances(
     alloc: Global,
     a: &Instance,

@@ -1,4 +1,4 @@
-// The images of assumptions and pairs where the strands of each block are merged, each once.
+// Images of assumptions and pairs, each once, when the strands of each block are merged.
 ghost use Rattle.std.specs.Prelude.{◌≡◌, ◌↔◌, ◌≤◌, [], map, IsTrue, IfOk, OnOk};
 ghost use Rattle.cp_model.specs.Given.{atoms_onto, uniques_onto};
 ghost use Rattle.cp_model.specs.Term.{apply_to_atom};
@@ -14,14 +14,14 @@ use cp_skel::{Assumptions, Atom, FromProblem, OrderPair, UniqueAt, add_atom, add
 use cp_unify::Subst;
 use std::alloc::{AllocError, Global};
 
-/// The way onto the blocks: what terms become, and the lowest strand of each strand's block.
+/// The map onto the blocks: a substitution on terms, and for each strand the lowest strand of its block.
 #[derive(Clone, Copy)]
 pub(crate) struct Way<'a> {
     pub(crate) terms: &'a Subst,
     pub(crate) lowest: &'a [usize],
 }
 
-/// The atoms under a substitution, in their order, each once.
+/// The atoms under a substitution, in order, each once.
 fn atom_images(alloc: Global, atoms: &[Atom], s: &Subst) -> Result<Vec<Atom>, AllocError>
     ensures { IfOk result (λ v. v.items ≡ atoms_onto [] (map (apply_to_atom (as_substitution s.now)) atoms.now)) }
 {
@@ -33,7 +33,7 @@ fn atom_images(alloc: Global, atoms: &[Atom], s: &Subst) -> Result<Vec<Atom>, Al
     Ok(images)
 }
 
-/// A unique value under a substitution, with its recorded origin at the place of its strand's block.
+/// A unique value under the substitution, with its recorded origin moved to the place of its strand's block.
 fn unique_image(alloc: Global, unique: &UniqueAt, way: Way<'_>) -> Result<UniqueAt, AllocError>
     ensures { IfOk result (λ u. u ≡ unique_in way.entry.lowest.now (as_substitution way.entry.terms.now) unique.now) }
 {
@@ -41,7 +41,7 @@ fn unique_image(alloc: Global, unique: &UniqueAt, way: Way<'_>) -> Result<Unique
     Ok(UniqueAt::new(value, node_in(way.lowest, unique.origin())))
 }
 
-/// The images of unique values, in their order, each once.
+/// The images of unique values, in order, each once.
 fn unique_images(
     alloc: Global,
     uniques: &[UniqueAt],
@@ -76,7 +76,7 @@ fn is_listed_pair(pair: &OrderPair, pairs: &[OrderPair]) -> bool
     false
 }
 
-/// Puts a pair behind others, if it is not one of them.
+/// Appends a pair unless it is listed already.
 fn put_pair(pair: OrderPair, pairs: &mut Vec<OrderPair>) -> Result<(), AllocError>
     ensures { OnOk result (IsPutOnce pair pairs.old.items pairs.new.items) }
 {
@@ -87,14 +87,14 @@ fn put_pair(pair: OrderPair, pairs: &mut Vec<OrderPair>) -> Result<(), AllocErro
     Ok(())
 }
 
-/// Whether a pair comes to lie on one strand.
+/// Whether both nodes of a pair come to lie on one strand.
 fn lies_on_one(pair: &OrderPair, lowest: &[usize]) -> bool
     ensures { IsTrue result ↔ LiesOnOne lowest.now pair.now }
 {
     place_in(lowest, pair.earlier.strand) == place_in(lowest, pair.later.strand)
 }
 
-/// The images of pairs, each once; those that come to lie on one strand are dropped.
+/// The images of pairs, each once, without those that come to lie on one strand.
 pub(crate) fn pair_images(
     alloc: Global,
     pairs: &[OrderPair],
@@ -112,14 +112,14 @@ pub(crate) fn pair_images(
     Ok(images)
 }
 
-/// Whether a pair comes to lie backward on one strand, or on one node.
+/// Whether both nodes of a pair come to lie on one strand, the later node at or before the earlier one.
 fn lies_backward(pair: &OrderPair, lowest: &[usize]) -> bool
     ensures { IsTrue result ↔ (LiesOnOne lowest.now pair.now × (pair.now.later.index ≤ pair.now.earlier.index)) }
 {
     lies_on_one(pair, lowest) && pair.later.index <= pair.earlier.index
 }
 
-/// Whether some pair comes to lie backward on one strand, or on one node.
+/// Whether some pair comes to lie on one strand, its later node at or before its earlier one.
 pub(crate) fn some_lies_backward(pairs: &[OrderPair], lowest: &[usize]) -> bool
     ensures { IsTrue result ↔ Has (λ q. LiesOnOne lowest.now q × (q.later.index ≤ q.earlier.index)) pairs.now }
 {
@@ -131,7 +131,7 @@ pub(crate) fn some_lies_backward(pairs: &[OrderPair], lowest: &[usize]) -> bool
     false
 }
 
-/// The images of assumptions, in their order, each once.
+/// The images of assumptions, in order, each once.
 pub(crate) fn assumption_images(
     alloc: Global,
     assumptions: &Assumptions,
@@ -155,7 +155,7 @@ fn places_of(alloc: Global, strands: &[usize], lowest: &[usize]) -> Result<Vec<u
     Ok(places)
 }
 
-/// The way from a problem, followed by the way onto the blocks.
+/// The map from a problem, followed by the map onto the blocks.
 pub(crate) fn from_problem_image(
     alloc: Global,
     from_problem: &FromProblem,

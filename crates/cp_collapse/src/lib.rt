@@ -1,4 +1,5 @@
-//! Skeletons under substitutions, and collapses of skeletons: the ways to identify strands of one role.
+//! Skeletons under substitutions, and collapses of skeletons: the ways to identify strands of one role. Every call that returns
+//! `AllocError` fails only when memory runs out.
 #![tactic(auto)]
 
 mod block_places;

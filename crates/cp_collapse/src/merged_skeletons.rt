@@ -23,7 +23,7 @@ use crate::partitions::{Partial, partitions};
 use cp_skel::{Assumptions, FromProblem, OrderPair, Skeleton, Strand};
 use std::alloc::{AllocError, Global};
 
-/// The parts of a skeleton with the strands of each block merged; its variables are those of the skeleton.
+/// The parts of a skeleton after the strands of each block are merged, except its variables, which stay.
 #[derive(Drop)]
 pub(crate) struct Parts {
     strands: Vec<Strand>,
@@ -32,8 +32,8 @@ pub(crate) struct Parts {
     from_problem: FromProblem,
 }
 
-/// The parts of the skeleton with the strands of each block merged, where no pair comes to lie backward. With its
-/// assumptions in the order of the report it is collapsed.
+/// The parts of the skeleton with the strands of each block merged, if no pair comes to lie backward. Once its assumptions are in
+/// report order, it is the collapsed skeleton.
 fn merged(alloc: Global, k: &Skeleton, partial: &Partial) -> Result<Parts, AllocError>
     requires declared { HasDeclaredPrefixes (skeleton_view k.now) }
     requires partition { IsPartition (skeleton_view k.now) partial.now.lowest.items }
@@ -59,8 +59,8 @@ fn merged(alloc: Global, k: &Skeleton, partial: &Partial) -> Result<Parts, Alloc
     })
 }
 
-/// The skeleton of these parts, with the variables of another, whose order it closes if that one's is closed. Its
-/// assumptions are listed in the order of the report.
+/// A skeleton of these parts, with the variables of `k` and its assumptions in report order. Its order is closed if that of `k`
+/// is.
 fn of_parts(alloc: Global, k: &Skeleton, parts: Parts) -> Result<Skeleton, AllocError>
     requires { IsSound (parts_view parts) }
     ensures skeleton { IfOk result (λ l. skeleton_view l ≡ with_listed (parts_view parts)) }
@@ -79,7 +79,7 @@ fn of_parts(alloc: Global, k: &Skeleton, parts: Parts) -> Result<Skeleton, Alloc
     Ok(skeleton)
 }
 
-/// The collapse by a partition; none where a pair comes to lie backward, or the merged order has a cycle.
+/// The collapse by a partition; `None` if a pair comes to lie backward or the merged order has a cycle.
 fn collapse(alloc: Global, k: &Skeleton, partial: &Partial) -> Result<Option<Skeleton>, AllocError>
     requires declared { HasDeclaredPrefixes (skeleton_view k.now) }
     requires partition { IsPartition (skeleton_view k.now) partial.now.lowest.items }
@@ -99,14 +99,13 @@ fn collapse(alloc: Global, k: &Skeleton, partial: &Partial) -> Result<Option<Ske
     Ok(Some(of_parts(alloc, k, parts)?))
 }
 
-/// The collapses of a skeleton, one for each way to identify strands of one role: each partition of the strands into
-/// blocks of instances of one role, other than the finest, whose blocks unify and whose merged order has no cycle. Of two
-/// variables the later becomes the earlier. A block takes its lowest place and its greatest height; places are then numbered
-/// without gaps. A partition is written as the list of each strand's lowest strand in its block, and the collapses come in
-/// descending order of these lists. A pair that comes to lie forward on one strand is dropped. The assumptions of a collapse
-/// are in the order in which a report lists them, each once.
+/// The collapses of a skeleton, one for each way to identify strands of one role: each partition of the strands into blocks of
+/// instances of one role, except the finest, whose blocks unify and whose merged order has no cycle. The unifier maps the later
+/// of two variables to the earlier. A block takes its lowest place and its greatest height; places are then renumbered without
+/// gaps. A pair that comes to lie forward on one strand is dropped. The assumptions of a collapse are in report order, each once.
 ///
-/// The error is that memory ran out.
+/// A partition is written as a list that gives for each strand the lowest strand of its block. The collapses come in descending
+/// order of these lists.
 pub fn collapses(alloc: Global, k: &Skeleton) -> Result<Vec<Skeleton>, AllocError>
     ensures exact { IfOk result (λ ls. AreCollapses (skeleton_view k.now) (map skeleton_view ls.items)) }
     ensures covers { IfOk result (λ ls. (protocol : Protocol) → IsSkeleton protocol (skeleton_view k.now) → IsCompleteList protocol (skeleton_view k.now) (skeleton_view k.now ∷ map skeleton_view ls.items)) }

@@ -1,4 +1,4 @@
-// The strands of a skeleton, those of each block merged into the tallest.
+// The strands of a skeleton after each block is merged into its tallest strand.
 ghost use Rattle.std.specs.Prelude.{◌≡◌, ◌<◌, Some, map, length, IfOk};
 ghost use Rattle.cp_lists.specs.Lists.{item_at};
 ghost use Rattle.cp_unify.specs.Bindings.{as_substitution};
@@ -14,7 +14,7 @@ use cp_skel::{Skeleton, Strand, StrandShape};
 use cp_unify::Subst;
 use std::alloc::{AllocError, Global};
 
-/// The height of a strand that is an instance; 0 of a listener.
+/// The height of a strand that is an instance; 0 for a listener.
 fn height_at(strands: &[Strand], number: usize) -> usize
     ensures { result ≡ height_of (item_at (map strand_view strands.now) number) }
 {
@@ -27,7 +27,7 @@ fn height_at(strands: &[Strand], number: usize) -> usize
     }
 }
 
-/// The tallest strand of a block, the first of several.
+/// The tallest strand of a block; of several, the first.
 fn tallest(k: &Skeleton, partial: &Partial, block: usize) -> usize
     requires partition { IsPartition (skeleton_view k.now) partial.now.lowest.items }
     requires own { item_at partial.now.lowest.items block ≡ Some block }
@@ -59,7 +59,7 @@ fn merged_strand(
     strand_under(alloc, &strands[number], s)
 }
 
-/// The strands where those of each block are merged: the tallest of each block, under the bindings.
+/// The strands after each block is merged: its tallest strand, under the bindings.
 pub(crate) fn merged_strands(
     alloc: Global,
     k: &Skeleton,

@@ -1,4 +1,4 @@
-// The partitions of the strands of a skeleton into blocks of instances of one role, one more strand a round.
+// Partitions of a skeleton's strands into blocks of instances of one role, built strand by strand.
 ghost use Rattle.std.specs.Prelude.{◌≡◌, ◌≢◌, ◌↔◌, ◌+◌, ◌<◌, ◌++◌, ◌∷◌, [], ℕ, List, Some, map, option_map, length, IsTrue, IfOk, OnOk, IfSome, IfNone, MatchOption};
 ghost use Rattle.cp_lists.specs.Lists.{item_at};
 ghost use Rattle.cp_model.specs.Strand.{Role as PlainRole};
@@ -19,7 +19,7 @@ use cp_unify::Subst;
 use std::alloc::{AllocError, Global};
 use std::rc::Rc;
 
-/// A partition of the first strands, by the lowest strand of each strand's block, and bindings that identify the strands
+/// A partition of the first strands, given as the lowest strand of each strand's block, with bindings that identify the strands
 /// of each block.
 #[derive(Drop)]
 pub(crate) struct Partial {
@@ -27,7 +27,7 @@ pub(crate) struct Partial {
     pub(crate) bindings: Rc<Subst>,
 }
 
-/// The instance of a role that is the strand with this number, if it is one.
+/// The role instance on the strand with this number, if it is one.
 pub(crate) fn instance_at(strands: &[Strand], number: usize) -> Option<&Instance>
     ensures some { IfSome result (λ i. item_at strands.now number ≡ Some (instance_as_data i.now)) }
     ensures none { IfNone result ((role : PlainRole) (height : ℕ) (terms : Substitution)
@@ -55,8 +55,7 @@ fn are_of_one_role(strands: &[Strand], s: usize, t: usize) -> bool
     is_same_role(first.role(), second.role())
 }
 
-/// Bindings that are met where the given ones are and two strands, instances of one role, have equal values, if there are
-/// any.
+/// Most general bindings that imply the given ones and make the values of two strands of one role equal, if there are any.
 fn unify_strands(
     alloc: Global,
     k: &Skeleton,
@@ -80,8 +79,8 @@ fn unify_strands(
     unify_instances(alloc, first, second, given)
 }
 
-/// Bindings that identify the strands of each block, where strand `number` joins a block of instances of its role; none
-/// where they never have equal values.
+/// Most general bindings that identify the strands of each block after strand `number` joins a block of instances of its role;
+/// `None` if their values are never equal.
 fn unify_block(
     alloc: Global,
     k: &Skeleton,
@@ -111,7 +110,7 @@ fn unify_block(
     Ok(Some(bindings))
 }
 
-/// The numbers, and one more behind them.
+/// The numbers, followed by one more.
 fn with_entry(alloc: Global, lowest: &[usize], entry: usize) -> Result<Vec<usize>, AllocError>
     ensures { IfOk result (λ v. v.items ≡ lowest.now ++ (entry ∷ [])) }
 {
@@ -130,7 +129,7 @@ pub(crate) fn is_in_block(partial: &Partial, strand: usize, block: usize) -> boo
     }
 }
 
-/// The partition with one more strand, which is alone.
+/// The partition with one more strand, alone in its block.
 fn alone(alloc: Global, partial: &Partial, number: usize) -> Result<Partial, AllocError>
     ensures { IfOk result (λ q. (k : PlainSkeleton) → IsPartitionOfFirst k number partial.now.lowest.items
         → IsExact k partial.now → Joins k number partial.now.lowest.items number q) }
@@ -141,7 +140,7 @@ fn alone(alloc: Global, partial: &Partial, number: usize) -> Result<Partial, All
     })
 }
 
-/// The partition with one more strand, which joins a block, if it may.
+/// The partition after one more strand joins a block, if it may.
 fn join(
     alloc: Global,
     k: &Skeleton,
@@ -172,8 +171,8 @@ fn join(
     }
 }
 
-/// Puts the partitions that one more strand gives behind others: first the one in which it is alone, then those in which
-/// it joins a block, from the highest block on.
+/// Appends the partitions that one more strand gives: first the one in which it is alone, then those in which it joins a block,
+/// from the highest block down.
 fn extend(
     alloc: Global,
     k: &Skeleton,
@@ -216,7 +215,7 @@ fn round(
     Ok(next)
 }
 
-/// The partitions of the strands into blocks of instances of one role that may have equal values, in descending order.
+/// The partitions of the strands into blocks of instances of one role whose values can be equal, in descending order.
 pub(crate) fn partitions(alloc: Global, k: &Skeleton) -> Result<Vec<Partial>, AllocError>
     requires { HasDeclaredPrefixes (skeleton_view k.now) }
     ensures { IfOk result (λ partials. ArePartials (skeleton_view k.now) (length (skeleton_view k.now).strands) partials.items) }

@@ -14,17 +14,17 @@ use cp_term::Term;
 use cp_unify::{Subst, apply};
 use std::alloc::{AllocError, Global};
 
-/// What changes under a substitution.
+/// Data to which a substitution can be applied.
 pub(crate) trait Substituted {
-    /// What it becomes under a substitution.
+    /// The value under a substitution.
     ghost becomes: { Substitution → Self → Self };
 
-    /// What it becomes. The error is that memory ran out.
+    /// Applies the substitution.
     fn under(&self, alloc: Global, s: &Subst) -> Result<Self, AllocError>
         ensures { IfOk result (λ x. x ≡ becomes (as_substitution s.now) self.now) };
 }
 
-/// Each of these under a substitution.
+/// Applies the substitution to each item.
 pub(crate) fn each_under<T: Substituted + Drop>(
     alloc: Global,
     items: &[T],
@@ -58,7 +58,7 @@ impl Substituted for Atom {
     }
 }
 
-/// Of a unique value the recorded origin stays.
+/// The recorded origin stays.
 impl Substituted for UniqueAt {
     ghost becomes = { unique_under };
 
@@ -79,7 +79,7 @@ impl Substituted for Assumptions {
     }
 }
 
-/// The way from a problem is followed by the substitution.
+/// The map from a problem, followed by the substitution.
 impl Substituted for FromProblem {
     ghost becomes = { from_problem_under };
 
@@ -92,7 +92,7 @@ impl Substituted for FromProblem {
     }
 }
 
-/// Whether the terms are the same, one by one.
+/// Whether the two lists hold the same terms, place by place.
 pub fn are_same_terms(a: &[Term], b: &[Term]) -> bool
     ensures { IsTrue result ↔ (a.now ≡ b.now) }
 {
@@ -107,8 +107,8 @@ pub fn are_same_terms(a: &[Term], b: &[Term]) -> bool
     true
 }
 
-/// The strand of an instance with these terms in place of its own: the strand itself, which both share, where they are the
-/// same. It holds its events where the strand does.
+/// The strand of an instance with these terms in place of its own. If they are the same terms, the strand itself is shared. The
+/// new strand holds its events if the old one does.
 fn with_values(
     alloc: Global,
     strand: &Strand,
@@ -129,8 +129,8 @@ fn with_values(
     }
 }
 
-/// A strand under a substitution: the term of each variable that the role of an instance declares, and the message of a
-/// listener. Where nothing changes of an instance, both share it.
+/// A strand under a substitution: applied to the term of each variable that the role of an instance declares, or to the message
+/// of a listener. If nothing changes in an instance, the strand is shared.
 pub(crate) fn strand_under(alloc: Global, strand: &Strand, s: &Subst) -> Result<Strand, AllocError>
     ensures { IfOk result (λ t. strand_view t ≡ declared_under (as_substitution s.now) (strand_view strand.now)) }
 {
@@ -154,8 +154,7 @@ fn strands_under(alloc: Global, strands: &[Strand], s: &Subst) -> Result<Vec<Str
     Ok(changed)
 }
 
-/// The skeleton under a substitution: each of its terms is, and strands, nodes and pairs stay where they are. The error
-/// is that memory ran out.
+/// The skeleton under a substitution: it is applied to every term. Strands, nodes and pairs stay where they are.
 pub fn under(alloc: Global, k: &Skeleton, s: &Subst) -> Result<Skeleton, AllocError>
     ensures same { IfOk result (λ l. SaysTheSame (skeleton_under (as_substitution s.now) (skeleton_view k.now)) (skeleton_view l)) }
     ensures variables { IfOk result (λ l. l.variables ≡ k.now.variables) }

@@ -12,8 +12,8 @@ use cp_term::{Sort, Term, VarId};
 use cp_unify::{Subst, apply};
 use std::alloc::{AllocError, Global};
 
-/// The term of a role's variable in the terms of an instance: the one at the variable's number, if that is of its sort, or
-/// else the variable itself.
+/// The term of a role's variable in an instance with these terms: the one at the variable's number if it has the variable's sort,
+/// otherwise the variable itself.
 pub(crate) fn term_of_variable(
     alloc: Global,
     terms: &[Term],

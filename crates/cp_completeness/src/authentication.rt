@@ -7,11 +7,12 @@ ghost use Rattle.cp_model.specs.declared.node.Node.{Node};
 ghost use Rattle.cp_completeness.specs.AuthenticationTest.{IsOutside, IsNoPair, IsNotCreated, IsReleased, IsEncrypted, IsDecrypted};
 ghost use Rattle.cp_completeness.specs.Opened.{protocol, secret, locked, opened, every, heard_from_opener, heard_from_decryption, heard_from_encryption};
 
-/// Where a message that is no pair, and that the penetrator does not create, is received outside the protecting
-/// encryptions, then before that a regular strand has sent it outside, as the first event of the strand in which it
-/// stands so; or the penetrator has encrypted it, or has taken it out of a protecting encryption by decrypting that.
-/// What stands outside is carried; where no encryption protects, what is carried stands outside; and what stands outside
-/// does so wherever fewer encryptions protect.
+/// Let a message that is not a pair, and that the penetrator does not create, be received outside the protecting encryptions.
+/// Then, before that, a regular strand has sent it outside, in the first event of that strand in which it stands outside; or the
+/// penetrator has made it by encryption; or the penetrator has taken it out of a protecting encryption by decryption.
+///
+/// A message that stands outside is carried. If no encryption protects, each carried message stands outside. A message that
+/// stands outside still does so when fewer encryptions protect.
 pub fn authentication_test()
     ensures answered { (protocol : Protocol) (b : Bundle) → IsBundle protocol b → (protects : Message → Key → Bool) (c : Message) (n : Node) (m : Message) → event_at b.strands n ≡ Some (recv m) → IsOutside protects c m → IsNoPair c → IsNotCreated b c → IsReleased b protects c n ⊎ (IsEncrypted b c n ⊎ IsDecrypted b protects c n) }
     ensures carried { (protects : Message → Key → Bool) (c m : Message) → IsOutside protects c m → IsCarriedBy c m }
@@ -19,9 +20,9 @@ pub fn authentication_test()
     ensures fewer { (more fewer : Message → Key → Bool) (c m : Message) → ((x : Message) (k : Key) → fewer x k ≡ true → more x k ≡ true) → IsOutside more c m → IsOutside fewer c m }
 {}
 
-/// A text that is sent under a key is received with no key: after a regular strand has released it, and elsewhere after
-/// the penetrator has decrypted it; and its encryption is received after the penetrator has made that. Each of the three
-/// receptions meets the premises of the test.
+/// A text is sent under a key and received in the clear: once after a regular strand has released it, and once after the
+/// penetrator has decrypted it. Its encryption is received after the penetrator has made it. All three receptions meet the
+/// premises of the test.
 pub fn opened_text_example()
     ensures bundle { IsBundle protocol opened }
     ensures opener_received { event_at opened.strands heard_from_opener ≡ Some (recv secret) }

@@ -8,9 +8,9 @@ ghost use Rattle.cp_model.specs.Realisation.{OriginatesAtTerm};
 ghost use Rattle.cp_completeness.specs.Normal.{AreBranches, IsOriginPair, skeleton_under};
 ghost use Rattle.cp_completeness.specs.Example.{protocol, unique_text, two_say_it, repeated, heard_and_said, standing, merging, from_speaker};
 
-/// A speaker says a text that originates uniquely, and a repeater says it too, of whom the skeleton doesn't know that he
-/// heard it: the skeleton stands apart in a bundle; the text originates elsewhere than at its recorded origin, so there
-/// is one branch, in which the repeater heard it; and in that branch the speaker comes before the repeater.
+/// A speaker says a text that originates uniquely. A repeater says it too, and the skeleton does not say that the repeater heard
+/// it. The skeleton stands apart in a bundle. The text originates elsewhere than at its recorded origin, so there is one branch,
+/// in which the repeater heard it; in that branch the speaker comes before the repeater.
 pub fn repeated_text_example()
     ensures skeleton { IsSkeleton protocol two_say_it }
     ensures bundle { IsBundle protocol heard_and_said }

@@ -1,4 +1,5 @@
-//! Laws by which no execution is missed: normalising a skeleton loses none of the bundles in which it stands apart.
+//! Laws by which no execution is missed: normalising a skeleton loses none of the bundles in which it stands apart. And the
+//! authentication test on ground messages.
 #![tactic(auto)]
 
 mod authentication;

@@ -1,4 +1,4 @@
-//! The steps of normalising: each loses no standing, and so do all of them one after another.
+//! The steps of normalising. Each loses no standing, and so does every sequence of them.
 ghost use Rattle.std.specs.Prelude.{◌≡◌, ◌≢◌, ℕ, ◌<◌, List, [], ◌∷◌};
 ghost use Rattle.cp_lists.specs.Lists.{IsIn};
 ghost use Rattle.cp_model.specs.Term.{AtomTerm, Substitution};
@@ -14,9 +14,9 @@ ghost use Rattle.cp_model.specs.Realisation.{OriginatesAtTerm};
 ghost use Rattle.cp_model.specs.Stated.{KeepsStated};
 ghost use Rattle.cp_completeness.specs.Normal.{IsCarriedAt, with_pairs, AddOnlyOriginPairs, skeleton_under, LosesNoStanding, AreBranches, SaysNoMore};
 
-/// No result at all loses no standing: where some node carries a non-originating value; where a unique value has two
-/// recorded origins, or is carried on its recorded origin's strand before it, or does not originate there; and where pairs
-/// from recorded origins to receptions close a cycle.
+/// The empty list loses no standing of a skeleton if: some node carries a non-originating value; a unique value has two recorded
+/// origins, is carried before its recorded origin on the same strand, or does not originate there; or pairs from recorded origins
+/// to receptions close a cycle.
 pub fn no_results_where_it_stands_nowhere()
     ensures carried { (protocol : Protocol) (k : Skeleton) (v : AtomTerm) (n : Node) → IsIn v k.assumptions.non_originating → IsCarriedAt k v n → LosesNoStanding protocol k [] }
     ensures two_origins { (protocol : Protocol) (k : Skeleton) (u w : UniqueAt) → IsSkeleton protocol k → IsIn u k.assumptions.uniquely_originating → IsIn w k.assumptions.uniquely_originating → u.value ≡ w.value → u.origin ≢ w.origin → LosesNoStanding protocol k [] }
@@ -25,13 +25,13 @@ pub fn no_results_where_it_stands_nowhere()
     ensures cycle { (protocol : Protocol) (k : Skeleton) (pairs : List OrderPair) (n : Node) → IsSkeleton protocol k → AddOnlyOriginPairs k pairs → Before (with_pairs k pairs) n n → LosesNoStanding protocol k [] }
 {}
 
-/// Where a unique value originates at a node that is not its recorded origin, the branches for the atoms that earlier
-/// receptions of the node's strand carry lose no standing.
+/// If a unique value originates at a node other than its recorded origin, the branches for the atoms that earlier receptions of
+/// the node's strand carry lose no standing.
 pub fn branches_lose_no_standing()
     ensures { (protocol : Protocol) (k : Skeleton) (u : UniqueAt) (x : Node) (branches : List Skeleton) → IsSkeleton protocol k → IsIn u k.assumptions.uniquely_originating → OriginatesAtTerm k u.value x → x ≢ u.origin → AreBranches k u.value x branches → LosesNoStanding protocol k branches }
 {}
 
-/// A skeleton with pairs from recorded origins to receptions that carry their values loses no standing.
+/// Adding pairs from recorded origins to receptions that carry their values loses no standing.
 pub fn origin_pairs_lose_no_standing()
     ensures { (protocol : Protocol) (k : Skeleton) (pairs : List OrderPair) → IsSkeleton protocol k → AddOnlyOriginPairs k pairs → LosesNoStanding protocol k (with_pairs k pairs ∷ []) }
 {}
@@ -41,9 +41,9 @@ pub fn weaker_loses_no_standing()
     ensures { (protocol : Protocol) (l k : Skeleton) → SaysNoMore l k → LosesNoStanding protocol k (l ∷ []) }
 {}
 
-/// A skeleton alone loses none of its own standings, nor does a list that holds all of one that loses none, nor one to
-/// which each skeleton of such a list leads. Where a standing of a problem factors through one of the skeleton, the list
-/// covers it.
+/// A list loses no standing of a skeleton if it is the skeleton alone, if it contains all of a list that loses none, or if it
+/// loses none of each skeleton of such a list. If a list loses none, it covers each standing of a problem that factors through a
+/// standing of the skeleton.
 pub fn steps_compose()
     ensures itself { (protocol : Protocol) (k : Skeleton) → LosesNoStanding protocol k (k ∷ []) }
     ensures more { (protocol : Protocol) (k : Skeleton) (ks ls : List Skeleton) → ((l : Skeleton) → IsIn l ks → IsIn l ls) → LosesNoStanding protocol k ks → LosesNoStanding protocol k ls }
@@ -51,20 +51,20 @@ pub fn steps_compose()
     ensures covers { (protocol : Protocol) (problem k : Skeleton) (ks : List Skeleton) (b : Bundle) (f h : Standing) → LosesNoStanding protocol k ks → IsBundle protocol b → StandsIn k b h → StandsApart k h → FactorsThrough problem f k h → Covers ks problem b f }
 {}
 
-/// A skeleton over a protocol stays one under a substitution, and with pairs from recorded origins to receptions of other
-/// strands, where they close no cycle.
+/// A skeleton over a protocol stays one under a substitution, and when pairs from recorded origins to receptions of other strands
+/// are added that close no cycle.
 pub fn skeletons_stay_skeletons()
     ensures substitution { (protocol : Protocol) (s : Substitution) (k : Skeleton) → IsSkeleton protocol k → IsSkeleton protocol (skeleton_under s k) }
     ensures pairs { (protocol : Protocol) (k : Skeleton) (pairs : List OrderPair) → IsSkeleton protocol k → AddOnlyOriginPairs k pairs → ((p : OrderPair) → IsIn p pairs → p.earlier.strand ≢ p.later.strand) → ((n : Node) → Before (with_pairs k pairs) n n → ⊥) → IsSkeleton protocol (with_pairs k pairs) }
 {}
 
-/// A skeleton that carries a homomorphism from its problem carries one under a substitution, and with more pairs.
+/// A skeleton that carries a homomorphism from its problem still does under a substitution, and with more pairs.
 pub fn homomorphisms_stay()
     ensures substitution { (variables : List Declaration) (problem k : Skeleton) (s : Substitution) → MapsToItself variables problem → CarriesHomomorphism problem k → CarriesHomomorphism problem (skeleton_under s k) }
     ensures pairs { (problem k : Skeleton) (pairs : List OrderPair) → ((p : OrderPair) → IsIn p k.pairs → IsIn p pairs) → CarriesHomomorphism problem k → CarriesHomomorphism problem (with_pairs k pairs) }
 {}
 
-/// A skeleton that keeps what its problem states keeps it under a substitution, and with more pairs.
+/// A skeleton that keeps what its problem states still does under a substitution, and with more pairs.
 pub fn what_is_stated_stays()
     ensures substitution { (variables : List Declaration) (problem k : Skeleton) (s : Substitution) → StatesItself variables problem → CarriesHomomorphism problem k → KeepsStated problem k → KeepsStated problem (skeleton_under s k) }
     ensures pairs { (problem k : Skeleton) (pairs : List OrderPair) → ((p : OrderPair) → IsIn p k.pairs → IsIn p pairs) → KeepsStated problem k → KeepsStated problem (with_pairs k pairs) }

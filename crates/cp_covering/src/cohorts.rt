@@ -1,4 +1,4 @@
-//! The cohort of a test covers it.
+//! Laws: the cohort of a test covers it.
 ghost use Rattle.std.specs.Prelude.{◌≡◌, List, [], map};
 ghost use Rattle.cp_lists.specs.Lists.{IsIn};
 ghost use Rattle.cp_model.specs.Strand.{Role, Protocol};
@@ -17,9 +17,9 @@ ghost use Rattle.cp_covering.specs.Sound.{IsSoundChild};
 ghost use Rattle.cp_covering.specs.Released.{IsAsSaid};
 ghost use Rattle.cp_covering.specs.Through.{GoesThroughChild};
 
-/// The children of a test, under patterns that guard it, cover it; so they leave out no standing of the skeleton: wherever it
-/// stands apart, some child does, and its standing goes through the child's by a homomorphism. And where there are none it
-/// stands apart in no bundle.
+/// The children of a test, under patterns that guard it, cover it. So they leave out no standing: whenever the skeleton stands
+/// apart, some child does, and the skeleton's standing factors through the child's by a homomorphism. Without children the
+/// skeleton stands apart in no bundle.
 pub fn cohorts_cover()
     ensures covering { (protocol : Protocol) (q : Question) (children : List Child) → IsSkeleton protocol q.skeleton → ((role : Role) → IsIn role protocol.roles → DeclaresItsVariables role) → HasDeclaredVariables q.variables q.skeleton
         → IsTest q.skeleton q.node q.critical → Guards q.patterns q.skeleton q.node q.critical → IsCohort protocol q children → IsCovering protocol q.skeleton q.node q.critical q.patterns (map (λ (c : Child). c.skeleton) children) }
@@ -31,17 +31,17 @@ pub fn cohorts_cover()
         → IsTest q.skeleton q.node q.critical → Guards q.patterns q.skeleton q.node q.critical → IsCohort protocol q [] → (b : Bundle) (h : Standing) → IsBundle protocol b → StandsIn q.skeleton b h → StandsApart q.skeleton h → ⊥ }
 {}
 
-/// Each child of a test is a skeleton over the protocol, whose variables are declared, those of the test's skeleton being the
-/// first; it carries a homomorphism from a problem, and keeps what the problem states, where that skeleton does.
+/// Each child of a test is a skeleton over the protocol with declared variables, those of the test's skeleton first. It carries a
+/// homomorphism from a problem, and keeps what the problem states, if the test's skeleton does.
 pub fn children_are_sound()
     ensures { (protocol : Protocol) (q : Question) (children : List Child) → IsSkeleton protocol q.skeleton → ((role : Role) → IsIn role protocol.roles → DeclaresItsVariables role) → HasDeclaredVariables q.variables q.skeleton
         → IsTest q.skeleton q.node q.critical → Guards q.patterns q.skeleton q.node q.critical → IsCohort protocol q children → (c : Child) → IsIn c children → IsSoundChild protocol q c }
 {}
 
-/// Each child of a test comes from the test's skeleton by a substitution, with the strands where they were, and is what its
-/// operation says: the node that a contraction names, before the test already, carries the critical term; one that is displaced
-/// from another strand, or with which an added strand ends, releases it before the test; and an added listener hears what may
-/// set it free.
+/// Each child of a test comes from the test's skeleton by a substitution, with the strands at their places, and its operation
+/// tells the truth. The node of a contraction, which is before the test already, carries the critical term. A displaced node, on
+/// another strand, releases the critical term before the test, and so does the last node of an added strand. An added listener
+/// hears a term that may release it.
 pub fn operations_are_true()
     ensures { (protocol : Protocol) (q : Question) (children : List Child) → IsCohort protocol q children → (c : Child) → IsIn c children → IsAsSaid q c }
 {}

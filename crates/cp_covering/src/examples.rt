@@ -9,9 +9,9 @@ ghost use Rattle.cp_answers.specs.NoneLeftOut.{LeavesNoneOut};
 ghost use Rattle.cp_covering.specs.Cohort.{IsCohort};
 ghost use Rattle.cp_covering.specs.Example.{asked, one_child};
 
-/// An encryption is heard, under a key that does not originate; one role sends such encryptions, and declares its variables.
-/// The one child of the test is that a strand of the role has sent it before: what stands inside the encryption never equals
-/// it, and a listener on the key would hear what does not originate. So the child leaves out no standing.
+/// An encryption is heard, under a non-originating key. One role sends such encryptions and declares its variables. The test has
+/// one child: a strand of the role has sent the encryption before. The term inside the encryption never equals it, and a listener
+/// on the key would hear a non-originating value. So this child leaves out no standing.
 pub fn heard_encryption_has_one_child()
     ensures declares { (role : Role) → IsIn role protocol.roles → DeclaresItsVariables role }
     ensures declared { HasDeclaredVariables asked.variables heard }

@@ -1,5 +1,6 @@
-//! The children of a test cover it, so that they leave out no execution. And what makes them up: what was sent before a node, and
-//! terms that are listed once.
+//! The children of a test cover it: they leave out no standing. The crate also has two calls that cohorts and escape sets share:
+//! one tells what was sent before a node, the other lists terms once. Every call that returns `AllocError` fails only when memory
+//! runs out.
 #![tactic(auto)]
 
 mod cohorts;

@@ -1,4 +1,4 @@
-// Lists of terms that stand in them once.
+// Lists that hold each term once.
 ghost use Rattle.std.specs.Prelude.{◌≡◌, ◌∷◌, [], OnOk};
 ghost use Rattle.cp_covering.specs.GatheredLists.{has_term, terms_onto};
 
@@ -17,7 +17,7 @@ fn has_term(terms: &[Term], term: &Term) -> bool
     false
 }
 
-/// Puts a term behind others, unless it is one of them. The error is that memory ran out.
+/// Appends a term unless it is listed already.
 pub fn add_term(term: Term, terms: &mut Vec<Term>) -> Result<(), AllocError>
     ensures { OnOk result (terms.new.items ≡ terms_onto terms.old.items (term ∷ [])) }
 {

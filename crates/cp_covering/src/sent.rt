@@ -1,4 +1,4 @@
-// What role strands send before a node.
+// Transmissions of role strands before a node.
 ghost use Rattle.std.specs.Prelude.{◌≡◌, ◌↔◌, IsTrue};
 ghost use Rattle.cp_model.specs.Skeleton.{IsNodeOf};
 ghost use Rattle.cp_skel.specs.Events.{occurrence_view};
@@ -7,8 +7,8 @@ ghost use Rattle.cp_covering.specs.Children.{IsSentBefore};
 
 use cp_skel::{Event, Leading, Node, Occurrence, Skeleton, comes_before};
 
-/// Whether an event is a transmission of a role strand before the node, by the nodes that lead to this along the skeleton's
-/// pairs, which were gathered. The node has to be there.
+/// Whether an event is a transmission of a role strand before the node. `leading` must hold the nodes that lead to the node along
+/// the skeleton's pairs, and the node must exist.
 pub fn is_sent_before(
     k: &Skeleton,
     leading: &Leading<'_>,

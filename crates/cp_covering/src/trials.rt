@@ -1,4 +1,4 @@
-//! What is tried until both conditions hold.
+//! Laws of settling a release.
 ghost use Rattle.std.specs.Prelude.{List};
 ghost use Rattle.cp_lists.specs.Lists.{IsIn};
 ghost use Rattle.cp_model.specs.Term.{Variable};
@@ -9,9 +9,9 @@ ghost use Rattle.cp_settle.specs.Releases.{Release, Tried};
 ghost use Rattle.cp_settle.specs.Stages.{Stage, Settles};
 ghost use Rattle.cp_covering.specs.Way.{AreUsedVariables, trial_of, IsOnTheWay, DeclaresMore};
 
-/// Where a skeleton that came from the first one by a substitution is tried until both conditions on a release hold, it is
-/// tried with any list that has all that it leads to; and what it leads to came from the first one so too, with the variables
-/// that there were.
+/// Let a skeleton that comes from the first one by a substitution be settled until both conditions on a release hold. Then it is
+/// tried (`Tries`) with every list that contains all the results. Each result comes from the first skeleton in the same way and
+/// keeps the declared variables.
 pub fn settling_is_trying()
     ensures tries { (protocol : Protocol) (first : Skeleton) (r : Release) (ks : List Skeleton) (stage : Stage) (x : Tried) (ys : List Tried) → AreUsedVariables first r → IsOnTheWay protocol first r x → Settles r stage x ys
         → ((y : Tried) → IsIn y ys → IsIn y.skeleton ks) → Tries (trial_of protocol first r) ks x.substitution x.skeleton }

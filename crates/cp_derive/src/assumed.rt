@@ -7,7 +7,7 @@ use cp_skel::{Assumptions, Atom, UniqueAt};
 use cp_term::Term;
 use std::alloc::{AllocError, Global};
 
-/// Puts atoms behind terms.
+/// Appends atoms as terms.
 fn add_atoms(atoms: &[Atom], terms: &mut Vec<Term>) -> Result<(), AllocError>
     ensures { OnOk result (terms.new.items ≡ terms.old.items ++ map atom_term atoms.now) }
 {
@@ -18,7 +18,7 @@ fn add_atoms(atoms: &[Atom], terms: &mut Vec<Term>) -> Result<(), AllocError>
     Ok(())
 }
 
-/// Puts unique values behind terms.
+/// Appends unique values as terms.
 fn add_uniques(uniques: &[UniqueAt], terms: &mut Vec<Term>) -> Result<(), AllocError>
     ensures { OnOk result (terms.new.items ≡ terms.old.items ++ map (λ u. atom_term u.value) uniques.now) }
 {
@@ -29,7 +29,7 @@ fn add_uniques(uniques: &[UniqueAt], terms: &mut Vec<Term>) -> Result<(), AllocE
     Ok(())
 }
 
-/// The values of the assumptions: what the penetrator cannot make.
+/// The values of the assumptions: the atoms that the penetrator cannot make.
 pub(crate) fn assumed_values(
     alloc: Global,
     assumptions: &Assumptions,

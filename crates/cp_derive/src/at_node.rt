@@ -1,4 +1,4 @@
-// What can be derived at a node of a skeleton.
+// What is derivable at a node of a skeleton.
 ghost use Rattle.std.specs.Prelude.{◌≡◌, ◌↔◌, Some, map, option_map, IsNone, IfSome, IfOk};
 ghost use Rattle.cp_model.specs.Derivable.{DerivableAt};
 ghost use Rattle.cp_model.specs.Skeleton.{IsNodeOf, term_event_at};
@@ -21,7 +21,7 @@ use cp_skel::{Node, Skeleton, SortedPairs};
 use cp_term::Term;
 use std::alloc::{AllocError, Global};
 
-/// What role strands of the skeleton send.
+/// The transmissions of the skeleton's role strands.
 fn transmissions_of(alloc: Global, k: &Skeleton) -> Result<Vec<Transmission>, AllocError>
     ensures { IfOk result (λ ts. map transmission_view ts.items ≡ transmissions_of (skeleton_view k.now)) }
 {
@@ -29,8 +29,8 @@ fn transmissions_of(alloc: Global, k: &Skeleton) -> Result<Vec<Transmission>, Al
     transmissions(alloc, &occurrences)
 }
 
-/// What can be derived at a node: from all that role strands send strictly before it, all tags, and all atoms that no
-/// assumption names. The node has to be there. The error is that memory ran out.
+/// What is derivable at a node: from everything that role strands send strictly before it, all tags, and all atoms that no
+/// assumption names. The node must exist.
 pub fn known(alloc: Global, k: &Skeleton, node: Node) -> Result<Known, AllocError>
     requires there { IsNodeOf (skeleton_view k.now).strands node }
     ensures given { IfOk result (λ known. (t : Plain) → IsDerivable known t ↔ DerivableAt (skeleton_view k.now) node t) }
@@ -44,7 +44,7 @@ pub fn known(alloc: Global, k: &Skeleton, node: Node) -> Result<Known, AllocErro
     Known::new(alloc, sent, secrets)
 }
 
-/// The message of the event at a node, if there is one. The error is that memory ran out.
+/// The message of the event at a node, if there is one.
 pub fn message_at(alloc: Global, k: &Skeleton, node: Node) -> Result<Option<Term>, AllocError>
     ensures { IfOk result (λ m. m ≡ option_map payload (term_event_at (skeleton_view k.now).strands node)) }
 {
@@ -60,9 +60,8 @@ pub fn message_at(alloc: Global, k: &Skeleton, node: Node) -> Result<Option<Term
     }
 }
 
-/// The first component, from left to right, of the message at a node that cannot be derived there: the critical one,
-/// with its path. There is none exactly where the message can be derived. The node has to be there. The
-/// error is that memory ran out.
+/// The critical term at a node: the first component, from left to right, of the node's message that is not derivable there, with
+/// its path. `None` exactly if the message is derivable. The node must exist.
 pub fn critical(alloc: Global, k: &Skeleton, node: Node) -> Result<Option<Critical>, AllocError>
     requires there { IsNodeOf (skeleton_view k.now).strands node }
     ensures none { IfOk result (λ found. (e : PlainEvent Plain) → term_event_at (skeleton_view k.now).strands node ≡ Some e → IsNone found ↔ DerivableAt (skeleton_view k.now) node (payload e)) }

@@ -1,4 +1,4 @@
-// What was sent before a node.
+// The transmissions before a node.
 ghost use Rattle.std.specs.Prelude.{◌≡◌, map, option_map, IfOk};
 ghost use Rattle.cp_lists.specs.Lists.{item_at};
 ghost use Rattle.cp_derive.specs.Transmissions.{transmission_view};
@@ -9,7 +9,7 @@ use cp_skel::{Node, SortedPairs};
 use cp_term::Term;
 use std::alloc::{AllocError, Global};
 
-/// The places of the transmissions that lead to another node, this one.
+/// The places, in the list of transmissions, of those at other nodes that lead to this one.
 pub(crate) fn places_before(
     alloc: Global,
     sorted: &SortedPairs<'_>,

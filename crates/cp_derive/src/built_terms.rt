@@ -1,4 +1,4 @@
-// What can be built from terms that are held.
+// What can be built from held terms.
 ghost use Rattle.std.specs.Prelude.{◌↔◌, IsTrue};
 ghost use Rattle.cp_lists.specs.Lists.{IsIn};
 ghost use Rattle.cp_derive.specs.Buildable.{Builds, IsAtHand};
@@ -18,14 +18,14 @@ pub(crate) fn is_among(terms: &[Term], term: &Term) -> bool
     false
 }
 
-/// Whether the term is held or not secret.
+/// Whether the term is held or is not secret.
 pub(crate) fn is_at_hand(secrets: &[Term], held: &[Term], term: &Term) -> bool
     ensures { IsTrue result ↔ IsAtHand secrets.now held.now term.now }
 {
     !is_among(secrets, term) || is_among(held, term)
 }
 
-/// Whether the term can be built from what is held.
+/// Whether the term can be built from the held terms.
 pub(crate) fn builds(secrets: &[Term], held: &[Term], term: &Term) -> bool
     ensures { IsTrue result ↔ Builds secrets.now held.now term.now }
 {

@@ -1,7 +1,7 @@
 // Components of messages.
 use cp_term::{Path, Term};
 
-/// A component of a message that cannot be derived: the path to it, and itself.
+/// A component of a message that is not derivable, and the path to it.
 #[derive(Drop)]
 pub struct Critical {
     pub path: Path,

@@ -1,19 +1,19 @@
-// Terms by their form.
+// The outermost form of a term.
 ghost use Rattle.cp_derive.specs.Forms.{IsFormOf};
 
 use cp_term::{Shape, Term};
 
-/// The form of a term, where all atoms are of one.
+/// The outermost form of a term; all atoms have the same form.
 #[derive(Clone, Copy)]
 pub(crate) enum Form<'a> {
     Tag,
     Atom,
     Pair(&'a Term, &'a Term),
-    /// The encryption of a term under a key.
+    /// The encryption of the first term under the second, its key.
     Encryption(&'a Term, &'a Term),
 }
 
-/// The form of a term.
+/// The outermost form of a term.
 pub(crate) fn form_of(term: &Term) -> Form<'_>
     ensures { IsFormOf result term.now }
 {

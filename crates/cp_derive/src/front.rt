@@ -17,15 +17,15 @@ use crate::transmission::Transmission;
 use cp_skel::{Node, Skeleton, SortedPairs};
 use std::alloc::{AllocError, Global};
 
-/// The places of the transmissions that came before the last node, and what is known from them.
+/// The places of the transmissions before the last node, and what is known from them.
 #[derive(Drop)]
 pub(crate) struct Front {
     pub(crate) places: Vec<usize>,
     pub(crate) known: Known,
 }
 
-/// Goes over to these places, in some order: what was opened is kept, where all the last ones are among them. On one
-/// strand they mostly begin these, which is found without marks.
+/// Moves on to these places; the result may list them in another order. If they contain all the last places, what was opened is
+/// kept. On one strand the last places are mostly a prefix of these, which is tested first.
 fn moved(
     alloc: Global,
     transmissions: &[Transmission],
@@ -63,8 +63,8 @@ fn moved(
     }
 }
 
-/// Goes on to a node, by the sorted pairs and the transmissions of the skeleton. The skeleton is only there for what is
-/// promised.
+/// Moves on to a node, using the sorted pairs and the transmissions of the skeleton. The skeleton itself serves only the
+/// contract.
 pub(crate) fn front_at(
     alloc: Global,
     k: &Skeleton,

@@ -1,4 +1,4 @@
-// What the penetrator knows, and what he can derive from it.
+// What the penetrator knows and can derive.
 ghost use Rattle.std.specs.Prelude.{◌≡◌, ◌↔◌, ◌++◌, IsTrue, IfOk, OnOk};
 ghost use Rattle.cp_derive.specs.Given.{IsDerivable};
 
@@ -8,16 +8,15 @@ use cp_term::Term;
 use std::alloc::{AllocError, Global};
 use std::marker::Model;
 
-/// What the penetrator knows where these terms were sent and he cannot make the secret atoms. Contracts see both
-/// lists.
+/// The penetrator's knowledge: the terms that were sent, and the secret atoms, which he cannot make. Contracts see both lists.
 pub struct Known {
     sent: Vec<Term>,
     secrets: Vec<Term>,
-    /// What was sent, opened.
+    /// The sent terms after opening.
     opening: Opening,
 }
 
-// Where one is held it is dropped by one call, so that less is to be proved of who holds it.
+// A holder drops it by one call, which leaves less to prove of the holder.
 impl Drop for Known {
     fn drop(self) {
         let Known {
@@ -41,7 +40,7 @@ impl Model for Known {
     ghost invariant = { λ k. IsOpened k.sent.items k.secrets.items k.opening };
 }
 
-/// Puts terms behind others.
+/// Appends copies of the terms.
 fn add_terms(more: &[Term], terms: &mut Vec<Term>) -> Result<(), AllocError>
     ensures { OnOk result (terms.new.items ≡ terms.old.items ++ more.now) }
 {
@@ -53,8 +52,7 @@ fn add_terms(more: &[Term], terms: &mut Vec<Term>) -> Result<(), AllocError>
 }
 
 impl Known {
-    /// What is known where these terms were sent and these atoms are secret. Secrets that are no atoms count for
-    /// nothing.
+    /// The knowledge from these sent terms, when these atoms are secret. Secrets that are not atoms have no effect.
     pub fn new(alloc: Global, sent: Vec<Term>, secrets: Vec<Term>) -> Result<Known, AllocError>
         ensures { IfOk result (λ k. k ≡ record { sent = sent.items; secrets = secrets.items }) }
     {
@@ -67,7 +65,7 @@ impl Known {
         })
     }
 
-    /// What is known where these terms were sent too.
+    /// The knowledge when these terms were sent too.
     pub(crate) fn extended(self, alloc: Global, more: Vec<Term>) -> Result<Known, AllocError>
         ensures { IfOk result (λ k. k ≡ record { sent = self.sent ++ more.items; secrets = self.secrets }) }
     {
@@ -85,7 +83,7 @@ impl Known {
         })
     }
 
-    /// What is known where these terms alone were sent, and the same atoms are secret.
+    /// The knowledge when only these terms were sent and the same atoms are secret.
     pub(crate) fn restarted(self, alloc: Global, sent: Vec<Term>) -> Result<Known, AllocError>
         ensures { IfOk result (λ k. k ≡ record { sent = sent.items; secrets = self.secrets }) }
     {
@@ -98,7 +96,7 @@ impl Known {
     }
 }
 
-/// Whether the term can be derived from what was sent.
+/// Whether the term is derivable.
 pub fn buildable(known: &Known, t: &Term) -> bool
     ensures exact { IsTrue result ↔ IsDerivable known.now t.now }
 {

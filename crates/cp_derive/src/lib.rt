@@ -1,4 +1,5 @@
-//! What the penetrator can derive, decided.
+//! Decides what the penetrator can derive (S. Doghmi, J. Guttman, F. Thayer, Searching for Shapes in Cryptographic Protocols,
+//! TACAS 2007, section 4). Every call that returns `AllocError` fails only when memory runs out.
 #![tactic(auto)]
 
 mod assumed;

@@ -1,10 +1,10 @@
-// Which of some places are among others.
+// Compares lists of places by marking them.
 ghost use Rattle.std.specs.Prelude.{◌≡◌, ◌++◌, [], false, get_or, replicate, IfOk, IfSome};
 ghost use Rattle.cp_derive.specs.Places.{AreSamePlaces, marked, are_marked, unmarked_behind};
 
 use std::alloc::{AllocError, Global};
 
-/// For each place below the count whether it is among these.
+/// For each place below `count`, whether it is in the list.
 fn marks_at(alloc: Global, count: usize, places: &[usize]) -> Result<Vec<bool>, AllocError>
     ensures { IfOk result (λ marks. marks.items ≡ marked places.now (replicate count false)) }
 {
@@ -18,14 +18,14 @@ fn marks_at(alloc: Global, count: usize, places: &[usize]) -> Result<Vec<bool>, 
     Ok(marks)
 }
 
-/// Whether there is a mark at this place.
+/// Whether this place is marked.
 fn is_marked(marks: &[bool], place: usize) -> bool
     ensures { result ≡ get_or marks.now place false }
 {
     place < marks.len() && marks[place]
 }
 
-/// Whether there are marks at all these places.
+/// Whether all these places are marked.
 fn are_marked(marks: &[bool], places: &[usize]) -> bool
     ensures { result ≡ are_marked marks.now places.now }
 {
@@ -37,7 +37,7 @@ fn are_marked(marks: &[bool], places: &[usize]) -> bool
     true
 }
 
-/// Those of these places where there is no mark.
+/// Those of these places that are not marked.
 fn unmarked(alloc: Global, marks: &[bool], places: &[usize]) -> Result<Vec<usize>, AllocError>
     ensures { IfOk result (λ more. more.items ≡ unmarked_behind [] marks.now places.now) }
 {
@@ -51,8 +51,7 @@ fn unmarked(alloc: Global, marks: &[bool], places: &[usize]) -> Result<Vec<usize
     Ok(more)
 }
 
-/// Those of these places, all below the count, that are not among the last ones, where all the last ones are among
-/// these.
+/// If these places contain all the last ones: those of them that are not among the last. `count` is greater than every place.
 pub(crate) fn places_behind(
     alloc: Global,
     count: usize,

@@ -1,4 +1,4 @@
-// Opening what was sent, until nothing more opens.
+// Opens what was sent, until nothing more opens.
 ghost use Rattle.std.specs.Prelude.{◌≡◌, ◌<◌, true, false, List, [], ◌++◌, slice_index_or, vec_len, IfOk, OnOk};
 ghost use Rattle.cp_model.specs.Term.{AtomTerm, KeyTerm, Term as Plain, atom_term, enc_term};
 ghost use Rattle.cp_term.specs.Keys.{key_as_term};
@@ -11,21 +11,21 @@ use crate::form::{Form, form_of};
 use cp_term::{Term, invert};
 use std::alloc::{AllocError, Global};
 
-/// The plaintext of an encryption that is held, and the inverse of its key, which would open it.
+/// A held encryption that is not open yet: its plaintext, and the inverse of its key, which would open it.
 #[derive(Drop)]
 pub(crate) struct Locked {
     body: Term,
     inverse: Term,
 }
 
-/// The secret atoms and the encryptions that are held, and the plaintexts of those that are not open yet.
+/// The secret atoms and the encryptions that are held, and those of the encryptions that are not open yet.
 #[derive(Drop)]
 pub(crate) struct Opening {
     held: Vec<Term>,
     locked: Vec<Locked>,
 }
 
-/// Holds an atom, where it is not at hand.
+/// Holds an atom, unless it is at hand already.
 fn hold(secrets: &[Term], atom: &Term, opening: &mut Opening) -> Result<(), AllocError>
     requires { (a : AtomTerm) × (atom.now ≡ atom_term a) }
     ensures { OnOk result (Takes secrets.now atom.now opening.old opening.new) }
@@ -37,7 +37,7 @@ fn hold(secrets: &[Term], atom: &Term, opening: &mut Opening) -> Result<(), Allo
     Ok(())
 }
 
-/// Holds an encryption with this plaintext and this key, and locks it, where it is not held.
+/// Holds an encryption with this plaintext and key, and locks it, unless it is held already.
 fn lock(
     alloc: Global,
     encryption: &Term,
@@ -58,7 +58,7 @@ fn lock(
     Ok(())
 }
 
-/// Takes a term apart, down to what can be made, is held, or is locked.
+/// Takes a term apart, down to terms that can be made, are held, or are locked.
 fn take_apart(
     alloc: Global,
     secrets: &[Term],
@@ -87,7 +87,7 @@ fn take_apart(
     }
 }
 
-/// Opens what is locked at this place.
+/// Opens the encryption that is locked at this place.
 fn unlock_at(
     alloc: Global,
     secrets: &[Term],
@@ -104,7 +104,7 @@ fn unlock_at(
     Ok(())
 }
 
-/// Goes once through what is locked and opens it where its key can be built. Says whether anything was opened.
+/// Goes once through the locked encryptions and opens those whose keys can be built. Returns whether any was opened.
 fn unlock(alloc: Global, secrets: &[Term], opening: &mut Opening) -> Result<bool, AllocError>
     ensures advances { OnOk result (Advances secrets.now opening.old opening.new) }
     ensures falls { IfOk result (λ some. some ≡ true → weight opening.new < weight opening.old) }
@@ -124,7 +124,7 @@ fn unlock(alloc: Global, secrets: &[Term], opening: &mut Opening) -> Result<bool
     Ok(some)
 }
 
-/// Opens more that was sent, until nothing more opens.
+/// Adds more sent terms, and opens until nothing more opens.
 pub(crate) fn open_more(
     alloc: Global,
     secrets: &[Term],
@@ -141,7 +141,7 @@ pub(crate) fn open_more(
 }
 
 impl Opening {
-    /// What is held where nothing was sent.
+    /// What is held when nothing was sent.
     #[tactic(auto, using(crate::proofs::OpenedPieces::nothing_opened))]
     pub(crate) fn new(alloc: Global) -> Opening
         ensures { (secrets : List Plain) → IsOpened [] secrets result }
@@ -152,7 +152,7 @@ impl Opening {
         }
     }
 
-    /// The terms from which all that can be derived can be built.
+    /// The held terms, from which everything derivable can be built.
     pub(crate) fn held(&self) -> &[Term]
         ensures { result.now ≡ self.now.held.items }
     {

@@ -1,4 +1,4 @@
-// The receptions whose messages cannot be derived.
+// Receptions whose messages are not derivable.
 ghost use Rattle.std.specs.Prelude.{◌≡◌, ◌<◌, map, length, IfOk};
 ghost use Rattle.cp_skel.specs.Ordered.{IsOrdered};
 ghost use Rattle.cp_skel.specs.View.{skeleton_view};
@@ -15,8 +15,7 @@ use crate::transmission::{Transmission, transmissions};
 use cp_skel::{Event, Node, Occurrence, OrderPair, Skeleton, SortedPairs};
 use std::alloc::{AllocError, Global};
 
-/// The nodes of those among these events of the skeleton that are receptions whose message cannot be derived there, in
-/// their order, and the front behind them.
+/// The receptions among these events whose messages are not derivable there, in order, and the front after the events.
 fn unrealised_among(
     alloc: Global,
     k: &Skeleton,
@@ -47,7 +46,7 @@ fn unrealised_among(
     Ok((nodes, front))
 }
 
-/// Where the last of these events that stand on one strand begin.
+/// Where the events on the last strand begin.
 fn start_of_last(occurrences: &[Occurrence]) -> usize
     requires { 0 < length occurrences.now }
     ensures { result < length occurrences.now }
@@ -59,7 +58,7 @@ fn start_of_last(occurrences: &[Occurrence]) -> usize
     start
 }
 
-/// Whether most pairs lead from a strand to one behind it, so that strands mostly stand in the order of time.
+/// Whether most pairs lead from a strand to a later one, so that strands are mostly in temporal order.
 fn come_in_order(pairs: &[OrderPair]) -> bool {
     let behind = pairs
         .iter()
@@ -68,8 +67,8 @@ fn come_in_order(pairs: &[OrderPair]) -> bool {
     behind > pairs.len() / 2
 }
 
-/// Where those of these events begin that are gone through next: all of them where strands come in order, and else those on
-/// the last strand.
+/// Where the events to be visited next begin: at 0 if strands are in temporal order, otherwise where those on the last strand
+/// begin.
 fn start_of_next(occurrences: &[Occurrence], in_order: bool) -> usize
     requires { 0 < length occurrences.now }
     ensures { result < length occurrences.now }
@@ -80,9 +79,9 @@ fn start_of_next(occurrences: &[Occurrence], in_order: bool) -> usize
     start_of_last(occurrences)
 }
 
-/// The nodes of those among these events, all that there are, that are receptions whose message cannot be derived
-/// there. Strands are gone through in the order of time, so that what is known grows: from the last to the first, since a
-/// search adds behind the others what comes before them; or from the first to the last, where most pairs lead so.
+/// The receptions among all events whose messages are not derivable there. Strands are visited in temporal order, so that
+/// knowledge grows: from the last to the first, since a search appends what comes before; or from the first to the last, if most
+/// pairs lead that way.
 fn unrealised_by_strand(
     alloc: Global,
     k: &Skeleton,
@@ -113,8 +112,7 @@ fn unrealised_by_strand(
     Ok(nodes)
 }
 
-/// The receptions, those of listeners too, whose message cannot be derived there, by strand and then by index. The error
-/// is that memory ran out.
+/// The receptions, listeners' included, whose messages are not derivable there, by strand, then by index.
 pub fn unrealised(alloc: Global, k: &Skeleton) -> Result<Vec<Node>, AllocError>
     ensures listed { IfOk result (λ nodes. ListsUnrealised (skeleton_view k.now) nodes.items) }
 {

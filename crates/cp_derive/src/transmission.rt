@@ -1,4 +1,4 @@
-// What role strands send.
+// Transmissions of role strands.
 ghost use Rattle.std.specs.Prelude.{◌≡◌, map, IfOk};
 ghost use Rattle.cp_skel.specs.Events.{occurrence_view};
 ghost use Rattle.cp_derive.specs.Transmissions.{transmission_view, transmissions_among};
@@ -7,14 +7,14 @@ use cp_skel::{Event, Node, Occurrence};
 use cp_term::Term;
 use std::alloc::{AllocError, Global};
 
-/// A message that a role strand sends at a node.
+/// A transmission of a role strand: its node and message.
 #[derive(Drop)]
 pub(crate) struct Transmission {
     pub(crate) node: Node,
     pub(crate) message: Term,
 }
 
-/// What role strands send, among these events.
+/// The transmissions of role strands among these events.
 pub(crate) fn transmissions(
     alloc: Global,
     occurrences: &[Occurrence],

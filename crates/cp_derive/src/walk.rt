@@ -1,4 +1,4 @@
-// The first component of a message that cannot be derived.
+// Finds the first component of a message that is not derivable.
 ghost use Rattle.std.specs.Prelude.{◌≡◌, ◌↔◌, Some, IsNone, IfSome, IfOk};
 ghost use Rattle.cp_term.specs.Positions.{term_at};
 ghost use Rattle.cp_derive.specs.Given.{IsDerivable};
@@ -11,7 +11,7 @@ use crate::knowledge::{Known, buildable};
 use cp_term::{Path, Step, Term};
 use std::alloc::{AllocError, Global};
 
-/// Looks for the first component of the whole that cannot be derived, and goes to it.
+/// Finds the first component of the whole that is not derivable, and extends the path to it.
 fn find(known: &Known, whole: &Term, here: &mut Path) -> Result<Option<Term>, AllocError>
     ensures { IfOk result (λ found. Finds known.now whole.now here.old here.new found) }
 {
@@ -41,8 +41,8 @@ fn find(known: &Known, whole: &Term, here: &mut Path) -> Result<Option<Term>, Al
     }
 }
 
-/// The first component of the message, from left to right, that cannot be derived: the critical one. There is none
-/// exactly where the message can be derived.
+/// The critical term: the first component of the message, from left to right, that is not derivable. `None` exactly if the
+/// message is derivable.
 pub fn critical_in(alloc: Global, known: &Known, t: &Term) -> Result<Option<Critical>, AllocError>
     ensures none { IfOk result (λ found. IsNone found ↔ IsDerivable known.now t.now) }
     ensures first { IfOk result (λ found. IfSome found (λ c. IsFirstUnderivable (IsDerivable known.now) t.now c.path c.term)) }

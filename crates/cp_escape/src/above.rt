@@ -5,7 +5,7 @@ ghost use Rattle.cp_guard.specs.Above.{encryptions_above};
 use cp_term::{Shape, Step, Term};
 use std::alloc::{AllocError, Global};
 
-/// The proper enclosing encryptions of a carried position, outermost first.
+/// The encryptions that properly enclose a carried position, outermost first.
 pub(crate) fn encryptions_above<'a>(
     alloc: Global,
     message: &'a Term,

@@ -1,4 +1,4 @@
-// The encryptions that cannot be opened with what is known at a node.
+// Encryptions that cannot be opened with what is derivable at a node.
 ghost use Rattle.std.specs.Prelude.{◌≡◌, [], map, IfOk, OnOk};
 ghost use Rattle.cp_covering.specs.GatheredLists.{EachGives};
 ghost use Rattle.cp_derive.specs.Given.{IsDerivable};
@@ -25,8 +25,8 @@ fn is_closed(alloc: Global, known: &Known, term: &Term) -> Result<bool, AllocErr
     }
 }
 
-/// The outermost of the encryptions that enclose the position which cannot be opened. There is one, since the message is derivable
-/// and what stands at the position is not.
+/// The outermost encryption around the position that cannot be opened. It exists because the message is derivable but the term at
+/// the position is not.
 fn outermost_closed(
     alloc: Global,
     known: &Known,
@@ -45,7 +45,8 @@ fn outermost_closed(
     unreachable!()
 }
 
-/// Puts what the occurrences of the critical term in a message give behind others, each once.
+/// For each occurrence of the critical term in a message, appends the outermost encryption around it that cannot be opened,
+/// unless it is listed already.
 pub(crate) fn add_closed(
     alloc: Global,
     known: &Known,

@@ -21,7 +21,7 @@ use cp_skel::{Leading, Node, Skeleton};
 use cp_term::{Locals, Pattern, Term};
 use std::alloc::{AllocError, Global};
 
-/// What the occurrences of the critical term in the transmissions of role strands before the node give, each once.
+/// The outermost closed encryptions around the critical term in the transmissions of role strands before the node, each once.
 fn closed_before(
     alloc: Global,
     k: &Skeleton,
@@ -46,7 +46,7 @@ fn closed_before(
     Ok(encryptions)
 }
 
-/// The encryptions as patterns without locals.
+/// The encryptions, each as a pattern without locals.
 fn whole_patterns(alloc: Global, encryptions: &[Term]) -> Result<Vec<Pattern>, AllocError>
     requires { (e : Plain) → IsIn e encryptions.now → IsPattern (whole_pattern e) }
     ensures { IfOk result (λ ps. ps.items ≡ map whole_pattern encryptions.now) }
@@ -59,12 +59,12 @@ fn whole_patterns(alloc: Global, encryptions: &[Term]) -> Result<Vec<Pattern>, A
     Ok(patterns)
 }
 
-/// The escape set of a test: for each occurrence of the critical term in the transmissions of role strands before the node, by
-/// strand, then index, then position, the outermost of the encryptions that enclose it whose inverse key cannot be derived there;
-/// each encryption once, as a pattern without locals. It guards the test, and is empty exactly where none of these transmissions
+/// The escape set of a test. For each occurrence of the critical term in the transmissions of role strands before the node, by
+/// strand, then index, then position, it has the outermost enclosing encryption whose inverse key is not derivable at the node;
+/// each encryption once, as a pattern without locals. The set guards the test. It is empty exactly if none of these transmissions
 /// carries the critical term.
 ///
-/// The node and the term have to be a test of the skeleton, whose variables have to be declared. The error is that memory ran out.
+/// The node and the term must be a test of the skeleton, and the skeleton's variables must be declared.
 pub fn escape(
     alloc: Global,
     k: &Skeleton,

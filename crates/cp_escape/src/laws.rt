@@ -1,4 +1,4 @@
-//! Laws of the definitions: each stands as the contract of a function that does nothing.
+//! Laws of the definitions. Each is the contract of a function that does nothing.
 ghost use Rattle.std.specs.Prelude.{List, ◌∷◌, [], ◌++◌};
 ghost use Rattle.cp_model.specs.Strand.{Declaration};
 ghost use Rattle.cp_model.specs.Term.{Term};
@@ -10,7 +10,8 @@ ghost use Rattle.cp_term.specs.declared.path.Step.{Step};
 ghost use Rattle.cp_guard.specs.Guards.{Guards};
 ghost use Rattle.cp_escape.specs.WidenedPattern.{WidensBy};
 
-/// The law that patterns that guard a test guard it still with the pattern that a child, whose variables are declared, gives.
+/// If patterns guard a test, they still guard it together with the pattern that a child gives, provided that the child's
+/// variables are declared.
 pub fn widening_keeps_guards()
     ensures { (ps : List Pattern) (k l : Skeleton) (n : Node) (c : Term) (path : List Step) (p : Pattern) (variables : List Declaration) → HasDeclaredVariables variables l
         → Guards ps k n c → WidensBy k l path p → Guards (ps ++ p ∷ []) k n c }

@@ -1,4 +1,5 @@
-//! Escape sets, and their widening.
+//! Escape sets: the patterns that guard a test, and the patterns that widen them. Every call that returns `AllocError` fails only
+//! when memory runs out.
 #![tactic(auto)]
 
 mod above;

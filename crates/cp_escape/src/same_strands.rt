@@ -1,4 +1,4 @@
-// Strands that say the same in two skeletons.
+// Compares strands of two skeletons.
 ghost use Rattle.std.specs.Prelude.{◌≡◌, ◌↔◌, map, IsTrue, IfOk};
 ghost use Rattle.cp_collapse.specs.SameSkeletons.{IsSameStrand, AreSameStrands};
 ghost use Rattle.cp_model.specs.Homomorphism.{substitution_by};
@@ -11,7 +11,7 @@ use cp_skel::{Event, Instance, Strand, StrandShape, applied, is_same_role, prefi
 use cp_term::Term;
 use std::alloc::{AllocError, Global};
 
-/// Whether the message of a role's event is the same under these values and under those.
+/// Whether the message of a role's event is the same under the values `a` and `b`.
 fn is_same_message(
     alloc: Global,
     message: &Term,
@@ -25,7 +25,7 @@ fn is_same_message(
     Ok(first.same(&second))
 }
 
-/// Whether these values and those agree on the variables of a role's events.
+/// Whether the values `a` and `b` agree on the variables of a role's events.
 fn agree_on(alloc: Global, events: &[Event], a: &[Term], b: &[Term]) -> Result<bool, AllocError>
     ensures { IfOk result (λ answer. IsTrue answer ↔ AgreeOnTerms (variables_of_trace (map event_view events.now)) (substitution_by a.now) (substitution_by b.now)) }
 {
@@ -67,7 +67,7 @@ fn is_same_strand(alloc: Global, a: &Strand, b: &Strand) -> Result<bool, AllocEr
     }
 }
 
-/// Whether the strands say the same, place by place.
+/// Whether the two lists of strands say the same, place by place.
 pub(crate) fn are_same_strands(
     alloc: Global,
     a: &[Strand],

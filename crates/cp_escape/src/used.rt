@@ -1,4 +1,4 @@
-// The variables that a skeleton uses, and those of a term that it does not.
+// The variables that a skeleton uses, and those of a term that the skeleton does not use.
 ghost use Rattle.std.specs.Prelude.{◌≡◌, ◌++◌, ◌&&◌, not, map, IfOk, OnOk};
 ghost use Rattle.cp_model.specs.Same.{has_variable};
 ghost use Rattle.cp_completeness.specs.Normal.{variables_of_terms};
@@ -15,7 +15,7 @@ use cp_skel::{Atom, Event, Skeleton, UniqueAt, occurs};
 use cp_term::{Locals, Sort, Term, VarId, VarTable};
 use std::alloc::{AllocError, Global};
 
-/// Puts a term behind others.
+/// Appends a term.
 fn add_use(term: &Term, uses: &mut Vec<Event>) -> Result<(), AllocError>
     ensures { OnOk result (variables_of_trace (map event_view uses.new.items) ≡ variables_of_trace (map event_view uses.old.items) ++ variables_of term.now) }
 {
@@ -24,7 +24,7 @@ fn add_use(term: &Term, uses: &mut Vec<Event>) -> Result<(), AllocError>
     Ok(())
 }
 
-/// Puts the messages of the skeleton's strands behind others.
+/// Appends the messages of the skeleton's strands.
 fn add_messages(alloc: Global, k: &Skeleton, uses: &mut Vec<Event>) -> Result<(), AllocError>
     ensures { OnOk result (variables_of_trace (map event_view uses.new.items) ≡ variables_of_trace (map event_view uses.old.items) ++ variables_of_strands (skeleton_view k.now).strands) }
 {
@@ -35,7 +35,7 @@ fn add_messages(alloc: Global, k: &Skeleton, uses: &mut Vec<Event>) -> Result<()
     Ok(())
 }
 
-/// Puts atoms behind others.
+/// Appends atoms.
 fn add_atoms(atoms: &[Atom], uses: &mut Vec<Event>) -> Result<(), AllocError>
     ensures { OnOk result (variables_of_trace (map event_view uses.new.items) ≡ variables_of_trace (map event_view uses.old.items) ++ variables_of_atoms atoms.now) }
 {
@@ -45,7 +45,7 @@ fn add_atoms(atoms: &[Atom], uses: &mut Vec<Event>) -> Result<(), AllocError>
     Ok(())
 }
 
-/// Puts unique values behind others.
+/// Appends unique values.
 fn add_uniques(uniques: &[UniqueAt], uses: &mut Vec<Event>) -> Result<(), AllocError>
     ensures { OnOk result (variables_of_trace (map event_view uses.new.items) ≡ variables_of_trace (map event_view uses.old.items) ++ variables_of_uniques uniques.now) }
 {
@@ -55,7 +55,7 @@ fn add_uniques(uniques: &[UniqueAt], uses: &mut Vec<Event>) -> Result<(), AllocE
     Ok(())
 }
 
-/// Puts terms behind others.
+/// Appends terms.
 fn add_terms(terms: &[Term], uses: &mut Vec<Event>) -> Result<(), AllocError>
     ensures { OnOk result (variables_of_trace (map event_view uses.new.items) ≡ variables_of_trace (map event_view uses.old.items) ++ variables_of_terms terms.now) }
 {
@@ -65,7 +65,7 @@ fn add_terms(terms: &[Term], uses: &mut Vec<Event>) -> Result<(), AllocError>
     Ok(())
 }
 
-/// What the skeleton consists of, as events with its terms: those of its strands, its assumptions and its map from the problem.
+/// The terms of the skeleton's strands, of its assumptions and of its map from the problem, as events.
 fn uses_of(alloc: Global, k: &Skeleton) -> Result<Vec<Event>, AllocError>
     ensures { IfOk result (λ uses. variables_of_trace (map event_view uses.items) ≡ used_variables (skeleton_view k.now)) }
 {
@@ -79,7 +79,7 @@ fn uses_of(alloc: Global, k: &Skeleton) -> Result<Vec<Event>, AllocError>
     Ok(uses)
 }
 
-/// Whether the variable occurs in the first events and not in the second.
+/// Whether the variable occurs in `events` but not in `uses`.
 fn is_new(events: &[Event], uses: &[Event], id: VarId, sort: Sort) -> bool
     ensures { result ≡ (has_variable (variables_of_trace (map event_view events.now)) (record { sort = sort_view sort; number = id })
         && not (has_variable (variables_of_trace (map event_view uses.now)) (record { sort = sort_view sort; number = id }))) }
@@ -87,7 +87,7 @@ fn is_new(events: &[Event], uses: &[Event], id: VarId, sort: Sort) -> bool
     occurs(events, id, sort) && !occurs(uses, id, sort)
 }
 
-/// The variables of the term that the skeleton does not use, by rising numbers, where the table declares them.
+/// The variables of the term that the table declares and the skeleton does not use, in ascending order of their numbers.
 pub(crate) fn new_variables(
     alloc: Global,
     k: &Skeleton,

@@ -1,4 +1,4 @@
-// The pattern that a child with an added strand gives.
+// The pattern that a child with an added strand contributes.
 ghost use Rattle.std.specs.Prelude.{◌≡◌, ◌↔◌, ◌++◌, ◌∷◌, [], map, length, IsTrue, IfOk, IfSome, IfNone};
 ghost use Rattle.cp_guard.specs.Above.{encryptions_above};
 ghost use Rattle.cp_model.specs.PointOfView.{HasDeclaredVariables};
@@ -17,8 +17,8 @@ use cp_skel::{Atom, Event, Skeleton, StrandShape, has_atom};
 use cp_term::{Path, Pattern, Shape, Term, invert};
 use std::alloc::{AllocError, Global};
 
-/// Whether the child binds no variable of the skeleton: whether it has one strand more, and what it says of the others and of the
-/// problem is what the skeleton says.
+/// Whether the child binds no variable of the skeleton: it has one strand more, and says the same of the other strands and of the
+/// problem.
 fn binds_nothing(alloc: Global, k: &Skeleton, child: &Skeleton) -> Result<bool, AllocError>
     ensures { IfOk result (λ answer. IsTrue answer ↔ BindsNothing (skeleton_view k.now) (skeleton_view child.now)) }
 {
@@ -35,7 +35,7 @@ fn binds_nothing(alloc: Global, k: &Skeleton, child: &Skeleton) -> Result<bool, 
     are_same_strands(alloc, k.strands(), old)
 }
 
-/// The message that the last strand of the child ends by sending.
+/// The message of the child's last strand, if that is an added one that ends with a transmission.
 fn last_sent(alloc: Global, k: &Skeleton, child: &Skeleton) -> Result<Option<Term>, AllocError>
     ensures some { IfOk result (λ answer. IfSome answer (λ t. EndsBySending (skeleton_view k.now) (skeleton_view child.now) t)) }
     ensures none { IfOk result (λ answer. IfNone answer ((t : PlainTerm) → EndsBySending (skeleton_view k.now) (skeleton_view child.now) t → ⊥)) }
@@ -70,7 +70,7 @@ fn stays_closed(alloc: Global, k: &Skeleton, term: &Term) -> Result<bool, AllocE
     }
 }
 
-/// The outermost of the encryptions that enclose the position which stays closed.
+/// The outermost encryption around the position that stays closed wherever the skeleton stands.
 fn outermost_staying(
     alloc: Global,
     k: &Skeleton,
@@ -90,13 +90,12 @@ fn outermost_staying(
     Ok(None)
 }
 
-/// The pattern that a child of a test gives, whose last strand releases the critical term at this position of its last event. The
-/// child binds no variable of the skeleton; of the encryptions that enclose the position the outermost whose key holds variables of
-/// the skeleton alone, and whose inverse key originates nowhere by an assumption of the skeleton, is the pattern; and its variables
-/// that the skeleton has not are the locals. There is none exactly where the child binds a variable, its last strand is no added
-/// one that ends by sending, or no encryption is such.
+/// The pattern that a child of a test contributes. The child's last strand releases the critical term at this position of its
+/// last event. The pattern is the outermost encryption around the position whose key holds only variables of the skeleton and
+/// whose inverse key is assumed non-originating by the skeleton. Its locals are the variables that the skeleton does not use.
 ///
-/// The child's variables have to be declared. The error is that memory ran out.
+/// `None` exactly if the child binds a variable of the skeleton, its last strand is not an added one that ends with a
+/// transmission, or there is no such encryption. The child's variables must be declared.
 pub fn widen(
     alloc: Global,
     k: &Skeleton,

@@ -9,7 +9,7 @@ use cp_derive::critical;
 use cp_skel::{Node, Skeleton, StrandShape, Test};
 use std::alloc::{AllocError, Global};
 
-/// Whether the node is a listener's.
+/// Whether the node is on a listener.
 fn is_on_listener(k: &Skeleton, node: Node) -> bool
     ensures { result ≡ listens_at (skeleton_view k.now) node }
 {
@@ -22,7 +22,7 @@ fn is_on_listener(k: &Skeleton, node: Node) -> bool
     }
 }
 
-/// Of nodes the last that is a listener's, and where none is the first.
+/// The last of the nodes that is on a listener; if none is, the first node.
 fn chosen(k: &Skeleton, nodes: &[Node]) -> Option<Node>
     ensures { result ≡ chosen (skeleton_view k.now) nodes.now }
 {
@@ -36,9 +36,9 @@ fn chosen(k: &Skeleton, nodes: &[Node]) -> Option<Node>
     chosen
 }
 
-/// The test of a skeleton whose unrealised receptions are listed: at the unrealised listener of the highest strand, else at the
-/// unrealised node of the lowest strand and there of the lowest index; and of the components of the message received there the
-/// first that cannot be derived. There is none exactly where no reception is unrealised. The error is that memory ran out.
+/// The test of a skeleton, given its unrealised receptions. The node is the unrealised listener of the highest strand; if there
+/// is none, the unrealised node of the lowest strand, and there of the lowest index. The term is the first component of the
+/// message received there that is not derivable. `None` exactly if no reception is unrealised.
 pub fn test_of(alloc: Global, k: &Skeleton, unrealised: &[Node]) -> Result<Option<Test>, AllocError>
     requires listed { ListsUnrealised (skeleton_view k.now) unrealised.now }
     ensures test { IfOk result (λ t. IfSome t (λ t. IsTestOf (skeleton_view k.now) t.node t.term)) }

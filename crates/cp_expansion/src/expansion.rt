@@ -21,11 +21,11 @@ use cp_skel::{Protocol, Skeleton, Test};
 use cp_term::Pattern;
 use std::alloc::{AllocError, Global};
 
-/// A set of patterns is widened while it has fewer.
+/// A set of patterns is widened only while it has fewer patterns than this.
 const MOST_PATTERNS: usize = 32;
 
-/// The expansion of a skeleton: it with the variables that the patterns' locals take, the patterns that guard its test, and the
-/// children of the test under them.
+/// The expansion of a skeleton: the skeleton, with new variables for the patterns' locals; the patterns that guard its test; and
+/// the children of the test under them.
 #[derive(Drop)]
 pub struct Expansion {
     pub skeleton: Skeleton,
@@ -33,8 +33,8 @@ pub struct Expansion {
     pub children: Vec<Child>,
 }
 
-/// The children of a test under patterns that guard it, and those under which they are made anew as long as one of them widens
-/// the set.
+/// Makes the children of a test under patterns that guard it. As long as one of the children widens the set of patterns, makes
+/// them anew under the widened set.
 fn widened(
     alloc: Global,
     protocol: &Protocol,
@@ -73,11 +73,10 @@ fn widened(
     widened(alloc, protocol, &grown, test, patterns)
 }
 
-/// The expansion of a skeleton by its test. The patterns are those of the escape set; and while they are fewer than 32 the first
-/// of the children with an added strand that gives a pattern adds it, and the children are made anew.
+/// Expands a skeleton by its test. The patterns start as the escape set. While there are fewer than 32, the first child with an
+/// added strand that gives a pattern adds it, and the children are made anew.
 ///
-/// The skeleton has to be one over the protocol, with declared variables, and the test has to be the skeleton's. The error is that
-/// memory ran out.
+/// The skeleton must be one over the protocol, with declared variables, and the test must be the skeleton's.
 pub fn expand(
     alloc: Global,
     protocol: &Protocol,

@@ -1,4 +1,5 @@
-//! The expansion of an unrealised skeleton: its test, the patterns that guard it, and the children of the test.
+//! The expansion of an unrealised skeleton: its test, the patterns that guard it, and the children of the test. Every call that
+//! returns `AllocError` fails only when memory runs out.
 #![tactic(auto)]
 
 mod chosen_test;

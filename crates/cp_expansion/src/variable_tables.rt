@@ -1,4 +1,4 @@
-// Tables of variables that grow as others have grown.
+// Skeletons with larger tables of variables.
 ghost use Rattle.std.specs.Prelude.{◌≡◌, List, ◌++◌, IfOk};
 ghost use Rattle.cp_model.specs.Data.{Declared};
 
@@ -6,7 +6,7 @@ use cp_skel::Skeleton;
 use cp_term::{VarId, VarTable};
 use std::alloc::{AllocError, Global};
 
-/// The skeleton with the variables of a table that begins with its own.
+/// The skeleton with the variables of a table that starts with the skeleton's own.
 pub(crate) fn with_variables(
     alloc: Global,
     k: &Skeleton,

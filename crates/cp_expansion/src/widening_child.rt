@@ -1,4 +1,4 @@
-// The first child that widens a set of patterns.
+// Finds the first child that widens a set of patterns.
 ghost use Rattle.std.specs.Prelude.{map, IfOk, IfNone, IfSome};
 ghost use Rattle.cp_lists.specs.Lists.{IsIn};
 ghost use Rattle.cp_model.specs.PointOfView.{HasDeclaredVariables};
@@ -15,14 +15,14 @@ use cp_skel::{Operation, Skeleton};
 use cp_term::Pattern;
 use std::alloc::{AllocError, Global};
 
-/// A child that widens a set of patterns, and the pattern that it gives.
+/// The pattern that widens a set, and the child that gives it.
 #[derive(Drop)]
 pub(crate) struct Widening {
     pub child: usize,
     pub pattern: Pattern,
 }
 
-/// The pattern that a child gives, if a strand was added with it and it gives one.
+/// The pattern that a child gives, if the child adds a strand and gives one.
 fn pattern_of(alloc: Global, k: &Skeleton, child: &Child) -> Result<Option<Pattern>, AllocError>
     requires declared { HasDeclaredVariables (variables_view child.now.skeleton.variables) (skeleton_view child.now.skeleton) }
     ensures some { IfOk result (λ p. IfSome p (λ p. GivesPattern (skeleton_view k.now) (child_view child.now) p)) }
@@ -34,7 +34,7 @@ fn pattern_of(alloc: Global, k: &Skeleton, child: &Child) -> Result<Option<Patte
     }
 }
 
-/// The first of the children that gives a pattern.
+/// The first child that gives a pattern.
 pub(crate) fn first_widening(
     alloc: Global,
     k: &Skeleton,

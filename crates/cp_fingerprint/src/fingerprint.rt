@@ -1,4 +1,4 @@
-// What tells skeletons apart that cannot embed in each other, before an embedding is looked for.
+// Fingerprints tell skeletons apart that cannot embed in each other, before an embedding is sought.
 ghost use Rattle.std.specs.Prelude.{◌≡◌, ◌↔◌, IsTrue, IfOk};
 ghost use Rattle.cp_model.specs.Homomorphism.{Embeds};
 ghost use Rattle.cp_model.specs.Skeleton as model;
@@ -13,9 +13,10 @@ use cp_skel::Skeleton;
 use std::alloc::{AllocError, Global};
 use std::marker::Model;
 
-/// What every embedding keeps of a skeleton: the partition of its problem's strands; how many strands it has of each role and
-/// height; and a number for how its role strands share values, in which it counts how much each of them shares by itself, so that
-/// it tells most apart at once. Listeners are not counted, since two of them may go to one.
+/// What an embedding must respect of a skeleton: the partition of its problem's strands; the number of its strands of each role
+/// and height; and a number for how its role strands share values, which no embedding makes smaller. That number counts what each
+/// strand shares by itself, so it tells most skeletons apart at once. Listeners are not counted, since two of them may map to
+/// one.
 #[derive(Drop)]
 pub struct Fingerprint {
     partition: Partition,
@@ -34,7 +35,7 @@ impl Model for Fingerprint {
 }
 
 impl Fingerprint {
-    /// The fingerprint of a skeleton. The error is that memory ran out.
+    /// The fingerprint of a skeleton.
     pub fn of(alloc: Global, k: &Skeleton) -> Result<Fingerprint, AllocError>
         ensures exact { IfOk result (λ f. f ≡ traits_of (skeleton_view k.now)) }
     {
@@ -45,14 +46,14 @@ impl Fingerprint {
         })
     }
 
-    /// The number for how role strands share values: equal for isomorphic skeletons, and mostly for no others.
+    /// The number for how role strands share values. Isomorphic skeletons have the same one; others mostly do not.
     pub fn sharing(&self) -> usize
         ensures { result ≡ self.now.sharing }
     {
         self.sharing
     }
 
-    /// Whether a skeleton with this fingerprint may embed in one with the other. False only where it does not.
+    /// Fast test: false only if no skeleton with this fingerprint embeds in one with the other.
     pub fn may_embed(&self, other: &Fingerprint) -> bool
         ensures exact { IsTrue result ↔ MayEmbed self.now other.now }
         ensures kept { (a b : model.Skeleton) → traits_of a ≡ self.now → traits_of b ≡ other.now → Embeds a b → IsTrue result }
@@ -66,8 +67,8 @@ impl Fingerprint {
         have_no_more(&self.heights, &other.heights)
     }
 
-    /// Whether a skeleton with this fingerprint may be isomorphic to one with the other: whether each may embed in the other.
-    /// False only where it is not.
+    /// Fast test: false only if no skeleton with this fingerprint is isomorphic to one with the other. True if each may embed in
+    /// the other.
     pub fn may_be_isomorphic(&self, other: &Fingerprint) -> bool
         ensures exact { IsTrue result ↔ (MayEmbed self.now other.now × MayEmbed other.now self.now) }
         ensures kept { (a b : model.Skeleton) → traits_of a ≡ self.now → traits_of b ≡ other.now → IsIsomorphic a b → IsTrue result }

@@ -1,8 +1,8 @@
-// The first place of a number in a list.
+// The first place at which a number stands in a list.
 ghost use Rattle.std.specs.Prelude.{◌≡◌};
 ghost use Rattle.cp_fingerprint.specs.FirstPlaces.{first_of};
 
-/// The number of the first of the places that is this one; where there is none, how many there are.
+/// The index of the first entry equal to `place`, or the length of the list if there is none.
 pub fn first_of(places: &[usize], place: usize) -> usize
     ensures exact { result ≡ first_of place places.now }
 {

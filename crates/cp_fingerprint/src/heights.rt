@@ -1,4 +1,4 @@
-// How many role strands there are of each role and height.
+// Counts role strands by role and height.
 ghost use Rattle.std.specs.Prelude.{◌≡◌, ◌↔◌, ◌++◌, ◌≤◌, map, IsTrue, IfOk, OnOk};
 ghost use Rattle.cp_strand.specs.View.{strand_view};
 ghost use Rattle.cp_fingerprint.specs.Heights.{heights_of, is_as_high, count_from, HaveNoMore};
@@ -31,14 +31,14 @@ pub(crate) fn heights_of(alloc: Global, strands: &[Strand]) -> Result<Vec<RoleHe
     Ok(heights)
 }
 
-/// Whether it is of a role of this name, and of this height or more.
+/// Whether this entry is of a role of this name, and at least this high.
 fn is_as_high(name: &Text, height: usize, other: &RoleHeight) -> bool
     ensures { result ≡ is_as_high name.now height other.now }
 {
     other.height >= height && other.name.same(name)
 }
 
-/// How many are of roles of this name and of this height or more.
+/// The number of entries of roles of this name that are at least this high.
 fn count(name: &Text, height: usize, heights: &[RoleHeight]) -> usize
     ensures { result ≡ count_from 0 name.now height heights.now }
 {
@@ -52,15 +52,15 @@ fn count(name: &Text, height: usize, heights: &[RoleHeight]) -> usize
     count
 }
 
-/// Whether there are no more of the name and the height of this one or more among the first than among the others.
+/// Whether `heights` has no more entries than `others` of this one's name that are at least as high.
 fn has_no_more(one: &RoleHeight, heights: &[RoleHeight], others: &[RoleHeight]) -> bool
     ensures { IsTrue result ↔ (count_from 0 one.now.name one.now.height heights.now ≤ count_from 0 one.now.name one.now.height others.now) }
 {
     count(&one.name, one.height, heights) <= count(&one.name, one.height, others)
 }
 
-/// Whether for each name and each height there are no more of that name and that height or more among the first than among
-/// the others. A height that none of the first has is that of the next higher of them.
+/// Whether `heights` has, for each name and each height, no more entries than `others` of that name that are at least that high.
+/// Only the heights that occur in `heights` need to be compared.
 pub(crate) fn have_no_more(heights: &[RoleHeight], others: &[RoleHeight]) -> bool
     ensures { IsTrue result ↔ HaveNoMore heights.now others.now }
 {

@@ -1,4 +1,5 @@
-//! Fingerprints of skeletons: what every embedding keeps, so that those are told apart at once that cannot embed.
+//! Fingerprints of skeletons: they tell skeletons that cannot embed in each other apart at once. Every call that returns
+//! `AllocError` fails only when memory runs out.
 #![tactic(auto)]
 
 mod fingerprint;

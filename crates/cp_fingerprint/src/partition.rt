@@ -1,4 +1,4 @@
-// The partition of a problem's strands: which of them go to one role strand.
+// The partition of a problem's strands by the role strands to which they map.
 ghost use Rattle.std.specs.Prelude.{◌≡◌, ◌↔◌, ◌⊎◌, false, IsTrue, IfOk};
 ghost use Rattle.cp_model.specs.Homomorphism.{Embeds};
 ghost use Rattle.cp_model.specs.Skeleton as model;
@@ -11,9 +11,9 @@ use cp_skel::{Skeleton, StrandShape};
 use std::alloc::{AllocError, Global};
 use std::marker::Model;
 
-/// How a skeleton's map identifies the strands of its problem: which of them go to one role strand. A skeleton that embeds
-/// in another identifies the same, where it is whole: no entry is none. The number, made of the entries, tells most that
-/// differ apart at once.
+/// How a skeleton's map identifies the strands of its problem: which of them map to one role strand. A skeleton that embeds in
+/// another has the same partition, if its own is whole, that is, has no entry `None`. A number computed from the entries tells
+/// most different partitions apart at once.
 #[derive(Drop)]
 pub(crate) struct Partition {
     number: usize,
@@ -33,8 +33,8 @@ impl Model for Partition {
     ghost invariant = { λ f. (f.number ≡ number_of 1 f.entries.items) × (f.whole ≡ is_whole f.entries.items) };
 }
 
-/// For a strand of the problem, which goes to this place: where that is an instance, the first strand of the problem that
-/// goes to the same place; where it is a listener, its own number. None past the end.
+/// The entry for a strand of the problem that maps to this place: if an instance stands there, the first strand of the problem
+/// that maps to the same place; if a listener does, the strand's own number. `None` past the end.
 fn entry(k: &Skeleton, strand: usize, place: usize) -> Option<usize>
     ensures { result ≡ entry_of (skeleton_view k.now) strand place }
 {
@@ -44,7 +44,7 @@ fn entry(k: &Skeleton, strand: usize, place: usize) -> Option<usize>
     }
 }
 
-/// The number made of entries, by mixing one after the other; 0 where one is none.
+/// A number mixed from the entries, one after another; 0 if one is `None`.
 fn number_of(entries: &[Option<usize>]) -> usize
     ensures { result ≡ number_of 1 entries.now }
 {
@@ -58,7 +58,7 @@ fn number_of(entries: &[Option<usize>]) -> usize
     number
 }
 
-/// Whether no entry is none.
+/// Whether no entry is `None`.
 fn is_whole(entries: &[Option<usize>]) -> bool
     ensures { result ≡ is_whole entries.now }
 {
@@ -88,8 +88,8 @@ impl Partition {
         })
     }
 
-    /// Whether a skeleton with this partition may embed in one with the other: where this is whole, whether both are the
-    /// same. False only where it does not.
+    /// Fast test: false only if no skeleton with this partition embeds in one with the other. It is true if this partition is not
+    /// whole, or both are the same.
     pub(crate) fn may_embed(&self, other: &Partition) -> bool
         ensures exact { IsTrue result ↔ ((is_whole self.now ≡ false) ⊎ (self.now ≡ other.now)) }
         ensures kept { (a b : model.Skeleton) → partition_of a ≡ self.now → partition_of b ≡ other.now → Embeds a b → IsTrue result }

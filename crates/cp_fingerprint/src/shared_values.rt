@@ -1,4 +1,4 @@
-// How role strands share values, as a number.
+// A number for how role strands share values. Its sums and products saturate.
 ghost use Rattle.std.specs.Prelude.{◌≡◌, map, IfOk};
 ghost use Rattle.cp_model.specs.Strand.{variables_of_trace};
 ghost use Rattle.cp_strand.specs.View.{event_view, strand_view};
@@ -10,7 +10,7 @@ use cp_skel::{Event, Skeleton, Strand, StrandShape, occurs};
 use cp_term::{Shape, Sort, Term, var};
 use std::alloc::{AllocError, Global};
 
-/// What the listeners hear.
+/// The messages of the listeners.
 fn listened(alloc: Global, strands: &[Strand]) -> Result<Vec<Event>, AllocError>
     ensures { IfOk result (λ es. map event_view es.items ≡ listened (map strand_view strands.now)) }
 {
@@ -24,8 +24,8 @@ fn listened(alloc: Global, strands: &[Strand]) -> Result<Vec<Event>, AllocError>
     Ok(events)
 }
 
-/// Whether the value occurs in these events, where it is a variable of another sort than that of key pairs. Any other value
-/// counts as one that does, since a variable may become one.
+/// Whether the value occurs in these events, if it is a variable of a sort other than that of key pairs. Every other value counts
+/// as occurring, since a variable may map to it.
 fn is_heard(events: &[Event], value: &Term) -> bool
     ensures { result ≡ is_heard (variables_of_trace (map event_view events.now)) value.now }
 {
@@ -35,14 +35,14 @@ fn is_heard(events: &[Event], value: &Term) -> bool
     }
 }
 
-/// How much it weighs that listeners hear the value.
+/// The weight for a value that listeners hear.
 fn heard_weight(events: &[Event], value: &Term) -> usize
     ensures { result ≡ heard_weight (map event_view events.now) value.now }
 {
     if is_heard(events, value) { 4099 } else { 0 }
 }
 
-/// With a first weight, how much those of these places weigh at which a value stands.
+/// The weight `first` plus the weights of those of these places at which the value stands.
 fn weight_among(first: usize, value: &Term, slots: &[Slot]) -> usize
     ensures { result ≡ weight_from first value.now slots.now }
 {
@@ -57,7 +57,7 @@ fn weight_among(first: usize, value: &Term, slots: &[Slot]) -> usize
     weight
 }
 
-/// With a first weight, how much the places weigh at which a value stands.
+/// The weight `first` plus the weights of the places at which the value stands.
 fn weight_of(first: usize, value: &Term, places: &Places) -> usize
     ensures { result ≡ weight_from first value.now (slots_in places.now) }
 {
@@ -68,7 +68,7 @@ fn weight_of(first: usize, value: &Term, places: &Places) -> usize
     weight
 }
 
-/// With a first weight, how much the places weigh at which the names of a key stand: of a long-term key its second name counts
+/// The weight `first` plus the weights of the places at which the names of a key stand. The second name of a long-term key counts
 /// twice.
 fn names_weight(
     alloc: Global,
@@ -94,7 +94,7 @@ fn names_weight(
     }
 }
 
-/// How much a value weighs: that it is heard, the places of its names, where it is a key, and its own places.
+/// The weight of a value: for being heard, for the places of its names if it is a key, and for its own places.
 fn value_weight(
     alloc: Global,
     heard: &[Event],
@@ -108,7 +108,7 @@ fn value_weight(
     Ok(weight_of(weight, value, places))
 }
 
-/// How much some of the places share: the weight of each as often as its value weighs, all added up.
+/// The share of some places: the sum, over the places, of the place's weight times its value's weight.
 fn share_of(
     alloc: Global,
     heard: &[Event],
@@ -125,7 +125,7 @@ fn share_of(
     Ok(share)
 }
 
-/// How much the problem's places share, and for each strand how much its own share, squared, all added up.
+/// The share of the problem's places, plus the square of the share of each strand's places.
 fn sharing(alloc: Global, heard: &[Event], places: &Places) -> Result<usize, AllocError>
     ensures { IfOk result (λ n. n ≡ squares_from (share_from 0 (map event_view heard.now) (slots_in places.now) places.now.values.items) (map event_view heard.now) (slots_in places.now) (lists_of places.now.strands.items)) }
 {
@@ -137,7 +137,7 @@ fn sharing(alloc: Global, heard: &[Event], places: &Places) -> Result<usize, All
     Ok(sharing)
 }
 
-/// How the role strands of a skeleton share values, and on which strands the places are that share.
+/// The number for how the role strands of a skeleton share values, and on which strands.
 pub(crate) fn sharing_of(alloc: Global, k: &Skeleton) -> Result<usize, AllocError>
     ensures { IfOk result (λ n. n ≡ sharing_of (skeleton_view k.now)) }
 {

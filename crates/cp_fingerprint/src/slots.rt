@@ -10,8 +10,8 @@ use cp_term::{Shape, Term, VarId};
 use std::alloc::{AllocError, Global};
 use std::marker::Model;
 
-/// A value at a place, with the weight of the place. The key is the number of the value, by which most values are told apart
-/// at once; contracts see the weight and the value alone.
+/// A value at a place, with the weight of the place. The key is the value's number, which tells most values apart at once.
+/// Contracts see only the weight and the value.
 #[derive(Drop)]
 pub struct Slot {
     weight: usize,
@@ -32,7 +32,7 @@ impl Model for Slot {
     ghost invariant = { λ s. s.key ≡ key_of s.value };
 }
 
-/// The number of the variable that a value is, or of the first variable of the atom that it is; 0 for any other.
+/// The number of a variable, or of the first variable of another atom; 0 for any other value.
 pub fn key_of(value: &Term) -> usize
     ensures { result ≡ key_of value.now }
 {
@@ -71,7 +71,7 @@ impl Slot {
         &self.value
     }
 
-    /// Whether this value, which has this key, stands at the place.
+    /// Whether this value stands at the place. `key` must be the value's key.
     pub fn has(&self, key: usize, value: &Term) -> bool
         ensures { key ≡ key_of value.now → (IsTrue result ↔ (self.now.value ≡ value.now)) }
     {
@@ -79,16 +79,16 @@ impl Slot {
     }
 }
 
-/// The places of a skeleton: those of the problem's variables, and for each strand those of its own.
+/// The places of a skeleton: those of its problem's variables, and for each strand those of its variables.
 #[derive(Drop)]
 pub struct Places {
-    /// Those of the problem's variables.
+    /// The places of the problem's variables.
     pub values: Vec<Slot>,
-    /// For each strand those of its own.
+    /// For each strand the places of its variables.
     pub strands: Vec<Vec<Slot>>,
 }
 
-/// The number of a text.
+/// A number computed from a text.
 fn text_number(bytes: &[u8]) -> usize
     ensures { result ≡ text_number 1 bytes.now }
 {
@@ -99,7 +99,7 @@ fn text_number(bytes: &[u8]) -> usize
     number
 }
 
-/// How much the place with this number weighs, under a name of this number.
+/// The weight of the place with this number, under a name with this number.
 fn place_weight(name: usize, place: usize) -> usize
     ensures { result ≡ place_weight name place }
 {
@@ -157,7 +157,7 @@ fn strands_slots(alloc: Global, strands: &[Strand]) -> Result<Vec<Vec<Slot>>, Al
     Ok(slots)
 }
 
-/// The values of the problem's variables, and for each strand those of its own.
+/// The values of the problem's variables, and for each strand those of its variables.
 pub fn places_of(alloc: Global, k: &Skeleton) -> Result<Places, AllocError>
     ensures values { IfOk result (λ p. p.values.items ≡ value_slots 0 (skeleton_view k.now).from_problem.values) }
     ensures strands { IfOk result (λ p. lists_of p.strands.items ≡ map strand_slots (skeleton_view k.now).strands) }

@@ -7,7 +7,7 @@ ghost use Rattle.cp_forms.specs.FirstFault.{earlier_of, first_onto, merged, onto
 use cp_base::{Code, Place, Refusal};
 use std::marker::Model;
 
-/// The first of the faults met so far, or none.
+/// The first of the faults noted so far, if any.
 #[derive(Drop)]
 pub struct FirstFault {
     found: Option<Refusal>,
@@ -22,7 +22,7 @@ impl Model for FirstFault {
     ghost view = { λ f. f.found };
 }
 
-/// The place of a kind of fault among the kinds at one place.
+/// The rank of a kind of fault among the kinds at one place.
 fn rank(code: Code) -> u32
     ensures { result ≡ rank_of code }
 {
@@ -70,7 +70,7 @@ fn comes_before(first: Refusal, second: Refusal) -> bool
 }
 
 impl FirstFault {
-    /// No fault was met yet.
+    /// No fault so far.
     pub fn new() -> FirstFault
         ensures { result ≡ None }
     {
@@ -84,7 +84,7 @@ impl FirstFault {
         self.found
     }
 
-    /// The first of these and one more.
+    /// The first of these faults and another one.
     pub fn first_with(self, fault: Refusal) -> Refusal
         ensures { result ≡ earlier_of self fault }
     {
@@ -94,7 +94,7 @@ impl FirstFault {
         }
     }
 
-    /// Takes notice of a fault.
+    /// Notes a fault.
     pub fn note(&mut self, place: Place, code: Code)
         ensures { self.new ≡ first_onto self.old (fault place code) }
     {
@@ -112,8 +112,8 @@ impl FirstFault {
         self.found.is_none()
     }
 
-    /// Whether there was a fault already, before which such a one at this place does not come, so that it would change
-    /// nothing.
+    /// Whether a fault was already noted that such a fault at this place does not precede, so that noting it would
+    /// change nothing.
     pub fn stands_before(&self, place: Place, code: Code) -> bool
         ensures { result ≡ stands_before self.now (record { place = place; code = code }) }
     {
@@ -123,7 +123,7 @@ impl FirstFault {
         }
     }
 
-    /// Takes notice of a fault where the test fails, if there was no fault yet.
+    /// Notes a fault if the test fails and there was no fault yet.
     pub fn note_unless_faulty(&mut self, holds: bool, place: Place, code: Code)
         ensures { self.new ≡ onto_none self.old (fault_unless holds place code) }
     {
@@ -132,7 +132,7 @@ impl FirstFault {
         }
     }
 
-    /// Takes notice of the first fault of others.
+    /// Notes the first fault of others.
     pub fn merge(&mut self, others: FirstFault)
         ensures { self.new ≡ merged self.old others }
     {
@@ -141,7 +141,7 @@ impl FirstFault {
         }
     }
 
-    /// Takes notice of a fault where the test fails.
+    /// Notes a fault if the test fails.
     pub fn note_unless(&mut self, holds: bool, place: Place, code: Code)
         ensures { self.new ≡ first_onto self.old (fault_unless holds place code) }
     {

@@ -9,7 +9,7 @@ ghost use Rattle.cp_forms.specs.Forms.{headed_view, symbol_in};
 use cp_base::Place;
 use cp_sexpr::Form;
 
-/// A list by its head: its place, the head, which is a symbol, and the items behind it.
+/// A list with a head: its place, the head, which is a symbol, and the items after it.
 #[derive(Clone, Copy)]
 pub struct HeadedList<'a> {
     pub place: Place,
@@ -39,7 +39,7 @@ pub fn symbol(form: &Form) -> Option<&[u8]>
     }
 }
 
-/// The text of a symbol; of any other form the empty text.
+/// The text of a symbol; empty for any other form.
 pub fn symbol_or_empty(form: &Form) -> &[u8]
     ensures { result.now ≡ text_of_symbol (view form.now) }
 {
@@ -75,7 +75,7 @@ pub fn headed(form: &Form) -> Option<HeadedList<'_>>
     })
 }
 
-/// The items behind the head of a list with a head; any other form has none.
+/// The items after the head of a list with a head; any other form has none.
 pub fn items_behind(form: &Form) -> &[Form]
     ensures { map view result.now ≡ items_behind (headed (view form.now)) }
 {
@@ -85,7 +85,7 @@ pub fn items_behind(form: &Form) -> &[Form]
     }
 }
 
-/// The item at a place, counted from 0.
+/// The item at a place, from 0.
 pub fn item_at(items: &[Form], place: usize) -> Option<&Form>
     ensures { option_map (λ f. view f.now) result ≡ item_at (map view items.now) place }
 {
@@ -112,7 +112,7 @@ pub fn front_items(items: &[Form]) -> &[Form]
     }
 }
 
-/// The first items, as many as the count says.
+/// The first `count` items.
 pub fn first_items(items: &[Form], count: usize) -> &[Form]
     ensures { map view result.now ≡ take count (map view items.now) }
 {
@@ -123,7 +123,7 @@ pub fn first_items(items: &[Form], count: usize) -> &[Form]
     front
 }
 
-/// The items behind the first, as many as the count says.
+/// The items after the first `count`.
 pub fn later_items(items: &[Form], count: usize) -> &[Form]
     ensures { map view result.now ≡ drop count (map view items.now) }
 {

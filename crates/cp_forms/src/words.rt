@@ -6,10 +6,10 @@ ghost use Rattle.cp_forms.specs.Heads.{sort_word_view, term_head_view, event_hea
 
 use cp_term::Sort;
 
-/// What stands where a sort is named.
+/// What a word in the place of a sort names.
 #[derive(Clone, Copy)]
 pub enum SortWord {
-    /// A sort of atoms.
+    /// An atom sort.
     Atoms(Sort),
     Messages,
     OutOfProfile,
@@ -84,7 +84,7 @@ pub fn is_out_of_profile(head: &[u8]) -> bool
         || is_word(head, b"defmacro")
 }
 
-/// Whether the head is that of a state or channel event.
+/// Whether the head is that of a state event or of a channel event.
 fn is_state_head(head: &[u8]) -> bool
     ensures { result ≡ is_one_of head.now state_heads }
 {
@@ -222,7 +222,7 @@ pub fn item_head(head: &[u8]) -> ItemHead
     }
 }
 
-/// Whether a top form with this head is without effect.
+/// Whether a top form with this head has no effect.
 fn is_free(head: &[u8]) -> bool
     ensures { result ≡ (same_text head.now (codes "herald") || same_text head.now (codes "comment")) }
 {

@@ -1,4 +1,4 @@
-// Whether a pair covers, among all pairs of an order.
+// Covering pairs, given all pairs of an order.
 ghost use Rattle.std.specs.Prelude.{◌≡◌, IfOk};
 ghost use Rattle.cp_model.specs.Same.{same_node};
 ghost use Rattle.cp_general.specs.CoveringPairs.{led_to, leading_to, is_below, is_below_one, some_is_below, is_covered};
@@ -13,7 +13,7 @@ pub(crate) fn is_same_node(node: Node, other: Node) -> bool
     node.strand == other.strand && node.index == other.index
 }
 
-/// The nodes to which pairs lead from a node.
+/// The later nodes of the pairs that go from a node.
 fn led_to(alloc: Global, pairs: &[OrderPair], node: Node) -> Result<Vec<Node>, AllocError>
     ensures { IfOk result (λ ns. ns.items ≡ led_to pairs.now node) }
 {
@@ -27,7 +27,7 @@ fn led_to(alloc: Global, pairs: &[OrderPair], node: Node) -> Result<Vec<Node>, A
     Ok(nodes)
 }
 
-/// The nodes from which pairs lead to a node.
+/// The earlier nodes of the pairs that go to a node.
 fn leading_to(alloc: Global, pairs: &[OrderPair], node: Node) -> Result<Vec<Node>, AllocError>
     ensures { IfOk result (λ ns. ns.items ≡ leading_to pairs.now node) }
 {
@@ -41,14 +41,14 @@ fn leading_to(alloc: Global, pairs: &[OrderPair], node: Node) -> Result<Vec<Node
     Ok(nodes)
 }
 
-/// Whether a node is before another one on one strand.
+/// Whether a node is before another one on the same strand.
 fn is_below(node: Node, other: Node) -> bool
     ensures { result ≡ is_below node other }
 {
     node.strand == other.strand && node.index < other.index
 }
 
-/// Whether a node is before one of these on one strand.
+/// Whether a node is before one of these on the same strand.
 fn is_below_one(node: Node, others: &[Node]) -> bool
     ensures { result ≡ is_below_one node others.now }
 {
@@ -60,7 +60,7 @@ fn is_below_one(node: Node, others: &[Node]) -> bool
     false
 }
 
-/// Whether one of the first nodes is before one of the second on its strand.
+/// Whether one of `nodes` is before one of `others` on the same strand.
 fn some_is_below(nodes: &[Node], others: &[Node]) -> bool
     ensures { result ≡ some_is_below nodes.now others.now }
 {
@@ -72,7 +72,7 @@ fn some_is_below(nodes: &[Node], others: &[Node]) -> bool
     false
 }
 
-/// Whether something is between the nodes of a pair, where these are all pairs of an order. The error is that memory ran out.
+/// Whether some node is between the two nodes of a pair. `pairs` must be all pairs of the order.
 pub(crate) fn is_covered(
     alloc: Global,
     pairs: &[OrderPair],

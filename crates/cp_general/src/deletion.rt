@@ -1,4 +1,4 @@
-// The deletion of a strand.
+// The step that deletes a strand.
 ghost use Rattle.std.specs.Prelude.{◌≡◌, ◌↔◌, ◌<◌, length, IsTrue, IfOk, IfSome, IfNone};
 ghost use Rattle.cp_lists.specs.Lists.{IsIn};
 ghost use Rattle.cp_skel.specs.View.{skeleton_view};
@@ -10,7 +10,7 @@ use crate::fit::is_fit;
 use cp_skel::Skeleton;
 use std::alloc::{AllocError, Global};
 
-/// Whether a strand of the problem goes to this one.
+/// Whether some strand of the problem maps to this one.
 fn is_image(strands: &[usize], strand: usize) -> bool
     ensures { IsTrue result ↔ IsIn strand strands.now }
 {
@@ -22,7 +22,7 @@ fn is_image(strands: &[usize], strand: usize) -> bool
     false
 }
 
-/// The skeleton without a strand that is there and is no image of a strand of the problem. The error is that memory ran out.
+/// The skeleton without a strand that exists and to which no strand of the problem maps.
 fn without_strand(alloc: Global, k: &Skeleton, strand: usize) -> Result<Skeleton, AllocError>
     requires there_is { strand < length (skeleton_view k.now).strands }
     requires no_image { IsIn strand (skeleton_view k.now).from_problem.strands → ⊥ }
@@ -35,7 +35,7 @@ fn without_strand(alloc: Global, k: &Skeleton, strand: usize) -> Result<Skeleton
     Ok(left)
 }
 
-/// The skeleton without a strand that is there, if it may be deleted and what is left is fit. The error is that memory ran out.
+/// The skeleton without a strand that exists, if it may be deleted and the rest is fit: normal and realised.
 fn try_deletion(alloc: Global, k: &Skeleton, strand: usize) -> Result<Option<Skeleton>, AllocError>
     requires { strand < length (skeleton_view k.now).strands }
     ensures some { IfOk result (λ found. IfSome found (λ h. LeavesFit strand (skeleton_view k.now) (skeleton_view h))) }
@@ -51,8 +51,8 @@ fn try_deletion(alloc: Global, k: &Skeleton, strand: usize) -> Result<Option<Ske
     Ok(fit.then_some(left))
 }
 
-/// The step that deletes a strand, of those that can be the one of the highest number; the assumptions of what is left stand in the
-/// order of a report. There is none where no strand can be deleted so that what is left is fit. The error is that memory ran out.
+/// The step that deletes a strand: of all strands whose deletion leaves a fit skeleton, the one with the highest number. The
+/// result lists its assumptions in report order. `None` if there is no such strand.
 pub(crate) fn first_deletion(alloc: Global, k: &Skeleton) -> Result<Option<Skeleton>, AllocError>
     ensures some { IfOk result (λ found. IfSome found (λ h. StepsTo (skeleton_view k.now) (skeleton_view h))) }
     ensures none { IfOk result (λ found. IfNone found (DeletesNone (skeleton_view k.now))) }

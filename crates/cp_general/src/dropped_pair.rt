@@ -1,4 +1,4 @@
-// The dropping of a pair.
+// The step that drops a pair of the order.
 ghost use Rattle.std.specs.Prelude.{◌≡◌, ◌↔◌, drop, IsTrue, Some, IfOk, IfSome, IfNone};
 ghost use Rattle.std.specs.List.{filter};
 ghost use Rattle.cp_lists.specs.Lists.{IsIn};
@@ -45,7 +45,7 @@ fn is_among(pairs: &[OrderPair], pair: OrderPair) -> bool
     false
 }
 
-/// The first place, from this one on, at which the pair stands. Clauses say whether there is one.
+/// The first place, from `from` on, at which the pair stands. The contract says only whether there is one.
 fn place_from(pairs: &[OrderPair], from: usize, pair: OrderPair) -> Option<usize>
     ensures some { IfSome result (λ _. IsIn pair pairs.now) }
     ensures none { IfNone result (IsIn pair (drop from pairs.now) → ⊥) }
@@ -58,8 +58,8 @@ fn place_from(pairs: &[OrderPair], from: usize, pair: OrderPair) -> Option<usize
     None
 }
 
-/// Whether one of these pairs is in neither of the two lists. As they mostly stand there in the same order, each is looked for first
-/// from where the last one stood, and only then from the beginning.
+/// Whether one of these pairs is in neither of the two lists. All lists mostly have the same order, so each pair is looked for
+/// first from the place of the last one found, and only then from the beginning.
 fn some_is_in_neither(first: &[OrderPair], second: &[OrderPair], pairs: &[OrderPair]) -> bool
     ensures { IsTrue result ↔ Has (IsInNeither first.now second.now) pairs.now }
 {
@@ -86,8 +86,8 @@ fn some_is_in_neither(first: &[OrderPair], second: &[OrderPair], pairs: &[OrderP
     false
 }
 
-/// Whether one of the pairs by which the skeleton is ordered is neither stated by the problem nor added by a unique value: no other
-/// pair can be dropped. The error is that memory ran out.
+/// Whether one of the skeleton's pairs is neither stated by the problem nor added by a unique value. Only such a pair can be
+/// dropped.
 pub(crate) fn some_may_drop(alloc: Global, k: &Skeleton) -> Result<bool, AllocError>
     ensures { IfOk result (λ some. IsTrue some ↔ HasFreePair (skeleton_view k.now)) }
 {
@@ -96,7 +96,7 @@ pub(crate) fn some_may_drop(alloc: Global, k: &Skeleton) -> Result<bool, AllocEr
     Ok(some)
 }
 
-/// The pairs but for this one.
+/// The pairs except this one.
 fn others(alloc: Global, pairs: &[OrderPair], pair: OrderPair) -> Result<Vec<OrderPair>, AllocError>
     ensures { IfOk result (λ ps. ps.items ≡ filter (is_other_pair pair) pairs.now) }
 {
@@ -110,8 +110,8 @@ fn others(alloc: Global, pairs: &[OrderPair], pair: OrderPair) -> Result<Vec<Ord
     Ok(others)
 }
 
-/// Whether a pair of the skeleton, which lists all of its order, covers, and neither the problem states it nor a unique value adds
-/// it. The error is that memory ran out.
+/// Whether a pair may be dropped: it is a covering pair, and neither stated by the problem nor added by a unique value. The
+/// skeleton must list all pairs of its order.
 fn may_drop(
     alloc: Global,
     k: &Skeleton,
@@ -134,7 +134,7 @@ fn may_drop(
     Ok(!covered)
 }
 
-/// The order of the skeleton without this pair, if it keeps what the problem states. The error is that memory ran out.
+/// The skeleton's order without this pair, if the rest still has the order that the problem states.
 fn order_without(alloc: Global, k: &Skeleton, pair: OrderPair) -> Result<Option<Order>, AllocError>
     ensures order { IfOk result (λ found. IfSome found (λ o. o ≡ filter (is_other_pair pair) k.now.order)) }
     ensures keeps { IfOk result (λ found. IfSome found (λ o. AllLead o (skeleton_view k.now).from_problem.pairs)) }
@@ -146,7 +146,7 @@ fn order_without(alloc: Global, k: &Skeleton, pair: OrderPair) -> Result<Option<
     Ok(keeps.then_some(order))
 }
 
-/// Whether what this reception receives can be derived there. The error is that memory ran out.
+/// Whether the message received at this reception is derivable there.
 fn is_derived(alloc: Global, k: &Skeleton, node: Node) -> Result<bool, AllocError>
     requires { IsNodeOf (skeleton_view k.now).strands node }
     ensures { IfOk result (λ derived. (t : Term) → term_event_at (skeleton_view k.now).strands node ≡ Some (recv t) → IsTrue derived ↔ DerivableAt (skeleton_view k.now) node t) }
@@ -155,8 +155,8 @@ fn is_derived(alloc: Global, k: &Skeleton, node: Node) -> Result<bool, AllocErro
     Ok(found.is_none())
 }
 
-/// The skeleton with another order, with which it has to be sound, if what this reception receives can be derived there. The error
-/// is that memory ran out.
+/// The skeleton with another order, if the message received at this reception is derivable there. The skeleton must be sound with
+/// that order.
 fn derived_in_order(
     alloc: Global,
     k: &Skeleton,
@@ -176,8 +176,8 @@ fn derived_in_order(
     Ok(derived.then_some(less))
 }
 
-/// The skeleton without a pair that may be dropped, if what is left keeps what the problem states and is fit: of the receptions only
-/// that of the pair has to be asked. The error is that memory ran out.
+/// The skeleton without a pair that may be dropped, if the rest keeps what the problem states and is fit. Only the reception of
+/// that pair needs to be tested.
 fn try_drop(alloc: Global, k: &Skeleton, pair: OrderPair) -> Result<Option<Skeleton>, AllocError>
     requires lists { ListsOrder (skeleton_view k.now) k.now.order }
     requires fit { IsFit (skeleton_view k.now) }
@@ -193,8 +193,8 @@ fn try_drop(alloc: Global, k: &Skeleton, pair: OrderPair) -> Result<Option<Skele
     }
 }
 
-/// The step that drops a pair, of those that can be dropped the lowest, where the skeleton is fit and lists all pairs of its order.
-/// There is none where no pair can be dropped so that what is left is fit. The error is that memory ran out.
+/// The step that drops a pair: of all pairs that can be dropped, the lowest. The skeleton must be fit and list all pairs of its
+/// order. `None` if no pair can be dropped so that the rest is fit.
 pub(crate) fn first_drop(alloc: Global, k: &Skeleton) -> Result<Option<Skeleton>, AllocError>
     requires lists { ListsOrder (skeleton_view k.now) k.now.order }
     requires fit { IsFit (skeleton_view k.now) }

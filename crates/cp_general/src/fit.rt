@@ -1,4 +1,4 @@
-// Whether a skeleton is normal and realised.
+// Tests whether a skeleton is fit: normal and realised.
 ghost use Rattle.std.specs.Prelude.{◌≡◌, ◌↔◌, IsTrue, IfOk};
 ghost use Rattle.cp_model.specs.Realisation.{AllDerivable};
 ghost use Rattle.cp_skel.specs.View.{skeleton_view};
@@ -9,7 +9,7 @@ use cp_normal::is_normal;
 use cp_skel::Skeleton;
 use std::alloc::{AllocError, Global};
 
-/// Whether all receptions are derivable. The error is that memory ran out.
+/// Whether all receptions are derivable.
 fn is_realised(alloc: Global, k: &Skeleton) -> Result<bool, AllocError>
     ensures { IfOk result (λ realised. IsTrue realised ↔ AllDerivable (skeleton_view k.now)) }
 {
@@ -17,7 +17,7 @@ fn is_realised(alloc: Global, k: &Skeleton) -> Result<bool, AllocError>
     Ok(nodes.is_empty())
 }
 
-/// Whether the skeleton is normal, and all its receptions are derivable. The error is that memory ran out.
+/// Whether the skeleton is normal, and all its receptions are derivable.
 pub(crate) fn is_fit(alloc: Global, k: &Skeleton) -> Result<bool, AllocError>
     ensures { IfOk result (λ fit. IsTrue fit ↔ IsFit (skeleton_view k.now)) }
 {

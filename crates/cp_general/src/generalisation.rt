@@ -1,4 +1,4 @@
-// Generalising a skeleton, step by step.
+// Generalises a skeleton, step by step.
 ghost use Rattle.std.specs.Prelude.{◌≡◌, IfOk, OnOk, IfSome, IfNone};
 ghost use Rattle.cp_model.specs.Homomorphism.{Embeds};
 ghost use Rattle.cp_model.specs.Skeleton.{Skeleton as Plain};
@@ -15,7 +15,7 @@ use crate::pairs::with_all_pairs;
 use cp_skel::Skeleton;
 use std::alloc::{AllocError, Global};
 
-/// Deletes strands as long as one can be. The error is that memory ran out.
+/// Deletes strands until none can be deleted.
 fn delete_strands(alloc: Global, k: &mut Skeleton) -> Result<(), AllocError>
     ensures comes { OnOk result ((first : Plain) → ComesBySteps first (skeleton_view k.old) → ComesBySteps first (skeleton_view k.new)) }
     ensures last { OnOk result (DeletesNone (skeleton_view k.new)) }
@@ -27,7 +27,7 @@ fn delete_strands(alloc: Global, k: &mut Skeleton) -> Result<(), AllocError>
     Ok(())
 }
 
-/// What is left when strands are deleted as long as one can be; none where none can. The error is that memory ran out.
+/// The skeleton after strands are deleted until none can be; `None` if none can be deleted at first.
 fn deleted(alloc: Global, k: &Skeleton) -> Result<Option<Skeleton>, AllocError>
     ensures some { IfOk result (λ found. IfSome found (λ h. ComesBySteps (skeleton_view k.now) (skeleton_view h))) }
     ensures last { IfOk result (λ found. IfSome found (λ h. DeletesNone (skeleton_view h))) }
@@ -43,7 +43,7 @@ fn deleted(alloc: Global, k: &Skeleton) -> Result<Option<Skeleton>, AllocError>
     }
 }
 
-/// Drops pairs of a skeleton that is fit and lists all pairs of its order, as long as one can be. The error is that memory ran out.
+/// Drops pairs until none can be dropped. The skeleton must be fit and list all pairs of its order.
 fn drop_pairs(alloc: Global, k: &mut Skeleton) -> Result<(), AllocError>
     requires lists { ListsOrder (skeleton_view k.old) k.old.order }
     requires fit { IsFit (skeleton_view k.old) }
@@ -56,8 +56,8 @@ fn drop_pairs(alloc: Global, k: &mut Skeleton) -> Result<(), AllocError>
     Ok(())
 }
 
-/// What is left of a skeleton when pairs are dropped as long as one can be; none where none can. It is fit and lists all pairs of its
-/// order. The error is that memory ran out.
+/// The skeleton after pairs are dropped until none can be; `None` if none can be dropped at first. It must be fit and list all
+/// pairs of its order.
 fn dropped_of_all(alloc: Global, all: &Skeleton) -> Result<Option<Skeleton>, AllocError>
     requires lists { ListsOrder (skeleton_view all.now) all.now.order }
     requires fit { IsFit (skeleton_view all.now) }
@@ -75,8 +75,8 @@ fn dropped_of_all(alloc: Global, all: &Skeleton) -> Result<Option<Skeleton>, All
     }
 }
 
-/// What is left when pairs are dropped as long as one can be, where the skeleton is fit and no strand can be deleted; none where no
-/// pair can be dropped. The error is that memory ran out.
+/// The skeleton after pairs are dropped until none can be; `None` if none can be dropped at first. It must be fit, and no strand
+/// of it may be deletable.
 fn dropped_where_fit(alloc: Global, k: &Skeleton) -> Result<Option<Skeleton>, AllocError>
     requires none { DeletesNone (skeleton_view k.now) }
     requires fit { IsFit (skeleton_view k.now) }
@@ -89,8 +89,8 @@ fn dropped_where_fit(alloc: Global, k: &Skeleton) -> Result<Option<Skeleton>, Al
     dropped_of_all(alloc, &all)
 }
 
-/// What is left when pairs are dropped as long as one can be, where no strand can be deleted: that stays so. None where no pair can
-/// be dropped, which is seen at once where the problem and unique values give all pairs. The error is that memory ran out.
+/// The skeleton after pairs are dropped until none can be; `None` if none can be dropped at first, which is clear at once if the
+/// problem and unique values give all its pairs. No strand may be deletable; dropping pairs keeps it so.
 fn dropped(alloc: Global, k: &Skeleton) -> Result<Option<Skeleton>, AllocError>
     requires { DeletesNone (skeleton_view k.now) }
     ensures some { IfOk result (λ found. IfSome found (λ g. GeneralisesTo (skeleton_view k.now) (skeleton_view g))) }
@@ -107,7 +107,7 @@ fn dropped(alloc: Global, k: &Skeleton) -> Result<Option<Skeleton>, AllocError>
     dropped_where_fit(alloc, k)
 }
 
-/// Drops pairs as long as one can be, where no strand can be deleted. The error is that memory ran out.
+/// Drops pairs until none can be dropped. No strand may be deletable.
 fn drop_further(alloc: Global, k: &mut Skeleton) -> Result<(), AllocError>
     requires { DeletesNone (skeleton_view k.old) }
     ensures leads { OnOk result ((first : Plain) → ComesBySteps first (skeleton_view k.old) → GeneralisesTo first (skeleton_view k.new)) }
@@ -122,10 +122,13 @@ fn drop_further(alloc: Global, k: &mut Skeleton) -> Result<(), AllocError>
     }
 }
 
-/// What a skeleton generalises to by one step or more; none exactly where no step applies to it. A step deletes a strand to which
-/// no strand of the problem goes, the highest number first, or drops a covering pair of the order that neither the problem states
-/// nor a unique value adds, the lowest first; it is taken where what is left is normal and realised, and keeps what the problem
-/// states of the order. After each step the first is tried again. The error is that memory ran out.
+/// Generalises a skeleton by one step or more; `None` exactly if no step applies. There are two kinds of step:
+///
+/// - delete a strand to which no strand of the problem maps, the highest number first;
+/// - drop a covering pair of the order that is neither stated by the problem nor added by a unique value, the lowest first.
+///
+/// A step is taken if the rest is normal and realised and keeps what the problem states of the order. After each step the first
+/// kind is tried again.
 pub fn generalised(alloc: Global, k: &Skeleton) -> Result<Option<Skeleton>, AllocError>
     ensures some { IfOk result (λ found. IfSome found (λ g. GeneralisesTo (skeleton_view k.now) (skeleton_view g))) }
     ensures none { IfOk result (λ found. IfNone found (IsMostGeneral (skeleton_view k.now))) }
@@ -140,9 +143,8 @@ pub fn generalised(alloc: Global, k: &Skeleton) -> Result<Option<Skeleton>, Allo
     }
 }
 
-/// The generalisation of a skeleton: what it generalises to, or the skeleton itself where no step applies to it. It embeds in the
-/// skeleton over the problem, no step applies to it, and where the skeleton is normal and realised it is so too. The error is that
-/// memory ran out.
+/// The generalisation of a skeleton: the result of [`generalised`], or the skeleton itself if no step applies. It embeds in the
+/// skeleton over the problem, and no step applies to it. If the skeleton is normal and realised, so is the generalisation.
 pub fn generalise(alloc: Global, k: &Skeleton) -> Result<Skeleton, AllocError>
     ensures exact { IfOk result (λ g. IsGeneralisationOf (skeleton_view k.now) (skeleton_view g)) }
     ensures most_general { IfOk result (λ g. IsMostGeneral (skeleton_view g)) }

@@ -1,4 +1,4 @@
-// Laws of generalising: each stands as the contract of a function that does nothing.
+// Laws of generalising. Each is the contract of a function that does nothing.
 ghost use Rattle.std.specs.Prelude.{List};
 ghost use Rattle.cp_model.specs.Strand.{Declaration, Protocol};
 ghost use Rattle.cp_model.specs.Skeleton.{Skeleton, IsSkeleton};
@@ -10,11 +10,15 @@ ghost use Rattle.cp_model.specs.Stated.{KeepsStated};
 ghost use Rattle.cp_general.specs.Fit.{IsFit};
 ghost use Rattle.cp_general.specs.Generalisation.{IsMostGeneral, GeneralisesTo};
 
-/// What a skeleton over a protocol generalises to is one too. Where the skeleton keeps what its problem states and carries a
-/// homomorphism from it, so does what it generalises to; the problem is a point-of-view skeleton over the protocol. What it
-/// generalises to embeds in it over the problem, is normal, and is realised: all its receptions can be derived, and in some bundle
-/// it stands apart, alone, and with no order beyond its own. Its assumptions are true of it, its variables are declared where those
-/// of the skeleton are, and no step of generalising applies to it.
+/// Let a skeleton over a protocol generalise to another. The result:
+///
+/// - is a skeleton over the protocol and embeds in the original over the problem;
+/// - carries a homomorphism from the problem and keeps what the problem states, if the original does and the problem is a
+///   point-of-view skeleton over the protocol;
+/// - has declared variables if the original does, and its assumptions are true of it;
+/// - is normal, and all its receptions are derivable;
+/// - is realised: in some bundle it stands apart, alone, and with no order beyond its own;
+/// - admits no further step of generalising.
 pub fn generalisations_are_sound()
     ensures skeleton { (protocol : Protocol) (k g : Skeleton) → IsSkeleton protocol k → GeneralisesTo k g → IsSkeleton protocol g }
     ensures embeds { (protocol : Protocol) (k g : Skeleton) → IsSkeleton protocol k → GeneralisesTo k g → Embeds g k }

@@ -1,4 +1,5 @@
-//! Generalising skeletons.
+//! Generalisation: removes from a realised skeleton the strands and the order pairs that it does not need. Every call that
+//! returns `AllocError` fails only when memory runs out.
 #![tactic(auto)]
 
 mod covering_pairs;

@@ -11,7 +11,7 @@ ghost use Rattle.cp_general.specs.ListedPairs.{ListsOrder, is_transmission, is_r
 use cp_skel::{Event, Leading, Node, Occurrence, Order, OrderPair, Skeleton, SortedPairs};
 use std::alloc::{AllocError, Global};
 
-/// The node of a reception, and the nodes that lead to it.
+/// A reception's node and the nodes that lead to it.
 #[derive(Drop)]
 struct Reception<'a> {
     node: Node,
@@ -66,14 +66,14 @@ fn receptions<'a>(
     Ok(receptions)
 }
 
-/// Whether a node leads to the reception, which is on another strand.
+/// Whether a node leads to the reception and is on another strand.
 fn leads_across(from: Node, to: &Reception<'_>) -> bool
     ensures { result ≡ leads_across from to.now }
 {
     from.strand != to.node.strand && to.leading.has(from)
 }
 
-/// Puts the pairs from a node to those of these receptions to which it leads behind others.
+/// Appends the pairs from a node to each of these receptions to which it leads.
 fn add_pairs_from(
     from: Node,
     tos: &[Reception<'_>],
@@ -93,7 +93,7 @@ fn add_pairs_from(
     Ok(())
 }
 
-/// The pairs from each of these nodes to those of the receptions to which it leads.
+/// The pairs from each of these nodes to each of the receptions to which it leads.
 fn pairs_between(
     alloc: Global,
     froms: &[Node],
@@ -108,8 +108,7 @@ fn pairs_between(
     Ok(pairs)
 }
 
-/// All pairs of the skeleton's order that go from a transmission to a reception of another strand, from the lowest on. The error is
-/// that memory ran out.
+/// All pairs of the skeleton's order from a transmission to a reception of another strand, in ascending order.
 fn pairs_of_order(alloc: Global, k: &Skeleton) -> Result<Vec<OrderPair>, AllocError>
     ensures { IfOk result (λ ps. ListsOrder (skeleton_view k.now) ps.items) }
 {
@@ -121,7 +120,7 @@ fn pairs_of_order(alloc: Global, k: &Skeleton) -> Result<Vec<OrderPair>, AllocEr
     pairs_between(alloc, &sent, &received)
 }
 
-/// The skeleton with another order, with which it has to be sound. The error is that memory ran out.
+/// The skeleton with another order, with which it must be sound.
 pub(crate) fn reordered(alloc: Global, k: &Skeleton, order: Order) -> Result<Skeleton, AllocError>
     requires { IsSound (ordered_by (skeleton_view k.now) order) }
     ensures { IfOk result (λ h. h ≡ record (k.now) { order = order }) }
@@ -135,7 +134,7 @@ pub(crate) fn reordered(alloc: Global, k: &Skeleton, order: Order) -> Result<Ske
     ))
 }
 
-/// The skeleton with all pairs of its order. The error is that memory ran out.
+/// The skeleton, listing all pairs of its order.
 pub(crate) fn with_all_pairs(alloc: Global, k: &Skeleton) -> Result<Skeleton, AllocError>
     ensures same { IfOk result (λ h. h ≡ record (k.now) { order = h.order }) }
     ensures before { IfOk result (λ h. (x y : Plain) → Before (skeleton_view h) x y ↔ Before (skeleton_view k.now) x y) }

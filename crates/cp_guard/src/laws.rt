@@ -1,4 +1,4 @@
-//! Matching by ground messages is decided, and what is inside the patterns stays inside under values.
+//! Laws: matching by ground messages is decided, and an assignment keeps inside what is inside the patterns.
 ghost use Rattle.std.specs.Prelude.{List, Bool};
 ghost use Rattle.cp_model.specs.Message.{Key, Message};
 ghost use Rattle.cp_model.specs.Term.{Term, Assignment, Substitution, after};
@@ -6,12 +6,12 @@ ghost use Rattle.cp_model.specs.Tree.{Pattern};
 ghost use Rattle.cp_term.specs.declared.path.Step.{Step};
 ghost use Rattle.cp_guard.specs.Inside.{IsInside, IsBroughtInside, TellsProtected};
 
-/// There is a test that tells which encryptions the patterns protect.
+/// Some test tells which encryptions the patterns protect.
 pub fn matching_is_decided()
     ensures { (ps : List Pattern) (g : Assignment) → (test : Message → Key → Bool) × TellsProtected ps g test }
 {}
 
-/// Any values bring a position inside that is inside the patterns.
+/// If a position is inside the patterns, every assignment brings it inside.
 pub fn values_bring_inside()
     ensures { (ps : List Pattern) (s : Substitution) (g : Assignment) (t : Term) (path : List Step) → IsInside ps s t path → IsBroughtInside ps (after g s) g t path }
 {}

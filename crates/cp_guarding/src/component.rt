@@ -4,7 +4,7 @@ ghost use Rattle.cp_guard.specs.Critical.{IsComponent};
 
 use cp_term::{Shape, Term};
 
-/// Whether the first term is a component of the other: a part of its pair tree that is no pair.
+/// Whether `part` is a component of `whole`: a part of its pair tree that is not a pair itself.
 pub(crate) fn is_component(part: &Term, whole: &Term) -> bool
     ensures { IsTrue result ↔ IsComponent part.now whole.now }
 {

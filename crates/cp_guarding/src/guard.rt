@@ -1,4 +1,4 @@
-// Whether patterns guard a test.
+// Tests whether patterns guard a test.
 ghost use Rattle.std.specs.Prelude.{◌↔◌, IsTrue, IfOk};
 ghost use Rattle.cp_guard.specs.Guards.{Guards};
 ghost use Rattle.cp_skel.specs.View.{skeleton_view};
@@ -11,9 +11,9 @@ use cp_skel::{Node, Skeleton};
 use cp_term::{Pattern, Term};
 use std::alloc::{AllocError, Global};
 
-/// Whether the patterns guard the test of the critical term at the node: the key of none of them holds a local; the variables of
-/// the term, and the others of the patterns, are variables of the skeleton; and each transmission of a role strand before the
-/// node carries the term inside the patterns alone. The error is that memory ran out.
+/// Whether the patterns guard the test of the critical term at the node: no pattern's key holds a local; the variables of the
+/// term, and those of the patterns except the locals, are variables of the skeleton; and each transmission of a role strand
+/// before the node carries the term inside the patterns alone.
 pub fn is_guarded(
     alloc: Global,
     k: &Skeleton,

@@ -1,5 +1,5 @@
-//! Whether a term is to be tested at a node of a skeleton, and whether patterns guard the test: what has to hold before the
-//! children of a test are asked for.
+//! Decides what must hold before the children of a test are computed: that a term is a test at a node of a skeleton, and that
+//! patterns guard the test. Every call that returns `AllocError` fails only when memory runs out.
 #![tactic(auto)]
 
 mod component;

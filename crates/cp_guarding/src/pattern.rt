@@ -24,8 +24,7 @@ fn holds_local(locals: &[VarId], key: &Term) -> bool
     }
 }
 
-/// Whether the pattern may guard tests, where the variables of these events are used: its key holds no local, and its other
-/// variables are used.
+/// Whether the pattern may guard tests: its key holds no local, and its other variables occur in these events.
 fn may_guard(events: &[Event], pattern: &Pattern) -> bool
     ensures { IsTrue result ↔ MayGuard (variables_of_trace (map event_view events.now)) pattern.now }
 {
@@ -40,7 +39,7 @@ fn may_guard(events: &[Event], pattern: &Pattern) -> bool
     all_within(events, locals, term)
 }
 
-/// Whether each of the patterns may guard tests, where the variables of these events are used.
+/// Whether each of the patterns may guard tests: its key holds no local, and its other variables occur in these events.
 pub(crate) fn all_may_guard(events: &[Event], patterns: &[Pattern]) -> bool
     ensures { IsTrue result ↔ ((p : Plain) → IsIn p patterns.now → MayGuard (variables_of_trace (map event_view events.now)) p) }
 {

@@ -1,4 +1,4 @@
-// What role strands send before a node.
+// Transmissions of role strands before a node.
 ghost use Rattle.std.specs.Prelude.{◌≡◌, ◌↔◌, IsTrue, IfOk};
 ghost use Rattle.cp_model.specs.Skeleton.{IsNodeOf};
 ghost use Rattle.cp_skel.specs.Events.{occurrence_view};
@@ -12,8 +12,8 @@ use cp_term::{Pattern, Term};
 use cp_unify::Subst;
 use std::alloc::{AllocError, Global};
 
-/// Whether the event, where a role strand sends it before the node, carries the critical term inside the patterns alone, by the
-/// nodes that lead to that node along the skeleton's pairs, which were gathered. The node has to be there.
+/// Whether the event carries the critical term inside the patterns alone, if it is a transmission of a role strand before the
+/// node. `leading` must hold the nodes that lead to the node along the skeleton's pairs, and the node must exist.
 fn is_guarded_at(
     alloc: Global,
     k: &Skeleton,

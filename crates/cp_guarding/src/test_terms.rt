@@ -1,4 +1,4 @@
-// Whether a term is to be tested at a node.
+// Tests whether a term is a test at a node.
 ghost use Rattle.std.specs.Prelude.{◌≡◌, ◌↔◌, option_map, IsTrue, IfOk};
 ghost use Rattle.cp_guard.specs.Critical.{IsTest};
 ghost use Rattle.cp_model.specs.Skeleton.{term_event_at};
@@ -22,7 +22,7 @@ pub(crate) fn event_at(alloc: Global, k: &Skeleton, node: Node) -> Result<Option
     }
 }
 
-/// Whether a message is received at the node of which the term is a component.
+/// Whether the node receives a message of which the term is a component.
 fn is_heard(alloc: Global, k: &Skeleton, node: Node, term: &Term) -> Result<bool, AllocError>
     ensures { IfOk result (λ answer. IsTrue answer ↔ IsHeardAt (skeleton_view k.now) node term.now) }
 {
@@ -32,8 +32,8 @@ fn is_heard(alloc: Global, k: &Skeleton, node: Node, term: &Term) -> Result<bool
     }
 }
 
-/// Whether the term is to be tested at the node of the skeleton: a message is received there of which it is a component, and it
-/// cannot be derived there. The error is that memory ran out.
+/// Whether the term is a test at the node of the skeleton: it is a component of the message received there, and not derivable
+/// there.
 pub fn is_test(alloc: Global, k: &Skeleton, node: Node, critical: &Term) -> Result<bool, AllocError>
     ensures { IfOk result (λ answer. IsTrue answer ↔ IsTest (skeleton_view k.now) node critical.now) }
 {

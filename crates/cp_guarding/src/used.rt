@@ -1,4 +1,4 @@
-// What uses the variables of a skeleton.
+// The uses of a skeleton's variables.
 ghost use Rattle.std.specs.Prelude.{◌≡◌, ◌++◌, map, IfOk, OnOk};
 ghost use Rattle.cp_completeness.specs.Normal.{variables_of_terms};
 ghost use Rattle.cp_guard.specs.Critical.{used_variables};
@@ -14,7 +14,7 @@ use cp_skel::{Atom, Event, Occurrence, Skeleton, UniqueAt};
 use cp_term::Term;
 use std::alloc::{AllocError, Global};
 
-/// Puts a transmission of the term behind others.
+/// Appends a transmission of the term.
 fn add_term(term: &Term, events: &mut Vec<Event>) -> Result<(), AllocError>
     ensures { OnOk result (variables_of_trace (map event_view events.new.items) ≡ variables_of_trace (map event_view events.old.items) ++ variables_of term.now) }
 {
@@ -23,7 +23,7 @@ fn add_term(term: &Term, events: &mut Vec<Event>) -> Result<(), AllocError>
     Ok(())
 }
 
-/// Puts transmissions of the terms behind others.
+/// Appends transmissions of the terms.
 fn add_terms(terms: &[Term], events: &mut Vec<Event>) -> Result<(), AllocError>
     ensures { OnOk result (variables_of_trace (map event_view events.new.items) ≡ variables_of_trace (map event_view events.old.items) ++ variables_of_terms terms.now) }
 {
@@ -33,7 +33,7 @@ fn add_terms(terms: &[Term], events: &mut Vec<Event>) -> Result<(), AllocError>
     Ok(())
 }
 
-/// Puts transmissions of the atoms behind others.
+/// Appends transmissions of the atoms.
 fn add_atoms(atoms: &[Atom], events: &mut Vec<Event>) -> Result<(), AllocError>
     ensures { OnOk result (variables_of_trace (map event_view events.new.items) ≡ variables_of_trace (map event_view events.old.items) ++ variables_of_atoms atoms.now) }
 {
@@ -43,7 +43,7 @@ fn add_atoms(atoms: &[Atom], events: &mut Vec<Event>) -> Result<(), AllocError>
     Ok(())
 }
 
-/// Puts transmissions of the unique values behind others.
+/// Appends transmissions of the unique values.
 fn add_uniques(uniques: &[UniqueAt], events: &mut Vec<Event>) -> Result<(), AllocError>
     ensures { OnOk result (variables_of_trace (map event_view events.new.items) ≡ variables_of_trace (map event_view events.old.items) ++ variables_of_uniques uniques.now) }
 {
@@ -53,7 +53,7 @@ fn add_uniques(uniques: &[UniqueAt], events: &mut Vec<Event>) -> Result<(), Allo
     Ok(())
 }
 
-/// Puts transmissions of the messages behind others.
+/// Appends transmissions of the messages.
 fn add_messages(occurrences: &[Occurrence], events: &mut Vec<Event>) -> Result<(), AllocError>
     ensures { OnOk result (variables_of_trace (map event_view events.new.items) ≡ variables_of_trace (map event_view events.old.items) ++ variables_of_occurrences (map occurrence_view occurrences.now)) }
 {
@@ -63,8 +63,8 @@ fn add_messages(occurrences: &[Occurrence], events: &mut Vec<Event>) -> Result<(
     Ok(())
 }
 
-/// Transmissions of all terms in which the skeleton uses variables: its messages, the values that it assumes something of, and
-/// what the variables of its problem are in it.
+/// Transmissions of all terms in which the skeleton uses variables: its messages, the values of its assumptions, and the values
+/// of its problem's variables.
 pub(crate) fn used_in(alloc: Global, k: &Skeleton) -> Result<Vec<Event>, AllocError>
     ensures { IfOk result (λ es. variables_of_trace (map event_view es.items) ≡ used_variables (skeleton_view k.now)) }
 {

@@ -1,4 +1,4 @@
-// Whether the variables of terms are among those that are there.
+// Tests whether the variables of terms are among given ones.
 ghost use Rattle.std.specs.Prelude.{◌≡◌, ◌||◌, map};
 ghost use Rattle.cp_model.specs.Same.{has_variable};
 ghost use Rattle.cp_model.specs.Strand.{variables_of_trace};

@@ -1,4 +1,4 @@
-// Pairs of the order that a partial map breaks.
+// Order pairs that a partial map breaks.
 ghost use Rattle.std.specs.Prelude.{◌≡◌, IsTrue, IfOk, IfSome};
 ghost use Rattle.cp_model.specs.Homomorphism.{SkeletonMap, mapped};
 ghost use Rattle.cp_skel.specs.View.{skeleton_view};
@@ -22,7 +22,7 @@ fn image_of_node(placements: &[Placement], node: Node) -> Option<Node>
     })
 }
 
-/// Whether both strands of a pair are placed, and its image is not kept.
+/// Fast test: true only if no map with these placements keeps the pair. It looks only at pairs whose strands are both placed.
 fn is_broken(
     alloc: Global,
     pair: &OrderPair,
@@ -41,7 +41,8 @@ fn is_broken(
     Ok(!leads)
 }
 
-/// Whether the image of a pair is not kept, among those that have a node on this strand and whose strands are both placed.
+/// Fast test: true only if no map with these placements keeps the pairs. It looks only at pairs that have a node on this strand
+/// and whose strands are both placed.
 fn breaks_pairs(
     alloc: Global,
     pairs: &[OrderPair],
@@ -62,7 +63,8 @@ fn breaks_pairs(
     Ok(false)
 }
 
-/// Whether the item is a strand, and the strands that are placed with it do not keep the order. The error is that memory ran out.
+/// Fast test: true only if no map with these placements keeps the order. It looks only at the pairs of the item's strand, if the
+/// item is a strand.
 pub(crate) fn breaks_order(
     alloc: Global,
     a: &Skeleton,

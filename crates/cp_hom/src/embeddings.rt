@@ -1,4 +1,4 @@
-// Embeddings of skeletons in others.
+// Embeddings of skeletons.
 ghost use Rattle.std.specs.Prelude.{◌↔◌, IsTrue, IfOk, IfSome, IfNone};
 ghost use Rattle.cp_model.specs.Homomorphism.{SkeletonMap, IsEmbedding};
 ghost use Rattle.cp_skel.specs.View.{skeleton_view};
@@ -13,8 +13,7 @@ use crate::strand_map::Map;
 use cp_skel::Skeleton;
 use std::alloc::{AllocError, Global};
 
-/// An embedding of a skeleton in another, over what comes from the problem; none exactly where there is none. The error is
-/// that memory ran out.
+/// An embedding of `a` in `b` over the problem; `None` exactly if there is none.
 pub fn embed(alloc: Global, a: &Skeleton, b: &Skeleton) -> Result<Option<Map>, AllocError>
     ensures some { IfOk result (λ found. IfSome found (λ f. IsEmbedding (skeleton_view a.now) (skeleton_view b.now) (map_view f))) }
     ensures none { IfOk result (λ found. IfNone found ((f : SkeletonMap) → IsEmbedding (skeleton_view a.now) (skeleton_view b.now) f → ⊥)) }
@@ -25,7 +24,7 @@ pub fn embed(alloc: Global, a: &Skeleton, b: &Skeleton) -> Result<Option<Map>, A
     embed_by_search(alloc, a, b)
 }
 
-/// The same without a first look whether there is room.
+/// The same without the first test that counts the strands of each role.
 fn embed_by_search(alloc: Global, a: &Skeleton, b: &Skeleton) -> Result<Option<Map>, AllocError>
     ensures some { IfOk result (λ found. IfSome found (λ f. IsEmbedding (skeleton_view a.now) (skeleton_view b.now) (map_view f))) }
     ensures none { IfOk result (λ found. IfNone found ((f : SkeletonMap) → IsEmbedding (skeleton_view a.now) (skeleton_view b.now) f → ⊥)) }
@@ -39,8 +38,8 @@ fn embed_by_search(alloc: Global, a: &Skeleton, b: &Skeleton) -> Result<Option<M
     search(alloc, a, b, &items, given)
 }
 
-/// Whether each of two skeletons embeds in the other. There is no first look whether there is room: it is mostly asked of
-/// skeletons whose fingerprints agree. The error is that memory ran out.
+/// Whether each of two skeletons embeds in the other. This omits the first test that counts the strands of each role: callers
+/// mostly pass skeletons whose fingerprints agree.
 pub fn isomorphic(alloc: Global, a: &Skeleton, b: &Skeleton) -> Result<bool, AllocError>
     ensures exact { IfOk result (λ same. IsTrue same ↔ IsIsomorphic (skeleton_view a.now) (skeleton_view b.now)) }
 {

@@ -1,4 +1,4 @@
-// What comes from the problem, matched.
+// Matches the maps from the problem.
 ghost use Rattle.std.specs.Prelude.{◌≡◌, map, IfOk};
 ghost use Rattle.cp_model.specs.Term.{apply_to};
 ghost use Rattle.cp_skel.specs.View.{skeleton_view};
@@ -10,7 +10,7 @@ use cp_skel::Skeleton;
 use cp_term::Term;
 use std::alloc::{AllocError, Global};
 
-/// Sends the strands of one list to those of another, in their order.
+/// Maps the strands of one list to those of another, in order.
 fn match_number_lists(
     strands: &[usize],
     others: &[usize],
@@ -31,7 +31,7 @@ fn match_number_lists(
     Ok(Some(found))
 }
 
-/// Makes the terms of one list those of another, in their order.
+/// Maps the terms of one list to those of another, in order.
 fn match_term_lists(
     alloc: Global,
     terms: &[Term],
@@ -53,7 +53,7 @@ fn match_term_lists(
     Ok(Some(found))
 }
 
-/// The partial map that makes what the first skeleton has from the problem what the second has from it.
+/// The partial map under which the first skeleton's map from the problem becomes the second's.
 pub(crate) fn start(
     alloc: Global,
     a: &Skeleton,

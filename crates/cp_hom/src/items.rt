@@ -1,4 +1,4 @@
-// The parts of a skeleton that an embedding places among those of another.
+// The parts of a skeleton that an embedding maps to parts of another.
 ghost use Rattle.std.specs.Prelude.{◌≡◌, IfOk, OnOk};
 ghost use Rattle.cp_skel.specs.View.{skeleton_view};
 ghost use Rattle.cp_hom.specs.Counterparts.{count_of, AreItemsOf, AddsItems, AddsAll};
@@ -8,7 +8,7 @@ use cp_fingerprint::places_of;
 use cp_skel::Skeleton;
 use std::alloc::{AllocError, Global};
 
-/// What an item is: a strand, or an assumption of one of the three lists.
+/// The kind of an item: strands, or one of the three lists of assumptions.
 #[derive(Clone, Copy, Debug, PartialEq, Eq)]
 pub(crate) enum Kind {
     Strands,
@@ -17,14 +17,14 @@ pub(crate) enum Kind {
     Uniques,
 }
 
-/// A strand or an assumption of a skeleton, by its number.
+/// A strand or an assumption of a skeleton, by its kind and number.
 #[derive(Clone, Copy, Debug, PartialEq, Eq)]
 pub(crate) struct Item {
     pub(crate) kind: Kind,
     pub(crate) index: usize,
 }
 
-/// How many items of a kind a skeleton has.
+/// The number of items of a kind that a skeleton has.
 pub(crate) fn count(kind: Kind, k: &Skeleton) -> usize
     ensures { result ≡ count_of kind (skeleton_view k.now) }
 {
@@ -36,7 +36,7 @@ pub(crate) fn count(kind: Kind, k: &Skeleton) -> usize
     }
 }
 
-/// Puts the items of a kind behind others.
+/// Appends the items of a kind.
 fn add_items(kind: Kind, k: &Skeleton, items: &mut Vec<Item>) -> Result<(), AllocError>
     ensures { OnOk result (AddsAll kind (skeleton_view k.now) items.old.items items.new.items) }
 {
@@ -46,7 +46,7 @@ fn add_items(kind: Kind, k: &Skeleton, items: &mut Vec<Item>) -> Result<(), Allo
     Ok(())
 }
 
-/// Puts the unique values with their origins on a strand behind other items.
+/// Appends the unique values whose origins are on a strand.
 fn add_uniques_on(strand: usize, k: &Skeleton, items: &mut Vec<Item>) -> Result<(), AllocError>
     ensures { OnOk result (AddsItems (skeleton_view k.now) items.old.items items.new.items) }
 {
@@ -61,8 +61,8 @@ fn add_uniques_on(strand: usize, k: &Skeleton, items: &mut Vec<Item>) -> Result<
     Ok(())
 }
 
-/// Puts the strands all of whose values are the problem's or stand on other strands too behind other items, behind each the unique
-/// values with their origins on it. They can go to few strands, and those with values of their own to many.
+/// Appends the strands all of whose values are the problem's or stand on other strands too, each followed by the unique values
+/// with origins on it. Such strands have few possible images; those with values of their own have many.
 fn add_sharing_strands(alloc: Global, k: &Skeleton, items: &mut Vec<Item>) -> Result<(), AllocError>
     ensures { OnOk result (AddsItems (skeleton_view k.now) items.old.items items.new.items) }
 {
@@ -78,8 +78,7 @@ fn add_sharing_strands(alloc: Global, k: &Skeleton, items: &mut Vec<Item>) -> Re
     Ok(())
 }
 
-/// Puts the strands behind other items, behind each the unique values with their origins on it: these tell at once where
-/// the strand cannot go.
+/// Appends the strands, each followed by the unique values with origins on it, which show early where the strand cannot go.
 fn add_strands(k: &Skeleton, items: &mut Vec<Item>) -> Result<(), AllocError>
     ensures { OnOk result (AddsAll Kind.Strands (skeleton_view k.now) items.old.items items.new.items) }
 {
@@ -91,7 +90,7 @@ fn add_strands(k: &Skeleton, items: &mut Vec<Item>) -> Result<(), AllocError>
     Ok(())
 }
 
-/// All items of a skeleton, its strands first, and of these those that share all their values.
+/// All items of a skeleton: strands first, starting with those that share all their values.
 pub(crate) fn items(alloc: Global, k: &Skeleton) -> Result<Vec<Item>, AllocError>
     ensures { IfOk result (λ v. AreItemsOf (skeleton_view k.now) v.items) }
 {

@@ -1,4 +1,4 @@
-// Whether maps keep role strands apart, and the order.
+// Tests whether maps keep role strands apart and keep the order.
 ghost use Rattle.std.specs.Prelude.{◌≡◌, ◌≢◌, ◌↔◌, map, IsTrue, IfOk};
 ghost use Rattle.cp_model.specs.Order.{IsAtOrAfter, LeadsTo};
 ghost use Rattle.cp_strand.specs.View.{strand_view};
@@ -22,7 +22,7 @@ fn is_role_strand(strands: &[Strand], strand: usize) -> bool
     }
 }
 
-/// Whether a placement sends another role strand than this to this image.
+/// Whether a placement maps another role strand to this image.
 fn holds_image(strands: &[Strand], strand: usize, image: usize, placement: Placement) -> bool
     ensures { IsTrue result ↔ HoldsImage (map strand_view strands.now) strand image placement }
 {
@@ -31,7 +31,7 @@ fn holds_image(strands: &[Strand], strand: usize, image: usize, placement: Place
         && is_role_strand(strands, placement.strand)
 }
 
-/// Whether another role strand than this is placed and goes to this image.
+/// Whether another role strand is placed at this image.
 fn is_taken(strands: &[Strand], strand: usize, image: usize, placements: &[Placement]) -> bool
     ensures { IsTrue result ↔ IsTaken (map strand_view strands.now) strand image placements.now }
 {
@@ -43,7 +43,7 @@ fn is_taken(strands: &[Strand], strand: usize, image: usize, placements: &[Place
     false
 }
 
-/// Whether an item is a role strand, and another role strand is placed and goes to this image.
+/// Whether an item is a role strand and another role strand is placed at this image.
 pub(crate) fn is_blocked(
     strands: &[Strand],
     item: Item,
@@ -57,7 +57,7 @@ pub(crate) fn is_blocked(
         && is_taken(strands, item.index, image, placements)
 }
 
-/// Whether an item is a strand that is placed, and goes to another image than this.
+/// Whether an item is a strand that is placed at another image.
 pub(crate) fn is_elsewhere(item: Item, image: usize, placements: &[Placement]) -> bool
     ensures { IsTrue result ↔ IsElsewhere item image placements.now }
 {
@@ -70,7 +70,7 @@ pub(crate) fn is_elsewhere(item: Item, image: usize, placements: &[Placement]) -
     }
 }
 
-/// Whether two strands are instances of roles and go to one strand.
+/// Whether two strands are both instances of roles and map to one strand.
 fn meet(strands: &[Strand], mapping: &Map, strand: usize, other: usize) -> bool
     ensures { IsTrue result ↔ (IsRoleStrand (map strand_view strands.now) strand
         × IsRoleStrand (map strand_view strands.now) other
@@ -81,7 +81,7 @@ fn meet(strands: &[Strand], mapping: &Map, strand: usize, other: usize) -> bool
         && mapping.strand(other) == mapping.strand(strand)
 }
 
-/// Whether a strand is an instance of a role and goes where an earlier one goes.
+/// Whether a strand is an instance of a role and maps to the image of an earlier instance.
 fn meets_earlier(strands: &[Strand], mapping: &Map, strand: usize) -> bool
     ensures { IsTrue result ↔ MeetsEarlier (map strand_view strands.now) (map_view mapping.now).strands strand }
 {
@@ -93,7 +93,7 @@ fn meets_earlier(strands: &[Strand], mapping: &Map, strand: usize) -> bool
     false
 }
 
-/// Whether different role strands go to different strands.
+/// Whether distinct role strands map to distinct strands.
 pub(crate) fn keeps_apart(strands: &[Strand], mapping: &Map) -> bool
     ensures { IsTrue result ↔ KeepsApart (map strand_view strands.now) (map_view mapping.now).strands }
 {
@@ -112,7 +112,8 @@ fn is_same_node(x: Node, y: Node) -> bool
     x.strand == y.strand && x.index == y.index
 }
 
-/// Whether a node leads to another over this pair, along the strands of its two nodes.
+/// Whether a node leads to another over this pair: it is at or before the pair's earlier node, and the pair's later node is at or
+/// before the other.
 fn leads_over(pair: &OrderPair, x: Node, y: Node) -> bool
     ensures { IsTrue result ↔ (IsAtOrAfter x pair.now.earlier × IsAtOrAfter pair.now.later y) }
 {
@@ -122,7 +123,7 @@ fn leads_over(pair: &OrderPair, x: Node, y: Node) -> bool
         && pair.later.index <= y.index
 }
 
-/// Whether a node leads to another over one of the pairs alone.
+/// Fast test: true only if a node leads to another along strands and these pairs. It looks at each pair alone.
 fn leads_over_one(pairs: &[OrderPair], x: Node, y: Node) -> bool
     ensures { IsTrue result → LeadsTo pairs.now x y }
 {
@@ -134,7 +135,7 @@ fn leads_over_one(pairs: &[OrderPair], x: Node, y: Node) -> bool
     false
 }
 
-/// Whether a node leads to another along strands and these pairs. The error is that memory ran out.
+/// Whether a node leads to a different one along strands and these pairs.
 pub(crate) fn leads_to_another(
     alloc: Global,
     pairs: &[OrderPair],
@@ -147,7 +148,7 @@ pub(crate) fn leads_to_another(
     if is_same_node(x, y) {
         return Ok(false);
     }
-    // Most pairs go to pairs, and what leads to a node need not be gathered then.
+    // Most pairs map to pairs; then the nodes that lead to a node need not be gathered.
     if leads_over_one(pairs, x, y) {
         return Ok(true);
     }
@@ -155,8 +156,8 @@ pub(crate) fn leads_to_another(
     Ok(leading.has(x))
 }
 
-/// Whether the images of the pairs are kept: of each the earlier node leads to the later one, another, along the other
-/// pairs. The error is that memory ran out.
+/// Whether the map keeps the pairs: in each image the earlier node leads to the later one, a different one, along the other
+/// pairs.
 pub(crate) fn keeps_pairs(
     alloc: Global,
     pairs: &[OrderPair],

@@ -1,4 +1,4 @@
-// What is known of a choice for an item before it is tried.
+// What is known about a choice for an item before it is tried.
 ghost use Rattle.std.specs.Prelude.{◌≡◌, map, IsTrue, MatchOption};
 ghost use Rattle.cp_model.specs.Term.{Substitution, apply_to};
 ghost use Rattle.cp_strand.specs.View.{strand_view};
@@ -14,14 +14,14 @@ use cp_skel::{Atom, Skeleton, Strand, StrandShape, UniqueAt};
 use cp_term::Term;
 use cp_unify::known_match;
 
-/// A choice for an item, and whether it is sure that it holds.
+/// A choice for an item, and whether it surely holds.
 #[derive(Clone, Copy, Debug, PartialEq, Eq)]
 pub(crate) struct Choice {
     pub(crate) number: usize,
     pub(crate) is_sure: bool,
 }
 
-/// Whether a strand goes to this image, if it is placed.
+/// Whether a strand maps to this image; `None` while the strand is not placed.
 fn known_number(strand: usize, image: usize, given: &Partial) -> Option<bool>
     ensures { IsKnown (λ f. f.strands strand ≡ image) given.now result }
 {
@@ -31,15 +31,15 @@ fn known_number(strand: usize, image: usize, given: &Partial) -> Option<bool>
     }
 }
 
-/// Whether a term becomes another, if that is known.
+/// Whether a term maps to another; `None` if that is not known.
 fn known_term(from: &Term, to: &Term, given: &Partial) -> Option<bool>
     ensures { IsKnown (λ f. apply_to f.terms from.now ≡ to.now) given.now result }
 {
     known_match(from, to, &given.values)
 }
 
-/// Whether a strand cannot become a part of another: one of them alone is a listener, or the other is shorter or of a role with
-/// another name. False also where more would have to be looked at.
+/// Fast test: true only if a strand cannot map to a part of another, because exactly one of them is a listener, or the other is
+/// shorter or of a role with another name.
 fn is_no_part(from: &Strand, to: &Strand) -> bool
     ensures { IsTrue result → (f : Substitution) → MakesPart f (strand_view from.now) (strand_view to.now) → ⊥ }
 {
@@ -53,7 +53,8 @@ fn is_no_part(from: &Strand, to: &Strand) -> bool
     }
 }
 
-/// That a strand does not go to one of others and become a part of it, if that is known.
+/// Whether a strand maps to one of others and becomes a part of it; `None` if that is not known. Only a negative result is found
+/// here.
 fn known_strand(
     strands: &[Strand],
     others: &[Strand],
@@ -75,7 +76,7 @@ fn known_strand(
     None
 }
 
-/// Whether an atom becomes one of others, if that is known.
+/// Whether an atom maps to one of others; `None` if that is not known.
 fn known_atom(
     atoms: &[Atom],
     others: &[Atom],
@@ -94,7 +95,7 @@ fn known_atom(
     known_term(from.as_term(), to.as_term(), given)
 }
 
-/// Whether a unique value with its origin becomes one of others, if that is known.
+/// Whether a unique value with its origin maps to one of others; `None` if that is not known.
 fn known_unique(
     uniques: &[UniqueAt],
     others: &[UniqueAt],
@@ -122,7 +123,7 @@ fn known_unique(
     }
 }
 
-/// Whether an item of the first skeleton becomes the item with this number of the second, if that is known.
+/// Whether an item of the first skeleton maps to the item with this number of the second; `None` if that is not known.
 fn known_place(
     a: &Skeleton,
     b: &Skeleton,
@@ -153,7 +154,7 @@ fn known_place(
     }
 }
 
-/// The first choice for an item, from this one on, of which it is not known that it holds for no map.
+/// The first choice for an item, from `from` on, that is not known to fail for every map.
 pub(crate) fn next_choice(
     a: &Skeleton,
     b: &Skeleton,

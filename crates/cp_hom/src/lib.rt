@@ -1,4 +1,4 @@
-//! Maps between skeletons: embeddings, and whether two skeletons are isomorphic.
+//! Maps between skeletons: embeddings, and isomorphism. Every call that returns `AllocError` fails only when memory runs out.
 #![tactic(auto)]
 
 mod broken;

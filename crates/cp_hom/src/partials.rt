@@ -10,14 +10,14 @@ use cp_term::Term;
 use cp_unify::{Subst, matching_beside};
 use std::alloc::{AllocError, Global};
 
-/// A strand and the strand that it goes to.
+/// A strand and its image.
 #[derive(Clone, Copy, Debug, PartialEq, Eq)]
 pub(crate) struct Placement {
     pub(crate) strand: usize,
     pub(crate) image: usize,
 }
 
-/// What is known so far of a map that is looked for.
+/// What is known so far of the map that is sought.
 #[derive(Drop)]
 pub(crate) struct Partial {
     pub(crate) placements: Vec<Placement>,
@@ -36,7 +36,7 @@ pub(crate) fn image_of(placements: &[Placement], strand: usize) -> Option<usize>
     None
 }
 
-/// Sends one more strand to its image.
+/// Maps one more strand to its image.
 fn put(strands: &mut Vec<usize>, placement: Placement) -> Result<(), AllocError>
     ensures { OnOk result ((s : ℕ) → strand_in strands.new.items s
         ≡ (if placement.strand == s then placement.image else strand_in strands.old.items s)) }
@@ -52,7 +52,7 @@ fn put(strands: &mut Vec<usize>, placement: Placement) -> Result<(), AllocError>
     Ok(())
 }
 
-/// The list of images by which each placed strand goes to its image, and the others to themselves.
+/// The list of images in which each placed strand maps to its image and every other strand to itself.
 fn images(alloc: Global, placements: &[Placement]) -> Result<Vec<usize>, AllocError>
     ensures { IfOk result (λ v. (s : ℕ) → strand_in v.items s ≡ number_or s (image_in placements.now s)) }
 {
@@ -63,7 +63,7 @@ fn images(alloc: Global, placements: &[Placement]) -> Result<Vec<usize>, AllocEr
     Ok(strands)
 }
 
-/// Sends a strand to an image, if it does not go elsewhere.
+/// Maps a strand to an image, unless it is placed elsewhere.
 pub(crate) fn match_numbers(
     strand: usize,
     image: usize,
@@ -90,7 +90,7 @@ pub(crate) fn match_numbers(
     }
 }
 
-/// Makes a term another, if the values of its variables allow it.
+/// Maps a term to another, if the values of its variables allow it.
 pub(crate) fn match_terms(
     alloc: Global,
     from: &Term,
@@ -109,7 +109,7 @@ pub(crate) fn match_terms(
 }
 
 impl Partial {
-    /// The partial map that says nothing.
+    /// The empty partial map.
     pub(crate) fn new(alloc: Global) -> Partial
         ensures { partial_view result ≡ nothing }
     {
@@ -119,7 +119,7 @@ impl Partial {
         }
     }
 
-    /// The same partial map again.
+    /// A copy of the partial map.
     pub(crate) fn copy(&self, alloc: Global) -> Result<Partial, AllocError>
         ensures { IfOk result (λ p. partial_view p ≡ partial_view self.now) }
     {
@@ -130,7 +130,7 @@ impl Partial {
         })
     }
 
-    /// The map that does what the partial map says, and leaves the rest as it is.
+    /// The total map: what the partial map does not determine stays as it is.
     pub(crate) fn into_map(self, alloc: Global) -> Result<Map, AllocError>
         ensures { IfOk result (λ m. map_view m ≡ map_of (partial_view self)) }
     {

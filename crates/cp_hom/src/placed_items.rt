@@ -1,4 +1,4 @@
-// Items of a skeleton that become items of another.
+// Maps items of a skeleton to items of another.
 ghost use Rattle.std.specs.Prelude.{map, IfOk};
 ghost use Rattle.cp_strand.specs.View.{strand_view};
 ghost use Rattle.cp_skel.specs.View.{skeleton_view};
@@ -12,7 +12,7 @@ use crate::strand_matches::match_strands;
 use cp_skel::{Atom, Skeleton, Strand, UniqueAt};
 use std::alloc::{AllocError, Global};
 
-/// Sends a strand to one of others, and makes it a part of that.
+/// Maps a strand to one of others and makes it a part of that.
 fn place_strand(
     alloc: Global,
     strands: &[Strand],
@@ -35,7 +35,7 @@ fn place_strand(
     }
 }
 
-/// Makes an atom one of others.
+/// Maps an atom to one of others.
 fn place_atom(
     alloc: Global,
     atoms: &[Atom],
@@ -55,7 +55,7 @@ fn place_atom(
     match_terms(alloc, from.as_term(), to.as_term(), given)
 }
 
-/// Makes a unique value with its origin one of others.
+/// Maps a unique value with its origin to one of others.
 fn place_unique(
     alloc: Global,
     uniques: &[UniqueAt],
@@ -83,7 +83,7 @@ fn place_unique(
     }
 }
 
-/// Makes an item of the first skeleton the item with this number of the second.
+/// Maps an item of the first skeleton to the item with this number of the second.
 pub(crate) fn place(
     alloc: Global,
     a: &Skeleton,

@@ -1,4 +1,4 @@
-// How many strands there are of a role.
+// Counts strands by role.
 ghost use Rattle.std.specs.Prelude.{◌↔◌, map, IsTrue};
 ghost use Rattle.cp_strand.specs.View.{strand_view};
 ghost use Rattle.cp_hom.specs.RoleCounts.{IsCount, IsOfRole, HasRoom, HasRoomFor, HaveRoom};
@@ -15,7 +15,7 @@ fn is_of_role(role: &Role, strand: &Strand) -> bool
     }
 }
 
-/// How many strands are instances of this role.
+/// The number of strands that are instances of this role.
 fn count_of_role(role: &Role, strands: &[Strand]) -> usize
     ensures { IsCount (IsOfRole role.now) (map strand_view strands.now) result }
 {
@@ -29,14 +29,14 @@ fn count_of_role(role: &Role, strands: &[Strand]) -> usize
     count
 }
 
-/// Whether there are no more strands of this role among the first than among the others.
+/// Whether `strands` has no more strands of this role than `others`.
 fn has_room(role: &Role, strands: &[Strand], others: &[Strand]) -> bool
     ensures { IsTrue result ↔ HasRoom (map strand_view strands.now) (map strand_view others.now) role.now }
 {
     count_of_role(role, strands) <= count_of_role(role, others)
 }
 
-/// The same of the role of a strand, where it has one.
+/// The same for the role of a strand, if it has one.
 fn has_room_for(strand: &Strand, strands: &[Strand], others: &[Strand]) -> bool
     ensures { IsTrue result ↔ HasRoomFor (map strand_view strands.now) (map strand_view others.now) (strand_view strand.now) }
 {
@@ -46,7 +46,7 @@ fn has_room_for(strand: &Strand, strands: &[Strand], others: &[Strand]) -> bool
     }
 }
 
-/// Whether of each role there are no more strands among the first than among the others.
+/// Whether `strands` has, for each role, no more strands of it than `others`.
 pub(crate) fn have_room(strands: &[Strand], others: &[Strand]) -> bool
     ensures { IsTrue result ↔ HaveRoom (map strand_view strands.now) (map strand_view others.now) }
 {

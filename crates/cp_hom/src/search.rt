@@ -1,4 +1,4 @@
-// The search for an embedding: one item after the other is placed, and where that fails the next choice is tried.
+// Searches for an embedding: places the items one after another, and tries the next choice when one fails.
 ghost use Rattle.std.specs.Prelude.{◌≡◌, ◌↔◌, ◌<◌, ◌-◌, [], ◌∷◌, ◌++◌, ◌^◌, take, option_map, IsTrue, IfOk, OnOk, IfSome, IfNone};
 ghost use Rattle.cp_lists.specs.Lists.{IsIn};
 ghost use Rattle.cp_model.specs.Homomorphism.{IsEmbedding};
@@ -20,7 +20,7 @@ use crate::strand_map::Map;
 use cp_skel::Skeleton;
 use std::alloc::{AllocError, Global};
 
-/// A partial map by which the first items are placed, and the number from which on the next item is still to be tried.
+/// A partial map that places the first items, and the number of the first choice still to be tried for the next item.
 #[derive(Drop)]
 pub(crate) struct Branch {
     done: usize,
@@ -28,7 +28,7 @@ pub(crate) struct Branch {
     given: Partial,
 }
 
-/// The embedding that a partial map is by which all items are placed, if it is one.
+/// The embedding given by a partial map that places all items, if it is one.
 fn finish(
     alloc: Global,
     a: &Skeleton,
@@ -51,8 +51,8 @@ fn finish(
     Ok(Some(mapping))
 }
 
-/// Puts what follows on a branch, of which this choice was tried, behind others: the next choice, and before it what was found by
-/// this one.
+/// Appends what remains of a branch after this choice was tried: the next choice, and after it the result of this one, which is
+/// thus tried first.
 fn push_next(
     branch: Branch,
     choice: usize,
@@ -80,8 +80,8 @@ fn push_next(
     Ok(())
 }
 
-/// Tries one choice for an item: a role strand does not go where another one goes, nor a strand that is placed elsewhere than it is,
-/// nor one where the order of those that are placed would not be kept.
+/// Tries one choice for an item. It fails if the item is a role strand and another one has that image, if the item is a strand
+/// placed elsewhere, or if the placed strands would not keep the order.
 fn try_choice(
     alloc: Global,
     a: &Skeleton,
@@ -128,7 +128,7 @@ fn is_listed(items: &[Item], item: Item) -> bool
     false
 }
 
-/// Puts what follows on a branch behind others, where its next item is placed already.
+/// Appends what remains of a branch whose next item is placed already.
 fn push_placed(branch: Branch, branches: &mut Vec<Branch>) -> Result<(), AllocError>
     requires done { branch.done < 2 ^ 64 - 1 }
     ensures { OnOk result (branches_view branches.new.items ≡ branches_view branches.old.items ++ (placed_map (branch_view branch) ∷ [])) }
@@ -141,9 +141,9 @@ fn push_placed(branch: Branch, branches: &mut Vec<Branch>) -> Result<(), AllocEr
     Ok(())
 }
 
-/// Takes one step from a branch: goes on behind the next item, where it is placed already; passes over choices for it that hold
-/// for no map; goes on behind it too where the next choice holds for sure; tries it else; and puts what is left to try behind the
-/// other branches. The embedding, if it was the last step to one.
+/// Takes one step from a branch. If the next item is placed already, or its next possible choice surely holds, goes on to the
+/// item after it. Otherwise tries that choice. Choices that fail for every map are skipped. Appends what is left to try to the
+/// other branches. Returns the embedding if this was the last step to one.
 fn advance(
     alloc: Global,
     a: &Skeleton,
@@ -167,7 +167,7 @@ fn advance(
     if branch.choice >= count(item.kind, b) {
         return Ok(None);
     }
-    // A choice behind the first is left only where the item is not placed yet.
+    // A choice other than the first is left only if the item is not placed yet.
     if branch.choice == 0 && is_listed(&items[..branch.done], item) {
         push_placed(branch, branches)?;
         return Ok(None);
@@ -184,7 +184,7 @@ fn advance(
     Ok(None)
 }
 
-/// An embedding of a skeleton in another that follows a partial map, if there is one.
+/// An embedding of a skeleton in another that extends a partial map, if there is one.
 pub(crate) fn search(
     alloc: Global,
     a: &Skeleton,

@@ -1,4 +1,4 @@
-// Strands whose values stand elsewhere too. Which these are decides only in which order an embedding places strands, so that no clause
+// Strands whose values stand elsewhere too. This decides only the order in which an embedding places strands, so no contract
 // speaks of it.
 
 use cp_fingerprint::{Places, Slot, key_of};
@@ -15,7 +15,7 @@ fn stands_in(value: &Term, slots: &[Slot]) -> bool {
     false
 }
 
-/// Whether the value is one of the problem's, or stands on another strand than this.
+/// Whether the value is one of the problem's, or stands on another strand.
 fn is_shared(value: &Term, places: &Places, strand: usize) -> bool {
     if stands_in(value, &places.values) {
         return true;

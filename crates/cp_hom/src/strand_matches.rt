@@ -1,4 +1,4 @@
-// Strands that become parts of others.
+// Maps strands to parts of others.
 ghost use Rattle.std.specs.Prelude.{◌≡◌, ◌≤◌, length, map, IfOk};
 ghost use Rattle.cp_model.specs.Homomorphism.{substitution_by};
 ghost use Rattle.cp_model.specs.Term.{apply_to};
@@ -11,7 +11,7 @@ use cp_skel::{Event, Strand, StrandShape, applied, is_same_role, prefix_of};
 use cp_term::Term;
 use std::alloc::{AllocError, Global};
 
-/// Makes the messages of a role's event under some values what they are under others.
+/// Maps the message of a role's event under the values `from` to its message under `to`.
 fn match_event(
     alloc: Global,
     message: &Term,
@@ -28,7 +28,7 @@ fn match_event(
     match_terms(alloc, &first, &second, given)
 }
 
-/// Makes the messages of a role's events under some values what they are under others.
+/// Maps the messages of a role's events under the values `from` to their messages under `to`.
 fn match_events(
     alloc: Global,
     events: &[Event],
@@ -50,7 +50,7 @@ fn match_events(
     Ok(Some(found))
 }
 
-/// Makes the messages of some events those of the first so many others.
+/// Maps the messages of some events to those of the first of the others, one by one.
 fn match_messages(
     alloc: Global,
     events: &[Event],
@@ -77,7 +77,7 @@ fn match_messages(
     Ok(Some(found))
 }
 
-/// Makes a strand a part of another. Where both hold their events, their messages are matched as they are.
+/// Makes a strand a part of another. If both hold their events, their messages are matched directly.
 pub(crate) fn match_strands(
     alloc: Global,
     from: &Strand,

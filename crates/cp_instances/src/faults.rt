@@ -18,7 +18,7 @@ use cp_sexpr::Form;
 use cp_strand::{Declaration, Role, prefix_of};
 use std::rc::Rc;
 
-/// The faults of the name of a role.
+/// Notes the faults of the name of a role.
 fn role_name_faults(roles: &[Rc<Role>], form: &Form, first: &mut FirstFault)
     ensures { first.new ≡ first_onto first.old (role_name_faults (shared_roles_view roles.now) (view form.now)) }
 {
@@ -41,7 +41,7 @@ fn is_height(role: &Role, height: usize) -> bool
     0 < height && height <= role.trace().len()
 }
 
-/// The faults of the height of an instance of a role, if that is known.
+/// Notes the faults of the height of an instance of a role, if the role is known.
 fn height_faults(role: Option<&Rc<Role>>, form: &Form, first: &mut FirstFault)
     ensures { first.new ≡ first_onto first.old (height_faults (option_map (λ r. r.now.value) role.entry) (view form.now)) }
 {
@@ -54,7 +54,7 @@ fn height_faults(role: Option<&Rc<Role>>, form: &Form, first: &mut FirstFault)
     }
 }
 
-/// The faults of the variable on the left of a maplet, which stands at this place, to this term.
+/// Notes the faults of the variable on the left of a maplet to this term. The variable stands at this place.
 fn role_variable_faults(
     role: &Role,
     height: usize,
@@ -95,7 +95,7 @@ fn is_mapped(maplets: &[Form], identifier: &[u8]) -> bool
     false
 }
 
-/// The faults of the left side of a maplet to this term, where these maplets stand before it.
+/// Notes the faults of the left side of a maplet to this term. `before` are the maplets before it.
 fn mapped_faults(
     role: &Role,
     height: usize,
@@ -119,7 +119,7 @@ fn mapped_faults(
     role_variable_faults(role, height, variables, *place, term, variable, first);
 }
 
-/// The faults of the term on the right of a maplet, if it is there.
+/// Notes the faults of the term on the right of a maplet, if there is one.
 fn second_term_faults(variables: &[Declaration], term: Option<&Form>, first: &mut FirstFault)
     ensures { first.new ≡ first_onto first.old (second_term_faults (map declaration_view variables.now) (option_map (λ f. view f.now) term.entry)) }
 {
@@ -128,7 +128,7 @@ fn second_term_faults(variables: &[Declaration], term: Option<&Form>, first: &mu
     }
 }
 
-/// The faults of a maplet with these items, where others stand before it.
+/// Notes the faults of a maplet with these items. `before` are the maplets before it.
 fn maplet_items_faults(
     role: &Role,
     height: usize,
@@ -152,7 +152,7 @@ fn maplet_items_faults(
     exceeds(1, rest, first);
 }
 
-/// The faults of a maplet, where others stand before it.
+/// Notes the faults of a maplet. `before` are the maplets before it.
 fn maplet_faults(
     role: &Role,
     height: usize,
@@ -171,7 +171,7 @@ fn maplet_faults(
     }
 }
 
-/// The faults of the maplets of an instance.
+/// Notes the faults of the maplets of an instance.
 fn maplets_faults(
     role: &Role,
     height: usize,
@@ -193,7 +193,7 @@ fn maplets_faults(
     }
 }
 
-/// The number that a form is; of any other form 0.
+/// The number that a form is, or 0 if it is none.
 pub(crate) fn number_of(form: &Form) -> usize
     ensures { result ≡ number_of (view form.now) }
 {
@@ -203,7 +203,7 @@ pub(crate) fn number_of(form: &Form) -> usize
     }
 }
 
-/// The faults of the maplets of an instance of a role, if that is known, whose height this form states.
+/// Notes the faults of the maplets of an instance, if its role is known. The form `height` states its height.
 fn maplets_faults_of(
     role: Option<&Rc<Role>>,
     height: &Form,
@@ -218,7 +218,7 @@ fn maplets_faults_of(
     }
 }
 
-/// The faults of an instance with these items behind its head.
+/// Notes the faults of an instance with these items after its head.
 pub fn instance_faults(
     roles: &[Rc<Role>],
     variables: &[Declaration],
@@ -238,7 +238,7 @@ pub fn instance_faults(
     maplets_faults_of(role, height, variables, maplets, first);
 }
 
-/// The faults of a listener with these items behind its head.
+/// Notes the faults of a listener with these items after its head.
 pub fn listener_faults(
     variables: &[Declaration],
     place: Place,

@@ -49,7 +49,7 @@ fn right_term(alloc: Global, variables: &[Declaration], maplet: &Form) -> Result
     }
 }
 
-/// The term that the maplets give an identifier.
+/// The term that the maplets give to an identifier.
 fn term_mapped(
     alloc: Global,
     variables: &[Declaration],
@@ -64,7 +64,7 @@ fn term_mapped(
     }
 }
 
-/// The term that a role's variable has: what it is mapped to, or the variable that is made for it.
+/// The term of a role's variable: what it is mapped to, or the variable that is made for it.
 fn term_or_fresh(
     alloc: Global,
     mapped: Option<Term>,
@@ -81,14 +81,14 @@ fn term_or_fresh(
     }
 }
 
-/// Whether a variable is made for this one of a role, which has this term.
+/// Whether a variable is made for this variable of a role, which is mapped to this term.
 fn is_fresh(prefix: &[Event], mapped: &Option<Term>, variable: Variable) -> bool
     ensures { result ≡ wants_fresh (variables_of_trace (map event_view prefix.now)) mapped.now (variable_view variable) }
 {
     mapped.is_none() && occurs(prefix, variable)
 }
 
-/// Puts a copy of a declaration behind others.
+/// Appends a copy of a declaration.
 fn add_copy(declaration: &Declaration, all: &mut Vec<Declaration>) -> Result<(), AllocError>
     ensures { OnOk result (map declaration_view all.new.items ≡ map declaration_view all.old.items ++ declaration_view declaration.now ∷ []) }
 {
@@ -114,7 +114,7 @@ pub fn copies_of(
     Ok(copies)
 }
 
-/// Puts a copy of a declaration behind others, if the test holds.
+/// Appends a copy of a declaration, if the test holds.
 fn add_if(
     holds: bool,
     declaration: &Declaration,
@@ -129,7 +129,7 @@ fn add_if(
     Ok(())
 }
 
-/// The term of this variable of a role, of this number; one that is made for it goes behind all variables.
+/// The term of this variable of a role, with this number. A variable that is made for it is appended to `all`.
 fn variable_value(
     alloc: Global,
     prefix: &[Event],
@@ -159,7 +159,7 @@ fn variable_value(
     Ok(term)
 }
 
-/// The terms of the variables of a role with this prefix; those that are made for it go behind all variables.
+/// The terms of the variables of a role with this prefix. Variables that are made for it are appended to `all`.
 pub(crate) fn instantiated(
     alloc: Global,
     prefix: &[Event],

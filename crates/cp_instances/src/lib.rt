@@ -1,4 +1,7 @@
 //! The strands of problems: the faults of their forms, the terms of instances, and the strands that the forms make.
+//!
+//! Every call that returns `AllocError` fails only if memory runs out. A call that takes a `FirstFault` notes faults in
+//! it: it keeps the first.
 #![tactic(auto)]
 
 mod event_variables;

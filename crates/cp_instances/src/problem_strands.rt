@@ -20,7 +20,7 @@ use cp_strand::{Declaration, Instance, Role, Strand, prefix_of};
 use std::alloc::{AllocError, Global};
 use std::rc::Rc;
 
-/// The instance of a role whose height this form states; variables that are made for it go behind all variables.
+/// The instance of a role. The form `height` states its height. Variables that are made for it are appended to `all`.
 fn instance_of_role(
     alloc: Global,
     role: &Rc<Role>,
@@ -45,14 +45,14 @@ fn instance_of_role(
     Strand::instance(alloc, Instance::new(role, height, values))
 }
 
-/// What stands where there is no strand.
+/// Placeholder for an ill-formed strand.
 fn no_strand(alloc: Global) -> Result<Strand, AllocError>
     ensures { IfOk result (λ s. strand_view s ≡ listener (tag_term [])) }
 {
     Strand::listener(alloc, no_term(alloc)?)
 }
 
-/// The listener with these items behind its head.
+/// The listener with these items after its head.
 fn listener(alloc: Global, variables: &[Declaration], items: &[Form]) -> Result<Strand, AllocError>
     ensures { IfOk result (λ s. strand_view s ≡ listener (heard (map declaration_view variables.now) (map view items.now))) }
 {
@@ -62,7 +62,7 @@ fn listener(alloc: Global, variables: &[Declaration], items: &[Form]) -> Result<
     }
 }
 
-/// The instance with these items behind its head; variables that are made for it go behind all variables.
+/// The instance with these items after its head. Variables that are made for it are appended to `all`.
 fn instance(
     alloc: Global,
     roles: &[Rc<Role>],
@@ -82,7 +82,7 @@ fn instance(
     }
 }
 
-/// The strand that an item makes, if it makes one; variables that are made for it go behind all variables.
+/// The strand that an item makes, if it makes one. Variables that are made for it are appended to `all`.
 fn strand(
     alloc: Global,
     roles: &[Rc<Role>],
@@ -104,7 +104,7 @@ fn strand(
     }
 }
 
-/// Puts a strand behind others, if it is there.
+/// Appends a strand, if there is one.
 fn add_strand(strand: Option<Strand>, strands: &mut Vec<Strand>) -> Result<(), AllocError>
     ensures { OnOk result (map strand_view strands.new.items ≡ map strand_view strands.old.items ++ option_to_list (option_map strand_view strand)) }
 {
@@ -114,7 +114,7 @@ fn add_strand(strand: Option<Strand>, strands: &mut Vec<Strand>) -> Result<(), A
     Ok(())
 }
 
-/// The strands that these items make; variables that are made for them go behind all variables.
+/// The strands that these items make. Variables that are made for them are appended to `all`.
 pub fn strands(
     alloc: Global,
     roles: &[Rc<Role>],

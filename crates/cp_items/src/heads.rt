@@ -13,7 +13,7 @@ use cp_variables::has_head;
 /// The heads of marks.
 pub const MARK_HEADS: &[&str] = &["shape", "dead", "seen", "instance-of", "limit"];
 
-/// The heads of the items that belong behind the strands.
+/// The heads of the items that belong after the strands.
 const HEADS_BEHIND_STRANDS: &[&str] = &[
     "precedes",
     "non-orig",
@@ -53,7 +53,7 @@ pub fn has_one_of(form: &Form, heads: &[&str]) -> bool
     }
 }
 
-/// The first of the items that is headed as a mark.
+/// The first of the items with the head of a mark.
 pub fn mark_item(items: &[Form]) -> Option<&Form>
     ensures { option_map (λ f. view f.now) result ≡ item_with mark_heads (map view items.now) }
 {
@@ -65,7 +65,7 @@ pub fn mark_item(items: &[Form]) -> Option<&Form>
     None
 }
 
-/// The items in front of the first that belongs behind the strands.
+/// The items before the first that belongs after the strands.
 pub fn up_to_strands(items: &[Form]) -> &[Form]
     ensures { map view result.now ≡ up_to_strands (map view items.now) }
 {
@@ -91,7 +91,7 @@ pub fn is_of_tree(form: &Form) -> bool
     has_one_of(form, &["label", "status"])
 }
 
-/// The items of a label form, which stand behind its number. A list in front is no number, but an item.
+/// The items of a label form, after its number. If the form begins with a list, that is no number but an item.
 pub fn items_of_label(form: &Form) -> &[Form]
     ensures { map view result.now ≡ items_of_label (view form.now) }
 {
@@ -102,7 +102,7 @@ pub fn items_of_label(form: &Form) -> &[Form]
     }
 }
 
-/// The text of the symbol that stands first; where none does the empty text.
+/// The text of the symbol that comes first; empty if none does.
 pub fn name_in_front(items: &[Form]) -> &[u8]
     ensures { result.now ≡ name_in_front (map view items.now) }
 {

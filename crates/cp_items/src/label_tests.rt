@@ -1,4 +1,4 @@
-// Unrealised nodes, tests and escapes of labels: where they do not fit, and what they are.
+// Unrealised nodes, tests and escape sets of labels: where they do not fit, and what they are.
 ghost use Rattle.std.specs.Prelude.{◌≡◌, [], ◌∷◌, map, option_map, Some, IfOk, OnOk};
 ghost use Rattle.cp_sexpr.specs.View.{view};
 ghost use Rattle.cp_language.specs.Problems.{option_node};
@@ -22,7 +22,7 @@ use cp_term::Pattern;
 use cp_variables::{FirstMisfit, Variables, lacking};
 use std::alloc::{AllocError, Global};
 
-/// Each of these forms has to be a node that is there.
+/// Each of these forms must be a node that exists.
 fn nodes_misfits(strands: &[Strand], items: &[Form], first: &mut FirstMisfit)
     ensures { first.new ≡ first_onto first.old (each_misfits (node_misfits (map strand_view strands.now)) (map view items.now)) }
 {
@@ -31,7 +31,7 @@ fn nodes_misfits(strands: &[Strand], items: &[Form], first: &mut FirstMisfit)
     }
 }
 
-/// Nodes that are there have to stand in a list at this place, at least one.
+/// The items of the list at this place must be nodes that exist, at least one.
 pub fn unrealised_misfits(strands: &[Strand], place: Place, items: &[Form], first: &mut FirstMisfit)
     ensures { first.new ≡ first_onto first.old (unrealised_misfits (map strand_view strands.now) place (map view items.now)) }
 {
@@ -39,7 +39,7 @@ pub fn unrealised_misfits(strands: &[Strand], place: Place, items: &[Form], firs
     nodes_misfits(strands, items, first);
 }
 
-/// The nodes that forms state; the first node for a form that states none. The error is that memory ran out.
+/// The nodes that forms state; the first node for a form that states none.
 pub fn nodes_of(alloc: Global, items: &[Form]) -> Result<Vec<Node>, AllocError>
     ensures { IfOk result (λ v. v.items ≡ map (λ f. node_or_first (option_node (Some f))) (map view items.now)) }
 {
@@ -50,7 +50,7 @@ pub fn nodes_of(alloc: Global, items: &[Form]) -> Result<Vec<Node>, AllocError>
     Ok(nodes)
 }
 
-/// A node that is there and a term have to stand in a list at this place.
+/// The items of the list at this place must be a node that exists and a term.
 pub fn test_misfits(
     scope: Scope<'_>,
     strands: &[Strand],
@@ -68,7 +68,7 @@ pub fn test_misfits(
     one_term_misfits(scope, place, rest, first);
 }
 
-/// The test that an item states, if it is there. The error is that memory ran out.
+/// The test that an item states, if there is an item.
 pub fn test_of(
     alloc: Global,
     scope: Scope<'_>,
@@ -85,7 +85,7 @@ pub fn test_of(
     Ok(Some(Test { node, term }))
 }
 
-/// Each of these forms has to be a pattern.
+/// Each of these forms must be a pattern.
 fn patterns_misfits(
     alloc: Global,
     variables: &Variables,
@@ -100,8 +100,7 @@ fn patterns_misfits(
     Ok(())
 }
 
-/// Patterns have to stand in a list at this place, at least one, where the label has a test. The error is that memory ran
-/// out.
+/// The items of the list at this place must be patterns, at least one, and the label must have a test.
 pub fn escape_misfits(
     alloc: Global,
     has_test: bool,
@@ -117,7 +116,7 @@ pub fn escape_misfits(
     patterns_misfits(alloc, variables, items, first)
 }
 
-/// The pattern that a form is, where it is one.
+/// The pattern that a form is. It must be one.
 fn pattern_stated(alloc: Global, variables: &Variables, form: &Form) -> Result<Pattern, AllocError>
     requires { pattern_misfits (map declaration_view variables.now) (view form.now) ≡ [] }
     ensures { IfOk result (λ p. p ≡ pattern_of (map declaration_view variables.now) (view form.now)) }
@@ -128,7 +127,7 @@ fn pattern_stated(alloc: Global, variables: &Variables, form: &Form) -> Result<P
     }
 }
 
-/// The patterns that forms are, where each is one. The error is that memory ran out.
+/// The patterns that forms are. Each must be one.
 pub fn patterns_of(
     alloc: Global,
     variables: &Variables,

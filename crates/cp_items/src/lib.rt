@@ -1,5 +1,8 @@
-//! Single items of a label in a report read back: items by their heads, numbers, operations, nodes, tests and escapes;
-//! where they do not fit, and what they are.
+//! Single items of a label in a report read back: items by their heads, numbers, operations, nodes, tests and escape
+//! sets; where they do not fit, and what they are.
+//!
+//! Every call that returns `AllocError` fails only if memory runs out. A call that takes a `FirstMisfit` notes in it
+//! the first place at which forms do not meet what its comment asks of them.
 #![tactic(auto)]
 
 mod heads;

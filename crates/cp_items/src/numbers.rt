@@ -1,4 +1,4 @@
-// Numbers that stand in a list.
+// Numbers in a list.
 ghost use Rattle.std.specs.Prelude.{◌≡◌, map, IfOk};
 ghost use Rattle.cp_sexpr.specs.View.{view};
 ghost use Rattle.cp_language.specs.Problems.{number_of};
@@ -18,7 +18,7 @@ pub fn stated_number(form: &Form) -> Option<usize>
     }
 }
 
-/// The number that stands first, if one does.
+/// The number that comes first, if one does.
 pub fn number_in_front(items: &[Form]) -> Option<usize>
     ensures { result ≡ number_in_front (map view items.now) }
 {
@@ -28,7 +28,7 @@ pub fn number_in_front(items: &[Form]) -> Option<usize>
     }
 }
 
-/// The number that stands first; where none does nought.
+/// The number that comes first; 0 if none does.
 pub fn number_stated(items: &[Form]) -> usize
     ensures { result ≡ number_stated (map view items.now) }
 {
@@ -38,7 +38,7 @@ pub fn number_stated(items: &[Form]) -> usize
     }
 }
 
-/// The numbers that forms are; nought for a form that is none. The error is that memory ran out.
+/// The numbers that forms are; 0 for a form that is none.
 pub fn numbers_of(alloc: Global, items: &[Form]) -> Result<Vec<usize>, AllocError>
     ensures { IfOk result (λ v. v.items ≡ map number_of (map view items.now)) }
 {

@@ -20,7 +20,7 @@ use cp_stated::{number_of, two_numbers_misfits};
 use cp_variables::{FirstMisfit, no_more, one_number_misfits};
 use std::alloc::{AllocError, Global};
 
-/// What the word behind `by` names.
+/// What the word after `by` names.
 #[derive(Clone, Copy)]
 pub enum OperationWord {
     Problem,
@@ -56,7 +56,7 @@ pub(crate) fn operation_word(word: &[u8]) -> OperationWord
     }
 }
 
-/// What the word that stands first among entries names.
+/// What the first word among the entries names.
 pub fn word_in_front(items: &[Form]) -> OperationWord
     ensures { word_view result ≡ operation_word (name_in_front (map view items.now)) }
 {
@@ -77,7 +77,7 @@ pub fn makes_root(word: OperationWord) -> bool
     matches!(word, OperationWord::Problem | OperationWord::Collapsed)
 }
 
-/// Whether a number is at most the place of its entry, and names a strand that names itself.
+/// Whether a number is at most the place of its entry, and is a strand that stands for itself.
 fn is_block(items: &[Form], place: usize, number: usize) -> bool
     ensures { result ≡ (nat_le number place && is_number number (item_at (map number_of (map view items.now)) number)) }
 {
@@ -90,7 +90,7 @@ fn is_block(items: &[Form], place: usize, number: usize) -> bool
     }
 }
 
-/// The entry of a partition at this place has to be at most its place, and a strand that names itself.
+/// The entry of a partition at this place must be at most its place, and a strand that stands for itself.
 fn block_misfits(items: &[Form], place: usize, form: &Form, first: &mut FirstMisfit)
     ensures { first.new ≡ first_onto first.old (block_misfits (map number_of (map view items.now)) place (view form.now)) }
 {
@@ -100,7 +100,7 @@ fn block_misfits(items: &[Form], place: usize, form: &Form, first: &mut FirstMis
     }
 }
 
-/// The entries of a partition of as many strands have to stand in a list at this place.
+/// The items of the list at this place must be the entries of a partition of so many strands.
 fn partition_misfits(strands: usize, place: Place, items: &[Form], first: &mut FirstMisfit)
     ensures { first.new ≡ first_onto first.old (entries_misfits (blocks_of (map number_of (map view items.now)) 0 strands) place (map view items.now)) }
 {
@@ -114,7 +114,7 @@ fn partition_misfits(strands: usize, place: Place, items: &[Form], first: &mut F
     no_more(later_items(items, strands), first);
 }
 
-/// What stands behind the word has to belong to it, where the problem has so many strands.
+/// What belongs to the word must follow it, if the problem has so many strands.
 fn behind_word_misfits(
     strands: usize,
     word: OperationWord,
@@ -148,8 +148,8 @@ fn names_operation(form: &Form) -> bool
     }
 }
 
-/// A word that names an operation has to stand in a list at this place, and what belongs to it, where the problem has so
-/// many strands.
+/// The items of the list at this place must be a word that names an operation, followed by what belongs to it, if the
+/// problem has so many strands.
 pub fn operation_misfits(strands: usize, place: Place, items: &[Form], first: &mut FirstMisfit)
     ensures { first.new ≡ first_onto first.old (operation_item_misfits strands place (map view items.now)) }
 {
@@ -165,7 +165,7 @@ pub fn operation_misfits(strands: usize, place: Place, items: &[Form], first: &m
     }
 }
 
-/// The node that two numbers in front are; where there are no two forms the first node.
+/// The node given by the first two numbers; the first node if there are not two forms.
 fn node_stated(items: &[Form]) -> Node
     ensures { result ≡ node_stated (map view items.now) }
 {
@@ -181,7 +181,7 @@ fn node_stated(items: &[Form]) -> Node
     }
 }
 
-/// The operation that a word and what stands behind it name. The error is that memory ran out.
+/// The operation named by a word and what follows it.
 pub fn operation_by(
     alloc: Global,
     word: OperationWord,

@@ -14,7 +14,7 @@ use cp_skel::{Node, Strand};
 use cp_stated::{is_there, number_of, strand_number_misfits};
 use cp_variables::FirstMisfit;
 
-/// The index of an event on this strand has to stand here.
+/// The form must be the index of an event on this strand.
 fn index_misfits(strands: &[Strand], strand: usize, form: &Form, first: &mut FirstMisfit)
     ensures { first.new ≡ first_onto first.old (index_misfits (map strand_view strands.now) strand (view form.now)) }
 {
@@ -26,7 +26,7 @@ fn index_misfits(strands: &[Strand], strand: usize, form: &Form, first: &mut Fir
     first.note_unless(is_there(strands, Node { strand, index }), *place);
 }
 
-/// The strand and the event that stand first have to be there.
+/// The strand and the event that come first must exist.
 fn node_place_misfits(strands: &[Strand], items: &[Form], first: &mut FirstMisfit)
     ensures { first.new ≡ first_onto first.old (node_place_misfits (map strand_view strands.now) (map view items.now)) }
 {
@@ -40,7 +40,7 @@ fn node_place_misfits(strands: &[Strand], items: &[Form], first: &mut FirstMisfi
     index_misfits(strands, number_of(strand), index, first);
 }
 
-/// The strand that stands first has to be there.
+/// The strand that comes first must exist.
 fn strand_place_misfits(strands: &[Strand], items: &[Form], first: &mut FirstMisfit)
     ensures { first.new ≡ first_onto first.old (strand_place_misfits (map strand_view strands.now) (map view items.now)) }
 {
@@ -50,7 +50,7 @@ fn strand_place_misfits(strands: &[Strand], items: &[Form], first: &mut FirstMis
     strand_number_misfits(strands, strand, first);
 }
 
-/// The strand and the event that an operation names have to be there.
+/// The strand and the event that an operation names must exist.
 pub fn operation_place_misfits(
     strands: &[Strand],
     word: OperationWord,

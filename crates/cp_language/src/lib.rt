@@ -1,5 +1,5 @@
-//! The input language: which forms are well formed, what they state, and which fault is answered first; and the
-//! report: its forms and its text. Definitions alone, with their laws.
+//! The input language: which forms are well formed, what they state, and which fault is reported first; and the report:
+//! its forms and its text. Only definitions and their laws.
 #![tactic(auto)]
 
 ghost use Rattle.std.specs.Prelude.{◌≡◌, ◌↔◌, List, length, Result, true};
@@ -15,21 +15,21 @@ ghost use Rattle.cp_model.specs.declared.node.OrderPair.{OrderPair};
 ghost use Rattle.cp_model.specs.Tree.{Tree};
 ghost use Rattle.cp_sexpr.specs.Syntax.{Forms};
 
-/// Forms have exactly one answer: what they state where they are well formed, or else the first of their faults.
+/// Forms have exactly one answer: what they state if they are well formed, otherwise the first of their faults.
 #[tactic(auto, using(crate::proofs::OneAnswer::one_answer, crate::proofs::OneAnswer::some_answer))]
 pub fn forms_have_one_answer()
     ensures one { (fs : Forms) (a b : Result (List Entry) Refusal) → IsInput fs a → IsInput fs b → a ≡ b }
     ensures some { (fs : Forms) → (a : Result (List Entry) Refusal) × IsInput fs a }
 {}
 
-/// Searching along as many pairs as there are finds all that leads from one node to another: no pair needs to be taken
-/// twice.
+/// A search along as many pairs as there are finds everything that leads from one node to another: no pair needs to be
+/// taken twice.
 #[tactic(auto, using(crate::proofs::BoundedSearch::reaches_all))]
 pub fn search_is_complete()
     ensures { (pairs : List OrderPair) (x y : Node) → (reaches (length pairs) pairs x y ≡ true) ↔ LeadsTo pairs x y }
 {}
 
-/// A report of chosen labels is the report, where all are chosen.
+/// The report of chosen labels is the whole report if all are chosen.
 #[tactic(auto, using(crate::proofs::ChosenLabels::all_text))]
 pub fn report_of_all_labels()
     ensures { (entries : List Entry) (trees : List Tree) → chosen_text (λ _. true) entries trees ≡ report_text entries trees }

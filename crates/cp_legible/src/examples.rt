@@ -11,9 +11,9 @@ ghost use Rattle.cp_legible.specs.Example.{heard_problem};
 
 use cp_tree::heard_encryption_has_a_tree;
 
-/// The problem in which an encryption is heard meets what the law of statable trees asks for, with the tree of two labels that a
-/// search makes for it: the problem is its one root, and both labels have their variables, two and four. So the tree can be
-/// stated.
+/// The problem in which an encryption is heard meets the premises of the law of statable trees, with the tree of two
+/// labels that a search makes for it: the problem is its one root, and both labels have their variables, two and four.
+/// So the tree can be stated.
 #[tactic(auto, using(crate::proofs::ExampleRoots::heard_roots, crate::proofs::ExampleVariables::have_variables, crate::proofs::ExampleVariables::are_few))]
 pub fn heard_encryption_can_be_stated()
     ensures roots { AreRoots heard_problem.skeleton (heard_root ∷ []) }

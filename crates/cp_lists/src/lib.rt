@@ -1,2 +1,2 @@
-//! Lists: the words that definitions use of them, and the lemmas that proofs share.
+//! Lists: the notions that definitions use of them, and the lemmas that proofs share.
 #![tactic(auto)]

@@ -1,4 +1,4 @@
-// Whether the pairs of a problem have no cycle, seen at once for all of them; and else for how many of them it was seen.
+// Tests whether the pairs of a problem are acyclic, all of them at once; if not, for how many of them this can be seen.
 ghost use Rattle.std.specs.Prelude.{◌≡◌, ◌++◌, ◌||◌, map, IfOk, OnOk};
 ghost use Rattle.cp_lists.specs.Lists.{IsIn};
 ghost use Rattle.cp_model.specs.Bundle as bundle;
@@ -25,7 +25,8 @@ struct Ranked {
     pair: OrderPair,
 }
 
-/// The pairs in the order of these ranks. That each of them is there is all that is promised: the order is checked.
+/// The pairs in the order of these ranks. The contract promises only that each pair is in the result: the order is
+/// checked.
 fn in_order(alloc: Global, pairs: &[OrderPair], ranks: &[usize]) -> Result<Vec<Ranked>, AllocError>
     ensures { IfOk result (λ v. (p : OrderPair) → IsIn p pairs.now → IsIn p (map (λ r. r.pair) v.items)) }
 {
@@ -38,7 +39,7 @@ fn in_order(alloc: Global, pairs: &[OrderPair], ranks: &[usize]) -> Result<Vec<R
     Ok(ranked)
 }
 
-/// Whether a node is at the top of its strand or below it.
+/// Whether a node is at the top of its strand or before it.
 fn is_below(tops: &HashMap<usize, usize>, node: Node) -> bool
     ensures { result ≡ is_below (tops_of tops.now) node }
 {
@@ -48,7 +49,7 @@ fn is_below(tops: &HashMap<usize, usize>, node: Node) -> bool
     }
 }
 
-/// Raises the top of a node's strand to this node, where it is below it.
+/// Raises the top of a node's strand to this node, if it is before it.
 fn raise(tops: &mut HashMap<usize, usize>, node: Node) -> Result<(), AllocError>
     ensures { OnOk result ((x : Node) → is_below (tops_of tops.new) x ≡ (is_below (tops_of tops.old) x || at_or_after x node)) }
 {
@@ -58,8 +59,8 @@ fn raise(tops: &mut HashMap<usize, usize>, node: Node) -> Result<(), AllocError>
     Ok(())
 }
 
-/// Whether no pair ends at a node where it or one before it begins, or before such a node on its strand. Then the pairs
-/// have no cycle.
+/// Whether no pair leads back: none ends at a node at which it or an earlier pair of the list begins, or before such a
+/// node on its strand. Then the pairs have no cycle.
 fn none_leads_back(alloc: Global, ranked: &[Ranked]) -> Result<bool, AllocError>
     ensures { IfOk result (λ b. IsAcyclicIf b (map (λ r. r.pair) ranked.now)) }
 {
@@ -73,7 +74,7 @@ fn none_leads_back(alloc: Global, ranked: &[Ranked]) -> Result<bool, AllocError>
     Ok(true)
 }
 
-/// Whether it was seen that the pairs have no cycle. No contract says that it is seen wherever they have none.
+/// Fast test: `true` only if the pairs have no cycle. No contract says that it is `true` for all such pairs.
 pub fn have_no_cycle(alloc: Global, pairs: &[OrderPair]) -> Result<bool, AllocError>
     ensures { IfOk result (λ b. IsAcyclicIf b pairs.now) }
 {
@@ -84,8 +85,8 @@ pub fn have_no_cycle(alloc: Global, pairs: &[OrderPair]) -> Result<bool, AllocEr
     none_leads_back(alloc, &ranked)
 }
 
-/// How many of the pairs, from the first on, were seen to have no cycle: all, or else as many as are found by halving. No
-/// contract says that one more would close a cycle.
+/// How many of the pairs, from the first on, were seen to have no cycle: all, or as many as halving finds. No contract
+/// says that one more would close a cycle.
 fn count_without_cycle(alloc: Global, pairs: &[OrderPair]) -> Result<usize, AllocError>
     ensures { IfOk result (λ n. IsAcyclicUpTo n pairs.now) }
 {
@@ -105,7 +106,7 @@ fn count_without_cycle(alloc: Global, pairs: &[OrderPair]) -> Result<usize, Allo
     Ok(known)
 }
 
-/// Puts the pairs that an item of a problem states behind others.
+/// Appends the pairs that an item of a problem states.
 fn add_pairs_under(item: &Form, pairs: &mut Vec<OrderPair>) -> Result<(), AllocError>
     ensures { OnOk result (pairs.new.items ≡ pairs.old.items ++ pairs_under (view item.now)) }
 {
@@ -118,7 +119,7 @@ fn add_pairs_under(item: &Form, pairs: &mut Vec<OrderPair>) -> Result<(), AllocE
     }
 }
 
-/// How many of the pairs that these items of a problem state, from the first on, were seen to have no cycle.
+/// Of the pairs that these items of a problem state: how many, from the first on, were seen to have no cycle.
 pub(crate) fn stated_without_cycle(alloc: Global, items: &[Form]) -> Result<usize, AllocError>
     ensures { IfOk result (λ n. IsAcyclicUpTo n (pairs_stated (map view items.now))) }
 {

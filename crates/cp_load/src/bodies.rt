@@ -24,8 +24,8 @@ use cp_skel::{Declaration, OrderPair, Role, Strand};
 use std::alloc::{AllocError, Global};
 use std::rc::Rc;
 
-/// What the items of a problem speak of, the roles of its protocol, its declared variables, and its strands; and where
-/// memory comes from.
+/// The context of a problem's items: the roles of its protocol, its declared variables and its strands; and the
+/// allocator.
 #[derive(Clone, Copy)]
 pub(crate) struct Scope<'a> {
     pub(crate) alloc: Global,
@@ -34,7 +34,7 @@ pub(crate) struct Scope<'a> {
     pub(crate) strands: &'a [Strand],
 }
 
-/// Whether a strand, and whether an assumption or an order, stood before an item.
+/// What stood before an item: whether a strand, and whether an assumption or an order.
 #[derive(Clone, Copy)]
 pub(crate) struct Stage {
     pub(crate) after_strand: bool,
@@ -42,7 +42,7 @@ pub(crate) struct Stage {
 }
 
 impl Stage {
-    /// The stage behind this item.
+    /// The stage after this item.
     fn after(self, item: &Form) -> Stage
         ensures { stage_view result ≡ stage_after (stage_view self) (item_or_none (headed (view item.now))) }
     {
@@ -53,7 +53,7 @@ impl Stage {
     }
 }
 
-/// An item of a problem behind its head: what stood before it, its place, and its own items.
+/// An item of a problem without its head: what stood before it, its place, and its own items.
 #[derive(Clone, Copy)]
 struct Item<'a> {
     stage: Stage,
@@ -61,7 +61,7 @@ struct Item<'a> {
     items: &'a [Form],
 }
 
-/// The faults of an instance, which no assumption and no order stands before.
+/// Notes the faults of an instance. No assumption and no order may stand before it.
 fn instance_item_faults(scope: Scope<'_>, item: Item<'_>, first: &mut FirstFault)
     ensures { first.new ≡ first_onto first.old (misplaced_unless (not item.entry.stage.after_item) item.entry.place
         (instance_faults (shared_roles_view scope.entry.roles.now) (map declaration_view scope.entry.variables.now) item.entry.place (map view item.entry.items.now))) }
@@ -73,7 +73,7 @@ fn instance_item_faults(scope: Scope<'_>, item: Item<'_>, first: &mut FirstFault
     }
 }
 
-/// The faults of a listener, which no assumption and no order stands before.
+/// Notes the faults of a listener. No assumption and no order may stand before it.
 fn listener_item_faults(scope: Scope<'_>, item: Item<'_>, first: &mut FirstFault)
     ensures { first.new ≡ first_onto first.old (misplaced_unless (not item.entry.stage.after_item) item.entry.place
         (listener_faults (map declaration_view scope.entry.variables.now) item.entry.place (map view item.entry.items.now))) }
@@ -85,7 +85,7 @@ fn listener_item_faults(scope: Scope<'_>, item: Item<'_>, first: &mut FirstFault
     }
 }
 
-/// The faults of an assumption, which a strand stands before.
+/// Notes the faults of an assumption. A strand must stand before it.
 fn atoms_item_faults(scope: Scope<'_>, item: Item<'_>, first: &mut FirstFault)
     ensures { first.new ≡ first_onto first.old (misplaced_unless item.entry.stage.after_strand item.entry.place
         (each_faults (atom_faults (map declaration_view scope.entry.variables.now)) (map view item.entry.items.now))) }
@@ -97,7 +97,7 @@ fn atoms_item_faults(scope: Scope<'_>, item: Item<'_>, first: &mut FirstFault)
     }
 }
 
-/// The faults of the unique values of a problem.
+/// Notes the faults of the unique values of a problem.
 fn values_faults(scope: Scope<'_>, items: &[Form], first: &mut FirstFault) -> Result<(), AllocError>
     ensures { OnOk result (first.new ≡ first_onto first.old
         (each_faults (unique_faults (map strand_view scope.entry.strands.now) (map declaration_view scope.entry.variables.now)) (map view items.now))) }
@@ -108,7 +108,7 @@ fn values_faults(scope: Scope<'_>, items: &[Form], first: &mut FirstFault) -> Re
     Ok(())
 }
 
-/// The faults of unique values, which a strand stands before.
+/// Notes the faults of an item that states unique values. A strand must stand before it.
 fn uniques_item_faults(
     scope: Scope<'_>,
     item: Item<'_>,
@@ -124,8 +124,8 @@ fn uniques_item_faults(
     Ok(())
 }
 
-/// The faults of an order, which a strand stands before; its pairs go behind those before. So many of all of them, from the
-/// first on, have no cycle.
+/// Notes the faults of an order, before which a strand must stand, and appends its pairs to `before`. The first
+/// `acyclic_count` of all these pairs must have no cycle.
 fn order_item_faults(
     scope: Scope<'_>,
     before: &mut Vec<OrderPair>,
@@ -152,8 +152,8 @@ fn order_item_faults(
     add_pairs(item.items, before)
 }
 
-/// The faults of an item of a problem; the pairs that it states go behind those before. So many of all of them, from the
-/// first on, have no cycle.
+/// Notes the faults of an item of a problem, and appends the pairs that it states to `before`. The first
+/// `acyclic_count` of all these pairs must have no cycle.
 fn item_faults(
     scope: Scope<'_>,
     before: &mut Vec<OrderPair>,
@@ -191,7 +191,7 @@ fn item_faults(
     Ok(())
 }
 
-/// The faults of the items of a problem.
+/// Notes the faults of the items of a problem.
 pub(crate) fn body_faults(
     scope: Scope<'_>,
     items: &[Form],

@@ -1,4 +1,4 @@
-// Problems while forms are read, and what becomes of them where the forms have no faults.
+// Problems while forms are read, and the problems that they become if the forms have no faults.
 ghost use Rattle.std.specs.Prelude.{◌≡◌, map, option_map, IfOk};
 ghost use Rattle.cp_skel.specs.Sound.{IsSound};
 ghost use Rattle.cp_load.specs.Drafts.{draft_view, IsSoundIfThere, HaveSoundSkeletons};
@@ -10,7 +10,7 @@ use cp_term::VarTable;
 use std::alloc::{AllocError, Global};
 use std::rc::Rc;
 
-/// The parts of a problem's skeleton. Where the form has faults, they may be those of no skeleton.
+/// The parts of a problem's skeleton. If the form has faults, they may be those of no skeleton.
 #[derive(Drop)]
 pub struct SkeletonDraft {
     pub variables: VarTable,
@@ -28,7 +28,7 @@ pub struct Draft {
     pub skeleton: SkeletonDraft,
 }
 
-/// The problem of a draft whose skeleton is sound.
+/// The problem of a draft, whose skeleton must be sound.
 fn finished(draft: Draft) -> Problem
     requires { IsSound (draft_view draft).skeleton }
     ensures { problem_view result ≡ draft_view draft }
@@ -52,7 +52,7 @@ fn finished(draft: Draft) -> Problem
     }
 }
 
-/// The problem of a draft whose skeleton is sound, if there is one.
+/// The problem of a draft, if there is one. Its skeleton must be sound.
 fn finished_if_there(draft: Option<Draft>) -> Option<Problem>
     requires { IsSoundIfThere draft }
     ensures { option_map problem_view result ≡ option_map draft_view draft }
@@ -63,7 +63,7 @@ fn finished_if_there(draft: Option<Draft>) -> Option<Problem>
     }
 }
 
-/// The problems of drafts whose skeletons are sound, each at its place. The error is that memory ran out.
+/// The problems of drafts, each at its place. Their skeletons must be sound.
 pub fn all_finished(
     alloc: Global,
     drafts: Vec<Option<Draft>>,

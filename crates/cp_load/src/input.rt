@@ -4,7 +4,7 @@ use cp_skel::{Protocol, Skeleton};
 use std::rc::Rc;
 
 /// A problem: its protocol, how many of its skeleton's variables it declares, and its skeleton, which maps to itself.
-/// The variables behind the declared ones were made for its strands.
+/// The variables after the declared ones were made for its strands.
 #[derive(Drop)]
 pub struct Problem {
     pub protocol: Rc<Protocol>,
@@ -12,7 +12,7 @@ pub struct Problem {
     pub skeleton: Skeleton,
 }
 
-/// Well-formed input: its forms, its protocols in order, and for each form the problem that it states, if it states one.
+/// Well-formed input: its forms, its protocols in order, and for each form the problem that it states, if any.
 #[derive(Drop)]
 pub struct Input<'a> {
     pub forms: &'a [Form],

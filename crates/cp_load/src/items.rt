@@ -1,4 +1,4 @@
-// The items of problems: which of them state strands, and which stand behind all strands.
+// The items of problems: which of them state strands, and which stand after all strands.
 ghost use Rattle.std.specs.Prelude.{◌≡◌, map};
 ghost use Rattle.cp_sexpr.specs.View.{view};
 ghost use Rattle.cp_language.specs.Problems.{has_strand, is_strand_item, is_assumption_or_order, before_items};
@@ -7,7 +7,7 @@ ghost use Rattle.cp_language.specs.Roles.{headed, item_or_none};
 use cp_forms::{ItemHead, first_items, headed, item_head};
 use cp_sexpr::Form;
 
-/// Whether an item is headed as a strand.
+/// Whether an item has the head of a strand.
 pub(crate) fn is_strand_item(form: &Form) -> bool
     ensures { result ≡ is_strand_item (item_or_none (headed (view form.now))) }
 {
@@ -17,7 +17,7 @@ pub(crate) fn is_strand_item(form: &Form) -> bool
     }
 }
 
-/// Whether one of these items is headed as a strand.
+/// Whether one of these items has the head of a strand.
 pub(crate) fn has_strand(items: &[Form]) -> bool
     ensures { result ≡ has_strand (map view items.now) }
 {

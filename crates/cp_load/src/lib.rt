@@ -1,4 +1,7 @@
-//! The loader: from forms to protocols and problems, or the first fault of the forms.
+//! The loader: it turns forms into protocols and problems, or finds the first fault of the forms.
+//!
+//! Every call that returns `AllocError` fails only if memory runs out. The calls that take a `FirstFault` note faults
+//! in it: it keeps the first.
 #![tactic(auto)]
 
 mod acyclic;

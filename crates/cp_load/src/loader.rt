@@ -25,7 +25,7 @@ use cp_skel::Protocol;
 use std::alloc::{AllocError, Global};
 use std::rc::Rc;
 
-/// Puts the protocol with these items behind its head behind those above, which have these names.
+/// Appends the protocol with these items after its head to those above, which have these names. Notes its faults.
 fn add_protocol(
     alloc: Global,
     above: &mut Vec<Rc<Protocol>>,
@@ -47,8 +47,8 @@ fn add_protocol(
     Ok(())
 }
 
-/// The problem that a form states, if it states one; a protocol that it states goes behind those above, which have these
-/// names. The error is that memory ran out.
+/// The problem that a top form states, if any. A protocol that it states is appended to those above, which have these
+/// names. Notes the form's faults.
 pub fn top_form(
     alloc: Global,
     above: &mut Vec<Rc<Protocol>>,
@@ -87,7 +87,7 @@ struct Stated {
     drafts: Vec<Option<Draft>>,
 }
 
-/// What these forms state. What stands for forms with faults has no meaning.
+/// What these forms state. Notes their faults; what stands for a form with faults has no meaning.
 fn read_forms(alloc: Global, forms: &[Form], first: &mut FirstFault) -> Result<Stated, AllocError>
     ensures faults { OnOk result (first.new ≡ first_onto first.old (faults_from [] (map view forms.now))) }
     ensures problems { IfOk result (λ s. map (option_map draft_view) s.drafts.items ≡ map (λ e. e.problem) (entries_from [] (map view forms.now))) }
@@ -104,9 +104,11 @@ fn read_forms(alloc: Global, forms: &[Form], first: &mut FirstFault) -> Result<S
     Ok(Stated { protocols, drafts })
 }
 
-/// What the forms state: the input, which keeps the forms, with its protocols and the problem of each form that states
-/// one. Forms with faults are refused, for the first fault by line, then by column, then by kind. The other error is
-/// want of memory.
+/// Loads forms: the input, which keeps the forms, with its protocols and, for each form, the problem that it states, if
+/// any.
+///
+/// Forms with faults are refused for the first fault by line, then by column, then by kind. The other error is
+/// `Memory`.
 pub fn load<'a>(alloc: Global, forms: &'a [Form]) -> Result<Input<'a>, LoadError>
     ensures input { IfOk result (λ i. IsInput (views forms.now) (Ok (entries_of i))) }
     ensures forms { IfOk result (λ i. i.forms.now ≡ forms.now) }

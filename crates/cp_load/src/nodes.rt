@@ -21,7 +21,7 @@ pub enum Direction {
     Reception,
 }
 
-/// The direction of the event at a place.
+/// The direction of the event at an index.
 fn event_direction(events: &[Event], index: usize) -> Option<Direction>
     ensures { result ≡ direction_of (item_at (map event_view events.now) index) }
 {
@@ -32,7 +32,7 @@ fn event_direction(events: &[Event], index: usize) -> Option<Direction>
     }
 }
 
-/// The direction of the event at a place of a strand.
+/// The direction of the event at an index of a strand.
 fn strand_direction(strand: &Strand, index: usize) -> Option<Direction>
     ensures { result ≡ direction_of (item_at (skeleton_trace (strand_view strand.now)) index) }
 {
@@ -69,7 +69,7 @@ fn number(form: Option<&Form>) -> Option<usize>
     }
 }
 
-/// The node that a form states, if it does.
+/// The node that a form states, if it states one.
 pub fn node_of(form: &Form) -> Option<Node>
     ensures { result ≡ node_of (view form.now) }
 {
@@ -90,7 +90,7 @@ fn number_faults(form: Option<&Form>, first: &mut FirstFault)
     }
 }
 
-/// A node has to be there.
+/// A node has to exist.
 fn range_faults(strands: &[Strand], place: Place, node: Option<Node>, first: &mut FirstFault)
     ensures { first.new ≡ first_onto first.old (range_faults (map strand_view strands.now) place node) }
 {
@@ -111,7 +111,7 @@ fn two_number_faults(items: &[Form], first: &mut FirstFault)
     number_faults(item_at(items, 1), first);
 }
 
-/// The faults of a node that a form states.
+/// Notes the faults of a node that a form states.
 pub(crate) fn node_faults(strands: &[Strand], form: &Form, first: &mut FirstFault)
     ensures { first.new ≡ first_onto first.old (node_faults (map strand_view strands.now) (view form.now)) }
 {

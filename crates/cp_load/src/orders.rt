@@ -48,9 +48,10 @@ fn some_ends_before(pairs: &[OrderPair], node: Node) -> bool
     false
 }
 
-/// Whether a pair goes back or stays on one strand, or closes a cycle with strand order and the pairs before it. No way
-/// is sought where it is known that these have no cycle with it, where no pair leaves the strand at which the way would
-/// begin, or where none comes to the one at which it would end.
+/// Whether a pair goes back or stays on one strand, or closes a cycle with strand order and the pairs before it.
+///
+/// `acyclic` may be set only if these pairs and this one have no cycle. No path is searched for if it is set, if no
+/// pair leaves the strand at which the path would begin, or if none comes to the strand at which it would end.
 pub fn closes_cycle(
     alloc: Global,
     before: &[OrderPair],
@@ -86,8 +87,8 @@ pub fn pair_of_nodes(earlier: Option<Node>, later: Option<Node>) -> Option<Order
     }
 }
 
-/// What stands before a pair: the strands of the problem, and the pairs that it states before; and whether these are
-/// said to be acyclic with the pair.
+/// The context of a pair: the strands of the problem, the pairs that it states before, and whether these are said to
+/// have no cycle with the pair.
 #[derive(Clone, Copy)]
 struct Before<'a> {
     strands: &'a [Strand],
@@ -95,7 +96,7 @@ struct Before<'a> {
     acyclic: bool,
 }
 
-/// A pair at its place, by the two forms that state its nodes.
+/// A pair at its place, given by the two forms that state its nodes.
 #[derive(Clone, Copy)]
 struct Stated<'a> {
     place: Place,
@@ -103,7 +104,8 @@ struct Stated<'a> {
     later: &'a Form,
 }
 
-/// Whether a fault stands already before each that the order of a pair can have, so that none of these is the first.
+/// Whether a fault was already noted before each fault that the order of a pair can have, so that none of these is the
+/// first.
 fn is_behind_fault(first: &FirstFault, stated: Stated<'_>) -> bool
     ensures { result ≡ is_behind_fault first.now stated.entry.place (view stated.entry.earlier.now) (view stated.entry.later.now) }
 {
@@ -112,8 +114,8 @@ fn is_behind_fault(first: &FirstFault, stated: Stated<'_>) -> bool
         && first.stands_before(place_of(stated.later), Code::BadNode)
 }
 
-/// The faults of the pair that two forms state: a cycle, or else its directions. Where the pairs are said to be acyclic,
-/// here and below, those before and the pair have no cycle. Nothing is asked where a fault stands already before them.
+/// Notes the faults of the pair that two forms state: a cycle, or else its directions. Tests nothing if a fault before
+/// these was already noted. If `before.acyclic`, here and below, the pairs before and this pair must have no cycle.
 fn order_faults(
     alloc: Global,
     before: Before<'_>,
@@ -138,7 +140,7 @@ fn order_faults(
     Ok(())
 }
 
-/// The faults of the two nodes that forms state, or else those of their pair.
+/// Notes the faults of the two nodes that forms state; if they have none, those of their pair.
 fn nodes_or_order_faults(
     alloc: Global,
     before: Before<'_>,
@@ -166,7 +168,7 @@ fn nodes_or_order_faults(
     Ok(())
 }
 
-/// The faults of a pair with these items, behind which these pairs stand.
+/// Notes the faults of a pair with these items.
 fn pair_items_faults(
     alloc: Global,
     before: Before<'_>,
@@ -188,7 +190,7 @@ fn pair_items_faults(
     Ok(())
 }
 
-/// The faults of a pair that a form states, behind which these pairs stand.
+/// Notes the faults of a pair that a form states.
 fn pair_faults(
     alloc: Global,
     before: Before<'_>,
@@ -205,8 +207,8 @@ fn pair_faults(
     pair_items_faults(alloc, before, *place, items.as_slice(), first)
 }
 
-/// The faults of the pairs that these forms state, behind which these stand; the pairs go behind them. So many of all of
-/// them, from the first on, have no cycle.
+/// Notes the faults of the pairs that these forms state, and appends the pairs to `before`. The first `acyclic_count`
+/// of all these pairs must have no cycle.
 pub(crate) fn pairs_faults(
     alloc: Global,
     strands: &[Strand],

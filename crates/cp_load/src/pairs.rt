@@ -14,7 +14,7 @@ use cp_sexpr::Form;
 use cp_skel::{Node, OrderPair, Strand};
 use std::alloc::AllocError;
 
-/// The node that a form states, if it is there and does.
+/// The node that a form states, if there is a form and it states one.
 pub fn node_if_there(form: Option<&Form>) -> Option<Node>
     ensures { result ≡ option_node (option_map (λ f. view f.now) form.entry) }
 {
@@ -50,7 +50,7 @@ pub fn pair_of(form: &Form) -> Option<OrderPair>
     }
 }
 
-/// Puts a pair behind others, if it is there.
+/// Appends a pair, if there is one.
 pub fn add_pair(pair: Option<OrderPair>, pairs: &mut Vec<OrderPair>) -> Result<(), AllocError>
     ensures { OnOk result (pairs.new.items ≡ pairs.old.items ++ option_to_list pair) }
 {
@@ -60,7 +60,7 @@ pub fn add_pair(pair: Option<OrderPair>, pairs: &mut Vec<OrderPair>) -> Result<(
     Ok(())
 }
 
-/// Puts the pairs that these forms state behind others.
+/// Appends the pairs that these forms state.
 pub fn add_pairs(forms: &[Form], pairs: &mut Vec<OrderPair>) -> Result<(), AllocError>
     ensures { OnOk result (pairs.new.items ≡ pairs.old.items ++ pairs_in (map view forms.now)) }
 {
@@ -70,22 +70,22 @@ pub fn add_pairs(forms: &[Form], pairs: &mut Vec<OrderPair>) -> Result<(), Alloc
     Ok(())
 }
 
-/// Whether there is a transmission at a node.
+/// Whether the event at a node is a transmission.
 pub fn is_transmission(strands: &[Strand], node: Node) -> bool
     ensures { result ≡ is_transmission (term_event_at (map strand_view strands.now) node) }
 {
     node_direction(strands, node) == Some(Direction::Transmission)
 }
 
-/// Whether there is a reception at a node.
+/// Whether the event at a node is a reception.
 pub fn is_reception(strands: &[Strand], node: Node) -> bool
     ensures { result ≡ is_reception (term_event_at (map strand_view strands.now) node) }
 {
     node_direction(strands, node) == Some(Direction::Reception)
 }
 
-/// The faults of the directions of a pair that these forms state: between two strands it leads from a transmission to
-/// a reception.
+/// Notes the faults of the directions of a pair that these forms state: between two strands it must lead from a
+/// transmission to a reception.
 pub(crate) fn direction_faults(
     strands: &[Strand],
     earlier: &Form,

@@ -23,7 +23,7 @@ use cp_skel::{Declaration, Protocol, Strand};
 use std::alloc::{AllocError, Global};
 use std::rc::Rc;
 
-/// The faults of the name of a problem's protocol, where these protocols stand above it.
+/// Notes the faults of the name of a problem's protocol. `above` are the protocols above the problem.
 pub(crate) fn protocol_name_faults(above: &[Rc<Protocol>], form: &Form, first: &mut FirstFault)
     ensures { first.new ≡ first_onto first.old (protocol_name_faults (turned (protocols_view above.now) []) (view form.now)) }
 {
@@ -39,7 +39,7 @@ pub(crate) fn protocol_name_faults(above: &[Rc<Protocol>], form: &Form, first: &
     }
 }
 
-/// The last protocol of this name; where there is none, one without roles.
+/// The last protocol with this name, or one without roles if there is none.
 fn protocol_or_none(
     alloc: Global,
     above: &[Rc<Protocol>],
@@ -53,14 +53,14 @@ fn protocol_or_none(
     }
 }
 
-/// The strands of a problem, and all its variables: those declared, and behind them those made for the strands.
+/// The strands of a problem, and all its variables: those declared, then those made for the strands.
 #[derive(Drop)]
 struct Parts {
     strands: Vec<Strand>,
     variables: Vec<Declaration>,
 }
 
-/// The strands that a problem with these roles and declared variables states, and all its variables.
+/// The strands that a problem states, given its protocol and its declared variables, and all its variables.
 fn parts_of(
     alloc: Global,
     protocol: &Protocol,
@@ -81,7 +81,7 @@ fn parts_of(
     Ok(Parts { strands, variables })
 }
 
-/// What stands where there is no problem.
+/// Placeholder for an ill-formed problem.
 fn no_problem(alloc: Global) -> Result<Draft, AllocError>
     ensures { IfOk result (λ d. draft_view d ≡ problem_of [] []) }
 {
@@ -92,8 +92,8 @@ fn no_problem(alloc: Global) -> Result<Draft, AllocError>
     })
 }
 
-/// The problem with these items behind its head, where these protocols stand above it. What stands for a problem with
-/// faults has no meaning.
+/// The problem with these items after its head. `above` are the protocols above it. Notes its faults; what stands for a
+/// problem with faults has no meaning.
 pub(crate) fn problem_of(
     alloc: Global,
     above: &[Rc<Protocol>],

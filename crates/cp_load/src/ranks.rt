@@ -1,5 +1,5 @@
 // Ranks of the nodes at which pairs begin and end: a topological sort of these nodes along the pairs and the strands.
-// Nothing is promised of what the ranks are, since whoever uses them checks them.
+// Nothing is promised of the ranks: their users check what they need.
 ghost use Rattle.std.specs.Prelude.{◌≡◌, length, IfOk, IfSome};
 
 use cp_skel::{Node, OrderPair};
@@ -57,7 +57,7 @@ fn set_end(edges: &mut [Edge], end: End, number: usize) {
     }
 }
 
-/// The edges of so many pairs with these ends, pair by pair, and behind them those along the strands.
+/// The edges of so many pairs with these ends, pair by pair, then those along the strands.
 fn edges_of(alloc: Global, count: usize, ends: &[End]) -> Result<Vec<Edge>, AllocError> {
     let mut edges = vec![in alloc; Edge { from: 0, to: 0 }; count]?;
     let Some(first) = ends.first() else {
@@ -81,7 +81,7 @@ fn edges_of(alloc: Global, count: usize, ends: &[End]) -> Result<Vec<Edge>, Allo
     Ok(edges)
 }
 
-/// Puts an edge into a graph.
+/// Adds an edge to a graph.
 fn add_edge(graph: &mut Graph, edge: Edge) -> Result<(), AllocError> {
     if let Some(waiting) = graph.waiting.get_mut(edge.to) {
         *waiting = waiting.saturating_add(1);
@@ -92,7 +92,7 @@ fn add_edge(graph: &mut Graph, edge: Edge) -> Result<(), AllocError> {
     Ok(())
 }
 
-/// The graph with these edges and numbers below the count.
+/// The graph with these edges, whose numbers are below `count`.
 fn graph_of(alloc: Global, count: usize, edges: &[Edge]) -> Result<Graph, AllocError> {
     let mut graph = Graph {
         next: Vec::new(alloc),
@@ -107,7 +107,7 @@ fn graph_of(alloc: Global, count: usize, edges: &[Edge]) -> Result<Graph, AllocE
     Ok(graph)
 }
 
-/// The numbers for which nothing is waited.
+/// The numbers that wait for no edge.
 fn ready_at_first(alloc: Global, waiting: &[usize]) -> Result<Vec<usize>, AllocError> {
     let mut ready = Vec::new(alloc);
     for (number, count) in waiting.iter().enumerate() {
@@ -118,7 +118,7 @@ fn ready_at_first(alloc: Global, waiting: &[usize]) -> Result<Vec<usize>, AllocE
     Ok(ready)
 }
 
-/// One edge less is waited for at each of these numbers; those for which none is left are ready.
+/// Counts one edge less to each of these numbers; those with none left become ready.
 fn release(
     next: &[usize],
     waiting: &mut [usize],
@@ -135,7 +135,7 @@ fn release(
     Ok(())
 }
 
-/// The ranks of the numbers of a graph, which rise along its edges; none where there is a cycle.
+/// The ranks of the numbers of a graph, which rise along its edges; `None` if there is a cycle.
 fn ranks_in(alloc: Global, graph: Graph) -> Result<Option<Vec<usize>>, AllocError> {
     let Graph { next, mut waiting } = graph;
     let count = waiting.len();
@@ -155,7 +155,7 @@ fn ranks_in(alloc: Global, graph: Graph) -> Result<Option<Vec<usize>>, AllocErro
     Ok(Some(ranks))
 }
 
-/// The rank of the node from which the edge with a number leads.
+/// The rank of the node at which the edge with this number begins.
 fn rank_of(edges: &[Edge], ranks: &[usize], number: usize) -> usize {
     match edges.get(number) {
         Some(edge) => ranks.get(edge.from).copied().unwrap_or(0),
@@ -163,8 +163,8 @@ fn rank_of(edges: &[Edge], ranks: &[usize], number: usize) -> usize {
     }
 }
 
-/// For each pair the rank of its earlier node; none where there is a cycle. That there is one for each is all that is
-/// promised.
+/// For each pair the rank of its earlier node; `None` if there is a cycle. The contract promises only that each pair
+/// has a rank.
 pub(crate) fn ranks_of(alloc: Global, pairs: &[OrderPair]) -> Result<Option<Vec<usize>>, AllocError>
     ensures { IfOk result (λ o. IfSome o (λ ranks. length ranks.items ≡ length pairs.now)) }
 {

@@ -13,14 +13,14 @@ use cp_skel::{Atom, Event, Instance, Node, Strand, StrandShape, UniqueAt, add_un
 use cp_term::Term;
 use std::alloc::AllocError;
 
-/// Whether what a role's term becomes under the terms of an instance carries the part.
+/// Whether the term of a role, under the terms of an instance, carries the part.
 pub fn carries_under(values: &[Term], whole: &Term, part: &Term) -> bool
     ensures { result ≡ carries (apply_to (substitution_by values.now) whole.now) part.now }
 {
     cp_strand::carries_under(values, whole, part)
 }
 
-/// The place of an event, if it is a transmission.
+/// The index of an event, if it is a transmission.
 fn place_if_sent(event: &Event, index: usize) -> Option<usize>
     ensures { result ≡ place_if_sent (event_view event.now) index }
 {
@@ -30,7 +30,7 @@ fn place_if_sent(event: &Event, index: usize) -> Option<usize>
     }
 }
 
-/// The place of an instance at which a value originates.
+/// The index at which a value originates on an instance, if it does.
 fn instance_origin(instance: &Instance, value: &Term) -> Option<usize>
     ensures { result ≡ origin_in (skeleton_trace (instance_view instance.now)) value.now }
 {
@@ -43,7 +43,7 @@ fn instance_origin(instance: &Instance, value: &Term) -> Option<usize>
     None
 }
 
-/// The place of a strand at which a value originates: on a listener there is none.
+/// The index at which a value originates on a strand, if it does. Nothing originates on a listener.
 fn strand_origin(strand: &Strand, value: &Term) -> Option<usize>
     ensures { result ≡ origin_on (strand_view strand.now) value.now }
 {
@@ -65,7 +65,7 @@ pub(crate) fn originates(strands: &[Strand], value: &Atom) -> bool
     false
 }
 
-/// Puts the origin of a value, which is a place of this strand or none, behind others, if it is not one of them.
+/// Adds the origin of a value at this place of a strand, if there is one, unless it is already listed.
 pub(crate) fn add_origin(
     value: &Atom,
     strand: usize,
@@ -82,7 +82,7 @@ pub(crate) fn add_origin(
     add_unique(uniques, UniqueAt::new(value, Node { strand, index }))
 }
 
-/// Puts the origins of a value on these strands behind others, each that is not there yet.
+/// Adds the origins of a value on these strands, except those already listed.
 fn add_origins(
     strands: &[Strand],
     value: &Atom,
@@ -98,7 +98,7 @@ fn add_origins(
     Ok(())
 }
 
-/// Puts the origins of these values on the strands behind others, each that is not there yet.
+/// Adds the origins of these values on the strands, except those already listed.
 pub(crate) fn add_own_uniques(
     strands: &[Strand],
     values: &[Atom],

@@ -26,7 +26,7 @@ use cp_skel::{
 use cp_term::{Term, VarTable};
 use std::alloc::{AllocError, Global};
 
-/// The faults of a value of a problem's unique values: it has to originate on one of these strands.
+/// Notes the faults of one of a problem's unique values: it has to originate on one of these strands.
 pub(crate) fn unique_faults(
     alloc: Global,
     strands: &[Strand],
@@ -139,7 +139,7 @@ fn variable_terms(alloc: Global, variables: &[Declaration]) -> Result<Vec<Term>,
     Ok(terms)
 }
 
-/// The table of these variables.
+/// A table of these variables.
 pub fn table_of(alloc: Global, variables: &[Declaration]) -> Result<VarTable, AllocError>
     ensures { IfOk result (λ t. variables_view t ≡ map declaration_view variables.now) }
 {
@@ -150,8 +150,8 @@ pub fn table_of(alloc: Global, variables: &[Declaration]) -> Result<VarTable, Al
     Ok(table)
 }
 
-/// The parts of the skeleton of a problem with these strands, which declares these variables, and all of whose variables
-/// are these: it maps to itself.
+/// The parts of the skeleton of a problem with these strands and declared variables, and with `all` as its variables.
+/// It maps to itself.
 pub(crate) fn own_skeleton(
     alloc: Global,
     declared: &[Declaration],

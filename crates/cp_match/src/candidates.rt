@@ -1,4 +1,4 @@
-// Positions whose terms could equal a critical term.
+// Positions at which a critical term may stand.
 ghost use Rattle.std.specs.Prelude.{◌≡◌, ◌++◌, IfOk, OnOk};
 ghost use Rattle.cp_model.specs.Term.{tag_term};
 ghost use Rattle.cp_term.specs.Positions.{here_if, behind, positions_where};
@@ -17,8 +17,8 @@ fn is_tag(text: &str, term: &Term) -> bool
     }
 }
 
-/// Whether some values could make the two terms one: both are tags, of the same text; or atoms, of the same sort; or pairs;
-/// or encryptions.
+/// Whether values may make the two terms equal, judged by their outermost form: tags of the same text, atoms of the same sort,
+/// two pairs, or two encryptions.
 fn is_candidate(critical: &Term, term: &Term) -> bool
     ensures { result ≡ may_equal critical.now term.now }
 {
@@ -39,7 +39,7 @@ fn is_candidate(critical: &Term, term: &Term) -> bool
     }
 }
 
-/// Adds this path, where the term could equal the critical one.
+/// Appends this path if the term may equal the critical one.
 fn add_here(
     term: &Term,
     critical: &Term,
@@ -56,7 +56,7 @@ fn add_here(
     Ok(())
 }
 
-/// Adds the paths, behind the steps to here, at which the whole carries a term that could equal the critical one.
+/// Appends the paths, each prefixed by the steps to here, at which the whole carries a term that may equal the critical one.
 fn add_positions(
     whole: &Term,
     critical: &Term,
@@ -92,8 +92,7 @@ fn add_positions(
     }
 }
 
-/// The positions at which the whole carries a term that could equal the critical one, in preorder, left before right. The
-/// error is that memory ran out.
+/// The positions at which the whole carries a term that may equal the critical one, in preorder, left before right.
 pub fn positions_for(alloc: Global, whole: &Term, critical: &Term) -> Result<Vec<Path>, AllocError>
     ensures { IfOk result (λ v. v.items ≡ positions_where (may_equal critical.now) whole.now) }
 {

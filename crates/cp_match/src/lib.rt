@@ -1,4 +1,5 @@
-//! Which terms patterns match, and how terms are made to match them.
+//! Patterns and terms: which terms a pattern matches, which positions lie inside patterns, and which substitutions make a term
+//! match. Every call that returns `AllocError` fails only when memory runs out.
 #![tactic(auto)]
 
 mod candidates;

@@ -1,4 +1,4 @@
-// Patterns opened: new variables in the places of their locals.
+// Opens patterns: replaces their locals by new variables.
 ghost use Rattle.std.specs.Prelude.{◌≡◌, ◌++◌, [], ◌∷◌, length, map, take, IfOk, OnOk, OnErr};
 ghost use Rattle.cp_lists.specs.Lists.{IsIn, item_at};
 ghost use Rattle.cp_model.specs.Pattern.{IsPattern};
@@ -17,7 +17,7 @@ use cp_term::{Pattern, Sort, Term, Text, VarId, VarTable, var};
 use cp_unify::{Binding, Subst, apply};
 use std::alloc::{AllocError, Global};
 
-/// The sort of a variable that occurs in the events of a pattern's term.
+/// The sort of a variable, found in the events of a pattern's term.
 fn sort_in(events: &[Event], variable: VarId) -> Sort
     ensures { (p : Plain) (x : Variable) → IsPattern p → variables_of_trace (map event_view events.now) ≡ variables_of p.term
         → IsIn x p.locals → x.number ≡ variable → sort_view result ≡ x.sort }
@@ -37,8 +37,8 @@ fn sort_in(events: &[Event], variable: VarId) -> Sort
     Sort::Akey
 }
 
-/// What a variable in the place of another is named after: what that one is, where it is one of the table's first, as many
-/// as the count says.
+/// The identifier for a variable that replaces another: that of the other one, if it is among the first `count` variables of the
+/// table, otherwise `x`.
 fn root_for(variables: &VarTable, count: usize, variable: VarId) -> &str
     ensures { result.now ≡ identifier_or_x (item_at (take count (variables_view variables.now)) variable) }
 {
@@ -51,7 +51,7 @@ fn root_for(variables: &VarTable, count: usize, variable: VarId) -> &str
     variables.root(variable)
 }
 
-/// Declares a variable of this sort in the place of another.
+/// Declares a variable of this sort to replace another.
 fn declare_for(
     alloc: Global,
     variable: VarId,
@@ -69,7 +69,7 @@ fn declare_for(
     k.declare(root.as_str(), sort)
 }
 
-/// Declares a variable in the place of each local of the pattern, in order, and answers the bindings to these.
+/// Declares a variable to replace each local of the pattern, in order, and returns the bindings to them.
 fn declare_locals(
     alloc: Global,
     pattern: &Pattern,
@@ -94,7 +94,7 @@ fn declare_locals(
     Ok(bindings)
 }
 
-/// The bindings, and behind them those of the substitution.
+/// The bindings, followed by those of the substitution.
 fn put_before(bindings: Vec<Binding>, from: Subst) -> Result<Subst, AllocError>
     ensures { IfOk result (λ s. s ≡ bindings.items ++ from) }
 {
@@ -106,10 +106,10 @@ fn put_before(bindings: Vec<Binding>, from: Subst) -> Result<Subst, AllocError>
     Ok(all)
 }
 
-/// The term of the pattern, with new variables in the places of its locals, and its other variables as the substitution
-/// says. The new variables are declared in the skeleton, in the order of the locals; each has the sort of its local, and is
-/// named after what that is named after, if it is declared, else after `x`. The error is that memory ran out; then the
-/// skeleton may have some of the new variables, and is otherwise the same.
+/// The term of the pattern with its locals replaced by new variables and the substitution applied to its other variables. The new
+/// variables are declared in the skeleton, in the order of the locals. Each has the sort of its local and the identifier of its
+/// local, if that is declared, otherwise `x`. On an error the skeleton may have gained some of the new variables; otherwise it
+/// stays the same.
 pub fn open_pattern(
     alloc: Global,
     pattern: &Pattern,

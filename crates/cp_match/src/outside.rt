@@ -1,4 +1,4 @@
-// Positions of a term, inside and outside patterns.
+// Positions of a term inside and outside patterns.
 ghost use Rattle.std.specs.Prelude.{◌≡◌, ◌↔◌, List, IsTrue, IfOk, IfSome, IfNone};
 ghost use Rattle.std.specs.Option.{option_copied};
 ghost use Rattle.cp_model.specs.Term.{Substitution};
@@ -14,7 +14,7 @@ use cp_term::{Path, Pattern, Shape, Step, Term, paths_of};
 use cp_unify::Subst;
 use std::alloc::{AllocError, Global};
 
-/// The part of a term to which a step leads, if there is one.
+/// The part of a term to which a step leads, if any.
 fn part_of(term: &Term, step: Step) -> Option<&Term>
     ensures { option_copied result ≡ part_at step term.now }
 {
@@ -26,7 +26,7 @@ fn part_of(term: &Term, step: Step) -> Option<&Term>
     }
 }
 
-/// Whether the step leads into the plaintext of a term that one of the patterns that are ready matches.
+/// Whether the step leads into the plaintext of a term that one of the prepared patterns matches.
 fn enters(alloc: Global, all: &[Ready], term: &Term, step: Step) -> Result<bool, AllocError>
     ensures { IfOk result (λ answer. (ps : List Plain) (s : Substitution) → AreReadyFor s ps all.now → IsTrue answer ↔ ((step ≡ Step.Plaintext) × HasMatch ps s term.now)) }
 {
@@ -37,7 +37,7 @@ fn enters(alloc: Global, all: &[Ready], term: &Term, step: Step) -> Result<bool,
     }
 }
 
-/// Whether an encryption that encloses the position matches one of the patterns that are ready.
+/// Whether an encryption around the position matches one of the prepared patterns.
 fn leads_inside(
     alloc: Global,
     all: &[Ready],
@@ -59,8 +59,8 @@ fn leads_inside(
     Ok(false)
 }
 
-/// Whether the carried position of the term is inside the patterns, where their variables that are not local are as the
-/// substitution says: an encryption that encloses it matches one of them. The error is that memory ran out.
+/// Whether the carried position of the term is inside the patterns: an encryption around it matches one of them, where the
+/// substitution gives the patterns' variables except their locals.
 pub fn is_inside(
     alloc: Global,
     patterns: &[Pattern],
@@ -74,9 +74,8 @@ pub fn is_inside(
     leads_inside(alloc, &all, term, path)
 }
 
-/// The first of the positions, in preorder, at which the term carries the critical one outside the patterns, where their
-/// variables that are not local are as the substitution says; none where it carries it inside them alone. The error is that
-/// memory ran out.
+/// The first position, in preorder, at which the term carries the critical one outside the patterns; `None` if it carries it
+/// inside them alone. The substitution gives the patterns' variables except their locals.
 pub fn first_outside(
     alloc: Global,
     patterns: &[Pattern],

@@ -1,4 +1,4 @@
-// Whether patterns match, where their variables that are not local are as a substitution says.
+// Matches patterns under a substitution of their variables except their locals.
 ghost use Rattle.std.specs.Prelude.{◌≡◌, ◌↔◌, List, IsTrue, IfOk};
 ghost use Rattle.cp_model.specs.Term.{Substitution};
 ghost use Rattle.cp_model.specs.Tree.{Pattern as Plain};
@@ -12,7 +12,8 @@ use cp_term::{Pattern, Term, VarId};
 use cp_unify::{Binding, Subst, apply, matching_beside};
 use std::alloc::{AllocError, Global};
 
-/// The term of a pattern, and bindings of its variables that are not local to what a substitution says of them.
+/// A pattern prepared for matching: its term, and bindings of its variables, except the locals, to what a substitution gives
+/// them.
 #[derive(Drop)]
 pub(crate) struct Ready {
     term: Term,
@@ -26,7 +27,7 @@ fn is_local(locals: &[VarId], variable: VarId) -> bool
     locals.contains(&variable)
 }
 
-/// The bindings but those of variables with these numbers.
+/// The bindings, except those of variables with these numbers.
 fn without(alloc: Global, bindings: &[Binding], locals: &[VarId]) -> Result<Subst, AllocError>
     ensures { IfOk result (λ r. (f : Substitution) → Agrees f r ↔ AgreesBut locals.now f bindings.now) }
 {
@@ -41,7 +42,7 @@ fn without(alloc: Global, bindings: &[Binding], locals: &[VarId]) -> Result<Subs
     Ok(kept)
 }
 
-/// Bindings of the pattern's variables that are not local to what the substitution says of them.
+/// Bindings of the pattern's variables, except the locals, to what the substitution gives them.
 fn said_of(alloc: Global, pattern: &Pattern, from: &Subst) -> Result<Subst, AllocError>
     ensures { IfOk result (λ r. (f : Substitution) → Agrees f r ↔ IsAsSaid pattern.now (as_substitution from.now) f) }
 {
@@ -52,7 +53,7 @@ fn said_of(alloc: Global, pattern: &Pattern, from: &Subst) -> Result<Subst, Allo
     }
 }
 
-/// The pattern, ready for matching where its other variables are as the substitution says.
+/// Prepares the pattern for matching under the substitution.
 fn made_ready(alloc: Global, pattern: &Pattern, from: &Subst) -> Result<Ready, AllocError>
     ensures { IfOk result (λ r. IsReadyFor (as_substitution from.now) pattern.now r) }
 {
@@ -61,7 +62,7 @@ fn made_ready(alloc: Global, pattern: &Pattern, from: &Subst) -> Result<Ready, A
     Ok(Ready { term, said })
 }
 
-/// The patterns, ready for matching where their other variables are as the substitution says.
+/// Prepares the patterns for matching under the substitution.
 pub(crate) fn all_ready(
     alloc: Global,
     patterns: &[Pattern],
@@ -77,7 +78,7 @@ pub(crate) fn all_ready(
     Ok(all)
 }
 
-/// Whether the pattern that is ready matches the term.
+/// Whether the prepared pattern matches the term.
 fn is_matched(alloc: Global, ready: &Ready, term: &Term) -> Result<bool, AllocError>
     ensures { IfOk result (λ answer. (p : Plain) (s : Substitution) → IsReadyFor s p ready.now → IsTrue answer ↔ Matches p s term.now) }
 {
@@ -86,7 +87,7 @@ fn is_matched(alloc: Global, ready: &Ready, term: &Term) -> Result<bool, AllocEr
     Ok(found.is_some())
 }
 
-/// Whether one of the patterns that are ready matches the term.
+/// Whether one of the prepared patterns matches the term.
 pub(crate) fn some_match(alloc: Global, all: &[Ready], term: &Term) -> Result<bool, AllocError>
     ensures { IfOk result (λ answer. (ps : List Plain) (s : Substitution) → AreReadyFor s ps all.now → IsTrue answer ↔ HasMatch ps s term.now) }
 {
@@ -98,8 +99,7 @@ pub(crate) fn some_match(alloc: Global, all: &[Ready], term: &Term) -> Result<bo
     Ok(false)
 }
 
-/// Whether the pattern matches the term, where its variables that are not local are as the substitution says. The error is
-/// that memory ran out.
+/// Whether the pattern matches the term, where the substitution gives the pattern's variables except its locals.
 pub fn matches(
     alloc: Global,
     pattern: &Pattern,

@@ -9,8 +9,8 @@ use cp_term::Term;
 use cp_unify::{Subst, unify};
 use std::alloc::{AllocError, Global};
 
-/// The most general unifier of two terms, which binds later variables to earlier ones; none exactly where no values make
-/// them one. The error is that memory ran out.
+/// The most general unifier of two terms, which maps later variables to earlier ones; `None` exactly if no values make the terms
+/// equal.
 pub fn unifier(alloc: Global, a: &Term, b: &Term) -> Result<Option<Subst>, AllocError>
     ensures some { IfOk result (λ answer. IfSome answer (λ s. UnifiesMostGenerally a.now b.now (as_substitution s))) }
     ensures within { IfOk result (λ answer. IfSome answer (λ s. AreAmong (variables_of_bindings s) (variables_of a.now ++ variables_of b.now))) }

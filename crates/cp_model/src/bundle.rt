@@ -1,4 +1,4 @@
-// Runs and bundles, and what stands at their nodes.
+// Runs and bundles, and the events at their nodes.
 ghost use Rattle.std.specs.Prelude.{◌≡◌, map};
 ghost use Rattle.std.specs.Option.{option_map, option_and_then};
 ghost use Rattle.cp_lists.specs.Lists.{item_at};
@@ -7,15 +7,15 @@ ghost use Rattle.cp_model.specs.RunView.{event_view, trace_view, event_in, link_
 use crate::node::Node;
 use crate::strand::{Event, Strand};
 
-/// A run: strands, and their events one after another.
+/// A run: strands, and the sequence of their events.
 #[derive(Drop)]
 pub struct Run {
     pub strands: Vec<Strand>,
     pub events: Vec<Node>,
 }
 
-/// A bundle: strands, for each strand and each event of it the sender where the event is a reception, and a numbering
-/// of the nodes, a list of them.
+/// A bundle: strands; for each event of each strand its sender, if the event is a reception; and a numbering of the nodes, as a
+/// list of them.
 #[derive(Drop)]
 pub struct Bundle {
     pub strands: Vec<Strand>,
@@ -23,7 +23,7 @@ pub struct Bundle {
     pub order: Vec<Node>,
 }
 
-/// The event at a place, counted from 0.
+/// The event at an index, from 0.
 fn event_on(events: &[Event], place: usize) -> Option<&Event>
     ensures { option_map (λ e. event_view e.now) result ≡ item_at (map event_view events.now) place }
 {
@@ -40,7 +40,7 @@ pub(crate) fn event_at(strands: &[Strand], node: Node) -> Option<&Event>
     }
 }
 
-/// The sender at a place of a strand's row, counted from 0.
+/// The sender at an index of a strand's row, from 0.
 fn sender_on(row: &[Option<Node>], place: usize) -> Option<Node>
     ensures { result ≡ option_and_then (λ o. o) (item_at row.now place) }
 {
@@ -50,7 +50,7 @@ fn sender_on(row: &[Option<Node>], place: usize) -> Option<Node>
     }
 }
 
-/// The sender that rows have for a node.
+/// The sender that the rows give for a node.
 fn link_at(rows: &[Vec<Option<Node>>], node: Node) -> Option<Node>
     ensures { result ≡ link_in (map row_view rows.now) node }
 {
@@ -61,7 +61,7 @@ fn link_at(rows: &[Vec<Option<Node>>], node: Node) -> Option<Node>
 }
 
 impl Bundle {
-    /// The sender of the reception at a node; none where no reception is there.
+    /// The sender of the reception at a node; `None` if there is no reception.
     pub fn sender(&self, node: Node) -> Option<Node>
         ensures { result ≡ sender_in self.now node }
     {

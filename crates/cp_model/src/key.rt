@@ -7,14 +7,14 @@ use cp_base::{Text, copy_if_any};
 use std::alloc::{AllocError, Global};
 use std::marker::Model;
 
-/// A key: a symmetric one, which is its own inverse, or one of the two of a pair that are each other's inverse.
-/// Contracts see it as plain data.
+/// A key: a symmetric one, which is its own inverse, or one of a pair of keys that are each other's inverses. Contracts see it as
+/// plain data.
 #[derive(Drop)]
 pub struct Key {
     pub(crate) kind: KeyKind,
 }
 
-/// What a key is made of. The flag says whether it is the inverse; of a name's keys that is the private one.
+/// How a key is made. The flag tells whether it is the inverse; the inverse of a name's public key is the private one.
 #[derive(Drop)]
 pub(crate) enum KeyKind {
     Skey(usize),
@@ -65,7 +65,7 @@ impl Key {
         }
     }
 
-    /// The public key of the name with this number, for a purpose or for none. The error is that memory ran out.
+    /// The public key of the name with this number, for a purpose or for none.
     pub fn pubk(alloc: Global, purpose: Option<&str>, name: usize) -> Result<Key, AllocError>
         ensures { IfOk result (λ k. k ≡ asymmetric false (pubk (option_map (λ s. s.now) purpose.entry) name)) }
     {
@@ -82,8 +82,7 @@ impl Key {
         }
     }
 
-    /// The inverse: of an asymmetric key the other of its pair; a symmetric key is its own. The error is that memory
-    /// ran out.
+    /// The inverse: the other key of an asymmetric pair; a symmetric key is its own inverse.
     pub fn inverse(&self) -> Result<Key, AllocError>
         ensures { IfOk result (λ k. k ≡ inverse self.now) }
     {
@@ -98,7 +97,7 @@ impl Key {
         Ok(Key { kind })
     }
 
-    /// The same key again. The error is that memory ran out.
+    /// A copy of the key.
     pub fn copy(&self) -> Result<Key, AllocError>
         ensures { IfOk result (λ k. k ≡ self.now) }
     {

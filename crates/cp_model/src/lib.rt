@@ -1,4 +1,8 @@
-//! The definitions of messages, strands, bundles and skeletons, and their laws; messages, runs and bundles as values.
+//! The definitions of messages, strands, bundles and skeletons, and their laws; messages, runs and bundles as values. The
+//! definitions take up those of S. Doghmi, J. Guttman, F. Thayer, Searching for Shapes in Cryptographic Protocols, TACAS 2007,
+//! and of the CPSA Primer and Specification; `docs/DECISIONS.md` tells which choice is made where these leave one.
+//!
+//! Every call that returns `AllocError` fails only when memory runs out.
 #![tactic(auto)]
 
 mod bundle;

@@ -15,7 +15,7 @@ pub struct Msg {
     node: Rc<Form>,
 }
 
-/// What a message is made of.
+/// The outermost form of a message.
 #[cycle(message)]
 #[derive(Drop)]
 pub(crate) enum Form {
@@ -50,7 +50,7 @@ impl Model for Msg {
     ghost size_decreases = { λ m h. form_falls m.node.value };
 }
 
-// A loop along right parts and plaintexts, so that a long chain needs no deep stack.
+// A loop along right parts and plaintexts, so that long chains need no deep stack.
 impl Drop for Msg {
     #[cycle(message)]
     fn drop(mut self) {
@@ -72,7 +72,7 @@ impl Drop for Msg {
 }
 
 impl Msg {
-    /// A message of one new node.
+    /// A message with this form, in a new node.
     fn made(alloc: Global, form: Form) -> Result<Msg, AllocError>
         ensures { IfOk result (λ m. m ≡ message_of_form form) }
     {
@@ -80,14 +80,14 @@ impl Msg {
         Ok(Msg { node })
     }
 
-    /// What the message is made of.
+    /// The outermost form of the message.
     pub(crate) fn form(&self) -> &Form
         ensures { message_of_form result.now ≡ self.now }
     {
         &self.node
     }
 
-    /// Another handle to the same message. The error is that memory ran out.
+    /// Another handle to the same message.
     pub fn copy(&self) -> Result<Msg, AllocError>
         ensures { IfOk result (λ m. m ≡ self.now) }
     {
@@ -95,7 +95,7 @@ impl Msg {
         Ok(Msg { node })
     }
 
-    /// The tag with this text. As of each maker of a message, the error is that memory ran out.
+    /// The tag with this text.
     pub fn tag(alloc: Global, text: &str) -> Result<Msg, AllocError>
         ensures { IfOk result (λ m. m ≡ plain.tag text.now) }
     {
@@ -124,7 +124,7 @@ impl Msg {
         Msg::made(alloc, Form::Name(number))
     }
 
-    /// The message that is this key.
+    /// A key as a message.
     pub fn key(alloc: Global, key: Key) -> Result<Msg, AllocError>
         ensures { IfOk result (λ m. m ≡ plain.atom (plain.key key)) }
     {

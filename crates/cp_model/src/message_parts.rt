@@ -1,4 +1,4 @@
-// Equality of messages, and what a message carries.
+// Equality of messages, and the messages that a message carries.
 ghost use Rattle.std.specs.Prelude.{◌≡◌, ◌↔◌, IsTrue};
 ghost use Rattle.cp_model.specs.Message.{IsCarriedBy};
 ghost use Rattle.cp_model.specs.MessageView.{message_of_form};
@@ -9,7 +9,7 @@ use crate::message::{Form, Msg};
 use cp_base::same_if_any;
 
 impl Key {
-    /// Whether this is the same key as the other.
+    /// Whether the two keys are equal.
     pub fn same(&self, other: &Key) -> bool
         ensures { IsTrue result ↔ (self.now ≡ other.now) }
     {
@@ -25,7 +25,7 @@ impl Key {
     }
 }
 
-/// Whether a message without parts is the same as another.
+/// Whether a message without parts equals another.
 fn same_leaf(leaf: &Form, other: &Form) -> bool
     requires { IsLeafForm leaf.now }
     ensures { IsTrue result ↔ (message_of_form leaf.now ≡ message_of_form other.now) }
@@ -41,7 +41,7 @@ fn same_leaf(leaf: &Form, other: &Form) -> bool
 }
 
 impl Msg {
-    /// Whether this is the same message as the other.
+    /// Whether the two messages are equal.
     pub fn same(&self, other: &Msg) -> bool
         ensures { IsTrue result ↔ (self.now ≡ other.now) }
     {
@@ -69,7 +69,8 @@ impl Msg {
         }
     }
 
-    /// Whether the message carries the part: is it, or is a pair or an encryption whose parts or plaintext carry it.
+    /// Whether the message carries the part: it is the part, or a pair one of whose sides carries it, or an encryption whose
+    /// plaintext carries it.
     pub fn carries(&self, part: &Msg) -> bool
         ensures { IsTrue result ↔ IsCarriedBy part.now self.now }
     {

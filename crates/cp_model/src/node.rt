@@ -1,14 +1,14 @@
 // Nodes, and pairs of them.
 
-/// A node: the number of a strand, and the place of the event on it, both from 0.
+/// A node: the number of a strand, and the index of an event on it, both from 0.
 #[derive(Clone, Copy, Debug, PartialEq, Eq)]
 pub struct Node {
     pub strand: usize,
     pub index: usize,
 }
 
-/// A pair of the order: the earlier node comes before the later one. In a skeleton they are a transmission and a
-/// reception of different strands.
+/// A pair of the order: the earlier node comes before the later one. In a skeleton these are a transmission and a reception of
+/// different strands.
 #[derive(Clone, Copy, Debug, PartialEq, Eq)]
 pub struct OrderPair {
     pub earlier: Node,

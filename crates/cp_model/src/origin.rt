@@ -1,4 +1,4 @@
-// Where a message originates.
+// Origins of messages.
 ghost use Rattle.std.specs.Prelude.{◌≡◌, ◌⊎◌, map, Some};
 ghost use Rattle.cp_model.specs.Message.{Message, IsCarriedBy};
 ghost use Rattle.cp_model.specs.Strand.{Event as PlainEvent, payload, Protocol};
@@ -11,7 +11,7 @@ use crate::message::Msg;
 use crate::node::Node;
 use crate::strand::{Event, Strand};
 
-/// The place of the first of the events that carries the message.
+/// The index of the first event that carries the message.
 fn first_carrying(events: &[Event], message: &Msg) -> Option<usize>
     ensures { IsFirstCarrying message.now (map event_view events.now) result }
 {
@@ -23,7 +23,7 @@ fn first_carrying(events: &[Event], message: &Msg) -> Option<usize>
     None
 }
 
-/// The first node of a node's strand whose event carries the message; the node itself where none does.
+/// The first node of a node's strand whose event carries the message; the node itself if none does.
 fn first_on_strand(strands: &[Strand], node: Node, message: &Msg) -> Node
     ensures { CarriesAt (map trace_view strands.now) message.now node
         → IsFirstOnStrand (map trace_view strands.now) message.now result node }
@@ -40,15 +40,15 @@ fn first_on_strand(strands: &[Strand], node: Node, message: &Msg) -> Node
     }
 }
 
-/// An origin of a message that a node of a bundle carries: a node at which the message originates, and that is the node
-/// or precedes it. Where the node does not carry the message the answer has no meaning.
+/// An origin of a message that a node of a bundle carries: a node at which the message originates, and which is that node or
+/// precedes it. If the node does not carry the message, the answer is meaningless.
 pub fn origin_before(bundle: &Bundle, n: Node, m: &Msg) -> Node
     ensures origin { (protocol : Protocol) (p : PlainBundle) (e : PlainEvent Message) → StandsForBundle bundle.now p → IsBundle protocol p
         → event_at p.strands n ≡ Some e → IsCarriedBy m.now (payload e)
         → OriginatesAt p.strands m.now result × ((result ≡ n) ⊎ Precedes p result n) }
 {
     let mut node = n;
-    // Back along links the numbering falls, so that there are fewer steps than nodes.
+    // Going back along a link lowers the number, so there are fewer steps than nodes.
     for _step in 0..bundle.order.len() {
         node = first_on_strand(&bundle.strands, node, m);
         match bundle.sender(node) {

@@ -1,4 +1,4 @@
-// The bundle that a run makes, and the run along the numbering of a bundle.
+// The bundle of a run, and the run along the numbering of a bundle.
 ghost use Rattle.std.specs.Prelude.{◌≡◌, ◌↔◌, map, Some, IsTrue, IfOk};
 ghost use Rattle.cp_model.specs.Strand.{Protocol};
 ghost use Rattle.cp_model.specs.Bundle.{Bundle as PlainBundle, AreOfProtocol, IsBundle};
@@ -12,7 +12,7 @@ use crate::node::Node;
 use crate::strand::{Event, Strand, copy_strands};
 use std::alloc::{AllocError, Global};
 
-/// Whether the node sends the message.
+/// Whether the event at the node sends the message.
 fn sends(strands: &[Strand], node: Node, message: &Msg) -> bool
     ensures { IsTrue result ↔ Sends (map trace_view strands.now) message.now node }
 {
@@ -34,7 +34,7 @@ fn first_sender(strands: &[Strand], nodes: &[Node], message: &Msg) -> Option<Nod
     None
 }
 
-/// What an event is linked to.
+/// The sender to which an event is linked.
 fn sender_of(strands: &[Strand], nodes: &[Node], event: &Event) -> Option<Node>
     ensures { IsSenderOf (map trace_view strands.now) nodes.now (event_view event.now) result }
 {
@@ -44,7 +44,7 @@ fn sender_of(strands: &[Strand], nodes: &[Node], event: &Event) -> Option<Node>
     }
 }
 
-/// What each of the events is linked to.
+/// The senders to which the events are linked.
 fn senders_on(
     alloc: Global,
     strands: &[Strand],
@@ -60,7 +60,7 @@ fn senders_on(
     Ok(row)
 }
 
-/// What each event of each strand is linked to.
+/// The senders to which the events of all strands are linked.
 fn senders_of(
     alloc: Global,
     strands: &[Strand],
@@ -75,10 +75,9 @@ fn senders_of(
     Ok(rows)
 }
 
-/// The bundle of a run: its strands, its events as the numbering, and each reception linked to the first event that
-/// sends its message. The run has every event once, in the order of its strand, and each received message was sent
-/// before. Where its strands are of a protocol and keep its assumptions, this is a bundle over the protocol. The error
-/// is that memory ran out.
+/// The bundle of a run: the run's strands, its events as the numbering, and each reception linked to the first event that sends
+/// its message. The run must have every event once, in the order of its strand, and each received message must be sent by an
+/// earlier event. If its strands are of a protocol and keep its assumptions, the result is a bundle over the protocol.
 pub fn bundle_of(alloc: Global, run: &Run) -> Result<Bundle, AllocError>
     ensures strands { IfOk result (λ b. map trace_view b.strands.items ≡ map trace_view run.now.strands.items) }
     ensures order { IfOk result (λ b. b.order.items ≡ run.now.events.items) }
@@ -95,8 +94,8 @@ pub fn bundle_of(alloc: Global, run: &Run) -> Result<Bundle, AllocError>
     })
 }
 
-/// The run along a bundle: its strands, and its nodes in the order of its numbering. Where the bundle is one over a
-/// protocol, this is a run. The error is that memory ran out.
+/// The run along a bundle: the bundle's strands, and its nodes in the order of its numbering. If the bundle is one over a
+/// protocol, the result is a run.
 pub fn run_of(alloc: Global, bundle: &Bundle) -> Result<Run, AllocError>
     ensures strands { IfOk result (λ r. map trace_view r.strands.items ≡ map trace_view bundle.now.strands.items) }
     ensures events { IfOk result (λ r. r.events.items ≡ bundle.now.order.items) }

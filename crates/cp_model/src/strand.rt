@@ -13,8 +13,7 @@ pub enum Event {
     Receive(Msg),
 }
 
-/// A strand of a run or a bundle: its events, in their order. Of which role it is an instance, or which strand of the
-/// penetrator it is, is not kept.
+/// A strand of a run or a bundle: its events, in order. It does not record its role, nor its kind if it is a penetrator strand.
 #[derive(Drop)]
 pub struct Strand {
     pub events: Vec<Event>,
@@ -31,7 +30,7 @@ impl Event {
         }
     }
 
-    /// The same event again. The error is that memory ran out.
+    /// A copy of the event.
     pub fn copy(&self) -> Result<Event, AllocError>
         ensures { IfOk result (λ e. event_view e ≡ event_view self.now) }
     {
@@ -53,7 +52,7 @@ fn copy_events(alloc: Global, events: &[Event]) -> Result<Vec<Event>, AllocError
 }
 
 impl Strand {
-    /// The same strand again. The error is that memory ran out.
+    /// A copy of the strand.
     pub fn copy(&self, alloc: Global) -> Result<Strand, AllocError>
         ensures { IfOk result (λ s. trace_view s ≡ trace_view self.now) }
     {
@@ -62,7 +61,7 @@ impl Strand {
     }
 }
 
-/// The same strands again. The error is that memory ran out.
+/// Copies of the strands.
 pub(crate) fn copy_strands(alloc: Global, strands: &[Strand]) -> Result<Vec<Strand>, AllocError>
     ensures { IfOk result (λ v. map trace_view v.items ≡ map trace_view strands.now) }
 {

@@ -26,7 +26,7 @@ fn add_test_variables(test: &Option<Test>, out: &mut Vec<Variable>) -> Result<()
     }
 }
 
-/// As many variables as occur in most label forms, with those that occur again.
+/// Room for the variables of most label forms, repetitions included.
 const ROOM: usize = 60;
 
 /// The variables that occur in a label form.
@@ -51,7 +51,7 @@ pub struct LabelVariables {
     pub names: Vec<Text>,
 }
 
-/// The variables of a label, where these are the names of the problem's variables. The error is that memory ran out.
+/// The variables of a label. `of_problem` are the names of the problem's variables.
 pub fn variables_of_label(
     alloc: Global,
     of_problem: &[Text],

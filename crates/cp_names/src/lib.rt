@@ -1,4 +1,6 @@
 //! The variables that occur in a label, and the names that a report gives to variables.
+//!
+//! Every call that returns `AllocError` fails only if memory runs out.
 #![tactic(auto)]
 
 mod labels;

@@ -1,4 +1,4 @@
-// Patterns: their locals, and the variables that are none.
+// Patterns: their locals, and their other variables.
 ghost use Rattle.std.specs.Prelude.{◌≡◌, ◌++◌, [], map, IfOk, OnOk};
 ghost use Rattle.cp_model.specs.Term.{variables_of};
 ghost use Rattle.cp_language.specs.Printed.{locals_in_order};
@@ -25,7 +25,7 @@ fn has_variable(variables: &[Variable], variable: Variable) -> bool
     false
 }
 
-/// The first of the variables that has this number; where none has it, a variable that is not among them.
+/// The first of the variables with this number; if there is none, a variable that is not among them.
 fn variable_with(variables: &[Variable], number: VarId) -> Variable
     ensures { variable_view result ≡ variable_with (map variable_view variables.now) number }
 {
@@ -72,7 +72,7 @@ fn parts_of(alloc: Global, pattern: &Pattern) -> Result<Parts, AllocError>
     Ok(Parts { variables, locals })
 }
 
-/// Appends the variables but for the locals.
+/// Appends the variables, except the locals.
 fn add_variables_but(
     locals: &[Variable],
     variables: &[Variable],
@@ -88,7 +88,7 @@ fn add_variables_but(
     Ok(())
 }
 
-/// Appends the variables of patterns but for their locals.
+/// Appends the variables of patterns, except their locals.
 pub(crate) fn add_patterns(
     alloc: Global,
     patterns: &[Pattern],
@@ -103,7 +103,7 @@ pub(crate) fn add_patterns(
     Ok(())
 }
 
-/// The locals in the order in which they occur, each once.
+/// The locals in order of occurrence, each once.
 fn locals_in_order(
     alloc: Global,
     locals: &[Variable],
@@ -120,7 +120,7 @@ fn locals_in_order(
     Ok(found)
 }
 
-/// The locals of a pattern in the order in which they occur, each once.
+/// The locals of a pattern in order of occurrence, each once.
 pub fn locals_of(alloc: Global, pattern: &Pattern) -> Result<Vec<Variable>, AllocError>
     ensures { IfOk result (λ found. map variable_view found.items ≡ locals_in_order pattern.now.locals [] (variables_of pattern.now.term)) }
 {

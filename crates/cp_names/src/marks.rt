@@ -20,7 +20,7 @@ pub fn is_same_sort(first: Sort, second: Sort) -> bool
     first == second
 }
 
-/// For each number below the count whether a variable of that number is among these.
+/// For each number below the count whether a variable with that number is among these.
 pub(crate) fn marks_of(
     alloc: Global,
     count: usize,
@@ -38,7 +38,7 @@ pub(crate) fn marks_of(
     Ok(marks)
 }
 
-/// Whether the declared variable of this number is of this sort.
+/// Whether the declared variable with this number is of this sort.
 fn is_declared(declared: &[Declaration], variable: Variable) -> bool
     ensures { result ≡ is_of_sort (item_at (map declaration_view declared.now) variable.number) (sort_view variable.sort) }
 {
@@ -71,7 +71,7 @@ pub fn is_marked(marks: &[bool], number: usize) -> bool
     number < marks.len() && marks[number]
 }
 
-/// For each variable of a role whether it occurs in the prefix of this height. The error is that memory ran out.
+/// For each variable of a role whether it occurs in the prefix of this height.
 pub fn prefix_marks(alloc: Global, role: &Role, height: usize) -> Result<Vec<bool>, AllocError>
     ensures { IfOk result (λ marks. AreMarksAmong (variables_of_prefix role.now height) role.now.variables marks.items) }
 {

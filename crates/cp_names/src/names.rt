@@ -26,7 +26,7 @@ pub(crate) fn declarations(alloc: Global, table: &VarTable) -> Result<Vec<Declar
     Ok(declarations)
 }
 
-/// The name with a number behind it.
+/// The name with a hyphen and a number appended.
 fn numbered_name(alloc: Global, name: &str, number: usize) -> Result<Text, AllocError>
     ensures { IfOk result (λ t. t ≡ numbered_name name.now number) }
 {
@@ -53,14 +53,14 @@ fn free_name(alloc: Global, taken: &Taken, name: &str) -> Result<Text, AllocErro
     numbered_name(alloc, name, taken.len())
 }
 
-/// Names, each of which is also among those that are taken.
+/// Names, all of which are also taken.
 #[derive(Drop)]
 struct Names {
     taken: Taken,
     names: Vec<Text>,
 }
 
-/// Puts a name behind the others, and takes it.
+/// Appends a name and takes it.
 fn give(alloc: Global, name: Text, names: &mut Names) -> Result<(), AllocError>
     ensures taken { OnOk result (names.new.taken ≡ names.old.taken ++ name ∷ []) }
     ensures names { OnOk result (names.new.names.items ≡ names.old.names.items ++ name ∷ []) }
@@ -71,7 +71,7 @@ fn give(alloc: Global, name: Text, names: &mut Names) -> Result<(), AllocError>
     Ok(())
 }
 
-/// The identifiers of these variables, all of them taken.
+/// The identifiers of these variables, all of which are taken.
 fn identifiers(alloc: Global, variables: &[Declaration]) -> Result<Names, AllocError>
     ensures taken { IfOk result (λ names. names.taken ≡ identifiers_in (map declaration_view variables.now)) }
     ensures names { IfOk result (λ names. names.names.items ≡ identifiers_in (map declaration_view variables.now)) }
@@ -87,7 +87,7 @@ fn identifiers(alloc: Global, variables: &[Declaration]) -> Result<Names, AllocE
     Ok(names)
 }
 
-/// The names of variables, of which the first are declared and keep their identifiers.
+/// The names of variables. The first `declared` of them keep their identifiers.
 fn names_in_order(
     alloc: Global,
     declared: usize,
@@ -104,8 +104,7 @@ fn names_in_order(
     Ok(names.names)
 }
 
-/// The names of a problem's variables, of which the first are declared and keep their identifiers. The error is that
-/// memory ran out.
+/// The names of a problem's variables. The first `declared` of them keep their identifiers.
 pub fn problem_names(
     alloc: Global,
     declared: usize,
@@ -117,7 +116,7 @@ pub fn problem_names(
     names_in_order(alloc, declared, &variables)
 }
 
-/// The names of a problem's variables, all of them taken.
+/// The names of a problem's variables, all of which are taken.
 fn copied(alloc: Global, of_problem: &[Text]) -> Result<Names, AllocError>
     ensures taken { IfOk result (λ names. names.taken ≡ of_problem.now) }
     ensures names { IfOk result (λ names. names.names.items ≡ of_problem.now) }
@@ -133,7 +132,8 @@ fn copied(alloc: Global, of_problem: &[Text]) -> Result<Names, AllocError>
     Ok(names)
 }
 
-/// Gives the variable a name that is not taken if it occurs, and else an empty one, which is not taken.
+/// Gives the variable a name that is not taken, and takes it, if the variable occurs; otherwise an empty name, which is
+/// not taken.
 fn give_later(
     alloc: Global,
     occurs: bool,
@@ -153,7 +153,7 @@ fn give_later(
     }
 }
 
-/// The names of a label's variables, where these are those of the problem's variables and the marks tell for each
+/// The names of a label's variables. `of_problem` are the names of the problem's variables; the marks say for each
 /// variable whether it occurs.
 pub(crate) fn label_names(
     alloc: Global,

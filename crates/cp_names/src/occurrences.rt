@@ -31,7 +31,7 @@ fn add_names(a: VarId, b: VarId, out: &mut Vec<Variable>) -> Result<(), AllocErr
     add(Sort::Name, b, out)
 }
 
-/// Appends the variables of an atom; of a tag there are none.
+/// Appends the variables of an atom; a tag has none.
 fn add_leaf(term: &Term, out: &mut Vec<Variable>) -> Result<(), AllocError>
     ensures { OnOk result (map variable_view out.new.items ≡ map variable_view out.old.items ++ variables_of_leaf term.now) }
 {

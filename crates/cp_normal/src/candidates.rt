@@ -1,4 +1,4 @@
-// Skeletons on the way to normal forms, and rounds of narrowing.
+// Candidates for normal forms, and rounds of narrowing.
 ghost use Rattle.std.specs.Prelude.{◌≡◌, ◌↔◌, ◌++◌, map, false, IsTrue, IfOk, OnOk};
 ghost use Rattle.cp_skel.specs.Events.{occurrence_view, events_of};
 ghost use Rattle.cp_normal.specs.Branches.{IsSettled};
@@ -18,15 +18,15 @@ use crate::unified_branches::branches;
 use cp_skel::Occurrence;
 use std::alloc::{AllocError, Global};
 
-/// A skeleton on the way to normal forms, with its substitution: one in which unique values may stray, or one in which none
-/// does, and which does not contradict itself.
+/// A candidate for a normal form, with its substitution. In an open one unique values may stray. In a settled one none does, and
+/// it does not contradict itself.
 #[derive(Drop)]
 pub(crate) enum Candidate {
     Open(Form),
     Settled(Settled),
 }
 
-/// Puts skeletons in which unique values may stray behind others.
+/// Appends skeletons as open candidates.
 fn put_open(forms: Vec<Form>, next: &mut Vec<Candidate>) -> Result<(), AllocError>
     ensures { OnOk result (next.new.items ≡ next.old.items ++ map variants.Open forms.items) }
 {
@@ -38,7 +38,7 @@ fn put_open(forms: Vec<Form>, next: &mut Vec<Candidate>) -> Result<(), AllocErro
     Ok(())
 }
 
-/// Puts the branches of a skeleton in which a unique value strays, where these are its events, behind others.
+/// Appends the branches of a skeleton in which a unique value strays. The occurrences are its events.
 fn put_branches(
     alloc: Global,
     form: &Form,
@@ -56,8 +56,8 @@ fn put_branches(
     put_open(branches, next)
 }
 
-/// Puts a skeleton in which no unique value strays, where these are its events and its assumptions do not contradict what
-/// its nodes carry, behind others; nothing where it contradicts itself all the same.
+/// Appends a skeleton in which no unique value strays as a settled candidate; nothing if it contradicts itself nevertheless. The
+/// occurrences are its events, and its assumptions do not contradict what its nodes carry.
 fn put_settled(
     alloc: Global,
     form: Form,
@@ -78,9 +78,8 @@ fn put_settled(
     }
 }
 
-/// Whether a skeleton, where these are its events, stays: its assumptions do not contradict what its nodes carry, and no
-/// unique value strays in it. Where nothing contradicts and one strays, its branches are put behind others. The error is that
-/// memory ran out.
+/// Whether a skeleton stays a candidate: its assumptions do not contradict what its nodes carry, and no unique value strays in
+/// it. If nothing contradicts but a value strays, appends the branches. The occurrences are the skeleton's events.
 fn stays(
     alloc: Global,
     form: &Form,
@@ -105,8 +104,7 @@ fn stays(
     }
 }
 
-/// Puts a skeleton behind others where it stays, and nothing where it does not, where these are its events. The error is that
-/// memory ran out.
+/// Appends a skeleton if it stays, otherwise nothing. The occurrences are its events.
 fn put_staying(
     alloc: Global,
     form: Form,
@@ -127,7 +125,7 @@ fn put_staying(
     }
 }
 
-/// Puts what takes the place of a skeleton, where these are its events, behind others. The error is that memory ran out.
+/// One step of narrowing for one skeleton: appends what takes its place. The occurrences are its events.
 fn narrow_among(
     alloc: Global,
     form: Form,
@@ -141,9 +139,9 @@ fn narrow_among(
     put_staying(alloc, form, stays, occurrences, next)
 }
 
-/// Puts what a skeleton in which unique values may stray leads to behind others: nothing where its assumptions contradict what its
-/// nodes carry, its branches where a unique value strays, nothing where the pairs of its normal form close a cycle, and else itself.
-/// Its events are listed here, and nowhere else.
+/// One step of narrowing: appends no candidate if the assumptions contradict what the nodes carry; the branches if a unique value
+/// strays; no candidate if the pairs of the normal form close a cycle; otherwise the skeleton itself. The skeleton's events are
+/// listed only here.
 fn narrow(alloc: Global, form: Form, next: &mut Vec<Candidate>) -> Result<(), AllocError>
     ensures { OnOk result (Puts (variants.Open form) next.old.items next.new.items) }
 {
@@ -151,7 +149,7 @@ fn narrow(alloc: Global, form: Form, next: &mut Vec<Candidate>) -> Result<(), Al
     narrow_among(alloc, form, &occurrences, next)
 }
 
-/// Puts what takes the place of a candidate behind others.
+/// Appends what takes the place of a candidate.
 fn advance(alloc: Global, candidate: Candidate, next: &mut Vec<Candidate>) -> Result<(), AllocError>
     ensures { OnOk result (Puts candidate next.old.items next.new.items) }
 {
@@ -164,7 +162,7 @@ fn advance(alloc: Global, candidate: Candidate, next: &mut Vec<Candidate>) -> Re
     }
 }
 
-/// One step of narrowing for each candidate in which unique values may stray; what it leads to stands in its place.
+/// One step of narrowing for each open candidate. The results take its place in the list.
 pub(crate) fn round(alloc: Global, candidates: Vec<Candidate>) -> Result<Vec<Candidate>, AllocError>
     ensures { IfOk result (λ next. IsRound candidates.items next.items) }
 {
@@ -183,7 +181,7 @@ fn is_open(candidate: &Candidate) -> bool
     matches!(candidate, Candidate::Open(_))
 }
 
-/// Whether unique values may stray in some candidate.
+/// Whether some candidate is open.
 pub(crate) fn some_is_open(candidates: &[Candidate]) -> bool
     ensures { IsTrue result ↔ Has IsOpen candidates.now }
 {

@@ -1,4 +1,4 @@
-// Non-originating values that nodes carry.
+// Tests whether nodes carry non-originating values.
 ghost use Rattle.std.specs.Prelude.{◌≡◌, ◌↔◌, map, IsTrue, IfOk};
 ghost use Rattle.cp_model.specs.Term.{atom_term, IsCarriedByTerm};
 ghost use Rattle.cp_model.specs.Strand.{payload};
@@ -41,7 +41,7 @@ fn some_carries_one(occurrences: &[Occurrence], values: &[Atom]) -> bool
         .any(|occurrence| carries_one(occurrence, values))
 }
 
-/// Whether some node carries a non-originating value, where these are the events of the skeleton.
+/// Whether some node carries a non-originating value. The occurrences are the events of the skeleton.
 pub(crate) fn some_carries_non_originating(k: &Skeleton, occurrences: &[Occurrence]) -> bool
     requires listed { map occurrence_view occurrences.now ≡ events_of (skeleton_view k.now) }
     ensures { IsTrue result ↔ CarriesNonOriginating (skeleton_view k.now) }
@@ -49,7 +49,7 @@ pub(crate) fn some_carries_non_originating(k: &Skeleton, occurrences: &[Occurren
     some_carries_one(occurrences, k.assumptions().non_originating())
 }
 
-/// Whether some node, of a role strand or a listener, carries a non-originating value. The error is that memory ran out.
+/// Whether some node, of a role strand or a listener, carries a non-originating value.
 pub fn carries_non_originating(alloc: Global, k: &Skeleton) -> Result<bool, AllocError>
     ensures { IfOk result (λ found. IsTrue found ↔ CarriesNonOriginating (skeleton_view k.now)) }
 {

@@ -5,8 +5,9 @@ ghost use Rattle.cp_normal.specs.NormalForms.{IsStray, IsNormalFormOf};
 ghost use Rattle.cp_collapse.specs.Directed.{IsMostGeneralFor};
 ghost use Rattle.cp_normal.specs.Example.{heard_is_said, repeated_after_speaker};
 
-/// A speaker says a text that originates uniquely, and a repeater says it too, who heard some text: where the repeater
-/// says it, it strays, and what he heard is what he says; he heard it after the speaker said it.
+/// A speaker says a text that originates uniquely. A repeater hears some text and says the speaker's text too, so that text
+/// strays at the repeater. Narrowing unifies what the repeater hears with what it says, and orders its hearing after the
+/// speaker's saying.
 pub fn stray_text_example()
     ensures stray { IsStray two_say_it unique_text repeated }
     ensures most_general { IsMostGeneralFor unique_text.value (text_variable 1) heard_is_said }

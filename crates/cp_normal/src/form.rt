@@ -1,9 +1,9 @@
-// Skeletons with substitutions beside them.
+// Skeletons, each with a substitution beside it.
 use cp_skel::Skeleton;
 use cp_unify::Subst;
 
-/// A skeleton that comes from another, and what a substitution into the terms of that other one has become: the substitution
-/// followed by the one by which the skeleton comes.
+/// A skeleton that comes from another by a substitution, and a second substitution: a given one into the terms of that other
+/// skeleton, followed by the one by which the skeleton comes.
 #[derive(Drop)]
 pub struct Form {
     pub skeleton: Skeleton,

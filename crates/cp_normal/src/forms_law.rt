@@ -1,4 +1,4 @@
-// The laws that normal forms come by substitutions: they stand as contracts of functions that do nothing.
+// Laws: normal forms come by substitutions. Each is the contract of a function that does nothing.
 ghost use Rattle.std.specs.Prelude.{◌≡◌, List, map};
 ghost use Rattle.cp_lists.specs.Lists.{IsIn};
 ghost use Rattle.cp_model.specs.Term.{Term, Assignment, value_of, after};
@@ -16,10 +16,10 @@ ghost use Rattle.cp_normal.specs.Formed.{Formed, StandsAmongFormed, AreNormalFor
 ghost use Rattle.cp_normal.specs.NormalForms.{IsNormalFormOf};
 ghost use Rattle.cp_normal.specs.declared.form.Form.{Form};
 
-/// The normal forms that the rules give a skeleton are normal forms of it, and of a skeleton over a protocol they lose no
-/// standing. Each comes from the skeleton by one substitution, whatever the bundle; and wherever the skeleton stands apart,
-/// one of them does by the same standing, which gives each term the value that it gives the term under that one's
-/// substitution, so that the one standing factors through the other.
+/// The normal forms that the rules give (`HasForms`) are normal forms of the skeleton. For a skeleton over a protocol they lose
+/// no standing. Each comes from the skeleton by one substitution, independent of any bundle. Whenever the skeleton stands apart,
+/// one of them does by the same standing, and that standing gives each term the value of the term under the form's substitution;
+/// so it factors through the form.
 pub fn forms_come_by_substitutions()
     ensures forms { (k r : Skeleton) (rs : List Skeleton) → HasForms k rs → IsIn r rs → IsNormalFormOf k r }
     ensures loses_none { (protocol : Protocol) (k : Skeleton) (rs : List Skeleton) → IsSkeleton protocol k → HasForms k rs → LosesNoStanding protocol k rs }
@@ -28,9 +28,9 @@ pub fn forms_come_by_substitutions()
     ensures all { (protocol : Protocol) (k : Skeleton) (rs : List Skeleton) → IsSkeleton protocol k → HasForms k rs → ComeBySubstitutions protocol k rs }
 {}
 
-/// The normal forms that the rules give a skeleton have substitutions by which they come. A standing that agrees with the one
-/// of a normal form factors through it; and with another substitution in front, an assignment that agrees gives each term the
-/// value of the term under that one.
+/// The normal forms that the rules give have substitutions by which they come. A standing that agrees with the substitution of a
+/// normal form factors through that form. If a substitution was given beside the skeleton, an assignment that agrees with a
+/// form's substitution gives each term the same value under the given one as under the given one followed by the form's.
 pub fn normal_forms_have_substitutions()
     ensures exist { (k : Skeleton) (rs : List Skeleton) → HasForms k rs → (forms : List Formed) × AreNormalForms k forms × (map (λ f. f.skeleton) forms ≡ rs) }
     ensures factors { (k : Skeleton) (forms : List Formed) (b : Bundle) (h : Standing) → AreNormalForms k forms → (among : StandsAmongFormed forms b h) → FactorsThrough k h among.form.skeleton h }

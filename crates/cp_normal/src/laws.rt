@@ -1,4 +1,4 @@
-// Laws of the definitions: each stands as the contract of a function that does nothing.
+// Laws of the definitions. Each is the contract of a function that does nothing.
 ghost use Rattle.std.specs.Prelude.{◌≡◌, List, []};
 ghost use Rattle.cp_model.specs.Term.{Term, Substitution, after, value_of};
 ghost use Rattle.cp_model.specs.Strand.{Declaration, Protocol};
@@ -15,18 +15,21 @@ ghost use Rattle.cp_collapse.specs.SameSkeletons.{SaysTheSame};
 ghost use Rattle.cp_normal.specs.Findings.{AreNormalPairs, IsContradictory};
 ghost use Rattle.cp_normal.specs.NormalForms.{NarrowsTo, IsNormal, IsNormalFormOf};
 
-/// A skeleton over a protocol that contradicts itself stands apart in no bundle; and each pair that normalising adds goes from
-/// a recorded origin to a reception that carries the value.
+/// A skeleton over a protocol that contradicts itself stands apart in no bundle. Each pair that normalising adds goes from a
+/// recorded origin to a reception that carries the value.
 pub fn contradictory_skeletons_stand_nowhere()
     ensures nowhere { (protocol : Protocol) (k : Skeleton) → IsSkeleton protocol k → IsContradictory k → LosesNoStanding protocol k [] }
     ensures added { (k : Skeleton) (pairs : List OrderPair) → AreNormalPairs k pairs → AddOnlyOriginPairs k pairs }
 {}
 
-/// A normal form of a skeleton over a protocol is one, and is a normal form of itself; it carries a homomorphism from a
-/// problem that maps to itself where the skeleton does, and then keeps what the problem states, if that states it itself,
-/// where the skeleton does; and where a skeleton is normal its assumptions are true of it. What is narrowed by steps is the skeleton under one substitution,
-/// strand by strand at its place; and where both stand in a bundle by one standing, that standing solves the
-/// substitution: each term keeps its value under it.
+/// What normal forms keep:
+///
+/// - a normal form of a skeleton over a protocol is a skeleton over it, and is a normal form of itself;
+/// - it carries a homomorphism from a problem that maps to itself if the skeleton does;
+/// - it then keeps what the problem states itself, if the skeleton does;
+/// - the assumptions of a normal skeleton over a protocol are true of it;
+/// - a skeleton reached by narrowing is the first one under one substitution, with each strand at its place; if both stand in a
+///   bundle by one standing, each term keeps its value under that substitution.
 pub fn normal_forms_keep_what_is_stated()
     ensures skeleton { (protocol : Protocol) (k r : Skeleton) → IsNormalFormOf k r → IsSkeleton protocol k → IsSkeleton protocol r }
     ensures itself { (k r : Skeleton) → IsNormalFormOf k r → IsNormalFormOf r r }

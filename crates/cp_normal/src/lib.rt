@@ -1,6 +1,6 @@
-//! Normal forms of skeletons: assumptions that contradict a skeleton, narrowing where a unique value originates elsewhere
-//! than at its recorded origin, and the pairs that unique values add. Substitutions and collapses of skeletons are brought
-//! out with them.
+//! Normal forms of skeletons: assumptions that contradict a skeleton, narrowing where a unique value originates elsewhere than at
+//! its recorded origin, and the order pairs that unique values add. The crate exports skeletons under substitutions and collapses
+//! too. Every call that returns `AllocError` fails only when memory runs out.
 #![tactic(auto)]
 
 mod candidates;

@@ -1,4 +1,4 @@
-// Whether a skeleton is normal, and the pairs of its normal form, where there is one.
+// Tests whether a skeleton is normal, and computes the pairs of its normal form.
 ghost use Rattle.std.specs.Prelude.{◌≡◌, ◌↔◌, map, option_map, IsTrue, IfOk};
 ghost use Rattle.cp_skel.specs.Events.{occurrence_view, events_of};
 ghost use Rattle.cp_skel.specs.View.{skeleton_view};
@@ -15,7 +15,7 @@ use cp_collapse::some_is_closed;
 use cp_skel::{Occurrence, OrderPair, Skeleton};
 use std::alloc::{AllocError, Global};
 
-/// Whether the assumptions contradict what the nodes carry, where these are the events of the skeleton.
+/// Whether the assumptions contradict what the nodes carry. The occurrences are the events of the skeleton.
 pub(crate) fn is_refuted(k: &Skeleton, occurrences: &[Occurrence]) -> bool
     requires listed { map occurrence_view occurrences.now ≡ events_of (skeleton_view k.now) }
     ensures { IsTrue result ↔ IsRefuted (skeleton_view k.now) }
@@ -29,7 +29,7 @@ pub(crate) fn is_refuted(k: &Skeleton, occurrences: &[Occurrence]) -> bool
     some_loses_origin(k, occurrences)
 }
 
-/// The skeleton's own pairs, and the others that unique values add, where these are the events of the skeleton.
+/// The skeleton's own pairs, followed by the other pairs that unique values add. The occurrences are the events of the skeleton.
 fn own_and_added(
     alloc: Global,
     k: &Skeleton,
@@ -46,8 +46,8 @@ fn own_and_added(
     Ok(pairs)
 }
 
-/// The pairs of the normal form of a skeleton whose assumptions do not contradict what its nodes carry, where these are its
-/// events: none where the pairs close a cycle.
+/// The pairs of the normal form of a skeleton whose assumptions do not contradict what its nodes carry; `None` if the pairs close
+/// a cycle. The occurrences are its events.
 pub(crate) fn normal_pairs_among(
     alloc: Global,
     k: &Skeleton,
@@ -65,10 +65,10 @@ pub(crate) fn normal_pairs_among(
     Ok(Some(pairs))
 }
 
-/// The pairs of the skeleton's normal form, where no unique value strays in it: its own, and those from recorded origins of unique values to the receptions
-/// of other strands, listeners too, that carry the value. There is no normal form where some node carries a
-/// non-originating value, where a unique value has two recorded origins or does not originate at its own, and where the
-/// pairs close a cycle. The error is that memory ran out.
+/// The pairs of the skeleton's normal form, if no unique value strays in it: its own pairs, and those from the recorded origin of
+/// each unique value to the receptions of other strands, listeners included, that carry the value. `None` if there is no normal
+/// form: some node carries a non-originating value, a unique value has two recorded origins or does not originate at its own, or
+/// the pairs close a cycle.
 pub fn normal_pairs(alloc: Global, k: &Skeleton) -> Result<Option<Vec<OrderPair>>, AllocError>
     ensures { IfOk result (λ found. IsNormalised (skeleton_view k.now) (option_map (λ pairs. pairs.items) found)) }
 {
@@ -79,9 +79,8 @@ pub fn normal_pairs(alloc: Global, k: &Skeleton) -> Result<Option<Vec<OrderPair>
     normal_pairs_among(alloc, k, &occurrences)
 }
 
-/// Whether none of the rules of normalising changes the skeleton: its assumptions do not contradict what its nodes carry, no
-/// unique value originates elsewhere than at its recorded origin, and the pairs that unique values add are in its order,
-/// so that they close no cycle. The error is that memory ran out.
+/// Whether no rule of normalising changes the skeleton: its assumptions do not contradict what its nodes carry, no unique value
+/// originates elsewhere than at its recorded origin, and its order contains the pairs that unique values add and has no cycle.
 pub fn is_normal(alloc: Global, k: &Skeleton) -> Result<bool, AllocError>
     ensures { IfOk result (λ normal. IsTrue normal ↔ IsNormal (skeleton_view k.now)) }
 {

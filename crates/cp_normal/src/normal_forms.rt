@@ -1,4 +1,4 @@
-// Normal forms of a skeleton.
+// The normal forms of a skeleton.
 ghost use Rattle.std.specs.Prelude.{◌≡◌, [], ◌∷◌, map, IfOk, OnOk};
 ghost use Rattle.cp_lists.specs.Lists.{IsIn};
 ghost use Rattle.cp_model.specs.Skeleton.{Skeleton as Plain, IsSkeleton};
@@ -20,7 +20,7 @@ use cp_skel::Skeleton;
 use cp_unify::Subst;
 use std::alloc::{AllocError, Global};
 
-/// Puts the normal form of a candidate in which no unique value strays behind others.
+/// Appends the normal form of a settled candidate.
 fn add_form(alloc: Global, candidate: Candidate, forms: &mut Vec<Form>) -> Result<(), AllocError>
     requires { IsOpen candidate → ⊥ }
     ensures { OnOk result (PutsForm (form_of candidate) forms.old.items forms.new.items) }
@@ -34,7 +34,7 @@ fn add_form(alloc: Global, candidate: Candidate, forms: &mut Vec<Form>) -> Resul
     }
 }
 
-/// The normal forms of candidates in which no unique value strays, in their order.
+/// The normal forms of settled candidates, in order.
 fn forms_of(alloc: Global, candidates: Vec<Candidate>) -> Result<Vec<Form>, AllocError>
     requires { Has IsOpen candidates.items → ⊥ }
     ensures { IfOk result (λ forms. AreForms candidates.items forms.items) }
@@ -48,7 +48,7 @@ fn forms_of(alloc: Global, candidates: Vec<Candidate>) -> Result<Vec<Form>, Allo
     Ok(forms)
 }
 
-/// A skeleton in which unique values may stray, alone. The error is that memory ran out.
+/// The list of one open candidate.
 fn alone(alloc: Global, form: Form) -> Result<Vec<Candidate>, AllocError>
     ensures { IfOk result (λ candidates. candidates.items ≡ variants.Open form ∷ []) }
 {
@@ -57,7 +57,7 @@ fn alone(alloc: Global, form: Form) -> Result<Vec<Candidate>, AllocError>
     Ok(candidates)
 }
 
-/// The normal forms of a skeleton, each with what its substitution has become. The error is that memory ran out.
+/// The normal forms of a skeleton, each with its substitution.
 fn narrowed(alloc: Global, form: Form) -> Result<Vec<Form>, AllocError>
     ensures { IfOk result (λ fs. AreFormsBeside form.skeleton form.substitution fs.items) }
 {
@@ -68,11 +68,9 @@ fn narrowed(alloc: Global, form: Form) -> Result<Vec<Form>, AllocError>
     forms_of(alloc, candidates)
 }
 
-/// The normal forms of a skeleton, in the order in which `normalise` gives them, each with what a substitution has become:
-/// the given one, followed by the one by which the normal form comes from the skeleton, whatever the bundle that this stands
-/// in. So terms that the given substitution makes terms of the skeleton are made terms of the normal form.
-///
-/// The error is that memory ran out.
+/// The normal forms of a skeleton, in the order of [`normalise`], each with a substitution: the given one, followed by the one by
+/// which the normal form comes from the skeleton, independent of any bundle. So if the given substitution maps terms to terms of
+/// the skeleton, the result maps them to terms of the normal form.
 pub fn normalise_beside(alloc: Global, k: Skeleton, beside: &Subst) -> Result<Vec<Form>, AllocError>
     ensures forms { IfOk result (λ fs. AreFormsBeside k beside.now fs.items) }
 {
@@ -98,19 +96,21 @@ fn skeletons_of(alloc: Global, forms: Vec<Form>) -> Result<Vec<Skeleton>, AllocE
     Ok(skeletons)
 }
 
-/// The normal forms of a skeleton. The rules are tried in order, from the start after each change. There is no normal
-/// form where some node carries a non-originating value, or where a unique value has two recorded origins or does not
-/// originate at its own. Where a unique value originates at a node of a role strand that is not its recorded origin, each
-/// atom that a reception of that strand before the node carries, and that unifies with the value, gives a branch: the
-/// skeleton under the most general unifier of the two, where of two variables the later becomes the earlier; the normal
-/// forms are those of the branches, one after the other. Of several such values the first is taken, by the node's strand,
-/// then its index, then the order in which a report lists unique values: the problem's own first, then those that the
-/// strands' roles give, strand by strand, and at last any others. The atoms are taken in the order of the receptions and
-/// then of their positions, each once. At last the pairs from recorded origins to receptions of other strands that carry
-/// the value are added; where they close a cycle, there is no normal form. Equal normal forms are kept. Each normal form is
-/// the skeleton under one substitution, whatever the bundle that it stands in, with the pairs that are added.
+/// The normal forms of a skeleton. The rules are tried in order, and from the start again after each change:
 ///
-/// The error is that memory ran out.
+/// - No normal form: some node carries a non-originating value, or a unique value has two recorded origins or does not originate
+///   at its own.
+/// - Branches: if a unique value originates at a node of a role strand other than its recorded origin, each atom that an earlier
+///   reception of that strand carries and that unifies with the value gives a branch: the skeleton under the most general unifier
+///   of the two, which maps the later of two variables to the earlier. The normal forms are those of the branches, in order. Of
+///   several such values the first is taken: by the node's strand, then its index, then the report order of unique values (the
+///   problem's own, then those that roles give, strand by strand, then any others). The atoms come in the order of the
+///   receptions, then of their positions, each once.
+/// - Pairs: the pairs from the recorded origin of each unique value to the receptions of other strands that carry it are added.
+///   If they close a cycle, there is no normal form.
+///
+/// Equal normal forms are kept. Each normal form is the skeleton under one substitution, independent of any bundle, with the
+/// added pairs.
 pub fn normalise(alloc: Global, k: Skeleton) -> Result<Vec<Skeleton>, AllocError>
     ensures forms { IfOk result (λ ks. (r : Plain) → IsIn r (map skeleton_view ks.items) → IsNormalFormOf (skeleton_view k) r) }
     ensures loses_none { IfOk result (λ ks. (protocol : Protocol) → IsSkeleton protocol (skeleton_view k) → LosesNoStanding protocol (skeleton_view k) (map skeleton_view ks.items)) }

@@ -1,4 +1,4 @@
-// Recorded origins of unique values: values with two, and values that do not originate there.
+// Recorded origins of unique values: values that have two, and values that do not originate there.
 ghost use Rattle.std.specs.Prelude.{◌≡◌, ◌↔◌, map, IsTrue, IfOk};
 ghost use Rattle.cp_model.specs.Derivable.{IsOnInstance};
 ghost use Rattle.cp_model.specs.Realisation.{OriginatesAtTerm};
@@ -15,14 +15,14 @@ use crate::carried_values::carries_value;
 use cp_skel::{Event, Node, Occurrence, Skeleton, Strand, StrandShape, UniqueAt};
 use std::alloc::{AllocError, Global};
 
-/// Whether the other entry is of the same value, with its origin at another node.
+/// Whether the other entry has the same value and another origin.
 fn is_elsewhere(unique: &UniqueAt, other: &UniqueAt) -> bool
     ensures { IsTrue result ↔ IsElsewhere unique.now other.now }
 {
     unique.origin() != other.origin() && unique.value().same(other.value())
 }
 
-/// Whether one of the entries gives the value another origin.
+/// Whether some entry gives the value another origin.
 fn has_another_origin(uniques: &[UniqueAt], unique: &UniqueAt) -> bool
     ensures { IsTrue result ↔ Has (λ w. IsElsewhere unique.now w) uniques.now }
 {
@@ -34,7 +34,7 @@ fn has_another_origin(uniques: &[UniqueAt], unique: &UniqueAt) -> bool
     false
 }
 
-/// Whether one of the values has two origins among these entries.
+/// Whether some value has two origins among these entries.
 fn some_has_two_origins(uniques: &[UniqueAt]) -> bool
     ensures { IsTrue result ↔ Has (λ u. Has (λ w. IsElsewhere u w) uniques.now) uniques.now }
 {
@@ -71,7 +71,7 @@ fn is_carried_before(occurrence: &Occurrence, unique: &UniqueAt) -> bool
         && carries_value(occurrence, unique.value())
 }
 
-/// Whether one of the events is a transmission at the recorded origin that carries the value.
+/// Whether some event is a transmission at the recorded origin that carries the value.
 fn some_is_sent_at_origin(occurrences: &[Occurrence], unique: &UniqueAt) -> bool
     ensures { IsTrue result ↔ Has (λ o. IsSentAtOrigin unique.now (occurrence_view o)) occurrences.now }
 {
@@ -80,7 +80,7 @@ fn some_is_sent_at_origin(occurrences: &[Occurrence], unique: &UniqueAt) -> bool
         .any(|occurrence| is_sent_at_origin(occurrence, unique))
 }
 
-/// Whether one of the events carries the value before the recorded origin, on its strand.
+/// Whether some event before the recorded origin, on its strand, carries the value.
 fn some_is_carried_before(occurrences: &[Occurrence], unique: &UniqueAt) -> bool
     ensures { IsTrue result ↔ Has (λ o. IsCarriedBefore unique.now (occurrence_view o)) occurrences.now }
 {
@@ -89,7 +89,7 @@ fn some_is_carried_before(occurrences: &[Occurrence], unique: &UniqueAt) -> bool
         .any(|occurrence| is_carried_before(occurrence, unique))
 }
 
-/// Whether one of the strands is there and is a role strand.
+/// Whether the strand with this number exists and is a role strand.
 fn is_instance_at(strands: &[Strand], number: usize) -> bool
     ensures { result ≡ is_instance (item_at (map strand_view strands.now) number) }
 {
@@ -106,7 +106,7 @@ fn is_on_instance(k: &Skeleton, node: Node) -> bool
     is_instance_at(k.strands(), node.strand)
 }
 
-/// Whether a unique value originates at its recorded origin, where these are the events of the skeleton.
+/// Whether a unique value originates at its recorded origin. The occurrences are the events of the skeleton.
 pub(crate) fn originates(k: &Skeleton, occurrences: &[Occurrence], unique: &UniqueAt) -> bool
     requires listed { map occurrence_view occurrences.now ≡ events_of (skeleton_view k.now) }
     ensures { IsTrue result ↔ OriginatesAtTerm (skeleton_view k.now) unique.now.value unique.now.origin }
@@ -120,8 +120,7 @@ pub(crate) fn originates(k: &Skeleton, occurrences: &[Occurrence], unique: &Uniq
     !some_is_carried_before(occurrences, unique)
 }
 
-/// Whether one of these unique values does not originate at its recorded origin, where these are the events of the
-/// skeleton.
+/// Whether some of these unique values does not originate at its recorded origin. The occurrences are the events of the skeleton.
 fn one_loses_origin(k: &Skeleton, occurrences: &[Occurrence], uniques: &[UniqueAt]) -> bool
     requires listed { map occurrence_view occurrences.now ≡ events_of (skeleton_view k.now) }
     ensures { IsTrue result ↔ Has (λ u. OriginatesAtTerm (skeleton_view k.now) u.value u.origin → ⊥) uniques.now }
@@ -134,7 +133,7 @@ fn one_loses_origin(k: &Skeleton, occurrences: &[Occurrence], uniques: &[UniqueA
     false
 }
 
-/// Whether a unique value does not originate at its recorded origin, where these are the events of the skeleton.
+/// Whether some unique value does not originate at its recorded origin. The occurrences are the events of the skeleton.
 pub(crate) fn some_loses_origin(k: &Skeleton, occurrences: &[Occurrence]) -> bool
     requires listed { map occurrence_view occurrences.now ≡ events_of (skeleton_view k.now) }
     ensures { IsTrue result ↔ LosesOrigin (skeleton_view k.now) }
@@ -142,7 +141,7 @@ pub(crate) fn some_loses_origin(k: &Skeleton, occurrences: &[Occurrence]) -> boo
     one_loses_origin(k, occurrences, k.assumptions().uniquely_originating())
 }
 
-/// Whether a unique value does not originate at its recorded origin. The error is that memory ran out.
+/// Whether some unique value does not originate at its recorded origin.
 pub fn loses_origin(alloc: Global, k: &Skeleton) -> Result<bool, AllocError>
     ensures { IfOk result (λ found. IsTrue found ↔ LosesOrigin (skeleton_view k.now)) }
 {

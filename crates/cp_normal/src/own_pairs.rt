@@ -1,4 +1,4 @@
-// Pairs that are looked up among those of an order.
+// Looks pairs up among those of an order.
 ghost use Rattle.std.specs.Prelude.{◌≡◌, ◌↔◌, ◌++◌, IsTrue, IfOk, OnOk};
 ghost use Rattle.std.specs.List.{filter};
 ghost use Rattle.cp_normal.specs.OwnPairs.{key_of, AreKeysOf, is_other, AllLead};
@@ -7,10 +7,10 @@ use cp_skel::{OrderPair, SortedPairs};
 use std::alloc::{AllocError, Global};
 use std::collections::HashSet;
 
-/// The strand and index of a pair's earlier node, and those of its later one.
+/// Strand and index of a pair's earlier node, then of its later node.
 pub(crate) type Key = ((usize, usize), (usize, usize));
 
-/// The key by which a pair is looked up.
+/// The key under which a pair is looked up.
 fn key_of(pair: OrderPair) -> Key
     ensures { result ≡ key_of pair }
 {
@@ -29,7 +29,7 @@ pub(crate) fn keys_of(alloc: Global, pairs: &[OrderPair]) -> Result<HashSet<Key>
     Ok(keys)
 }
 
-/// Puts those of the pairs whose keys are not among these behind others.
+/// Appends those of the pairs `more` whose keys are not in the set.
 pub(crate) fn add_others(
     more: &[OrderPair],
     keys: &HashSet<Key>,
@@ -46,8 +46,7 @@ pub(crate) fn add_others(
     Ok(())
 }
 
-/// Whether the earlier node of each of the pairs leads to the later one along strands and the pairs of an order. The error is
-/// that memory ran out.
+/// Whether in each pair the earlier node leads to the later one along strands and the pairs of an order.
 fn lead_along(alloc: Global, order: &[OrderPair], pairs: &[OrderPair]) -> Result<bool, AllocError>
     ensures { IfOk result (λ all. IsTrue all ↔ AllLead order.now pairs.now) }
 {
@@ -64,9 +63,8 @@ fn lead_along(alloc: Global, order: &[OrderPair], pairs: &[OrderPair]) -> Result
     Ok(true)
 }
 
-/// Whether the earlier node of each of the pairs leads to the later one along strands and the pairs of an order. Pairs that are
-/// among those of the order are looked up; what leads to the later nodes of the rest is gathered. The error is that memory
-/// ran out.
+/// Whether in each pair the earlier node leads to the later one along strands and the pairs of an order. A pair that the order
+/// lists is only looked up; for the later nodes of the other pairs, all nodes that lead there are gathered.
 pub fn all_lead(alloc: Global, order: &[OrderPair], pairs: &[OrderPair]) -> Result<bool, AllocError>
     ensures { IfOk result (λ all. IsTrue all ↔ AllLead order.now pairs.now) }
 {

@@ -12,8 +12,8 @@ use crate::carried_values::carries_value;
 use cp_skel::{Event, Occurrence, OrderPair, Skeleton, UniqueAt};
 use std::alloc::{AllocError, Global};
 
-/// The pair from the recorded origin of a unique value to an event, where that is a reception on another strand that
-/// carries the value.
+/// The pair from the recorded origin of a unique value to an event, if the event is a reception on another strand that carries
+/// the value.
 fn pair_between(occurrence: &Occurrence, unique: &UniqueAt) -> Option<OrderPair>
     ensures some { IfSome result (λ p. IsPairBetween (occurrence_view occurrence.now) unique.now p) }
     ensures none { IfNone result ((p : Plain) → IsPairBetween (occurrence_view occurrence.now) unique.now p → ⊥) }
@@ -31,7 +31,7 @@ fn pair_between(occurrence: &Occurrence, unique: &UniqueAt) -> Option<OrderPair>
     }
 }
 
-/// Puts the pairs from recorded origins to an event behind others.
+/// Appends the pairs from recorded origins to one event.
 fn add_pairs_to(
     occurrence: &Occurrence,
     uniques: &[UniqueAt],
@@ -47,7 +47,7 @@ fn add_pairs_to(
     Ok(())
 }
 
-/// Puts the pairs from recorded origins to these events behind others.
+/// Appends the pairs from recorded origins to these events.
 fn add_pairs(
     occurrences: &[Occurrence],
     uniques: &[UniqueAt],
@@ -61,7 +61,7 @@ fn add_pairs(
     Ok(())
 }
 
-/// The pairs that unique values add, where these are the events of the skeleton.
+/// The pairs that unique values add. The occurrences are the events of the skeleton.
 pub(crate) fn pairs_among(
     alloc: Global,
     k: &Skeleton,
@@ -79,8 +79,7 @@ pub(crate) fn pairs_among(
     Ok(pairs)
 }
 
-/// The pairs from recorded origins of unique values to the receptions of other strands, listeners too, that carry the
-/// value. The error is that memory ran out.
+/// The pairs from the recorded origin of each unique value to the receptions of other strands, listeners included, that carry it.
 pub fn added_pairs(alloc: Global, k: &Skeleton) -> Result<Vec<OrderPair>, AllocError>
     ensures { IfOk result (λ pairs. (p : Plain) → IsIn p pairs.items ↔ IsAddedPair (skeleton_view k.now) p) }
 {

@@ -10,7 +10,7 @@ use cp_skel::{Atom, Event, Node, Occurrence, add_atom};
 use cp_term::{Shape, Term};
 use std::alloc::{AllocError, Global};
 
-/// Puts a term without parts behind these, if it is an atom and not one of them.
+/// Appends a term without parts, if it is an atom and not listed yet.
 fn add_leaf(leaf: &Term, atoms: &mut Vec<Atom>) -> Result<(), AllocError>
     requires { ¬ HasTail leaf.now }
     ensures { OnOk result (atoms.new.items ≡ atoms_onto atoms.old.items (carried_atoms leaf.now)) }
@@ -21,8 +21,8 @@ fn add_leaf(leaf: &Term, atoms: &mut Vec<Atom>) -> Result<(), AllocError>
     }
 }
 
-/// Puts the atoms that the term carries behind these, in preorder, each that is not there yet. The right spine is walked
-/// by a loop, since it may be long.
+/// Appends the atoms that the term carries, in preorder, except those listed already. A loop walks the right spine, which may be
+/// long.
 fn add_carried(term: &Term, atoms: &mut Vec<Atom>) -> Result<(), AllocError>
     ensures { OnOk result (atoms.new.items ≡ atoms_onto atoms.old.items (carried_atoms term.now)) }
 {
@@ -39,7 +39,7 @@ fn add_carried(term: &Term, atoms: &mut Vec<Atom>) -> Result<(), AllocError>
     }
 }
 
-/// Puts the atoms that the event carries, if it is a reception, behind these, each that is not there yet.
+/// Appends the atoms that the event carries if it is a reception, except those listed already.
 fn add_received(event: &Event, atoms: &mut Vec<Atom>) -> Result<(), AllocError>
     ensures { OnOk result (atoms.new.items ≡ atoms_onto atoms.old.items (received_atoms (event_view event.now))) }
 {
@@ -49,8 +49,8 @@ fn add_received(event: &Event, atoms: &mut Vec<Atom>) -> Result<(), AllocError>
     }
 }
 
-/// Puts the atoms that the event carries, if it is a reception before the node on its strand, behind these, each that is
-/// not there yet.
+/// Appends the atoms that the event carries if it is a reception before the node on the node's strand, except those listed
+/// already.
 fn add_heard(occurrence: &Occurrence, node: Node, atoms: &mut Vec<Atom>) -> Result<(), AllocError>
     ensures { OnOk result (atoms.new.items ≡ atoms_onto atoms.old.items (heard_of node (occurrence_view occurrence.now))) }
 {
@@ -60,8 +60,8 @@ fn add_heard(occurrence: &Occurrence, node: Node, atoms: &mut Vec<Atom>) -> Resu
     Ok(())
 }
 
-/// The atoms that receptions among these events that are before the node on its strand carry, each once, in the order of
-/// the receptions and then of their positions.
+/// The atoms carried by the receptions before the node on its strand, among these events: each once, in the order of the
+/// receptions, then of the positions.
 pub(crate) fn heard_atoms(
     alloc: Global,
     occurrences: &[Occurrence],

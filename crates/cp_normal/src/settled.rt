@@ -1,4 +1,4 @@
-// Skeletons in which no unique value strays, each with the pairs of its normal form.
+// Settled skeletons: no unique value strays. Each comes with the pairs of its normal form.
 ghost use Rattle.std.specs.Prelude.{◌≡◌, map, option_map, IfOk, MatchOption};
 ghost use Rattle.cp_skel.specs.Events.{occurrence_view, events_of};
 ghost use Rattle.cp_normal.specs.Findings.{IsContradictory, IsNormalised};
@@ -13,8 +13,8 @@ use cp_skel::{Occurrence, OrderPair};
 use std::alloc::{AllocError, Global};
 use std::marker::Model;
 
-/// A skeleton that does not contradict itself and in which no unique value strays, with its substitution. Beside it stand
-/// the pairs of its normal form, found when its events were listed; contracts see the skeleton and the substitution alone.
+/// A skeleton with its substitution that does not contradict itself and in which no unique value strays. It keeps the pairs of
+/// its normal form, which are found while its events are listed. Contracts see only the skeleton and the substitution.
 #[derive(Drop)]
 pub(crate) struct Settled {
     form: Form,
@@ -40,8 +40,8 @@ impl Model for Settled {
 }
 
 impl Settled {
-    /// A skeleton in which no unique value strays, with its substitution, beside the pairs of its normal form: none where it
-    /// has none.
+    /// A skeleton in which no unique value strays, with its substitution and the pairs of its normal form; `None` if it has no
+    /// normal form.
     fn beside(form: Form, pairs: Option<Vec<OrderPair>>) -> Option<Settled>
         requires settled { IsSettled (form_view form) }
         requires normalised { IsNormalised (form_view form) (option_map (λ pairs. pairs.items) pairs) }
@@ -55,8 +55,8 @@ impl Settled {
         }
     }
 
-    /// A skeleton in which no unique value strays, with its substitution, where these are its events and its assumptions do
-    /// not contradict what its nodes carry; none where it contradicts itself all the same. The error is that memory ran out.
+    /// A settled skeleton from one in which no unique value strays and whose assumptions do not contradict what its nodes carry;
+    /// `None` if it contradicts itself nevertheless. The occurrences are its events.
     pub(crate) fn new(
         alloc: Global,
         form: Form,
@@ -73,7 +73,7 @@ impl Settled {
         Ok(Settled::beside(form, pairs))
     }
 
-    /// Its normal form. The error is that memory ran out.
+    /// Its normal form.
     pub(crate) fn into_normal_form(self, alloc: Global) -> Result<Form, AllocError>
         ensures { IfOk result (λ r. IsFormOf self r) }
     {

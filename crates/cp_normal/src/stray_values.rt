@@ -1,4 +1,4 @@
-// Unique values that originate elsewhere than at their recorded origins.
+// Stray values: unique values that originate elsewhere than at their recorded origins.
 ghost use Rattle.std.specs.Prelude.{◌≡◌, ◌↔◌, false, map, IsTrue, IfOk, MatchOption};
 ghost use Rattle.cp_model.specs.Given.{listed};
 ghost use Rattle.cp_lists.specs.Lists.{IsIn, item_at};
@@ -13,14 +13,14 @@ use crate::origins::originates;
 use cp_skel::{Atom, Node, Occurrence, Skeleton, UniqueAt, listed};
 use std::alloc::{AllocError, Global};
 
-/// A unique value, and a node of a role strand where it originates and that is not its recorded origin.
+/// A unique value, and a node of a role strand at which it originates and that is not its recorded origin.
 #[derive(Drop)]
 pub(crate) struct Stray {
     pub(crate) value: Atom,
     pub(crate) node: Node,
 }
 
-/// Whether a unique value strays at one of the events of the skeleton, where these are its events.
+/// Whether a unique value strays at this event. The occurrences are the events of the skeleton.
 fn strays(
     k: &Skeleton,
     occurrences: &[Occurrence],
@@ -41,7 +41,7 @@ fn strays(
     Ok(originates(k, occurrences, &here))
 }
 
-/// The value of the first of the entries that strays at one of the events of the skeleton, where these are its events.
+/// The value of the first entry that strays at this event. The occurrences are the events of the skeleton.
 fn first_at(
     k: &Skeleton,
     occurrences: &[Occurrence],
@@ -62,7 +62,7 @@ fn first_at(
     Ok(None)
 }
 
-/// Whether some unique value strays, where these are the events of the skeleton.
+/// Whether some unique value strays. The occurrences are the events of the skeleton.
 pub(crate) fn some_strays(k: &Skeleton, occurrences: &[Occurrence]) -> Result<bool, AllocError>
     requires listed { map occurrence_view occurrences.now ≡ events_of (skeleton_view k.now) }
     ensures none { IfOk result (λ found. found ≡ false → IsSettled (skeleton_view k.now)) }
@@ -78,8 +78,8 @@ pub(crate) fn some_strays(k: &Skeleton, occurrences: &[Occurrence]) -> Result<bo
     Ok(false)
 }
 
-/// The first unique value that strays, where these are the events of the skeleton, and its unique values in the order
-/// in which a report lists them.
+/// The first unique value that strays. The occurrences are the events of the skeleton, and the unique values are listed in report
+/// order.
 fn first_among(
     k: &Skeleton,
     occurrences: &[Occurrence],
@@ -103,9 +103,8 @@ fn first_among(
     Ok(None)
 }
 
-/// The first unique value that strays, where these are the events of the skeleton: by the strand and then the index of the
-/// node where it does, and then in the order in which a report lists unique values. They are put in this order only where
-/// some strays.
+/// The first unique value that strays: by the strand of the node where it does, then the node's index, then the report order of
+/// unique values. They are sorted only if some value strays. The occurrences are the events of the skeleton.
 pub(crate) fn first_stray(
     alloc: Global,
     k: &Skeleton,

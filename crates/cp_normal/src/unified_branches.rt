@@ -13,7 +13,7 @@ use cp_skel::Atom;
 use cp_unify::{Subst, compose, unify};
 use std::alloc::{AllocError, Global};
 
-/// The skeleton under a substitution, and its own substitution followed by that one. The error is that memory ran out.
+/// The skeleton under `s`, and its own substitution followed by `s`.
 fn branch_by(alloc: Global, form: &Form, s: &Subst) -> Result<Form, AllocError>
     ensures same { IfOk result (λ l. SaysTheSame (skeleton_under (as_substitution s.now) (form_view form.now)) (form_view l)) }
     ensures variables { IfOk result (λ l. l.skeleton.variables ≡ form.now.skeleton.variables) }
@@ -29,8 +29,8 @@ fn branch_by(alloc: Global, form: &Form, s: &Subst) -> Result<Form, AllocError>
     })
 }
 
-/// The skeleton under the most general unifier of a value and an atom, and its substitution followed by the unifier, for each
-/// of the atoms that unifies with the value, in their order.
+/// For each atom that unifies with the value, in order: the skeleton under their most general unifier, and its substitution
+/// followed by that unifier.
 pub(crate) fn branches(
     alloc: Global,
     form: &Form,

@@ -1,4 +1,4 @@
-// Laws on the variables of normal forms: each stands as the contract of a function that does nothing.
+// Laws about the variables of normal forms. Each is the contract of a function that does nothing.
 ghost use Rattle.std.specs.Prelude.{List};
 ghost use Rattle.cp_lists.specs.Lists.{IsIn};
 ghost use Rattle.cp_model.specs.Term.{Variable, atom_of_variable, variables_of_atom, Substitution, apply_to_atom};
@@ -11,9 +11,9 @@ ghost use Rattle.cp_collapse.specs.SameSkeletons.{SaysTheSame};
 ghost use Rattle.cp_normal.specs.BySubstitution.{all_variables, ComesBySubstitution};
 ghost use Rattle.cp_normal.specs.Exact.{HasForms};
 
-/// Under a substitution that gives declared variables terms of declared variables, a skeleton whose variables are declared is
-/// one; and so is any under a substitution that gives each of its variables such a term. One that says the same as another has
-/// declared variables where that has.
+/// A skeleton has declared variables under a substitution that maps declared variables to terms of declared variables, if it has
+/// before; and under any substitution that maps each of its own variables to such a term. A skeleton that says the same as one
+/// with declared variables has them too.
 pub fn substitutions_keep_declared_variables()
     ensures under { (variables : List Declaration) (s : Substitution) (k : Skeleton) → ((x y : Variable) → IsDeclared variables x → IsIn y (variables_of_atom (apply_to_atom s (atom_of_variable x))) → IsDeclared variables y)
         → HasDeclaredVariables variables k → HasDeclaredVariables variables (skeleton_under s k) }
@@ -22,7 +22,7 @@ pub fn substitutions_keep_declared_variables()
     ensures agreeing { (variables : List Declaration) (k l : Skeleton) → SaysTheSame k l → HasDeclaredVariables variables k → HasDeclaredVariables variables l }
 {}
 
-/// Normal forms bring in no variables, nor does whatever comes from a skeleton by one substitution.
+/// Normal forms bring in no new variables, nor does any skeleton that comes from another by one substitution.
 pub fn normal_forms_have_declared_variables()
     ensures forms { (variables : List Declaration) (k r : Skeleton) (rs : List Skeleton) → HasForms k rs → HasDeclaredVariables variables k → IsIn r rs → HasDeclaredVariables variables r }
     ensures by_substitution { (variables : List Declaration) (k r : Skeleton) → ComesBySubstitution k r → HasDeclaredVariables variables k → HasDeclaredVariables variables r }

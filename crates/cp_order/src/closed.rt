@@ -1,4 +1,4 @@
-// Closed pairs, and what leads to each node along them, to be looked up.
+// Closed pairs, and what leads to each node along them, for look-ups.
 ghost use Rattle.std.specs.Prelude.{◌≡◌, ◌≤◌, ◌↔◌, ◌∷◌, length, map, IsTrue, IfOk};
 ghost use Rattle.std.specs.List.{filter};
 ghost use Rattle.cp_lists.specs.Lists.{IsIn};
@@ -18,12 +18,13 @@ use std::collections::HashMap;
 use std::marker::Model;
 use std::rc::Rc;
 
-/// Closed pairs, and for each node of the strands at which they end what leads there along one of them.
+/// Closed pairs, and for each node of the strands on which they end what leads there along one of them.
 #[derive(Drop)]
 pub(crate) struct ClosedPairs {
     pairs: Vec<OrderPair>,
-    /// For each strand at which a pair ends, and each of its indices up to the last such end, the greatest index on each
-    /// strand from which a pair leads there. Indices between two ends share one such row; past the last end the last holds.
+    /// For each strand on which a pair ends, and each of its indices up to the last such end: the greatest index on
+    /// each strand from which a pair leads there. Indices between two ends share a row; past the last end the last row
+    /// holds.
     rows: HashMap<usize, Vec<Rc<HashMap<usize, usize>>>>,
 }
 
@@ -43,7 +44,7 @@ impl Model for ClosedPairs {
     ghost invariant = { λ c. IsClosed c.pairs.items × AreRowsOf c.pairs.items (rows_by c.rows (λ v. map (λ r. tops_of r.value) v.items)) };
 }
 
-/// What leads to a node along one of the pairs: for each strand the greatest index of a node that does.
+/// What leads to a node along one of the pairs: for each strand the greatest index of such a node.
 fn row_to(
     alloc: Global,
     pairs: &[OrderPair],
@@ -73,7 +74,7 @@ fn some_ends_at(pairs: &[OrderPair], node: Node) -> bool
     false
 }
 
-/// The row for the first index of a strand that has none: where no pair ends there it is the one before it.
+/// The row for the first index of a strand that has none. If no pair ends there, it is the one before.
 fn next_row(
     alloc: Global,
     pairs: &[OrderPair],
@@ -143,7 +144,7 @@ fn ends_on(alloc: Global, pairs: &[OrderPair], strand: usize) -> Result<Vec<Orde
     Ok(ends)
 }
 
-/// The rows of each strand at which a pair ends.
+/// The rows of each strand on which a pair ends.
 fn rows_of(
     alloc: Global,
     pairs: &[OrderPair],
@@ -163,7 +164,7 @@ fn rows_of(
     Ok(rows)
 }
 
-/// Whether a node is in the row for an index, or in the last one where there is none for it.
+/// Whether a node is in the row for an index, or in the last row if the index has none.
 fn is_in_rows(rows: &[Rc<HashMap<usize, usize>>], index: usize, node: Node) -> bool
     ensures { result ≡ is_in_rows (map (λ r. tops_of r.value) rows.now) index node }
 {
@@ -177,7 +178,7 @@ fn is_in_rows(rows: &[Rc<HashMap<usize, usize>>], index: usize, node: Node) -> b
 }
 
 impl ClosedPairs {
-    /// These pairs, which are closed.
+    /// Keeps these pairs, which must be closed.
     fn new(alloc: Global, pairs: Vec<OrderPair>) -> Result<ClosedPairs, AllocError>
         requires { IsClosed pairs.items }
         ensures { IfOk result (λ c. c ≡ pairs.items) }
@@ -186,7 +187,7 @@ impl ClosedPairs {
         Ok(ClosedPairs { pairs, rows })
     }
 
-    /// Closed pairs that order as these do.
+    /// Closed pairs with the same order as these.
     pub(crate) fn of(alloc: Global, pairs: &[OrderPair]) -> Result<ClosedPairs, AllocError>
         ensures { IfOk result (λ c. IsClosureOf pairs.now c) }
     {
@@ -194,7 +195,7 @@ impl ClosedPairs {
         ClosedPairs::new(alloc, closed)
     }
 
-    /// Closed pairs that order as these and one more do.
+    /// Closed pairs with the same order as these and one more.
     pub(crate) fn with_pair(
         &self,
         alloc: Global,

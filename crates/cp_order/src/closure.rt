@@ -1,4 +1,4 @@
-// Closed orders: whatever leads to a node of another strand does so along one pair.
+// Closed orders: whatever leads to a node of another strand leads there along one pair.
 ghost use Rattle.std.specs.Prelude.{◌≡◌, ◌∷◌, IfOk, OnOk};
 ghost use Rattle.cp_order.specs.Closed.{IsClosed, KeepsOrder};
 ghost use Rattle.cp_order.specs.Composed.{joined, all_joined, pairs_from, composed};
@@ -8,7 +8,7 @@ use crate::ways::leads_along_one;
 use cp_model::{Node, OrderPair};
 use std::alloc::{AllocError, Global};
 
-/// Puts a pair behind the others, unless these lead from its first node to its second along one pair.
+/// Appends a pair, unless the others lead from its first node to its second along one pair.
 fn join(pairs: &mut Vec<OrderPair>, pair: OrderPair) -> Result<(), AllocError>
     ensures { OnOk result (pairs.new.items ≡ joined pairs.old.items pair) }
 {
@@ -19,7 +19,7 @@ fn join(pairs: &mut Vec<OrderPair>, pair: OrderPair) -> Result<(), AllocError>
     Ok(())
 }
 
-/// Puts in what leads from the first node to the second, and on along one of the closed pairs.
+/// Joins the pairs that lead from the first node to the second and on along one of the closed pairs.
 fn join_from(
     closed: &[OrderPair],
     earlier: Node,
@@ -39,7 +39,7 @@ fn join_from(
     Ok(())
 }
 
-/// The closed pairs, and what a pair makes with those that lead to it and those that it leads to.
+/// The closed pairs, and what a pair makes with those that lead to it and those to which it leads.
 fn with_composed(
     alloc: Global,
     closed: &[OrderPair],
@@ -58,7 +58,7 @@ fn with_composed(
     Ok(pairs)
 }
 
-/// Closed pairs that order as these closed pairs and one more do.
+/// Closed pairs with the same order as these closed pairs and one more.
 pub(crate) fn with_pair(
     alloc: Global,
     closed: &[OrderPair],
@@ -72,7 +72,7 @@ pub(crate) fn with_pair(
     Ok(pairs)
 }
 
-/// Closed pairs that order as these do.
+/// Closed pairs with the same order as these.
 pub(crate) fn closed_pairs(alloc: Global, pairs: &[OrderPair]) -> Result<Vec<OrderPair>, AllocError>
     ensures closed { IfOk result (λ v. IsClosed v.items) }
     ensures keeps { IfOk result (λ v. KeepsOrder pairs.now v.items) }

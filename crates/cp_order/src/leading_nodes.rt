@@ -30,7 +30,7 @@ impl<'a> Model for Leading<'a> {
     ghost invariant = { λ l. AreTops l.pairs.now l.node (tops_in l.tops) };
 }
 
-/// Pairs, and the same in the order of their later nodes: for the nodes that lead to one node after another along them.
+/// Pairs, and the same sorted by their later nodes. Use it to ask for the nodes that lead to one node after another.
 #[derive(Drop)]
 pub struct SortedPairs<'a> {
     pairs: &'a [OrderPair],
@@ -50,7 +50,7 @@ impl<'a> Model for SortedPairs<'a> {
     ghost invariant = { λ s. AreSorted s.sorted.items × IsPermutation s.pairs.now s.sorted.items };
 }
 
-/// Whether a node is on an earlier strand, or on this one at its top or below.
+/// Whether a node is on an earlier strand, or on this one at its top or before it.
 fn is_passed(top: Option<usize>, strand: usize, node: Node) -> bool
     ensures { result ≡ is_passed top strand node }
 {
@@ -64,8 +64,8 @@ pub(crate) fn is_at_or_before(node: Node, other: Node) -> bool
     node.strand == other.strand && node.index <= other.index
 }
 
-/// Puts the earlier nodes of the first pairs, as long as these lead to the node or to one before it on its strand,
-/// behind what is still to be taken.
+/// Appends the earlier nodes of the first pairs to the work list, as long as these pairs lead to the node or to one
+/// before it on its strand.
 fn push_first(pairs: &[OrderPair], node: Node, work: &mut Vec<Node>) -> Result<(), AllocError>
     ensures { OnOk result (work.new.items ≡ work.old.items ++ first_nodes node pairs.now) }
 {
@@ -78,7 +78,7 @@ fn push_first(pairs: &[OrderPair], node: Node, work: &mut Vec<Node>) -> Result<(
     Ok(())
 }
 
-/// Puts the earlier nodes of the pairs that are reached behind what is still to be taken.
+/// Appends the earlier nodes of the pairs that are reached to the work list.
 fn push_reached(
     pairs: &[OrderPair],
     top: Option<usize>,
@@ -92,7 +92,7 @@ fn push_reached(
     push_first(&pairs[start..], node, work)
 }
 
-/// Takes a node that leads there, and puts what leads to it by one pair behind what is still to be taken.
+/// Takes a node that leads there, and appends what leads to it by one pair to the work list.
 fn take(
     pairs: &[OrderPair],
     node: Node,
@@ -124,7 +124,7 @@ fn tops_to(alloc: Global, pairs: &[OrderPair], node: Node) -> Result<Tops, Alloc
     Ok(tops)
 }
 
-/// The pairs in the order of their later nodes.
+/// The pairs sorted by their later nodes.
 fn sorted(alloc: Global, pairs: &[OrderPair]) -> Result<Vec<OrderPair>, AllocError>
     ensures order { IfOk result (λ v. AreSorted v.items) }
     ensures same { IfOk result (λ v. IsPermutation pairs.now v.items) }
@@ -135,7 +135,7 @@ fn sorted(alloc: Global, pairs: &[OrderPair]) -> Result<Vec<OrderPair>, AllocErr
 }
 
 impl<'a> SortedPairs<'a> {
-    /// Puts the pairs in order. The error is that memory ran out.
+    /// Sorts the pairs.
     pub fn new(alloc: Global, pairs: &'a [OrderPair]) -> Result<SortedPairs<'a>, AllocError>
         ensures { IfOk result (λ s. s ≡ pairs.now) }
     {
@@ -143,7 +143,7 @@ impl<'a> SortedPairs<'a> {
         Ok(SortedPairs { pairs, sorted })
     }
 
-    /// The nodes that lead to the node along strands and these pairs. The error is that memory ran out.
+    /// The nodes that lead to the node along strands and these pairs.
     pub fn leading_to(&self, alloc: Global, node: Node) -> Result<Leading<'a>, AllocError>
         ensures { IfOk result (λ l. l ≡ record { pairs = self.now; node = node }) }
     {
@@ -157,7 +157,7 @@ impl<'a> SortedPairs<'a> {
 }
 
 impl<'a> Leading<'a> {
-    /// The nodes that lead to the node along strands and these pairs. The error is that memory ran out.
+    /// The nodes that lead to the node along strands and these pairs.
     pub fn new(alloc: Global, pairs: &'a [OrderPair], node: Node) -> Result<Leading<'a>, AllocError>
         ensures { IfOk result (λ l. l ≡ record { pairs = pairs.now; node = node }) }
     {
@@ -165,7 +165,7 @@ impl<'a> Leading<'a> {
         sorted.leading_to(alloc, node)
     }
 
-    /// Whether a node leads to that node.
+    /// Whether a node leads to the node that was asked about.
     pub fn has(&self, node: Node) -> bool
         ensures { IsTrue result ↔ LeadsTo self.now.pairs node self.now.node }
     {

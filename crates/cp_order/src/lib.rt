@@ -1,4 +1,7 @@
-//! The order of nodes, by pairs of nodes beside the order of each strand: which node leads to which.
+//! The order of a skeleton's nodes, given by pairs of nodes in addition to the order of each strand: which node leads
+//! to which.
+//!
+//! Every call that returns `AllocError` fails only if memory runs out.
 #![tactic(auto)]
 
 mod closed;

@@ -1,4 +1,4 @@
-// Orders of nodes, by pairs of nodes beside the order of each strand.
+// Orders of nodes, given by pairs of nodes in addition to the order of each strand.
 ghost use Rattle.std.specs.Prelude.{◌≡◌, ◌↔◌, ◌∷◌, ◌++◌, [], IsTrue, IfOk, OnOk, OnErr, IfSome};
 ghost use Rattle.cp_model.specs.declared.node.Node.{Node as PlainNode};
 ghost use Rattle.cp_model.specs.Order.{LeadsTo};
@@ -11,14 +11,14 @@ use std::alloc::{AllocError, Global};
 use std::marker::Model;
 use std::rc::Rc;
 
-/// An order, by pairs of nodes. From when it is closed on it keeps closed pairs beside its own: pairs that order as its own
-/// do, and of which one alone leads wherever these lead, but for the order of one strand. Copies share them.
+/// An order, given by pairs of nodes. Once closed, it keeps closed pairs beside its own: pairs with the same order, of
+/// which a single one leads wherever its own lead, except within one strand. Copies share them.
 pub struct Order {
     pairs: Vec<OrderPair>,
     closure: Option<Rc<ClosedPairs>>,
 }
 
-// Where one is held it is dropped by one call, so that less is to be proved of who holds it.
+// Its holder drops it by one call, so that less is to be proved about the holder.
 impl Drop for Order {
     fn drop(self) {
         let Order { pairs, closure } = self;
@@ -40,7 +40,7 @@ impl Model for Order {
 }
 
 impl Order {
-    /// The order by these pairs. It is not closed.
+    /// The order given by these pairs. It is not closed.
     pub fn of(pairs: Vec<OrderPair>) -> Order
         ensures { result ≡ pairs.items }
     {
@@ -50,8 +50,7 @@ impl Order {
         }
     }
 
-    /// The order by these pairs in place of its own; where it was closed, so is the new one. The error is that memory ran
-    /// out.
+    /// The order given by these pairs in place of its own. If this one was closed, so is the new one.
     pub fn with_pairs(&self, alloc: Global, pairs: Vec<OrderPair>) -> Result<Order, AllocError>
         ensures { IfOk result (λ o. o ≡ pairs.items) }
     {
@@ -70,8 +69,8 @@ impl Order {
         &self.pairs
     }
 
-    /// Whether x leads to y along strands and pairs. Of an order that was closed this is looked up; of another each
-    /// way is tried.
+    /// Whether x leads to y along strands and pairs. In an order that was closed this is looked up; otherwise it is
+    /// searched for.
     pub fn leads_to(&self, x: Node, y: Node) -> bool
         ensures { IsTrue result ↔ LeadsTo self.now x y }
     {
@@ -81,7 +80,7 @@ impl Order {
         }
     }
 
-    /// Closed pairs that order as its own do.
+    /// Closed pairs with the same order as its own.
     fn closed_pairs(&self, alloc: Global) -> Result<Rc<ClosedPairs>, AllocError>
         ensures { IfOk result (λ c. IsClosureOf self.now c.value) }
     {
@@ -94,8 +93,8 @@ impl Order {
         Ok(closed)
     }
 
-    /// Closes the order: its pairs become closed ones, what leads where stays the same, and is looked up from now on. The
-    /// error is that memory ran out.
+    /// Closes the order: its pairs become closed ones. What leads where stays the same, and is looked up from now on.
+    /// On an error nothing has changed.
     pub fn close(&mut self, alloc: Global) -> Result<(), AllocError>
         ensures leads { OnOk result ((x y : PlainNode) → LeadsTo self.new x y ↔ LeadsTo self.old x y) }
         ensures keeps { OnOk result (KeepsOrder self.old self.new) }
@@ -109,7 +108,7 @@ impl Order {
         Ok(())
     }
 
-    /// The closed pairs of an order that was closed, as they are with one pair more.
+    /// If the order was closed: its closed pairs together with one more pair.
     fn closure_with(
         &self,
         alloc: Global,
@@ -125,7 +124,8 @@ impl Order {
         Ok(Some(closed))
     }
 
-    /// Adds a pair; an order that was closed keeps its closed pairs so. The error is that memory ran out.
+    /// Adds a pair. If the order was closed, its closed pairs take the new pair into account. On an error nothing has
+    /// changed.
     pub fn add(&mut self, alloc: Global, pair: OrderPair) -> Result<(), AllocError>
         ensures pairs { OnOk result (self.new ≡ self.old ++ (pair ∷ [])) }
         ensures leads { OnOk result ((x y : PlainNode) → LeadsTo self.new x y ↔ LeadsTo (pair ∷ self.old) x y) }
@@ -138,7 +138,7 @@ impl Order {
         Ok(())
     }
 
-    /// The same order again, closed where this one is. The error is that memory ran out.
+    /// The same order, closed if this one is.
     pub fn copy(&self, alloc: Global) -> Result<Order, AllocError>
         ensures { IfOk result (λ o. o ≡ self.now) }
     {

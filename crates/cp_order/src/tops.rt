@@ -8,7 +8,7 @@ use cp_model::Node;
 use std::alloc::{AllocError, Global};
 use std::collections::HashMap;
 
-/// Whether an index is at the top of its strand or below.
+/// Whether an index is at the top of its strand or before it.
 pub(crate) fn is_within(top: Option<usize>, index: usize) -> bool
     ensures { result ≡ is_within top index }
 {
@@ -18,14 +18,14 @@ pub(crate) fn is_within(top: Option<usize>, index: usize) -> bool
     }
 }
 
-/// Whether a node is at the top of its strand or below.
+/// Whether a node is at the top of its strand or before it.
 pub(crate) fn is_below(tops: &HashMap<usize, usize>, node: Node) -> bool
     ensures { result ≡ is_below (tops_of tops.now) node }
 {
     is_within(tops.get(&node.strand).copied(), node.index)
 }
 
-/// Raises the top of a node's strand to the node, where this is above it.
+/// Raises the top of a node's strand to the node, if the node is after it.
 pub(crate) fn raise(tops: &mut HashMap<usize, usize>, node: Node) -> Result<(), AllocError>
     ensures { OnOk result ((x : Node) → is_below (tops_of tops.new) x ≡ (is_below (tops_of tops.old) x || at_or_after x node)) }
 {
@@ -35,18 +35,18 @@ pub(crate) fn raise(tops: &mut HashMap<usize, usize>, node: Node) -> Result<(), 
     Ok(())
 }
 
-/// Strands below this number have their tops in a list.
+/// The tops of strands below this number are kept in a list.
 const LISTED: usize = 64;
 
-/// For each strand the greatest index that is known, if any is: of low strands in a list, at the strand's place, and of
-/// high ones in a map, since pairs that nobody has checked can state any number.
+/// For each strand the greatest known index, if any: for low strands in a list, at the strand's place, for high ones in
+/// a map, since unchecked pairs can state any number.
 #[derive(Drop)]
 pub(crate) struct Tops {
     low: Vec<Option<usize>>,
     high: HashMap<usize, usize>,
 }
 
-/// The top of a strand, where tops stand at the places of their strands.
+/// The top of a strand, in a list of tops by strand.
 fn top_at(tops: &[Option<usize>], strand: usize) -> Option<usize>
     ensures { result ≡ tops_at tops.now strand }
 {
@@ -67,7 +67,7 @@ fn make_room(tops: &mut Vec<Option<usize>>, strand: usize) -> Result<(), AllocEr
     Ok(())
 }
 
-/// Puts the top of a node's strand at the node, where tops stand at the places of their strands.
+/// Sets the top of a node's strand to the node, in a list of tops by strand.
 fn put_at(tops: &mut Vec<Option<usize>>, node: Node) -> Result<(), AllocError>
     ensures { OnOk result ((s : ℕ) → tops_at tops.new.items s ≡ (if s == node.strand then Some node.index else tops_at tops.old.items s)) }
 {
@@ -96,7 +96,7 @@ impl Tops {
         self.high.get(&strand).copied()
     }
 
-    /// Puts the top of a node's strand at the node.
+    /// Sets the top of a node's strand to the node.
     pub(crate) fn put(&mut self, node: Node) -> Result<(), AllocError>
         ensures { OnOk result ((s : ℕ) → tops_in self.new s ≡ (if s == node.strand then Some node.index else tops_in self.old s)) }
     {

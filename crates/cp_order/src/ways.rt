@@ -1,4 +1,4 @@
-// Ways from node to node along strands and pairs.
+// Paths from node to node along strands and pairs.
 ghost use Rattle.std.specs.Prelude.{◌≡◌};
 ghost use Rattle.cp_model.specs.OrderTests.{any_pair, reaches};
 ghost use Rattle.cp_order.specs.Composed.{is_between, leads_along_one};
@@ -6,14 +6,14 @@ ghost use Rattle.cp_order.specs.Composed.{is_between, leads_along_one};
 use crate::leading_nodes::is_at_or_before;
 use cp_model::{Node, OrderPair};
 
-/// Whether a pair leads from x, or a node after it, to y, or a node before it.
+/// Whether a pair leads from x, or a node after it on its strand, to y, or a node before it on its strand.
 fn is_between(x: Node, y: Node, pair: &OrderPair) -> bool
     ensures { result ≡ is_between x y pair.now }
 {
     is_at_or_before(x, pair.earlier) && is_at_or_before(pair.later, y)
 }
 
-/// Whether one of the pairs leads from x, or a node after it, to y, or a node before it.
+/// Whether one of the pairs leads from x, or a node after it on its strand, to y, or a node before it on its strand.
 fn some_is_between(pairs: &[OrderPair], x: Node, y: Node) -> bool
     ensures { result ≡ any_pair (is_between x y) pairs.now }
 {

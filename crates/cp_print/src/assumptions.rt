@@ -21,7 +21,7 @@ use std::alloc::{AllocError, Global};
 
 /// What is printed as one form.
 pub(crate) trait Printed {
-    /// The form of an item, where variables have these forms.
+    /// The form of an item, if variables have these forms.
     ghost printed: { (Variable → Plain) → Self → Plain };
 
     /// The item as a form.
@@ -77,7 +77,7 @@ fn value_form(
     Ok(plain_list(two(alloc, name, value)?))
 }
 
-/// For each of these names its term.
+/// Each of these names with its value.
 fn value_forms(
     alloc: Global,
     naming: &Naming<'_>,
@@ -93,7 +93,7 @@ fn value_forms(
     Ok(forms)
 }
 
-/// The way from the problem, whose variables have these names.
+/// The map from the problem, whose variables have these names.
 pub(crate) fn map_form(
     alloc: Global,
     naming: &Naming<'_>,

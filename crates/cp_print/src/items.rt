@@ -10,7 +10,7 @@ use cp_sexpr::Form;
 use cp_skel::{Mark, Node, Operation, Outcome};
 use std::alloc::{AllocError, Global};
 
-/// Appends an item; one that would list nothing is left out.
+/// Appends an item, unless it would list nothing.
 pub(crate) fn add_unless_empty(
     alloc: Global,
     head: &str,
@@ -83,7 +83,7 @@ fn numbered(alloc: Global, text: &str, number: usize) -> Result<Vec<Form>, Alloc
     two(alloc, text, number)
 }
 
-/// A word, and the numbers of a node.
+/// A word, and the two numbers of a node.
 fn at_node(alloc: Global, text: &str, node: Node) -> Result<Vec<Form>, AllocError>
     ensures { IfOk result (λ fs. map view fs.items ≡ word text.now ∷ numeral node.strand ∷ numeral node.index ∷ []) }
 {

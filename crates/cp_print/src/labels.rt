@@ -21,7 +21,7 @@ use cp_skel::{Skeleton, TreeNode, listed};
 use cp_term::Text;
 use std::alloc::{AllocError, Global};
 
-/// Appends where the label comes from, its variables and its strands.
+/// Appends the label's parent, its operation, its variables and its strands.
 fn add_strand_items(
     alloc: Global,
     naming: &Naming<'_>,
@@ -66,7 +66,7 @@ fn add_assumption_items(
     add_unless_empty(alloc, "uniq-orig", uniques, items)
 }
 
-/// Appends the map, and what was found and made of the label.
+/// Appends the map, the unrealised nodes, the test and its patterns, the children and the mark.
 fn add_result_items(
     alloc: Global,
     naming: &Naming<'_>,
@@ -93,10 +93,10 @@ fn add_result_items(
     add_mark(alloc, label.mark, items)
 }
 
-/// As many items as a label form has besides its strands.
+/// A label form has at most this many items besides its strands.
 const ITEMS: usize = 14;
 
-/// A label form: its number, and its items, where these are the names of the problem's variables.
+/// A label form: its number and its items. `of_problem` are the names of the problem's variables.
 pub(crate) fn label_form(
     alloc: Global,
     of_problem: &[Text],

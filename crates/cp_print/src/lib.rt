@@ -1,4 +1,6 @@
 //! The printer: from trees to the text of a report.
+//!
+//! Every call that returns `AllocError` fails only if memory runs out.
 #![tactic(auto)]
 
 mod assumptions;

@@ -16,21 +16,21 @@ use cp_sexpr::Form;
 use cp_skel::{Leading, Node, OrderPair, Skeleton, SortedPairs, Strand, StrandShape};
 use std::alloc::{AllocError, Global};
 
-/// A node, and for each node of its skeleton whether it is before this one.
+/// A node, and for each node of its skeleton whether that node is before this one.
 #[derive(Drop)]
 struct Ordered {
     node: Node,
     before: Vec<bool>,
 }
 
-/// Whether a node leads to the one that is asked about.
+/// Whether a path leads from a node to the one asked about.
 fn leads(leading: &Leading<'_>, x: Node) -> bool
     ensures { result ≡ reaches (length leading.now.pairs) leading.now.pairs x leading.now.node }
 {
     leading.has(x)
 }
 
-/// Whether a node leads to the one that is asked about and is not this one.
+/// Whether a path leads from x to the node asked about, and x is not y.
 fn is_before(leading: &Leading<'_>, x: Node, y: Node) -> bool
     ensures { result ≡ (not (same_node x y) && reaches (length leading.now.pairs) leading.now.pairs x leading.now.node) }
 {
@@ -168,7 +168,7 @@ fn is_on_pairs(pairs: &[OrderPair], x: Node) -> bool
     false
 }
 
-/// The nodes on the strands of pairs: no other covers, is covered, or stands between two that do.
+/// The nodes on the strands of pairs. No other node covers another, is covered, or stands between two that do.
 fn nodes_on_pairs(
     alloc: Global,
     pairs: &[OrderPair],

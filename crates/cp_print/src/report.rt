@@ -49,7 +49,7 @@ fn put(form: &Form, out: &mut Vec<u8>, ends: &mut Vec<usize>) -> Result<(), Allo
     Ok(())
 }
 
-/// Writes the chosen labels of a tree, where these are the names of the problem's variables.
+/// Writes the chosen labels of a tree. `of_problem` are the names of the problem's variables.
 fn put_labels(
     alloc: Global,
     chosen: Labels,
@@ -112,7 +112,7 @@ fn add_count(
     Ok(())
 }
 
-/// The outcome, and how many labels there are, how many were expanded, and how many are shapes.
+/// The outcome, the number of labels, how many were expanded, and how many are shapes.
 fn status_form(alloc: Global, tree: &Tree) -> Result<Form, AllocError>
     ensures { IfOk result (λ f. view f ≡ status_form (tree_view tree.now)) }
 {
@@ -161,8 +161,8 @@ fn put_problem(
     Ok(())
 }
 
-/// Writes a form of the input; behind that of a problem the first of these trees, if there is one. The rest of the trees
-/// is answered.
+/// Writes a form of the input and, after that of a problem, the first of these trees, if there is one. Returns the
+/// trees that follow.
 fn put_entry<'a>(
     alloc: Global,
     chosen: Labels,
@@ -216,9 +216,9 @@ fn put_report(
     Ok(())
 }
 
-/// Appends the text of the report on the input with these trees, one for each problem in order, and behind the ends the
-/// place in the text at which each of its top forms ends. The error is that memory ran out: a front of the text may have
-/// been appended.
+/// Appends the text of the report on the input with these trees, one for each problem in order. Appends to `ends`, for
+/// each top form of the report, the place in `out`, in bytes, at which it ends. If memory runs out, a prefix of the
+/// text may have been appended.
 pub fn print_pieces(
     alloc: Global,
     input: &Input<'_>,
@@ -233,8 +233,8 @@ pub fn print_pieces(
     put_report(alloc, Labels::All, input, trees, out, ends)
 }
 
-/// Appends the text of the report on the input with these trees, one for each problem in order. The error is that memory
-/// ran out: a front of the text may have been appended.
+/// Appends the text of the report on the input with these trees, one for each problem in order. If memory runs out, a
+/// prefix of the text may have been appended.
 pub fn print(
     alloc: Global,
     input: &Input<'_>,
@@ -249,8 +249,9 @@ pub fn print(
     Ok(())
 }
 
-/// Appends the text of the report without the labels that are not marked as shapes, and behind the ends the place in the
-/// text at which each of its top forms ends. The error is that memory ran out: a front of the text may have been appended.
+/// Appends the text of the report without the labels that are not marked as shapes. Appends to `ends`, for each top
+/// form of this text, the place in `out`, in bytes, at which it ends. If memory runs out, a prefix of the text may have
+/// been appended.
 pub fn print_shape_pieces(
     alloc: Global,
     input: &Input<'_>,
@@ -265,8 +266,8 @@ pub fn print_shape_pieces(
     put_report(alloc, Labels::Shapes, input, trees, out, ends)
 }
 
-/// Appends the text of the report without the labels that are not marked as shapes, with these trees, one for each problem
-/// in order. The error is that memory ran out: a front of the text may have been appended.
+/// Appends the text of the report on the input with these trees, one for each problem in order, without the labels that
+/// are not marked as shapes. If memory runs out, a prefix of the text may have been appended.
 pub fn print_shapes(
     alloc: Global,
     input: &Input<'_>,

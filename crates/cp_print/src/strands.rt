@@ -19,7 +19,7 @@ use cp_strand::{Declaration, Instance, Role, Strand, StrandShape, applied};
 use cp_term::{Sort, Term, Text, VarId, var};
 use std::alloc::{AllocError, Global};
 
-/// A variable by its name, with its sort.
+/// A variable: its name and its sort.
 fn var_form(alloc: Global, name: &str, sort: Sort) -> Result<Form, AllocError>
     ensures { IfOk result (λ f. view f ≡ plain_list (word name.now ∷ word (sort_text (sort_view sort)) ∷ [])) }
 {
@@ -28,7 +28,7 @@ fn var_form(alloc: Global, name: &str, sort: Sort) -> Result<Form, AllocError>
     Ok(plain_list(two(alloc, name, sort)?))
 }
 
-/// How many are marked.
+/// How many marks are set.
 fn marked_count(marks: &[bool]) -> usize
     ensures { result ≡ count_by (λ mark. mark) marks.now }
 {
@@ -56,7 +56,7 @@ pub(crate) fn vars(
     Ok(forms)
 }
 
-/// What a variable of a role becomes under the terms of an instance.
+/// The value of a role's variable under the terms of an instance.
 fn value_form(
     alloc: Global,
     naming: &Naming<'_>,
@@ -71,7 +71,7 @@ fn value_form(
     atom_form(alloc, naming, &value)
 }
 
-/// What the variable of a role with this number becomes, beside its identifier.
+/// The maplet of the role's variable with this number: its identifier and its value.
 fn maplet(
     alloc: Global,
     naming: &Naming<'_>,

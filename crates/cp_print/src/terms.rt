@@ -85,7 +85,7 @@ pub(crate) fn atom_form(alloc: Global, naming: &Naming<'_>, term: &Term) -> Resu
     }
 }
 
-/// One part as it stands, and several as one `cat`.
+/// A single part as it stands, or several as one `cat`.
 #[tactic(auto, using(crate::proofs::Spines::several))]
 fn gathered(alloc: Global, mut parts: Vec<Form>) -> Result<Form, AllocError>
     ensures { IfOk result (λ f. view f ≡ as_one (views parts.items)) }

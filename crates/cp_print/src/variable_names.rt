@@ -16,8 +16,7 @@ use cp_sexpr::Form;
 use cp_term::{Sort, Text, VarId};
 use std::alloc::{AllocError, Global};
 
-/// The names of variables by their numbers, and the locals of a pattern in the order in which they occur, which have no
-/// names.
+/// The names of variables by their numbers, and the locals of a pattern in order of occurrence. Locals have no names.
 #[derive(Clone, Copy)]
 pub(crate) struct Naming<'a> {
     pub(crate) names: &'a [Text],
@@ -37,7 +36,7 @@ pub(crate) fn sort_text(sort: Sort) -> &'static str
     }
 }
 
-/// The name of the variable with this number, which is empty where there is none.
+/// The name of the variable with this number; empty if there is none.
 pub(crate) fn name_of(names: &[Text], number: usize) -> &str
     ensures { result.now ≡ name_or_none (item_at names.now number) }
 {

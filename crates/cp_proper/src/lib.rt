@@ -1,6 +1,6 @@
-//! Proper forms: forms whose symbols and strings are such as the reader gives. What is read is proper; what is printed of labels
-//! whose strings and identifiers are proper is proper; and a text of proper forms gives, where it can be read, these forms.
-//! Definitions alone, with their laws.
+//! Proper forms: forms whose symbols and strings the reader can give. What is read is proper; what is printed for
+//! labels with proper strings and identifiers is proper; and a text of proper forms, if it can be read, gives these
+//! forms. Only definitions and their laws.
 #![tactic(auto)]
 
 mod laws;

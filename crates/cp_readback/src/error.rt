@@ -9,7 +9,7 @@ use thiserror::Error;
 /// Why forms could not be read back.
 #[derive(Debug, Drop, Error)]
 pub enum ReadBackError {
-    /// The forms are no report: this is the first place at which they fit none.
+    /// The forms are no report: the first place at which they fit none.
     #[error("the forms are no report at line {}, column {}", .0.line, .0.col)]
     NotReport(Place),
     /// Memory ran out.

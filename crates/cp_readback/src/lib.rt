@@ -1,4 +1,6 @@
-//! Reports read back: the report that forms are, or the first place at which they are no report.
+//! Reads reports back: gives the report that forms are, or the first place at which they are no report.
+//!
+//! Every call that returns `AllocError` fails only if memory runs out.
 #![tactic(auto)]
 
 mod error;

@@ -27,8 +27,8 @@ use cp_variables::FirstMisfit;
 use std::alloc::{AllocError, Global};
 use std::rc::Rc;
 
-/// A report: the forms of its input, its protocols in order, and for each form the problem that it states, if it states
-/// one; and a tree for each problem, in their order.
+/// A report: the forms of its input, its protocols in order, for each form the problem that it states, if any, and a
+/// tree for each problem, in their order.
 #[derive(Drop)]
 pub struct Report<'a> {
     pub forms: Vec<&'a Form>,
@@ -44,8 +44,8 @@ struct Stated {
     drafts: Vec<Option<Draft>>,
 }
 
-/// The forms of the input with what stands behind each, what they state, and the first place at which the forms are no report,
-/// if there is one.
+/// The forms of the input with the forms after each, what they state, and the first place, if any, at which the forms
+/// are no report.
 #[derive(Drop)]
 struct Judged<'a> {
     sections: Vec<Section<'a>>,
@@ -54,7 +54,7 @@ struct Judged<'a> {
     misfit: Option<Place>,
 }
 
-/// The place of the form of the input that follows; where none does, that of the first form.
+/// The place of the next form of the input; if there is none, that of the first form.
 fn next_place(first: Place, following: &[Section<'_>]) -> Place
     ensures { result ≡ next_place first (map section_view following.now) }
 {
@@ -64,7 +64,7 @@ fn next_place(first: Place, following: &[Section<'_>]) -> Place
     }
 }
 
-/// The place of the first form; where there is none, that of the first byte of a text.
+/// The place of the first form; if there is none, that of the first byte of a text.
 fn first_place(forms: &[Form]) -> Place
     ensures { result ≡ first_place (map view forms.now) }
 {
@@ -74,8 +74,8 @@ fn first_place(forms: &[Form]) -> Place
     }
 }
 
-/// What the forms of the input state, with the first of their faults, and the first misfit of what stands behind them, where
-/// the first form of all stands here. What stands for forms with faults has no meaning.
+/// What the forms of the input state. Notes the first of their faults, and the first misfit of the forms after them;
+/// `start` is the place of the first form of all. What stands for forms with faults has no meaning.
 fn stated_in(
     alloc: Global,
     start: Place,
@@ -101,7 +101,7 @@ fn stated_in(
     Ok(Stated { protocols, drafts })
 }
 
-/// Takes notice of the place of the first fault, if there was one.
+/// Notes the place of the first fault, if there is one, as a misfit.
 fn note_fault(faults: FirstFault, first: &mut FirstMisfit)
     ensures { first.new ≡ merged first.old (option_map (λ r. r.place) faults) }
 {
@@ -110,7 +110,7 @@ fn note_fault(faults: FirstFault, first: &mut FirstMisfit)
     }
 }
 
-/// Forms by those of the input, with what these state, and the first place at which they are no report.
+/// Splits forms by those of the input, with what these state, and the first place at which they are no report.
 fn judge(alloc: Global, forms: &[Form]) -> Result<Judged<'_>, AllocError>
     ensures sections { IfOk result (λ j. map section_view j.sections.items ≡ (sections_of (map view forms.now)).sections) }
     ensures problems { IfOk result (λ j. drafts_view j.drafts.items ≡ problems_stated (sections_of (map view forms.now)).sections) }
@@ -133,7 +133,7 @@ fn judge(alloc: Global, forms: &[Form]) -> Result<Judged<'_>, AllocError>
     })
 }
 
-/// The draft at a place, if there is such a place and it has one.
+/// The draft at this place in the list, if there is one.
 fn draft_at(drafts: &[Option<Draft>], place: usize) -> Option<&Draft>
     ensures { option_map (λ d. draft_view d.now) result ≡ problem_at (drafts_view drafts.now) place }
 {
@@ -143,7 +143,7 @@ fn draft_at(drafts: &[Option<Draft>], place: usize) -> Option<&Draft>
     }
 }
 
-/// The trees that stand behind the forms that state the problems of these drafts.
+/// The trees after the forms that state the problems of these drafts.
 fn trees_of(
     alloc: Global,
     sections: &[Section<'_>],
@@ -174,9 +174,10 @@ fn forms_of<'a>(alloc: Global, sections: &[Section<'a>]) -> Result<Vec<&'a Form>
     Ok(forms)
 }
 
-/// The report that forms are: the forms of its input with what they state, and a tree for each problem. Forms that are no
-/// report are refused, at the first place at which they fit none, by line and then by column. The other error is want of
-/// memory.
+/// Reads back the report that forms are: the forms of its input with what they state, and a tree for each problem.
+///
+/// Forms that are no report are refused with `NotReport`, at the first place, by line and then by column, at which they
+/// fit none. The other error is `Memory`.
 pub fn read_back<'a>(alloc: Global, forms: &'a [Form]) -> Result<Report<'a>, ReadBackError>
     ensures read { IfOk result (λ r. IsReadBack (views forms.now) (Ok (report_view r))) }
     ensures problems { IfOk result (λ r. length r.problems.items ≡ length r.forms.items) }

@@ -1,4 +1,4 @@
-// The forms of the input in a report, and what stands behind each.
+// The forms of the input in a report, and the forms after each.
 ghost use Rattle.std.specs.Prelude.{◌≡◌, map, IfOk};
 ghost use Rattle.cp_sexpr.specs.View.{view};
 ghost use Rattle.cp_report.specs.ReadBack.{sections_of};
@@ -9,21 +9,21 @@ use cp_reading::count_in_front;
 use cp_sexpr::Form;
 use std::alloc::{AllocError, Global};
 
-/// A form of the input with the label forms and status forms directly behind it.
+/// A form of the input with the label forms and status forms directly after it.
 #[derive(Clone, Copy)]
 pub(crate) struct Section<'a> {
     pub(crate) form: &'a Form,
     pub(crate) behind: &'a [Form],
 }
 
-/// The label forms and status forms in front of all forms of the input, and then these.
+/// The label forms and status forms before all forms of the input, and then these.
 #[derive(Drop)]
 pub(crate) struct Sections<'a> {
     pub(crate) front: &'a [Form],
     pub(crate) sections: Vec<Section<'a>>,
 }
 
-/// The label forms and status forms that stand first.
+/// The label forms and status forms before all forms of the input.
 fn tree_in_front(forms: &[Form]) -> &[Form]
     ensures { map view result.now ≡ (sections_of (map view forms.now)).front }
 {
@@ -31,7 +31,7 @@ fn tree_in_front(forms: &[Form]) -> &[Form]
     front
 }
 
-/// The forms of a report by those of the input. The error is that memory ran out.
+/// The forms of a report, split by those of the input.
 pub(crate) fn sections_of(alloc: Global, forms: &[Form]) -> Result<Sections<'_>, AllocError>
     ensures { IfOk result (λ s. sections_view s ≡ sections_of (map view forms.now)) }
 {

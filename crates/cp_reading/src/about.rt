@@ -1,4 +1,4 @@
-// Items of label forms that speak of the strands, and the patterns: where they do not fit.
+// Items of label forms that refer to the strands, and the patterns: where they do not fit.
 ghost use Rattle.std.specs.Prelude.{◌≡◌, [], ◌∷◌, codes, drop, map, OnOk};
 ghost use Rattle.cp_sexpr.specs.View.{view};
 ghost use Rattle.cp_strand.specs.View.{declaration_view, strand_view};
@@ -19,7 +19,7 @@ use cp_stated::item_with;
 use cp_variables::{FirstMisfit, Variables, entries_under};
 use std::alloc::{AllocError, Global};
 
-/// The strand and the event that the operation names have to be there.
+/// The strand and the event that the operation names must exist.
 fn operation_at_misfits(strands: &[Strand], items: &[Form], first: &mut FirstMisfit)
     ensures { first.new ≡ first_onto first.old (operation_place_misfits (map strand_view strands.now) (word_of_label (map view items.now)) (drop 1 (entries_under (codes "by") (map view items.now)))) }
 {
@@ -27,7 +27,7 @@ fn operation_at_misfits(strands: &[Strand], items: &[Form], first: &mut FirstMis
     operation_place_misfits(strands, word_of_label(items), behind, first);
 }
 
-/// Where the unrealised nodes do not fit, if they are there.
+/// Notes where the unrealised nodes, if any, do not fit.
 fn unrealised_item_misfits(strands: &[Strand], items: &[Form], first: &mut FirstMisfit)
     ensures { first.new ≡ first_onto first.old (optional_misfits (unrealised_misfits (map strand_view strands.now)) (item_with (codes "unrealised" ∷ []) (map view items.now))) }
 {
@@ -37,7 +37,7 @@ fn unrealised_item_misfits(strands: &[Strand], items: &[Form], first: &mut First
     unrealised_misfits(strands, place_of(item), items_behind(item), first);
 }
 
-/// Where the test does not fit, if it is there.
+/// Notes where the test, if there is one, does not fit.
 fn test_item_misfits(scope: Scope<'_>, strands: &[Strand], items: &[Form], first: &mut FirstMisfit)
     requires { scope_view scope ≡ scope_of (map view items.now) }
     ensures { first.new ≡ first_onto first.old (optional_misfits (test_misfits (scope_of (map view items.now)) (map strand_view strands.now)) (item_with (codes "test" ∷ []) (map view items.now))) }
@@ -48,7 +48,7 @@ fn test_item_misfits(scope: Scope<'_>, strands: &[Strand], items: &[Form], first
     test_misfits(scope, strands, place_of(item), items_behind(item), first);
 }
 
-/// Where the operation, the unrealised nodes and the test do not fit to these strands.
+/// Notes where the operation, the unrealised nodes and the test do not fit these strands.
 pub(crate) fn about_strands_misfits(
     scope: Scope<'_>,
     strands: &[Strand],
@@ -63,7 +63,7 @@ pub(crate) fn about_strands_misfits(
     test_item_misfits(scope, strands, items, first);
 }
 
-/// Where the escape does not fit, if it is there, in a label form that declares these variables.
+/// Notes where the escape set, if there is one, does not fit in a label form that declares these variables.
 pub(crate) fn escape_item_misfits(
     alloc: Global,
     variables: &Variables,

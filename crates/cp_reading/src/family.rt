@@ -17,8 +17,8 @@ use cp_variables::{FirstMisfit, entries_under, no_more};
 use std::alloc::{AllocError, Global};
 use std::collections::HashSet;
 
-/// The label forms of a tree, with the parents and children that they state: for each the number of its parent, if it
-/// states one, and the pairs of the number of a label and that of one of its children.
+/// The label forms of a tree, with the parents and children that they state: for each label the number of its parent,
+/// if it states one, and the pairs of a label's number and a child's number.
 #[derive(Drop)]
 pub(crate) struct Family<'a> {
     pub(crate) labels: &'a [Form],
@@ -33,7 +33,7 @@ fn stated_parent(form: &Form) -> Option<usize>
     number_in_front(entries_under(items_of_label(form), b"parent"))
 }
 
-/// Puts a label with the children that its form states to others.
+/// Adds a label with the children that its form states.
 fn add_children(
     label: usize,
     form: &Form,
@@ -69,14 +69,14 @@ pub(crate) fn family_of(alloc: Global, labels: &[Form]) -> Result<Family<'_>, Al
     })
 }
 
-/// The parent at a place, if there is such a place.
+/// The parent at this place, if there is such a place.
 fn parent_at(parents: &[Option<usize>], label: usize) -> Option<&Option<usize>>
     ensures { option_map (λ p. p.now) result ≡ item_at parents.now label }
 {
     parents.get(label)
 }
 
-/// The parent that a label of the family states, if there are both.
+/// The parent that a label of the family states, if the label exists and states one.
 fn parent_of(family: &Family<'_>, label: usize) -> Option<usize>
     requires { IsFamily family.now }
     ensures { result ≡ parent_in (item_at (labels_of family.now) label) }
@@ -98,7 +98,7 @@ fn is_parent_of(family: &Family<'_>, parent: usize, label: usize) -> bool
     }
 }
 
-/// Whether a label of the tree has this one as its parent, where the tree is whole.
+/// Whether a label of the tree has this one as its parent; also `true` if the tree is not whole.
 fn has_parent_in(tree: Option<&Family<'_>>, parent: usize, label: usize) -> bool
     requires { IfSome tree (λ f. IsFamily f.now) }
     ensures { result ≡ has_parent_in (option_map (λ f. labels_of f.now) tree.entry) parent label }
@@ -109,7 +109,7 @@ fn has_parent_in(tree: Option<&Family<'_>>, parent: usize, label: usize) -> bool
     }
 }
 
-/// Whether a label of the tree has this one among its children, where the tree is whole.
+/// Whether a label of the tree has this one among its children; also `true` if the tree is not whole.
 fn has_child_in(tree: Option<&Family<'_>>, child: usize, label: usize) -> bool
     requires { IfSome tree (λ f. IsFamily f.now) }
     ensures { result ≡ has_child_in (option_map (λ f. labels_of f.now) tree.entry) child label }
@@ -120,7 +120,7 @@ fn has_child_in(tree: Option<&Family<'_>>, child: usize, label: usize) -> bool
     }
 }
 
-/// Whether the tree has a label with this number, where it is whole.
+/// Whether the tree has a label with this number; also `true` if the tree is not whole.
 pub(crate) fn is_label_in(tree: Option<&Family<'_>>, label: usize) -> bool
     ensures { result ≡ is_label_in (option_map (λ f. labels_of f.now) tree.entry) label }
 {
@@ -130,7 +130,7 @@ pub(crate) fn is_label_in(tree: Option<&Family<'_>>, label: usize) -> bool
     }
 }
 
-/// The number of a label that has this one among its children has to stand here.
+/// The form must be the number of a label that has this one among its children.
 fn parent_number_misfits(
     tree: Option<&Family<'_>>,
     label: usize,
@@ -149,7 +149,7 @@ fn parent_number_misfits(
     }
 }
 
-/// The number of a label that has this one among its children has to stand in a list at this place.
+/// The items of the list at this place must be the number of a label that has this one among its children.
 pub(crate) fn parent_misfits(
     tree: Option<&Family<'_>>,
     label: usize,
@@ -168,7 +168,7 @@ pub(crate) fn parent_misfits(
     no_more(rest, first);
 }
 
-/// The number of a label that has this one as its parent, and is none of those before it, has to stand here.
+/// The form must be the number of a label that has this one as its parent, and none of the numbers before it.
 fn child_misfits(
     tree: Option<&Family<'_>>,
     label: usize,
@@ -189,7 +189,7 @@ fn child_misfits(
     }
 }
 
-/// The numbers of labels that have this one as their parent have to stand here, none of them twice.
+/// The items must be numbers of labels that have this one as their parent, none of them twice.
 pub(crate) fn children_misfits(
     alloc: Global,
     tree: Option<&Family<'_>>,

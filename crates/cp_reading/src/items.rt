@@ -1,4 +1,4 @@
-// Single items of label forms: whether they are there, and where they do not fit.
+// Single items of label forms: whether they exist, and where they do not fit.
 ghost use Rattle.std.specs.Prelude.{◌≡◌, ◌||◌, ◌++◌, [], ◌∷◌, not, codes, if◌then◌else◌, map, option_map, IfOk, OnOk, IfSome};
 ghost use Rattle.cp_sexpr.specs.View.{view};
 ghost use Rattle.cp_language.specs.Problems.{is_known};
@@ -29,7 +29,7 @@ pub(crate) fn has_item(items: &[Form], word: &[u8]) -> bool
     item_with(items, word).is_some()
 }
 
-/// What the word behind `by` names.
+/// What the word after `by` names.
 pub(crate) fn word_of_label(items: &[Form]) -> OperationWord
     ensures { word_view result ≡ word_of_label (map view items.now) }
 {
@@ -57,7 +57,7 @@ fn is_ended(items: &[Form]) -> bool
     has_children(items) || has_mark(items)
 }
 
-/// Whether a label is no root, as far as its operation tells.
+/// Whether a label is no root, according to its operation.
 fn wants_parent(items: &[Form]) -> bool
     ensures { result ≡ wants_parent (map view items.now) }
 {
@@ -72,7 +72,8 @@ fn has_parent_if_wanted(items: &[Form]) -> bool
     !wants_parent(items) || has_item(items, b"parent")
 }
 
-/// What a label form at this place lacks: its operation, its map, a mark or children, the parent of one that is no root.
+/// Notes what a label form at this place lacks: its operation, its map, a mark or children, or the parent of a label
+/// that is no root.
 fn missing_misfits(place: Place, items: &[Form], first: &mut FirstMisfit)
     ensures { first.new ≡ first_onto first.old (missing_misfits place (map view items.now)) }
 {
@@ -82,7 +83,7 @@ fn missing_misfits(place: Place, items: &[Form], first: &mut FirstMisfit)
     first.note_unless(has_parent_if_wanted(items), place);
 }
 
-/// What a label form at this place lacks, where it is asked.
+/// If asked, notes what a label form at this place lacks.
 pub(crate) fn missing_if(is_asked: bool, place: Place, items: &[Form], first: &mut FirstMisfit)
     ensures { first.new ≡ first_onto first.old (if is_asked then missing_misfits place (map view items.now) else []) }
 {
@@ -91,7 +92,7 @@ pub(crate) fn missing_if(is_asked: bool, place: Place, items: &[Form], first: &m
     }
 }
 
-/// A parent may be there where the label is no root.
+/// A label may have a parent only if it is no root.
 pub(crate) fn no_parent_misfits(items: &[Form], first: &mut FirstMisfit)
     ensures { first.new ≡ first_onto first.old (no_parent_item_misfits (map view items.now)) }
 {
@@ -101,7 +102,7 @@ pub(crate) fn no_parent_misfits(items: &[Form], first: &mut FirstMisfit)
     first.note_unless(!makes_root(word_of_label(items)), place_of(item));
 }
 
-/// A parent has to have the label of this number among its children, if it is there.
+/// If there is a parent, it must have the label with this number among its children.
 pub(crate) fn parent_item_misfits(
     tree: Option<&Family<'_>>,
     number: usize,
@@ -117,7 +118,7 @@ pub(crate) fn parent_item_misfits(
     parent_misfits(tree, number, place_of(item), items_behind(item), first);
 }
 
-/// Where the operation does not fit, if it is there, in a tree for a problem with so many strands.
+/// Notes where the operation, if there is one, does not fit in a tree for a problem with so many strands.
 pub(crate) fn operation_item_misfits(strands: usize, items: &[Form], first: &mut FirstMisfit)
     ensures { first.new ≡ first_onto first.old (operation_of_item_misfits strands (map view items.now)) }
 {
@@ -127,7 +128,7 @@ pub(crate) fn operation_item_misfits(strands: usize, items: &[Form], first: &mut
     operation_misfits(strands, place_of(item), items_behind(item), first);
 }
 
-/// The variables, and where they do not fit, if they are there.
+/// The variables. Notes where they, if there are any, do not fit.
 pub(crate) fn variables_item(
     alloc: Global,
     items: &[Form],
@@ -144,7 +145,7 @@ pub(crate) fn variables_item(
     variables_of(alloc, entries, first)
 }
 
-/// Where the children of the label of this number do not fit, if they are there.
+/// Notes where the children, if any, of the label with this number do not fit.
 pub(crate) fn children_item_misfits(
     alloc: Global,
     tree: Option<&Family<'_>>,

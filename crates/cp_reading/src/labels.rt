@@ -31,8 +31,8 @@ use cp_stated::{around_strands_misfits, strands_misfits, strands_of};
 use cp_variables::{FirstMisfit, Locals, Variables};
 use std::alloc::{AllocError, Global};
 
-/// What label forms are judged by: the problem, its variables under their names in a report, and the family of the tree,
-/// where it is whole; and where memory comes from.
+/// The context of label forms: the problem, its variables under their names in a report, the family of the tree if it
+/// is whole, and the allocator.
 #[derive(Clone, Copy)]
 pub(crate) struct Setting<'a> {
     pub(crate) alloc: Global,
@@ -41,7 +41,7 @@ pub(crate) struct Setting<'a> {
     pub(crate) tree: Option<&'a Family<'a>>,
 }
 
-/// A label form behind its number: the number that the label has, the place of the form, and its items.
+/// A label form without its number: the number that the label must have, the place of the form, and its items.
 #[derive(Clone, Copy)]
 struct Labelled<'a> {
     number: usize,
@@ -49,7 +49,7 @@ struct Labelled<'a> {
     items: &'a [Form],
 }
 
-/// The strands have to fit; whether they do.
+/// The strands must fit. The result says whether they do.
 fn strands_item_misfits(
     setting: Setting<'_>,
     scope: Scope<'_>,
@@ -68,7 +68,7 @@ fn strands_item_misfits(
     Ok(fit)
 }
 
-/// Where the items behind the strands, and all that speak of these, do not fit, where it is asked.
+/// If asked, notes where the items after the strands, and all that refer to the strands, do not fit.
 fn behind_strands_if(
     is_asked: bool,
     setting: Setting<'_>,
@@ -108,14 +108,14 @@ fn strand_count(problem: &Draft) -> usize
     strands.len()
 }
 
-/// Whether the items up to the strands stand in the order, and the strands fit, as it is said.
+/// Whether the items up to the strands are in order, and the strands, as the caller says, fit.
 fn are_known(items: &[Form], strands_fit: bool) -> bool
     ensures { result ≡ (is_fitting (order_misfits lines_of_label (up_to_strands (map view items.now))) && strands_fit) }
 {
     are_in_order(up_to_strands(items)) && strands_fit
 }
 
-/// Where the items of a label form do not fit.
+/// Notes where the items of a label form do not fit.
 fn items_misfits(
     setting: Setting<'_>,
     label: Labelled<'_>,
@@ -151,7 +151,7 @@ fn items_misfits(
     Ok(())
 }
 
-/// The number of the label has to stand here.
+/// The form must be the number of the label.
 fn number_misfits(number: usize, form: &Form, first: &mut FirstMisfit)
     ensures { first.new ≡ first_onto first.old (number_misfits (λ n. n == number) (view form.now)) }
 {
@@ -161,7 +161,7 @@ fn number_misfits(number: usize, form: &Form, first: &mut FirstMisfit)
     }
 }
 
-/// Where the form of a label with this number does not fit. The error is that memory ran out.
+/// Notes where the form of a label with this number does not fit.
 pub(crate) fn label_misfits(
     setting: Setting<'_>,
     number: usize,

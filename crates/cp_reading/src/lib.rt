@@ -1,4 +1,7 @@
-//! Trees of a report read back: where what stands behind a problem is no tree for it, and the tree that it is.
+//! Trees of a report read back: where the forms after a problem are no tree for it, and the tree that they are.
+//!
+//! Every call that returns `AllocError` fails only if memory runs out. A call that takes a `FirstMisfit` notes in it
+//! the first place at which forms do not meet what its comment asks of them.
 #![tactic(auto)]
 
 mod about;

@@ -19,7 +19,7 @@ use cp_sexpr::Form;
 use cp_skel::Mark;
 use cp_variables::{FirstMisfit, no_more};
 
-/// The number of a label has to stand here.
+/// The form must be the number of a label.
 fn label_number_misfits(tree: Option<&Family<'_>>, form: &Form, first: &mut FirstMisfit)
     ensures { first.new ≡ first_onto first.old (number_misfits (is_label_in (option_map (λ f. labels_of f.now) tree.entry)) (view form.now)) }
 {
@@ -29,7 +29,7 @@ fn label_number_misfits(tree: Option<&Family<'_>>, form: &Form, first: &mut Firs
     }
 }
 
-/// The number of a label has to stand in a list at this place.
+/// The items of the list at this place must be the number of a label.
 fn one_label_misfits(
     tree: Option<&Family<'_>>,
     place: Place,
@@ -47,7 +47,7 @@ fn one_label_misfits(
     no_more(rest, first);
 }
 
-/// The word for a kind of limit has to stand here.
+/// The form must be the word for a kind of limit.
 pub(crate) fn limit_misfits(form: &Form, first: &mut FirstMisfit)
     ensures { first.new ≡ first_onto first.old (symbol_misfits (λ t. is_one_of t (codes "steps" ∷ codes "strands" ∷ [])) (view form.now)) }
 {
@@ -59,7 +59,7 @@ pub(crate) fn limit_misfits(form: &Form, first: &mut FirstMisfit)
     first.note_unless(is_word(word, b"steps") || is_word(word, b"strands"), *place);
 }
 
-/// The word for a kind of limit has to stand in a list at this place.
+/// The items of the list at this place must be the word for a kind of limit.
 fn one_limit_misfits(place: Place, items: &[Form], first: &mut FirstMisfit)
     ensures { first.new ≡ first_onto first.old
         (entries_misfits (symbol_misfits (λ t. is_one_of t (codes "steps" ∷ codes "strands" ∷ [])) ∷ []) place (map view items.now)) }
@@ -79,7 +79,7 @@ fn names_label(head: &[u8]) -> bool
     is_word(head, b"seen") || is_word(head, b"instance-of")
 }
 
-/// What stands behind the head of a mark has to belong to it.
+/// What follows the head of a mark must belong to it.
 fn mark_entries_misfits(
     tree: Option<&Family<'_>>,
     head: &[u8],
@@ -98,7 +98,7 @@ fn mark_entries_misfits(
     }
 }
 
-/// Where a mark does not fit but for whether there are children.
+/// Notes where a mark does not fit, whether or not there are children.
 fn headed_mark_misfits(tree: Option<&Family<'_>>, form: &Form, first: &mut FirstMisfit)
     ensures { first.new ≡ first_onto first.old
         (headed_mark_misfits (option_map (λ f. labels_of f.now) tree.entry) (place_of (view form.now)) (headed (view form.now))) }
@@ -108,7 +108,7 @@ fn headed_mark_misfits(tree: Option<&Family<'_>>, form: &Form, first: &mut First
     }
 }
 
-/// Where the mark does not fit, if it is there; it may be where there are no children.
+/// Notes where the mark, if there is one, does not fit. There may be one only if there are no children.
 pub(crate) fn mark_misfits(
     tree: Option<&Family<'_>>,
     has_children: bool,
@@ -124,7 +124,7 @@ pub(crate) fn mark_misfits(
     }
 }
 
-/// The mark that a head and what stands behind it name.
+/// The mark named by a head and what follows it.
 fn mark_by(head: &[u8], items: &[Form]) -> Mark
     ensures { mark_view result ≡ mark_by head.now (map view items.now) }
 {
@@ -153,7 +153,7 @@ fn mark_of_form(form: &Form) -> Option<Mark>
     }
 }
 
-/// The mark that an item states, if it is there.
+/// The mark that an item states, if there is an item and it states one.
 pub(crate) fn mark_of(item: Option<&Form>) -> Option<Mark>
     ensures { option_map mark_view result ≡ mark_of_item (option_map (λ f. view f.now) item.entry) }
 {

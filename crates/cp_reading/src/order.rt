@@ -13,14 +13,14 @@ use cp_items::{MARK_HEADS, has_one_of};
 use cp_sexpr::Form;
 use cp_variables::FirstMisfit;
 
-/// One kind of item: its heads, and whether it may stand again and again.
+/// One kind of item: its heads, and whether it may be repeated.
 #[derive(Clone, Copy)]
 struct Line {
     heads: &'static [&'static str],
     repeats: bool,
 }
 
-/// The items of a label form in the order in which they stand.
+/// The items of a label form, in their order.
 const LINES: &[Line] = &[
     Line {
         heads: &["parent"],
@@ -80,7 +80,7 @@ const LINES: &[Line] = &[
     },
 ];
 
-/// The lines from that of this form on; none where it is an item of none of them.
+/// The lines from that of this form on; none if it is an item of no line.
 fn lines_from<'a>(form: &Form, lines: &'a [Line]) -> &'a [Line]
     ensures { map line_view result.now ≡ lines_from (view form.now) (map line_view lines.now) }
 {
@@ -93,7 +93,7 @@ fn lines_from<'a>(form: &Form, lines: &'a [Line]) -> &'a [Line]
     &[]
 }
 
-/// The lines that may follow, where those from the item's own on are the second: all of them behind a misplaced one.
+/// The lines that may follow, where `own` are those from the item's own line on: after a misplaced item all of them.
 fn lines_behind<'a>(lines: &'a [Line], own: &'a [Line]) -> &'a [Line]
     ensures { map line_view result.now ≡ lines_behind (map line_view lines.now) (map line_view own.now) }
 {
@@ -104,7 +104,7 @@ fn lines_behind<'a>(lines: &'a [Line], own: &'a [Line]) -> &'a [Line]
     }
 }
 
-/// The items of a label form have to be such, and to stand in the order.
+/// The items of a label form must be of these kinds and in this order.
 pub(crate) fn order_misfits(items: &[Form], first: &mut FirstMisfit)
     ensures { first.new ≡ first_onto first.old (order_misfits lines_of_label (map view items.now)) }
 {
@@ -116,7 +116,7 @@ pub(crate) fn order_misfits(items: &[Form], first: &mut FirstMisfit)
     }
 }
 
-/// Whether the items are such, and stand in the order.
+/// Whether the items are of these kinds and in this order.
 pub(crate) fn are_in_order(items: &[Form]) -> bool
     ensures { result ≡ is_fitting (order_misfits lines_of_label (map view items.now)) }
 {
@@ -125,8 +125,8 @@ pub(crate) fn are_in_order(items: &[Form]) -> bool
     inside.is_none()
 }
 
-/// Where a label form, which stands at this place, lacks something that an item may be that is out of the order: at the
-/// first such item, or where there is none at the form.
+/// The place at which a label form lacks something that a misplaced item may be: the first such item, or if there is
+/// none the form, which stands at this place.
 pub(crate) fn place_of_lack(place: Place, items: &[Form]) -> Place
     ensures { result ≡ first_or place (order_misfits lines_of_label (map view items.now)) }
 {

@@ -1,4 +1,4 @@
-// The labels that label forms are.
+// The labels that label forms state.
 ghost use Rattle.std.specs.Prelude.{◌≡◌, [], ◌∷◌, map, option_map, drop, codes, Some, IfOk};
 ghost use Rattle.cp_lists.specs.Lists.{IsIn};
 ghost use Rattle.cp_sexpr.specs.Syntax.{Form as Syntax};
@@ -41,7 +41,7 @@ fn operation_stated(alloc: Global, items: &[Form]) -> Result<Operation, AllocErr
     operation_by(alloc, word_of_label(items), behind)
 }
 
-/// How a label is expanded: its unrealised nodes, its test, the patterns that guard it, and its children.
+/// How a label is expanded: its unrealised nodes, its test, the escape set of the test, and its children.
 #[derive(Drop)]
 struct Expansion {
     unrealised: Vec<Node>,
@@ -50,8 +50,7 @@ struct Expansion {
     children: Vec<usize>,
 }
 
-/// How the label is expanded, as the items of its form state it. The patterns have to fit the scope's variables. The error
-/// is that memory ran out.
+/// How the label is expanded according to the items of its form. The patterns must fit the scope's variables.
 fn expansion_stated(
     alloc: Global,
     scope: Scope<'_>,
@@ -75,8 +74,8 @@ fn expansion_stated(
     })
 }
 
-/// The skeleton that the items of a label form state, where they fit, for the problem, whose variables have these names
-/// in a report. The scope has the variables that the items declare. The error is that memory ran out.
+/// The skeleton that the items of a label form state for the problem. The items must fit. The names are those of the
+/// problem's variables in a report; the scope has the variables that the items declare.
 fn skeleton_of(
     alloc: Global,
     problem: &Draft,
@@ -94,7 +93,7 @@ fn skeleton_of(
     skeleton_stated(alloc, problem, names, scope, strands, items)
 }
 
-/// The label with the parent and the mark that items state, this operation and this skeleton, expanded like this.
+/// The label with the parent and the mark that the items state, and with this operation, skeleton and expansion.
 fn label_with(
     items: &[Form],
     operation: Operation,
@@ -128,8 +127,8 @@ fn label_with(
     }
 }
 
-/// The label that items state, where they fit, of a tree for the problem, whose variables have these names in a report.
-/// The scope has the variables that the items declare. The error is that memory ran out.
+/// The label that the items state in a tree for the problem. They must fit. The names are those of the problem's
+/// variables in a report; the scope has the variables that the items declare.
 fn label_by(
     alloc: Global,
     problem: &Draft,
@@ -148,7 +147,8 @@ fn label_by(
     Ok(label_with(items, operation, skeleton, expansion))
 }
 
-/// The label that a label form is, of a tree for the problem, whose variables have these names in a report.
+/// The label that a label form states in a tree for the problem. The form must fit. The names are those of the
+/// problem's variables in a report.
 fn label_of(
     alloc: Global,
     problem: &Draft,
@@ -170,8 +170,8 @@ fn label_of(
     label_by(alloc, problem, names, scope, items)
 }
 
-/// The labels that these label forms are, of a tree for the problem, whose variables have these names in a report. The
-/// error is that memory ran out.
+/// The labels that these label forms state in a tree for the problem. The forms must fit. The names are those of the
+/// problem's variables in a report.
 pub(crate) fn labels_stated(
     alloc: Global,
     problem: &Draft,

@@ -68,7 +68,7 @@ pub(crate) fn counts_of(labels: &[Form]) -> Counts
     }
 }
 
-/// This word has to stand here.
+/// The form must be this word.
 fn word_misfits(word: &[u8], form: &Form, first: &mut FirstMisfit)
     ensures { first.new ≡ first_onto first.old (word_misfits word.now (view form.now)) }
 {
@@ -78,7 +78,7 @@ fn word_misfits(word: &[u8], form: &Form, first: &mut FirstMisfit)
     }
 }
 
-/// This number has to stand here.
+/// The form must be this number.
 fn count_misfits(count: usize, form: &Form, first: &mut FirstMisfit)
     ensures { first.new ≡ first_onto first.old (count_misfits count (view form.now)) }
 {
@@ -88,14 +88,14 @@ fn count_misfits(count: usize, form: &Form, first: &mut FirstMisfit)
     }
 }
 
-/// What has to stand among the counts: this word, or this number.
+/// What must stand among the counts: this word, or this number.
 #[derive(Clone, Copy)]
 enum Kind {
     Word(&'static str),
     Count(usize),
 }
 
-/// What is of this kind has to stand here.
+/// The form must be of this kind.
 fn kind_misfits(kind: Kind, form: &Form, first: &mut FirstMisfit)
     ensures { first.new ≡ first_onto first.old (kind_misfits kind (view form.now)) }
 {
@@ -105,7 +105,7 @@ fn kind_misfits(kind: Kind, form: &Form, first: &mut FirstMisfit)
     }
 }
 
-/// An entry of each of these kinds has to stand in a list at this place.
+/// The items of the list at this place must be one of each of these kinds, in order.
 fn kinds_misfits(kinds: &[Kind], place: Place, items: &[Form], first: &mut FirstMisfit)
     ensures { first.new ≡ first_onto first.old (entries_misfits (map kind_misfits kinds.now) place (map view items.now)) }
 {
@@ -121,7 +121,7 @@ fn kinds_misfits(kinds: &[Kind], place: Place, items: &[Form], first: &mut First
     no_more(rest, first);
 }
 
-/// The counts have to stand in a list at this place, each behind its word.
+/// The items of the list at this place must be the counts, each after its word.
 fn counts_misfits(counts: Counts, place: Place, items: &[Form], first: &mut FirstMisfit)
     ensures { first.new ≡ first_onto first.old (entries_misfits (count_kinds counts) place (map view items.now)) }
 {
@@ -136,7 +136,7 @@ fn counts_misfits(counts: Counts, place: Place, items: &[Form], first: &mut Firs
     kinds_misfits(&kinds, place, items, first);
 }
 
-/// The kind of limit and the counts have to stand in a list at this place.
+/// The items of the list at this place must be the kind of limit and the counts.
 fn limit_counts_misfits(counts: Counts, place: Place, items: &[Form], first: &mut FirstMisfit)
     ensures { first.new ≡ first_onto first.old (entries_misfits
         (symbol_misfits (λ t. is_one_of t (codes "steps" ∷ codes "strands" ∷ [])) ∷ count_kinds counts) place (map view items.now)) }
@@ -149,7 +149,7 @@ fn limit_counts_misfits(counts: Counts, place: Place, items: &[Form], first: &mu
     counts_misfits(counts, place, rest, first);
 }
 
-/// What belongs to the first word of an outcome has to stand behind it in a list at this place.
+/// In a list at this place, what belongs to the first word of an outcome must follow it.
 fn behind_outcome_misfits(
     word: &[u8],
     counts: Counts,
@@ -177,7 +177,7 @@ fn names_outcome(form: &Form) -> bool
     is_word(word, b"complete") || is_word(word, b"limit")
 }
 
-/// An outcome and the counts have to stand in a list at this place.
+/// The items of the list at this place must be an outcome and the counts.
 fn status_entries_misfits(counts: Counts, place: Place, items: &[Form], first: &mut FirstMisfit)
     ensures { first.new ≡ first_onto first.old (status_entries_misfits counts place (map view items.now)) }
 {
@@ -192,7 +192,7 @@ fn status_entries_misfits(counts: Counts, place: Place, items: &[Form], first: &
     }
 }
 
-/// Where a status form does not fit behind labels with these counts.
+/// Notes where a status form does not fit after labels with these counts.
 pub(crate) fn status_misfits(counts: Counts, form: &Form, first: &mut FirstMisfit)
     ensures { first.new ≡ first_onto first.old (status_form_misfits counts (view form.now)) }
 {
@@ -215,7 +215,7 @@ fn outcome_of(items: &[Form]) -> Outcome
     }
 }
 
-/// The outcome that the first of these forms states; where there is none it is complete.
+/// The outcome that the first of these forms states; complete if there is none.
 pub(crate) fn outcome_in(behind: &[Form]) -> Outcome
     ensures { outcome_view result ≡ outcome_in (map view behind.now) }
 {

@@ -1,4 +1,4 @@
-// Trees: where what stands behind a problem fits none, and the tree that it is.
+// Trees: where the forms after a problem fit none, and the tree that they are.
 ghost use Rattle.std.specs.Prelude.{◌≡◌, [], map, option_map, Some, IfOk, OnOk, IfSome};
 ghost use Rattle.cp_sexpr.specs.View.{view};
 ghost use Rattle.cp_base.specs.declared.place.Place.{Place as Where};
@@ -24,7 +24,7 @@ use cp_stated::problem_variables;
 use cp_variables::FirstMisfit;
 use std::alloc::{AllocError, Global};
 
-/// None of these forms may stand where it does.
+/// None of these forms may stand here.
 pub fn none_may_stand(forms: &[Form], first: &mut FirstMisfit)
     ensures { first.new ≡ first_onto first.old (places_of (map view forms.now)) }
 {
@@ -33,7 +33,7 @@ pub fn none_may_stand(forms: &[Form], first: &mut FirstMisfit)
     }
 }
 
-/// Where the label forms of a tree do not fit.
+/// Notes where the label forms of a tree do not fit.
 fn labels_misfits(
     setting: Setting<'_>,
     labels: &[Form],
@@ -49,8 +49,9 @@ fn labels_misfits(
     Ok(())
 }
 
-/// One status form has to stand behind labels with these counts, before the next form of the input, which stands here (behind the
-/// last one it is the first form's place).
+/// One status form must follow labels with these counts, before the next form of the input; a missing one is a misfit
+/// at `next`. `next` is the place of that next form; after the last form of the input it is the place of the first
+/// form.
 fn ending_misfits(counts: Counts, next: Place, behind: &[Form], first: &mut FirstMisfit)
     ensures { first.new ≡ first_onto first.old (ending_form_misfits counts next (map view behind.now)) }
 {
@@ -62,7 +63,7 @@ fn ending_misfits(counts: Counts, next: Place, behind: &[Form], first: &mut Firs
     none_may_stand(others, first);
 }
 
-/// The family of these label forms, where what stands behind them makes the tree whole.
+/// The family of these label forms, if what follows them makes the tree whole.
 fn family_if_whole<'a>(
     alloc: Global,
     labels: &'a [Form],
@@ -77,8 +78,8 @@ fn family_if_whole<'a>(
     }
 }
 
-/// Where what stands behind a problem, before the next form of the input, which stands here (behind the last one it is the first
-/// form's place), is no tree for it.
+/// Notes where the forms after a problem, before the next form of the input, are no tree for it. `next` is the place of
+/// that form; after the last form of the input it is the place of the first form.
 fn tree_misfits(
     alloc: Global,
     problem: &Draft,
@@ -102,9 +103,9 @@ fn tree_misfits(
     Ok(())
 }
 
-/// Where what stands behind a form of the input, which states this problem if it states one, before the next form of the
-/// input, which stands here (behind the last one it is the first form's place), is not what has to stand there. The error is that
-/// memory ran out.
+/// Notes where the forms after a form of the input, before the next one, are not what must follow it: a tree for the
+/// problem that it states, or nothing if it states none. `next` is the place of the next form of the input; after the
+/// last it is the place of the first form.
 pub fn behind_misfits(
     alloc: Global,
     problem: Option<&Draft>,
@@ -123,7 +124,7 @@ pub fn behind_misfits(
     }
 }
 
-/// The tree that what stands behind a problem is, where it fits. The error is that memory ran out.
+/// The tree that the forms after a problem are. They must fit.
 pub fn tree_of(alloc: Global, problem: &Draft, behind: &[Form]) -> Result<Tree, AllocError>
     requires fits { (next : Where) × (tree_misfits (Some (draft_view problem.now)) next (map view behind.now) ≡ []) }
     ensures { IfOk result (λ t. tree_view t ≡ tree_of (draft_view problem.now) (map view behind.now)) }

@@ -1,5 +1,5 @@
-//! A report read back: which forms are a report, what they denote, and at which place others fit none. Definitions
-//! alone, with their laws; where forms fit, and what they denote, is said without what is printed.
+//! A report read back: which forms are a report, what they denote, and at which place others fit none. Only definitions
+//! and their laws. The definitions say which forms fit and what they denote without referring to what is printed.
 #![tactic(auto)]
 
 ghost use Rattle.std.specs.Prelude.{◌≡◌, List, Result};
@@ -14,24 +14,24 @@ ghost use Rattle.cp_report.specs.UpToNames.{IsReport, IsSameReport};
 ghost use Rattle.cp_sexpr.specs.Syntax.{Forms, forms_of};
 ghost use Rattle.cp_wellformed.specs.Example.{example_input};
 
-/// Forms are read back with exactly one answer: the report that they are, or else the first place at which they fit none.
+/// Reading forms back has exactly one answer: the report that they are, or else the first place at which they fit none.
 #[tactic(auto, using(crate::proofs::OneAnswer::one_answer, crate::proofs::OneAnswer::some_answer))]
 pub fn reading_back_has_one_answer()
     ensures one { (fs : Forms) (a b : Result Report Place) → IsReadBack fs a → IsReadBack fs b → a ≡ b }
     ensures some { (fs : Forms) → (a : Result Report Place) × IsReadBack fs a }
 {}
 
-/// The law that what is printed is read back. The forms that are printed for well-formed input and for trees that fit its
-/// problems, wherever they stand, are a report, of the same input and the same trees but for the names of variables, the
-/// places of forms, and the pairs that generate an order (`read_back`). So two inputs with their trees for which the same is
-/// printed are the same but for these (`one_report`).
+/// What is printed is read back. The forms that are printed for well-formed input and for trees that fit its problems,
+/// wherever they stand, are a report. It has the same input and the same trees, except for the names of variables, the
+/// places of forms, and the pairs that generate an order (`read_back`). So two inputs with trees for which the same is
+/// printed are the same except for these (`one_report`).
 pub fn printed_reports_read_back()
     ensures read_back { (input : Forms) (trees : List Tree) (fs : Forms) → CanBeStated input trees → ArePrinted fs input trees → IsReport fs (record { entries = input_of input; trees = trees }) }
     ensures one_report { (input input' : Forms) (trees trees' : List Tree) → CanBeStated input trees → CanBeStated input' trees' → ArePrinted (forms_of (report_forms (input_of input) trees)) input' trees' → IsSameReport (record { entries = input_of input; trees = trees }) (record { entries = input_of input'; trees = trees' }) }
 {}
 
-/// The law that an input and its trees meet the premises of the laws above: a well-formed input with a problem, and for it a
-/// tree of one label, the problem itself.
+/// An input and its trees meet the premises of the laws above: a well-formed input with a problem, and for it a tree of
+/// one label, the problem itself.
 #[tactic(auto, using(crate::proofs::OwnTrees::example_stated))]
 pub fn stated_trees_example()
     ensures { CanBeStated example_input (own_trees example_input) }

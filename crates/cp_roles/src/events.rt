@@ -16,7 +16,8 @@ use cp_strand::{Declaration, Event};
 use cp_term::Term;
 use std::alloc::{AllocError, Global};
 
-/// The faults of the items behind the head of a transmission or a reception: one message; with two it is on a channel.
+/// Notes the faults of the items after the head of a transmission or a reception. There must be one message; two items
+/// mean a channel.
 fn message_faults(variables: &[Declaration], place: Place, items: &[Form], first: &mut FirstFault)
     ensures { first.new ≡ first_onto first.old (message_faults (map declaration_view variables.now) place (map view items.now)) }
 {
@@ -32,7 +33,7 @@ fn message_faults(variables: &[Declaration], place: Place, items: &[Form], first
     }
 }
 
-/// The faults of an event.
+/// Notes the faults of an event.
 fn event_faults(variables: &[Declaration], form: &Form, first: &mut FirstFault)
     ensures { first.new ≡ first_onto first.old (event_faults (map declaration_view variables.now) (view form.now)) }
 {
@@ -52,7 +53,7 @@ fn event_faults(variables: &[Declaration], form: &Form, first: &mut FirstFault)
     }
 }
 
-/// The faults of the events of a trace.
+/// Notes the faults of the events of a trace.
 fn events_faults(variables: &[Declaration], items: &[Form], first: &mut FirstFault)
     ensures { first.new ≡ first_onto first.old (events_faults (map declaration_view variables.now) (map view items.now)) }
 {
@@ -61,7 +62,7 @@ fn events_faults(variables: &[Declaration], items: &[Form], first: &mut FirstFau
     }
 }
 
-/// The faults of a trace.
+/// Notes the faults of a trace.
 pub(crate) fn trace_faults(variables: &[Declaration], form: &Form, first: &mut FirstFault)
     ensures { first.new ≡ first_onto first.old (trace_faults (map declaration_view variables.now) (view form.now)) }
 {
@@ -71,7 +72,7 @@ pub(crate) fn trace_faults(variables: &[Declaration], form: &Form, first: &mut F
     }
 }
 
-/// What a term stands for, or none where it has faults.
+/// What a term stands for, or a placeholder if it has faults.
 fn faultless_term(alloc: Global, variables: &[Declaration], form: &Form) -> Result<Term, AllocError>
     ensures { IfOk result (λ t. t ≡ where_faultless (term_faults (map declaration_view variables.now) (view form.now)) (term_of (map declaration_view variables.now) (view form.now))) }
 {
@@ -84,7 +85,7 @@ fn faultless_term(alloc: Global, variables: &[Declaration], form: &Form) -> Resu
     }
 }
 
-/// The message of a transmission or a reception with these items behind its head.
+/// The message of a transmission or a reception with these items after its head.
 fn message_of(alloc: Global, variables: &[Declaration], items: &[Form]) -> Result<Term, AllocError>
     ensures { IfOk result (λ t. t ≡ message_of (map declaration_view variables.now) (map view items.now)) }
 {
@@ -94,7 +95,8 @@ fn message_of(alloc: Global, variables: &[Declaration], items: &[Form]) -> Resul
     }
 }
 
-/// The event that a form stands for. What stands for a form with faults has no meaning, but its message has no variables.
+/// The event that a form stands for. What stands for a form with faults has no meaning, but its message has no
+/// variables.
 fn event_of(alloc: Global, variables: &[Declaration], form: &Form) -> Result<Event, AllocError>
     ensures { IfOk result (λ e. event_view e ≡ event_of (map declaration_view variables.now) (headed (view form.now))) }
 {

@@ -1,4 +1,4 @@
-// Protocols, and those that stand above.
+// Protocols, and those above them in the input.
 ghost use Rattle.std.specs.Prelude.{◌≡◌, [], map, option_map, IfOk, OnOk};
 ghost use Rattle.cp_base.specs.declared.place.Code.TheVariants.{DuplicateProtocol};
 ghost use Rattle.cp_sexpr.specs.View.{view};
@@ -17,7 +17,7 @@ use cp_strand::Protocol;
 use std::alloc::{AllocError, Global};
 use std::rc::Rc;
 
-/// The last protocol of this name.
+/// The last protocol with this name.
 pub fn protocol_named<'a>(protocols: &'a [Rc<Protocol>], name: &[u8]) -> Option<&'a Rc<Protocol>>
     ensures { option_map (λ p. p.now.value) result ≡ protocol_named (turned (protocols_view protocols.now) []) name.now }
 {
@@ -30,7 +30,7 @@ pub fn protocol_named<'a>(protocols: &'a [Rc<Protocol>], name: &[u8]) -> Option<
     found
 }
 
-/// The faults of the name of a protocol, where those above it have these names.
+/// Notes the faults of the name of a protocol. `names` are the names of the protocols above it.
 fn protocol_name_faults(names: &Taken, form: &Form, first: &mut FirstFault)
     ensures { first.new ≡ first_onto first.old (name_faults_at names.now (λ p. fault p DuplicateProtocol) (view form.now)) }
 {
@@ -43,7 +43,7 @@ fn protocol_name_faults(names: &Taken, form: &Form, first: &mut FirstFault)
     }
 }
 
-/// The faults of the name of an algebra.
+/// Notes the faults of the name of an algebra.
 fn algebra_faults(form: &Form, first: &mut FirstFault)
     ensures { first.new ≡ first_onto first.old (algebra_faults (view form.now)) }
 {
@@ -57,7 +57,7 @@ fn algebra_faults(form: &Form, first: &mut FirstFault)
     }
 }
 
-/// What stands where there is no protocol.
+/// Placeholder for an ill-formed protocol.
 pub fn no_protocol(alloc: Global) -> Result<Protocol, AllocError>
     ensures { IfOk result (λ p. p ≡ protocol_of []) }
 {
@@ -65,8 +65,8 @@ pub fn no_protocol(alloc: Global) -> Result<Protocol, AllocError>
     Ok(Protocol::new(Text::new(alloc, "")?, roles))
 }
 
-/// The protocol with these items behind its head, where those above it have these names. What stands for a protocol
-/// with faults has no meaning.
+/// The protocol with these items after its head. `names` are the names of the protocols above it. Notes its faults;
+/// what stands for a protocol with faults has no meaning.
 pub fn protocol_of(
     alloc: Global,
     names: &Taken,

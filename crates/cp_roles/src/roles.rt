@@ -20,7 +20,7 @@ use cp_strand::{Declaration, Event, Protocol, Role};
 use std::alloc::{AllocError, Global};
 use std::rc::Rc;
 
-/// The faults of an item of a role with these variables and this trace.
+/// Notes the faults of an item of a role with these variables and this trace.
 fn role_item_faults(scope: Scope<'_>, form: &Form, first: &mut FirstFault) -> Result<(), AllocError>
     ensures { OnOk result (first.new ≡ first_onto first.old
         (item_faults (role_item_faults (map declaration_view scope.entry.variables.now) (map event_view scope.entry.trace.now)) (view form.now))) }
@@ -39,7 +39,7 @@ fn role_item_faults(scope: Scope<'_>, form: &Form, first: &mut FirstFault) -> Re
     Ok(())
 }
 
-/// The faults of the items of a role with these variables and this trace.
+/// Notes the faults of the items of a role with these variables and this trace.
 fn role_items_faults(
     scope: Scope<'_>,
     items: &[Form],
@@ -66,7 +66,7 @@ fn is_role_name(roles: &[Rc<Role>], name: &[u8]) -> bool
     false
 }
 
-/// The first role of this name.
+/// The first role with this name.
 pub fn role_named<'a>(roles: &'a [Rc<Role>], name: &[u8]) -> Option<&'a Rc<Role>>
     ensures { option_map (λ r. r.now.value) result ≡ role_named (shared_roles_view roles.now) name.now }
 {
@@ -78,7 +78,7 @@ pub fn role_named<'a>(roles: &'a [Rc<Role>], name: &[u8]) -> Option<&'a Rc<Role>
     None
 }
 
-/// The faults of the name of a role, where these roles stand before it.
+/// Notes the faults of the name of a role. `before` are the roles before it.
 fn role_name_faults(before: &[Rc<Role>], form: &Form, first: &mut FirstFault)
     ensures { first.new ≡ first_onto first.old (name_faults_at (role_names before.now) (λ p. fault p DuplicateRole) (view form.now)) }
 {
@@ -91,7 +91,7 @@ fn role_name_faults(before: &[Rc<Role>], form: &Form, first: &mut FirstFault)
     }
 }
 
-/// What stands where there is no role.
+/// Placeholder for an ill-formed role.
 fn no_role(alloc: Global) -> Result<Role, AllocError>
     ensures { IfOk result (λ r. r ≡ role_of []) }
 {
@@ -106,8 +106,8 @@ fn no_role(alloc: Global) -> Result<Role, AllocError>
     ))
 }
 
-/// The role with these items behind its head, where these roles stand before it. What stands for a role with faults
-/// has no meaning.
+/// The role with these items after its head. `before` are the roles before it. Notes its faults; what stands for a role
+/// with faults has no meaning.
 fn role_of(
     alloc: Global,
     before: &[Rc<Role>],
@@ -146,7 +146,7 @@ fn role_of(
     ))
 }
 
-/// Takes an item of a protocol; a role that it defines goes behind the others.
+/// Notes the faults of an item of a protocol, and appends the role that it defines, if any.
 fn protocol_item(
     alloc: Global,
     roles: &mut Vec<Rc<Role>>,
@@ -173,7 +173,7 @@ fn protocol_item(
     Ok(())
 }
 
-/// The roles that these items of a protocol define.
+/// The roles that these items of a protocol define. Notes their faults.
 pub(crate) fn roles_of(
     alloc: Global,
     items: &[Form],

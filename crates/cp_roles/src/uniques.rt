@@ -14,7 +14,7 @@ use cp_strand::{Declaration, Event};
 use cp_term::Term;
 use std::alloc::{AllocError, Global};
 
-/// What the items of a role speak of, its variables and its trace; and where memory comes from.
+/// The context of a role's items: its variables and its trace; and the allocator.
 #[derive(Clone, Copy)]
 pub(crate) struct Scope<'a> {
     pub(crate) alloc: Global,
@@ -22,14 +22,15 @@ pub(crate) struct Scope<'a> {
     pub(crate) trace: &'a [Event],
 }
 
-/// The place among the events at which a term originates.
+/// The index among the events at which a term originates, if it does.
 fn origin(events: &[Event], value: &Term) -> Option<usize>
     ensures { result ≡ origin_in (map event_view events.now) value.now }
 {
     cp_strand::origin(events, value)
 }
 
-/// The faults of a unique value of a role with this trace: where it has no other, it has to originate in the trace.
+/// Notes the faults of a unique value of a role with this trace. If it has no other fault, it must originate in the
+/// trace.
 fn role_unique_faults(
     scope: Scope<'_>,
     form: &Form,
@@ -50,7 +51,7 @@ fn role_unique_faults(
     Ok(())
 }
 
-/// The faults of the unique values of a role with this trace.
+/// Notes the faults of the unique values of a role with this trace.
 pub(crate) fn role_uniques_faults(
     scope: Scope<'_>,
     items: &[Form],

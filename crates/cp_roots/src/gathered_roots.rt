@@ -1,4 +1,4 @@
-// Roots that are put behind others.
+// Collects the roots of a problem.
 ghost use Rattle.std.specs.Prelude.{◌≡◌, IfOk, OnOk};
 ghost use Rattle.cp_skel.specs.Trees.{operation_view};
 ghost use Rattle.cp_skel.specs.View.{skeleton_view};
@@ -10,7 +10,7 @@ use cp_normal::normalise;
 use cp_skel::{Operation, Skeleton};
 use std::alloc::{AllocError, Global};
 
-/// The same operation again.
+/// A copy of the operation.
 fn copy_operation(alloc: Global, operation: &Operation) -> Result<Operation, AllocError>
     ensures { IfOk result (λ o. operation_view o ≡ operation_view operation.now) }
 {
@@ -27,8 +27,7 @@ fn copy_operation(alloc: Global, operation: &Operation) -> Result<Operation, All
     }
 }
 
-/// Puts a living root behind the others for each of the forms, all made by one operation. Their assumptions are put into the
-/// order of a report.
+/// Appends a root that is not dead for each form, all made by this operation. Puts their assumptions into report order.
 fn put_forms(
     alloc: Global,
     operation: &Operation,
@@ -51,7 +50,7 @@ fn put_forms(
     Ok(())
 }
 
-/// The first roots of a problem: its normal forms, or the problem itself, dead, where it has none.
+/// The first roots of a problem: its normal forms or, if there are none, the problem itself, dead.
 pub(crate) fn first_roots(alloc: Global, problem: &Skeleton) -> Result<Vec<Root>, AllocError>
     ensures { IfOk result (λ rs. AreFirstRoots (skeleton_view problem.now) problem.now.variables rs.items) }
 {
@@ -70,7 +69,7 @@ pub(crate) fn first_roots(alloc: Global, problem: &Skeleton) -> Result<Vec<Root>
     Ok(roots)
 }
 
-/// Puts the normal forms of a collapse behind the other roots, with the partition that it is by.
+/// Appends the normal forms of a collapse as roots, with the partition of the collapse.
 pub(crate) fn put_collapse(
     alloc: Global,
     collapse: Skeleton,

@@ -1,4 +1,5 @@
-//! The roots of a problem, from which its search starts: its normal forms, and those of its collapses.
+//! The roots of a problem, from which its search starts: its normal forms, and those of its collapses. Every call that returns
+//! `AllocError` fails only when memory runs out.
 #![tactic(auto)]
 
 mod gathered_roots;

@@ -17,15 +17,13 @@ use cp_normal::collapses;
 use cp_skel::{Protocol, Skeleton};
 use std::alloc::{AllocError, Global};
 
-/// The roots of a problem, from which its search starts. First come the normal forms of the problem; where it has none, the
-/// problem itself, dead. Then come the normal forms of its collapses: for each way to identify strands of one role, in
-/// descending order of the partitions, those of the skeleton with the strands identified, and each with the partition. Of
-/// a collapse that has no normal form there is no root. Equal roots are kept. The assumptions of a root that is not dead are
-/// in the order of a report, each once.
+/// The roots of a problem, from which its search starts. First come the normal forms of the problem or, if there are none, the
+/// problem itself, dead. Then come, for each collapse in descending order of the partitions, its normal forms, each with the
+/// partition. A collapse without a normal form gives no root. Equal roots are kept. The assumptions of a root that is not dead
+/// are in report order, each once.
 ///
-/// The problem has to be of the protocol, in that its strands' roles are, and a point-of-view skeleton: it maps to itself, it
-/// declares the variables that occur in it, and its assumptions and its pairs are those that it states. The error is that memory
-/// ran out.
+/// The problem's strands must have roles of the protocol, and the problem must be a point-of-view skeleton: it maps to itself, it
+/// declares the variables that occur in it, and its assumptions and pairs are the ones that it states.
 pub fn roots(
     alloc: Global,
     protocol: &Protocol,
@@ -39,7 +37,7 @@ pub fn roots(
 {
     problem.is_sound();
     let mut roots = first_roots(alloc, problem)?;
-    // Fewer than two instances leave nothing to identify. Looking for partitions would go over all pairs of strands.
+    // With fewer than two instances there is nothing to identify; looking for partitions would compare all pairs of strands.
     if !has_two_instances(problem.strands()) {
         return Ok(roots);
     }

@@ -25,7 +25,7 @@ pub enum Kind {
     Unique,
 }
 
-/// What stands where there is no atom.
+/// Placeholder for an ill-formed atom.
 pub fn no_atom(alloc: Global) -> Result<Atom, AllocError>
     ensures { IfOk result (λ a. a ≡ text_variable 0) }
 {
@@ -46,7 +46,7 @@ pub fn atom_of(alloc: Global, variables: &[Declaration], form: &Form) -> Result<
     }
 }
 
-/// The faults of the items of an assumption.
+/// Notes the faults of the items of an assumption.
 pub fn atoms_faults(variables: &[Declaration], items: &[Form], first: &mut FirstFault)
     ensures { first.new ≡ first_onto first.old (each_faults (atom_faults (map declaration_view variables.now)) (map view items.now)) }
 {
@@ -70,7 +70,7 @@ fn is_of_kind(kind: Kind, form: &Form) -> bool
     )
 }
 
-/// Puts the atoms that the items of a list stand for behind others.
+/// Appends the atoms that the items of a list stand for.
 fn add_atoms(
     alloc: Global,
     variables: &[Declaration],

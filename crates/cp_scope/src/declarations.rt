@@ -24,7 +24,7 @@ use cp_strand::Declaration;
 use cp_term::Sort;
 use std::alloc::{AllocError, Global};
 
-/// The list that stands at a fixed place, if it has this head.
+/// The list with this head that must stand here, if the form is one; otherwise notes the fault.
 pub fn fixed<'a>(form: &'a Form, word: &[u8], first: &mut FirstFault) -> Option<HeadedList<'a>>
     ensures faults { (inside : PlaceData → List FormData → List Fault)
         → first_onto first.new (faults_inside inside (option_map headed_view result)) ≡ first_onto first.old (fixed_faults word.now inside (view form.now)) }
@@ -46,7 +46,7 @@ pub fn fixed<'a>(form: &'a Form, word: &[u8], first: &mut FirstFault) -> Option<
     None
 }
 
-/// The text of a symbol, as an identifier or a name; of any other form the empty text.
+/// The text of a symbol, as an identifier or a name; empty for any other form.
 pub fn name_of(alloc: Global, form: &Form) -> Result<Text, AllocError>
     ensures { IfOk result (λ t. t ≡ text_of_symbol (view form.now)) }
 {
@@ -74,7 +74,7 @@ fn is_of_messages(word: SortWord) -> bool
     matches!(word, SortWord::Messages)
 }
 
-/// The sort of atoms that a word names; of any other word it says nothing.
+/// The atom sort that a word names. For any other word the result has no meaning.
 pub fn sort_or_text(word: SortWord) -> Sort
     ensures { sort_view result ≡ sort_or_text (sort_word_view word) }
 {
@@ -84,7 +84,7 @@ pub fn sort_or_text(word: SortWord) -> Sort
     }
 }
 
-/// What stands where a declaration names its sort.
+/// What a declaration names as its sort.
 pub fn sort_named(form: Option<&Form>) -> SortWord
     ensures { sort_word_view result ≡ sort_named (option_map (λ f. view f.now) form.entry) }
 {
@@ -104,7 +104,7 @@ fn sort_word_faults(place: Place, word: SortWord, first: &mut FirstFault)
     }
 }
 
-/// The faults of the last item of a declaration, its sort.
+/// Notes the faults of the last item of a declaration, its sort.
 fn last_sort_faults(form: Option<&Form>, first: &mut FirstFault)
     ensures { first.new ≡ first_onto first.old (last_sort_faults (option_map (λ f. view f.now) form.entry)) }
 {
@@ -119,7 +119,7 @@ fn last_sort_faults(form: Option<&Form>, first: &mut FirstFault)
     }
 }
 
-/// The faults of an identifier that is declared behind these variables.
+/// Notes the faults of an identifier that is declared after these variables.
 fn identifier_faults(variables: &[Declaration], word: SortWord, form: &Form, first: &mut FirstFault)
     ensures { first.new ≡ first_onto first.old
         (identifier_faults (identifiers_in (map declaration_view variables.now)) (sort_word_view word) (view form.now)) }
@@ -136,7 +136,7 @@ fn identifier_faults(variables: &[Declaration], word: SortWord, form: &Form, fir
     }
 }
 
-/// Declares these identifiers behind the variables.
+/// Declares these identifiers after the variables. Notes their faults.
 fn declare(
     alloc: Global,
     variables: &mut Vec<Declaration>,
@@ -160,7 +160,7 @@ fn declare(
     Ok(())
 }
 
-/// Declares what one declaration does behind the variables.
+/// Declares the identifiers of one declaration after the variables. Notes its faults.
 fn declaration(
     alloc: Global,
     variables: &mut Vec<Declaration>,
@@ -190,7 +190,7 @@ fn declaration(
     Ok(())
 }
 
-/// The variables that these declarations declare.
+/// The variables that these declarations declare. Notes their faults.
 fn declarations(
     alloc: Global,
     items: &[Form],
@@ -206,7 +206,8 @@ fn declarations(
     Ok(variables)
 }
 
-/// The variables that a `vars` list declares. A list with another head has a fault, and declares them too.
+/// The variables that a `vars` list declares. Notes its faults. A list with another head has a fault, but declares them
+/// too.
 pub fn variables_of(
     alloc: Global,
     form: &Form,

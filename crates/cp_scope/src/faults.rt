@@ -19,14 +19,14 @@ use cp_sexpr::Form;
 use cp_strand::Declaration;
 use cp_term::Sort;
 
-/// A list at this place that has too few items lacks one.
+/// Notes a fault at this place, that of a list, if the list has fewer than `count` items.
 pub fn lacks(count: usize, place: Place, items: &[Form], first: &mut FirstFault)
     ensures { first.new ≡ first_onto first.old (lacks count place (map view items.now)) }
 {
     first.note_unless(count <= items.len(), place, Code::BadShape);
 }
 
-/// An item behind as many as the count says is one too many.
+/// Notes a fault at the first item after the first `count`, if there is one.
 pub fn exceeds(count: usize, items: &[Form], first: &mut FirstFault)
     ensures { first.new ≡ first_onto first.old (exceeds count (map view items.now)) }
 {
@@ -35,7 +35,7 @@ pub fn exceeds(count: usize, items: &[Form], first: &mut FirstFault)
     }
 }
 
-/// A term has to have this sort.
+/// The term must have this sort.
 pub fn sort_faults(variables: &[Declaration], sort: Sort, form: &Form, first: &mut FirstFault)
     ensures { first.new ≡ first_onto first.old (sort_faults (map declaration_view variables.now) (sort_view sort) (view form.now)) }
 {
@@ -46,7 +46,7 @@ pub fn sort_faults(variables: &[Declaration], sort: Sort, form: &Form, first: &m
     );
 }
 
-/// The item at a place, if there is one, has to have this sort.
+/// The item at a place, if there is one, must have this sort.
 fn item_sort_faults(
     variables: &[Declaration],
     sort: Sort,
@@ -61,7 +61,7 @@ fn item_sort_faults(
     }
 }
 
-/// The last item, if there is one, has to be a key.
+/// The last item, if there is one, must be a key.
 fn last_key_faults(variables: &[Declaration], items: &[Form], first: &mut FirstFault)
     ensures { first.new ≡ first_onto first.old (last_key_faults (map declaration_view variables.now) (map view items.now)) }
 {
@@ -70,7 +70,7 @@ fn last_key_faults(variables: &[Declaration], items: &[Form], first: &mut FirstF
     }
 }
 
-/// An operation of one argument, of this sort; the argument.
+/// Notes the faults of an operation of one argument, which must have this sort. Returns the argument.
 fn argument_faults<'a>(
     variables: &[Declaration],
     sort: Sort,
@@ -94,7 +94,7 @@ pub(crate) fn is_purpose(items: &[Form]) -> bool
     matches!(items.first(), Some(Form::String(..)))
 }
 
-/// The key of a name, behind its purpose if it has one; the name.
+/// Notes the faults of a name's key. Returns the name, which follows the purpose if there is one.
 fn name_faults<'a>(
     variables: &[Declaration],
     place: Place,
@@ -112,7 +112,7 @@ fn name_faults<'a>(
     argument_faults(variables, Sort::Name, place, items, first)
 }
 
-/// The long-term key of two names; the names.
+/// Notes the faults of a long-term key of two names. Returns the names.
 fn two_name_faults<'a>(
     variables: &[Declaration],
     list: HeadedList<'a>,
@@ -129,7 +129,7 @@ fn two_name_faults<'a>(
     first_items(items, 2)
 }
 
-/// The faults of a list in a term but for those inside its items; the items whose own faults count.
+/// Notes the faults of a list in a term, except those inside its items. Returns the items whose own faults count.
 fn own_faults<'a>(
     variables: &[Declaration],
     list: HeadedList<'a>,
@@ -165,7 +165,7 @@ fn own_faults<'a>(
     }
 }
 
-/// The faults of a term that is no list with a head.
+/// Notes the faults of a term that is no list with a head.
 fn leaf_faults(variables: &[Declaration], form: &Form, first: &mut FirstFault)
     ensures { headed (view form.now) ≡ None
         → first.new ≡ first_onto first.old (term_faults (map declaration_view variables.now) (view form.now)) }
@@ -181,7 +181,7 @@ fn leaf_faults(variables: &[Declaration], form: &Form, first: &mut FirstFault)
     }
 }
 
-/// The faults of a term over these variables.
+/// Notes the faults of a term over these variables.
 pub fn term_faults(variables: &[Declaration], form: &Form, first: &mut FirstFault)
     ensures { first.new ≡ first_onto first.old (term_faults (map declaration_view variables.now) (view form.now)) }
 {
@@ -194,7 +194,7 @@ pub fn term_faults(variables: &[Declaration], form: &Form, first: &mut FirstFaul
     }
 }
 
-/// The faults of an item of an assumption: a term that has the sort of an atom.
+/// Notes the faults of an item of an assumption, which must be a term of an atom sort.
 pub fn atom_faults(variables: &[Declaration], form: &Form, first: &mut FirstFault)
     ensures { first.new ≡ first_onto first.old (atom_faults (map declaration_view variables.now) (view form.now)) }
 {

@@ -1,4 +1,8 @@
-//! Names in use, declared variables, and what forms of terms and atoms stand for over them, with the faults of these forms.
+//! Names in use, declared variables, and what forms of terms and atoms stand for over them, with the faults of these
+//! forms.
+//!
+//! Every call that returns `AllocError` fails only if memory runs out. A call that takes a `FirstFault` notes faults in
+//! it: it keeps the first.
 #![tactic(auto)]
 
 mod atoms;

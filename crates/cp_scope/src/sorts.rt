@@ -49,7 +49,7 @@ pub(crate) fn is_same_sort(first: Sort, second: Sort) -> bool
     first == second
 }
 
-/// The sort of a term that is no list with a head; none where it cannot be known.
+/// The sort of a term that is no list with a head; `None` if it cannot be known.
 fn sort_of_leaf(variables: &[Declaration], form: &Form) -> Option<TermSort>
     ensures { headed (view form.now) ≡ None
         → option_map term_sort_view result ≡ sort_of (map declaration_view variables.now) (view form.now) }
@@ -64,7 +64,7 @@ fn sort_of_leaf(variables: &[Declaration], form: &Form) -> Option<TermSort>
     }
 }
 
-/// The sort of a term, decided by its head alone; none where it cannot be known.
+/// The sort of a term, decided by its head alone; `None` if it cannot be known.
 pub(crate) fn sort_of(variables: &[Declaration], form: &Form) -> Option<TermSort>
     ensures { option_map term_sort_view result ≡ sort_of (map declaration_view variables.now) (view form.now) }
 {
@@ -84,7 +84,7 @@ pub(crate) fn sort_of(variables: &[Declaration], form: &Form) -> Option<TermSort
     }
 }
 
-/// Whether a term has this sort; where its sort cannot be known it passes.
+/// Whether a term has this sort; also `true` if its sort cannot be known.
 pub(crate) fn has_sort(variables: &[Declaration], sort: Sort, form: &Form) -> bool
     ensures { result ≡ is_sort (sort_view sort) (sort_of (map declaration_view variables.now) (view form.now)) }
 {
@@ -95,7 +95,7 @@ pub(crate) fn has_sort(variables: &[Declaration], sort: Sort, form: &Form) -> bo
     }
 }
 
-/// Whether a term has a sort of keys; where its sort cannot be known it passes.
+/// Whether a term has a sort of keys; also `true` if its sort cannot be known.
 pub(crate) fn has_key_sort(variables: &[Declaration], form: &Form) -> bool
     ensures { result ≡ (is_sort skey_sort (sort_of (map declaration_view variables.now) (view form.now))
         || is_sort akey_sort (sort_of (map declaration_view variables.now) (view form.now))) }
@@ -103,7 +103,7 @@ pub(crate) fn has_key_sort(variables: &[Declaration], form: &Form) -> bool
     has_sort(variables, Sort::Skey, form) || has_sort(variables, Sort::Akey, form)
 }
 
-/// Whether a term has the sort of an atom; where its sort cannot be known it passes.
+/// Whether a term has an atom sort; also `true` if its sort cannot be known.
 pub(crate) fn has_atom_sort(variables: &[Declaration], form: &Form) -> bool
     ensures { result ≡ is_atom (sort_of (map declaration_view variables.now) (view form.now)) }
 {

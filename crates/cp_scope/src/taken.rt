@@ -1,4 +1,4 @@
-// Names in use, each of which is found by the first place at which it stands.
+// Names in use, found by the first place at which each stands.
 ghost use Rattle.std.specs.Prelude.{◌≡◌, ◌++◌, ◌∷◌, [], length, OnOk};
 ghost use Rattle.cp_language.specs.Words.{is_one_of};
 ghost use Rattle.cp_scope.specs.Places.{place_from};
@@ -45,7 +45,7 @@ impl Taken {
         self.names.len()
     }
 
-    /// The first place at which the name stands, counted from 0.
+    /// The first place at which the name stands, from 0.
     pub fn place_of(&self, name: &str) -> Option<usize>
         ensures { result ≡ place_from 0 self.now name.now }
     {
@@ -65,7 +65,7 @@ impl Taken {
         }
     }
 
-    /// Puts a name behind the others. The error is that memory ran out.
+    /// Appends a name.
     pub fn push(&mut self, alloc: Global, name: Text) -> Result<(), AllocError>
         ensures { OnOk result (self.new ≡ self.old ++ name ∷ []) }
     {

@@ -18,7 +18,7 @@ use cp_strand::Declaration;
 use cp_term::{Shape, Sort, Term, VarId, enc, invert, ltk, pair, pubk, tag, var};
 use std::alloc::{AllocError, Global};
 
-/// What stands where there is no term.
+/// Placeholder for an ill-formed term.
 pub fn no_term(alloc: Global) -> Result<Term, AllocError>
     ensures { IfOk result (λ t. t ≡ tag_term []) }
 {
@@ -39,7 +39,7 @@ fn is_name(term: &Term) -> bool
     matches!(term.shape(), Shape::Variable(_, Sort::Name))
 }
 
-/// A term as one of sort name; any other counts as the first name.
+/// The term as a name. Any other term counts as the first name.
 fn name_term(alloc: Global, term: &Term) -> Result<Term, AllocError>
     ensures { IfOk result (λ t. t ≡ name_of (as_name term.now)) }
 {
@@ -62,7 +62,7 @@ fn is_key(term: &Term) -> bool
     )
 }
 
-/// What stands where there is no key.
+/// Placeholder for an ill-formed key.
 fn no_key(alloc: Global) -> Result<Term, AllocError>
     ensures { IfOk result (λ t. t ≡ key_as_term (symmetric_term (skey_variable 0))) }
 {
@@ -93,7 +93,7 @@ fn paired(alloc: Global, mut terms: Vec<Term>) -> Result<Term, AllocError>
     Ok(right)
 }
 
-/// Takes away the last term, as a key.
+/// Removes the last term and returns it as a key.
 fn pop_key(alloc: Global, terms: &mut Vec<Term>) -> Result<Term, AllocError>
     ensures { IfOk result (λ k. (k ≡ key_as_term (as_key (last_of terms.old.items))) × (terms.new.items ≡ all_but_last terms.old.items)) }
 {
@@ -138,7 +138,7 @@ fn inverted(alloc: Global, terms: &[Term]) -> Result<Term, AllocError>
     }
 }
 
-/// The public or private key of a name, for a purpose or for none.
+/// The public or private key of a name, with a purpose or without one.
 fn key_of(
     alloc: Global,
     private: bool,
@@ -157,7 +157,7 @@ fn key_of(
     }
 }
 
-/// The purpose that stands first.
+/// The purpose, if one comes first.
 fn purpose_in(items: &[Form]) -> Option<&Text>
     ensures { option_map (λ t. t.now) result ≡ purpose_in (map view items.now) }
 {
@@ -167,7 +167,7 @@ fn purpose_in(items: &[Form]) -> Option<&Text>
     }
 }
 
-/// The public or private key of the name that these terms of a list have, behind the purpose if there is one.
+/// The public or private key of the name that the terms of a list give, after the purpose if there is one.
 fn key_of_purpose(
     alloc: Global,
     private: bool,
@@ -183,7 +183,7 @@ fn key_of_purpose(
     }
 }
 
-/// What a list with this head and these items stands for, whose items stand for these terms.
+/// What a list with this head and these items stands for, if the items stand for these terms.
 pub fn applied(
     alloc: Global,
     head: TermHead,

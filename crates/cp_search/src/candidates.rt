@@ -1,4 +1,4 @@
-// Candidates for shapes, and their marks.
+// Candidates for shapes, and the marks that they get.
 ghost use Rattle.std.specs.Prelude.{◌≡◌, ◌<◌, length, map, IfOk, IfSome};
 ghost use Rattle.cp_skel.specs.Trees.{mark_view};
 ghost use Rattle.cp_skel.specs.View.{skeleton_view};
@@ -11,7 +11,7 @@ use cp_shapes::shapes;
 use cp_skel::{Mark, Skeleton};
 use std::alloc::{AllocError, Global};
 
-/// Whether the label may be a shape.
+/// Whether the label is a candidate: a leaf without a mark of its own.
 fn is_open(settled: &Settled) -> bool
     ensures { result ≡ is_open settled.now }
 {
@@ -55,7 +55,7 @@ fn skeletons<'a>(
     Ok(skeletons)
 }
 
-/// The mark of a candidate, which is a shape or an instance of the shape at this place.
+/// The mark of a candidate: a shape if `shape` is `None`, otherwise an instance of the shape at that place.
 fn candidate_mark(numbers: &[usize], shape: Option<usize>) -> Mark
     requires { IfSome shape (λ place. place < length numbers.now) }
     ensures { mark_view result ≡ candidate_mark numbers.now shape }
@@ -66,7 +66,7 @@ fn candidate_mark(numbers: &[usize], shape: Option<usize>) -> Mark
     }
 }
 
-/// The marks of the candidates, in their order. The error is that memory ran out.
+/// The marks of the candidates, in their order.
 pub(crate) fn candidate_marks(
     alloc: Global,
     made: &[Made],

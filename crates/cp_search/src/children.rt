@@ -1,4 +1,4 @@
-// The labels of a test's children.
+// Makes the labels of a test's children.
 ghost use Rattle.std.specs.Prelude.{◌≡◌, ◌<◌, [], ◌∷◌, ◌++◌, length, map, IfOk, OnOk};
 ghost use Rattle.cp_model.specs.Problem.{numbers_from};
 ghost use Rattle.cp_cohort.specs.Views.{child_view};
@@ -10,7 +10,7 @@ use crate::new_labels::make;
 use cp_cohort::Child;
 use std::alloc::{AllocError, Global};
 
-/// Makes the label of a child of a label's test, with its assumptions in the order of a report. The error is that memory ran out.
+/// Appends the label of one child, with its assumptions listed in report order.
 fn make_child(
     alloc: Global,
     made: &mut Labels,
@@ -30,8 +30,7 @@ fn make_child(
     make(alloc, made, Some(parent), operation, skeleton, false)
 }
 
-/// Makes the label of a child of a label's test behind the others, and puts its number behind those of the children before it. The
-/// error is that memory ran out.
+/// Appends the label of one child, and its number to `numbers`.
 fn add_child(
     alloc: Global,
     made: &mut Labels,
@@ -48,8 +47,8 @@ fn add_child(
     make_child(alloc, made, parent, child)
 }
 
-/// Makes the labels of the children of a label's test, in their order, each with its assumptions in the order of a report: their
-/// numbers. The error is that memory ran out.
+/// Appends the labels of the children of a label's test, in order, each with its assumptions listed in report order. Returns
+/// their numbers.
 pub(crate) fn make_children(
     alloc: Global,
     made: &mut Labels,

@@ -1,4 +1,4 @@
-// In which label one that is made is seen.
+// Finds the label in which a new label is seen.
 ghost use Rattle.std.specs.Prelude.{◌≡◌, ◌↔◌, ◌<◌, length, IsTrue, IfOk, IfSome};
 ghost use Rattle.cp_lists.specs.Lists.{IsIn};
 ghost use Rattle.cp_skel.specs.View.{skeleton_view};
@@ -24,8 +24,8 @@ fn is_flagged(flags: &[bool], number: usize) -> bool
     }
 }
 
-/// The first label that is not flagged and is isomorphic to the skeleton with this fingerprint. Only those are looked at whose
-/// fingerprints have the same number.
+/// The first label that is not flagged and is isomorphic to the skeleton with this fingerprint. Only labels whose fingerprints
+/// have the same number are compared.
 fn first_copy(
     alloc: Global,
     made: &Labels,
@@ -53,9 +53,9 @@ fn first_copy(
     Ok(None)
 }
 
-/// The label in which one is seen that is made from this label, or from none: the first that is isomorphic to it and from which
-/// its parent cannot be reached. Which labels lead to the parent is asked only where one is isomorphic that is the parent itself or
-/// from which an edge may go. The error is that memory ran out.
+/// The label in which a new label is seen, given its parent if it has one: the first label that is isomorphic to it and from
+/// which its parent cannot be reached. Reachability is computed only if some label is isomorphic that is the parent itself or may
+/// have an outgoing edge.
 pub(crate) fn copied_label(
     alloc: Global,
     made: &Labels,

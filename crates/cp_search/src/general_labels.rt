@@ -1,4 +1,4 @@
-// The labels of what realised labels generalise to.
+// Makes the labels of what realised labels generalise to.
 ghost use Rattle.std.specs.Prelude.{◌<◌, length, IfOk};
 ghost use Rattle.cp_search.specs.GeneralLabels.{GeneralisesLabel};
 ghost use Rattle.cp_search.specs.MadeLabels.{AreFound};
@@ -10,8 +10,7 @@ use cp_skel::Operation;
 use cp_tree::generalised_labels_are_sound;
 use std::alloc::{AllocError, Global};
 
-/// Makes the label of what a label generalises to behind the others: its number; none where no step of generalising applies. The
-/// error is that memory ran out.
+/// Appends the label of what this label generalises to, and returns its number; `None` if no step of generalising applies.
 pub(crate) fn generalise_label(
     alloc: Global,
     made: &mut Labels,

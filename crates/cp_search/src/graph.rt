@@ -1,4 +1,4 @@
-// From which numbers another can be reached along edges.
+// Reachability along edges between numbers.
 ghost use Rattle.std.specs.Prelude.{◌≡◌, ◌↔◌, ◌<◌, ℕ, List, length, true, false, IfOk};
 ghost use Rattle.cp_lists.specs.Lists.{IsIn};
 ghost use Rattle.cp_search.specs.LeastNumber.{IsFlagged};
@@ -14,8 +14,8 @@ pub(crate) struct Edge {
     pub to: usize,
 }
 
-/// Flags the first number of each edge whose second is flagged, from the last edge to the first: labels come behind those from which
-/// they were made, so that few rounds find all that lead to one. Whether one is flagged that was not.
+/// One round: flags the source of each edge whose target is flagged, and tells whether a new flag was set. It goes from the last
+/// edge to the first: a label comes after the one from which it was made, so few rounds suffice.
 fn spread(edges: &[Edge], flags: &mut [bool]) -> bool
     requires within { AreWithin (length flags.old) edges.now }
     ensures count { length flags.new ≡ length flags.old }
@@ -39,8 +39,7 @@ fn spread(edges: &[Edge], flags: &mut [bool]) -> bool
     is_new
 }
 
-/// Flags, of so many numbers, those from which the target can be reached along edges, and the target. The error is that memory
-/// ran out.
+/// Flags, among the numbers below `count`, the target and every number from which it can be reached along the edges.
 pub(crate) fn leading_to(
     alloc: Global,
     count: usize,

@@ -1,4 +1,4 @@
-// Labels that are settled one after the other.
+// Settles labels one after another.
 ghost use Rattle.std.specs.Prelude.{◌≡◌, ◌≢◌, ◌<◌, ◌≤◌, ◌+◌, ℕ, List, [], length, map, true, false, IfOk, OnOk, Option, Some, None};
 ghost use Rattle.cp_lists.specs.Lists.{item_at};
 ghost use Rattle.cp_model.specs.Problem.{numbers_from};
@@ -30,7 +30,8 @@ use cp_skel::{Limits, Mark, Protocol, Test};
 use cp_tree::expansions_are_sound;
 use std::alloc::{AllocError, Global};
 
-/// The labels that were made, what has become of the first of them, and how many of those were expanded.
+/// The state of a search: the labels that were made, how the first of them were settled, and the number of labels expanded so
+/// far.
 #[derive(Drop)]
 pub(crate) struct Search {
     pub made: Labels,
@@ -38,8 +39,8 @@ pub(crate) struct Search {
     pub expanded: usize,
 }
 
-/// What a label becomes where it is not expanded, when so many were expanded: a leaf with a mark, which is open where all receptions
-/// of the label can be derived.
+/// How this label is settled if it is not expanded, given that `expanded` labels were: a leaf with a mark, or a leaf whose mark
+/// is open because all its receptions are derivable. `None` if the label is to be expanded.
 fn leaf_of(label: &Made, limits: Limits, expanded: usize) -> Option<Option<Mark>>
     ensures { IsLeafOf (limits_view limits) label.now expanded result }
 {
@@ -61,8 +62,8 @@ fn leaf_of(label: &Made, limits: Limits, expanded: usize) -> Option<Option<Mark>
     None
 }
 
-/// What becomes of a label that is not expanded: a leaf with this mark; but where that is open, and a step of generalising applies
-/// to the label, the label of what it generalises to is made behind the others.
+/// Settles a label that is not expanded: as a leaf with this mark. If the mark is open and a step of generalising applies, the
+/// label of the generalisation is appended instead, and the label generalises to it.
 fn settle_leaf(
     alloc: Global,
     made: &mut Labels,
@@ -82,7 +83,7 @@ fn settle_leaf(
     Ok(Settled::Generalised(child))
 }
 
-/// Settles the labels up to the next one that is to be expanded. Whether there is one.
+/// Settles labels up to the next one that is to be expanded. Returns whether there is one.
 fn settle_leaves(alloc: Global, limits: Limits, search: &mut Search) -> Result<bool, AllocError>
     requires found { AreFound search.old.made }
     ensures searched { OnOk result ((protocol : PlainProtocol) (made : List plain.Made) → HasSearched protocol (limits_view limits) made search.old → HasSearched protocol (limits_view limits) made search.new) }
@@ -101,7 +102,7 @@ fn settle_leaves(alloc: Global, limits: Limits, search: &mut Search) -> Result<b
     Ok(false)
 }
 
-/// The test of a label that is to be expanded, and the expansion of its skeleton by that. The error is that memory ran out.
+/// The test of a label that is to be expanded, and the expansion of its skeleton by that test.
 fn expansion_of(
     alloc: Global,
     protocol: &Protocol,
@@ -121,8 +122,7 @@ fn expansion_of(
     Ok((test, expansion))
 }
 
-/// Makes the labels of the children of the expansion of this label by this test behind the others: what the label becomes. The
-/// error is that memory ran out.
+/// Appends the labels of the expansion's children, and returns the expanded label.
 fn expand_to(
     alloc: Global,
     made: &mut Labels,
@@ -148,7 +148,7 @@ fn expand_to(
     })
 }
 
-/// Expands a label: makes the labels of the children of its test behind the others.
+/// Expands a label: finds its test and appends the labels of that test's children.
 fn expand_label(
     alloc: Global,
     protocol: &Protocol,
@@ -188,7 +188,7 @@ fn expand_next(
     Ok(())
 }
 
-/// Makes the labels of the roots, and settles all labels in ascending order. The error is that memory ran out.
+/// Makes the labels of the roots, then settles all labels in ascending order.
 pub(crate) fn search_from(
     alloc: Global,
     protocol: &Protocol,

@@ -1,4 +1,4 @@
-// The labels that were made, so kept that they are looked through quickly.
+// The labels made so far, indexed for fast look-up.
 ghost use Rattle.std.specs.Prelude.{◌≡◌, ◌<◌, ◌≤◌, nat_eq, ℕ, [], ◌∷◌, ◌++◌, if◌then◌else◌, length, map, Some, IsTrue, IfSome, OnOk};
 ghost use Rattle.cp_lists.specs.Lists.{item_at};
 ghost use Rattle.cp_search.specs.Graph.{AddsEdge};
@@ -12,9 +12,9 @@ use std::alloc::{AllocError, Global};
 use std::collections::HashMap;
 use std::marker::Model;
 
-/// The labels that were made, in their order; and, so that copies among them are found quickly, for each number of a fingerprint
-/// the labels that have it; the edges between labels: to each from the one from which it was made, and from it to the one in
-/// which it is seen; and a number that no label is above from which one was made.
+/// The labels made so far, in order. For fast look-up they come with the labels by the number of their fingerprint; with the
+/// edges, which lead to each label from its parent and from each label to the one in which it is seen; and with an upper bound on
+/// the numbers of all parents.
 #[derive(Drop)]
 pub(crate) struct Labels {
     all: Vec<Made>,
@@ -23,7 +23,7 @@ pub(crate) struct Labels {
     latest_parent: usize,
 }
 
-/// Adds the edge from one label to the other, where there are both.
+/// Adds the edge from one label to the other, if both are given.
 fn add_edge(edges: &mut Vec<Edge>, from: Option<usize>, to: Option<usize>) -> Result<(), AllocError>
     ensures { OnOk result (AddsEdge from to edges.old.items edges.new.items) }
 {
@@ -37,7 +37,7 @@ fn add_edge(edges: &mut Vec<Edge>, from: Option<usize>, to: Option<usize>) -> Re
     Ok(())
 }
 
-/// Puts a label behind those that have this number.
+/// Appends a label to those whose fingerprint has this number.
 fn add_alike(
     alloc: Global,
     alike: &mut HashMap<usize, Vec<usize>>,
@@ -56,7 +56,7 @@ fn add_alike(
     Ok(())
 }
 
-/// The greater of a number and that of a parent, if there is one.
+/// The greater of a number and the parent's, if there is a parent.
 fn latest(number: usize, parent: Option<usize>) -> usize
     ensures kept { number ≤ result }
     ensures parent { IfSome parent (λ p. p ≤ result) }
@@ -67,8 +67,7 @@ fn latest(number: usize, parent: Option<usize>) -> usize
     }
 }
 
-/// Notes what is looked up of a label that is to be put behind others: it among those that have its number, its edges, and its
-/// parent. The error is that memory ran out.
+/// Updates the indexes for a label that is to be appended: the labels by fingerprint, the edges and the bound on parents.
 fn note(
     alloc: Global,
     all: &[Made],
@@ -92,7 +91,7 @@ fn note(
     Ok(())
 }
 
-/// Puts a label behind others. The error is that memory ran out.
+/// Appends a label.
 fn append(all: &mut Vec<Made>, made: Made) -> Result<(), AllocError>
     ensures { OnOk result (all.new.items ≡ all.old.items ++ made ∷ []) }
 {
@@ -100,7 +99,7 @@ fn append(all: &mut Vec<Made>, made: Made) -> Result<(), AllocError>
     Ok(())
 }
 
-/// Puts a label behind others, behind those that have its number, and its edges behind theirs.
+/// Appends a label and updates the indexes.
 fn put_behind(
     alloc: Global,
     all: &mut Vec<Made>,
@@ -152,7 +151,7 @@ impl Labels {
         }
     }
 
-    /// How many labels there are.
+    /// The number of labels.
     pub(crate) fn len(&self) -> usize
         ensures { result ≡ length self.now }
     {
@@ -174,8 +173,7 @@ impl Labels {
         &self.all[number]
     }
 
-    /// Whether it is plain that no edge goes from the label: it is above all from which one was made, and is seen in none. Of others
-    /// nothing is said.
+    /// Fast test: true only if the label has no outgoing edge.
     pub(crate) fn leads_nowhere(&self, number: usize) -> bool
         requires { number < length self.now }
         ensures { IsTrue result → (j : ℕ) → IsEdge (map made_way self.now) number j → ⊥ }
@@ -193,14 +191,14 @@ impl Labels {
         }
     }
 
-    /// The edges between the labels, those of a later label behind those of an earlier one.
+    /// The edges between the labels, ordered by the later label.
     pub(crate) fn edges(&self) -> &[Edge]
         ensures { AreEdgesOf self.now result.now }
     {
         &self.edges
     }
 
-    /// Puts a label behind the others. The error is that memory ran out, and then all labels are given up.
+    /// Appends a label. On an error all labels are lost.
     pub(crate) fn push(&mut self, alloc: Global, made: Made) -> Result<(), AllocError>
         ensures { OnOk result (self.new ≡ self.old ++ made ∷ []) }
     {
@@ -219,7 +217,7 @@ impl Labels {
         Ok(())
     }
 
-    /// The labels themselves, in their order.
+    /// The labels, in their order, without the indexes.
     pub(crate) fn into_all(self) -> Vec<Made>
         ensures { result.items ≡ self }
     {

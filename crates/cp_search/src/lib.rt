@@ -1,4 +1,5 @@
-//! The search for the shapes of a problem.
+//! The search for the shapes of a problem: `search` builds its derivation tree. Every call that returns `AllocError` fails only
+//! when memory runs out.
 #![tactic(auto)]
 
 mod candidates;

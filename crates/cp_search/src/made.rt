@@ -2,9 +2,9 @@
 use cp_fingerprint::Fingerprint;
 use cp_skel::{Node, Operation, Skeleton};
 
-/// A label as it is made: from which label, by which operation, its skeleton, whether it is general, since it was made by
-/// generalising and no step of that applies to it any more, and whether it is dead from the start; and what is found of it then:
-/// its fingerprint, the label in which it is seen, if there is one, and its unrealised receptions.
+/// A label as it is made: its parent, if it has one, the operation that made it, and its skeleton; whether it is `general`, which
+/// is set only if no step of generalising applies to it any more; and whether it is dead from the start. Then what was found when
+/// it was made: its fingerprint, the label in which it is seen, if any, and its unrealised receptions.
 #[derive(Drop)]
 pub(crate) struct Made {
     pub parent: Option<usize>,

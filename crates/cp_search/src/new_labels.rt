@@ -1,4 +1,4 @@
-// Labels are made.
+// Makes labels.
 ghost use Rattle.std.specs.Prelude.{◌≡◌, ◌<◌, length, true, false, None, IfSome, IfOk, OnOk};
 ghost use Rattle.cp_skel.specs.View.{skeleton_view};
 ghost use Rattle.cp_skel.specs.Trees.{variables_view, operation_view};
@@ -16,8 +16,7 @@ use cp_fingerprint::Fingerprint;
 use cp_skel::{Node, Operation, Skeleton};
 use std::alloc::{AllocError, Global};
 
-/// What is found of a label as it is made: its fingerprint, the label in which it is seen, if there is one, and its unrealised
-/// receptions.
+/// What is found when a label is made: its fingerprint, the label in which it is seen, if any, and its unrealised receptions.
 #[derive(Drop)]
 struct Findings {
     fingerprint: Fingerprint,
@@ -25,7 +24,7 @@ struct Findings {
     unrealised: Vec<Node>,
 }
 
-/// What is found of a label that is made with this skeleton from this label, or from none. The error is that memory ran out.
+/// Computes the findings for a new label with this skeleton and this parent, if it has one.
 fn find(
     alloc: Global,
     made: &Labels,
@@ -48,8 +47,7 @@ fn find(
     })
 }
 
-/// Makes a label behind the others. It is a general one where it is known that no step of generalising applies to it. The error is
-/// that memory ran out.
+/// Appends a label. `general` may be set only if no step of generalising applies to it.
 pub(crate) fn make(
     alloc: Global,
     made: &mut Labels,
@@ -84,7 +82,7 @@ pub(crate) fn make(
     )
 }
 
-/// Makes a label behind the others that is dead from the start. The error is that memory ran out.
+/// Appends a label that is dead from the start.
 pub(crate) fn make_dead(
     alloc: Global,
     made: &mut Labels,

@@ -1,4 +1,4 @@
-// From which labels another can be reached.
+// Reachability between labels.
 ghost use Rattle.std.specs.Prelude.{◌<◌, length, IfOk};
 ghost use Rattle.cp_search.specs.MadeLabels.{AreFound, AreReaching};
 
@@ -6,7 +6,7 @@ use crate::graph::leading_to;
 use crate::labels::Labels;
 use std::alloc::{AllocError, Global};
 
-/// Flags the labels from which this one can be reached, and itself. The error is that memory ran out.
+/// Flags this label and every label from which it can be reached.
 pub(crate) fn reaching(alloc: Global, made: &Labels, number: usize) -> Result<Vec<bool>, AllocError>
     requires found { AreFound made.now }
     requires there { number < length made.now }

@@ -1,4 +1,4 @@
-// The labels of the roots.
+// Makes the labels of the roots.
 ghost use Rattle.std.specs.Prelude.{[], map, IfOk, OnOk};
 ghost use Rattle.cp_search.specs.MadeLabels.{AreFound, AddsMade, AddMade};
 ghost use Rattle.cp_search.specs.Roots.{root_made};
@@ -8,7 +8,7 @@ use crate::new_labels::{make, make_dead};
 use cp_roots::Root;
 use std::alloc::{AllocError, Global};
 
-/// Makes the label of a root.
+/// Appends the label of a root.
 fn make_root(alloc: Global, made: &mut Labels, root: Root) -> Result<(), AllocError>
     requires found { AreFound made.old }
     ensures { OnOk result (AddsMade (root_made root) made.old made.new) }

@@ -1,4 +1,4 @@
-// What becomes of labels.
+// How labels are settled.
 use cp_skel::{Mark, Skeleton, Test};
 use cp_term::Pattern;
 
@@ -11,8 +11,8 @@ pub(crate) struct Expanded {
     pub children: Vec<usize>,
 }
 
-/// What becomes of a label: a leaf, with its mark, which is open where it may be a shape; or it generalises to another, whose label
-/// has this number; or it is expanded.
+/// How a label is settled. A leaf has its mark, or `None` while it may be a shape. `Generalised` holds the number of the label to
+/// which it generalises.
 #[derive(Drop)]
 pub(crate) enum Settled {
     Leaf(Option<Mark>),

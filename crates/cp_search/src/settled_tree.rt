@@ -1,4 +1,4 @@
-// The tree of labels that are settled.
+// Builds the tree once all labels are settled.
 ghost use Rattle.std.specs.Prelude.{◌≡◌, ◌↔◌, List, ◌∷◌, length, map, reverse, option_map, Some, IsTrue, IfOk};
 ghost use Rattle.cp_skel.specs.Trees.{mark_view, outcome_view, label_view, tree_view};
 ghost use Rattle.cp_tree.specs.Searched.{mark_by, IsMarked, HasOutcome};
@@ -19,7 +19,7 @@ use crate::settled::{Expanded, Settled};
 use cp_skel::{Mark, Outcome, Tree, TreeNode};
 use std::alloc::{AllocError, Global};
 
-/// The label that is a leaf with this mark.
+/// A leaf of the tree with this mark.
 fn leaf(alloc: Global, made: Made, mark: Option<Mark>) -> TreeNode
     ensures { label_view result ≡ leaf_label made (option_map mark_view mark) }
 {
@@ -42,7 +42,7 @@ fn leaf(alloc: Global, made: Made, mark: Option<Mark>) -> TreeNode
     }
 }
 
-/// The label that generalises to the one with this number.
+/// The tree's label for one that generalises to the label with this number.
 fn generalised(alloc: Global, made: Made, child: usize) -> Result<TreeNode, AllocError>
     ensures { IfOk result (λ l. label_view l ≡ generalised_label made child) }
 {
@@ -61,7 +61,7 @@ fn mark_by(children: &[usize]) -> Option<Mark>
     None
 }
 
-/// The label that was expanded.
+/// The tree's label for an expanded one.
 fn expanded(made: Made, settled: Expanded) -> TreeNode
     requires { skeleton_view settled.skeleton ≡ skeleton_view made.skeleton }
     ensures { label_view result ≡ expanded_label made settled }
@@ -91,7 +91,7 @@ fn expanded(made: Made, settled: Expanded) -> TreeNode
     }
 }
 
-/// The label that was made so and of which this has become, with this mark where its own is open.
+/// The tree's label for one that was made and settled like this. If its own mark is open, it gets `mark`.
 fn label(
     alloc: Global,
     made: Made,
@@ -109,7 +109,7 @@ fn label(
     }
 }
 
-/// Takes the next mark, which is the last of these, where the mark is open.
+/// Takes the next mark, the last of these, if the label's own mark is open.
 fn next_mark(settled: &Settled, marks: &mut Vec<Mark>) -> Option<Mark>
     ensures { (m : program.Made) (ms : List program.Made) (ss : List program_settled.Settled) → labels_with (m ∷ ms) (settled.now ∷ ss) (map mark_view (reverse marks.old.items)) ≡ label_with m settled.now (option_map mark_view result) ∷ labels_with ms ss (map mark_view (reverse marks.new.items)) }
 {
@@ -119,7 +119,7 @@ fn next_mark(settled: &Settled, marks: &mut Vec<Mark>) -> Option<Mark>
     }
 }
 
-/// The labels that were made so and of which this has become; those that may be shapes have these marks, in their order.
+/// The tree's labels. Those whose own mark is open get these marks, in order.
 fn labels(
     alloc: Global,
     made: Vec<Made>,
@@ -163,7 +163,7 @@ fn is_marked(labels: &[TreeNode], mark: Mark) -> bool
     false
 }
 
-/// How the search ended that left these labels.
+/// The outcome of a search that ended with these labels.
 fn outcome_of(labels: &[TreeNode]) -> Outcome
     ensures { HasOutcome (map label_view labels.now) (outcome_view result) }
 {
@@ -176,7 +176,7 @@ fn outcome_of(labels: &[TreeNode]) -> Outcome
     Outcome::Complete
 }
 
-/// The tree of a search that has settled all labels. The error is that memory ran out.
+/// The tree of a search that has settled all labels.
 pub(crate) fn tree_of(alloc: Global, search: Search) -> Result<Tree, AllocError>
     requires all { length search.settled.items ≡ length search.made }
     requires same { AreExpandedOf search.made search.settled.items }

@@ -1,4 +1,4 @@
-// The tree of a problem.
+// The derivation tree of a problem.
 ghost use Rattle.std.specs.Prelude.{◌≡◌, ◌↔◌, ℕ, Some, IfOk};
 ghost use Rattle.cp_lists.specs.Lists.{item_at};
 ghost use Rattle.cp_model.specs.Bundle.{Bundle, IsBundle};
@@ -23,29 +23,28 @@ use cp_tree::{
 };
 use std::alloc::{AllocError, Global};
 
-/// The derivation tree of a problem. Its first labels are the problem's roots, in their order; labels are settled in ascending
-/// order, and behind all others stand the children of the labels as they are settled. Of each label:
+/// Searches a problem: returns its derivation tree. The first labels are the problem's roots, in order. Labels are settled in
+/// ascending order, and the children of each settled label are appended after all labels made so far. The rules for a label, by
+/// the first that applies:
 ///
-/// - the problem itself, where it has no normal form, is dead;
-/// - one that is isomorphic to an earlier one that is not its parent, and from which its parent cannot be reached along the labels
-///   made before it, is seen, in the first of these;
-/// - one all of whose receptions can be derived generalises to another where a step of generalising applies to it, and has that as
-///   its one child; where none applies it is its own generalisation, and it is a shape, or, where another such label embeds in it,
-///   an instance of the first shape that does;
-/// - an unrealised one that has more strands than the bound, listeners counted, is at that limit;
-/// - any other is expanded, if fewer labels were than the step limit says, and else at that limit; its children are those of its
-///   test, under the patterns of the test's escape set, widened. One without children is dead.
+/// - the problem itself is dead if it has no normal form;
+/// - a label is seen in the first earlier label that is isomorphic to it, is not its parent, and from which its parent cannot be
+///   reached along the labels made before it;
+/// - a label whose receptions are all derivable generalises to its one child if a step of generalising applies to it. Otherwise
+///   it is its own generalisation: a shape, or, if another such label embeds in it, an instance of the first shape that does;
+/// - an unrealised label with more strands than the bound, listeners included, is at the strand limit;
+/// - any other label is expanded if fewer labels than the step limit were expanded, and is at the step limit otherwise. Its
+///   children are those of its test, under the widened escape set of that test. Without children it is dead.
 ///
-/// The outcome is at the step limit where some label is, else at the bound on strands where some label is, and else complete:
-/// then every execution of the problem is an execution of a shape. At a limit too every execution of the problem is one of a
-/// shape or of a label at the limit. The outcome is at the step limit, or at the bound on strands, exactly where that was reached.
+/// The outcome is the step limit if some label is at it; otherwise the strand limit if some label is at that; otherwise complete.
+/// If it is complete, each standing of the problem in a bundle factors through a shape; at a limit, through a shape or a label at
+/// the limit. Each of the two limits is the outcome exactly if it was reached.
 ///
-/// The tree is lawful: its edges have no cycle, and each label that is neither a shape nor at a limit passes the problem's standings
-/// on to the labels to which its edges lead. A label that is dead stands apart in no bundle.
+/// The tree is lawful: its edges form no cycle, and each label that is neither a shape nor at a limit passes the problem's
+/// standings on to the labels to which its edges lead. A dead label stands apart in no bundle.
 ///
-/// The problem has to be of the protocol, in that its strands' roles are, and a point-of-view skeleton: it maps to itself, it
-/// declares the variables that occur in it, and its assumptions and its pairs are those that it states. The error is that memory
-/// ran out.
+/// The problem's strands must have roles of the protocol, and the problem must be a point-of-view skeleton: it maps to itself, it
+/// declares the variables that occur in it, and its assumptions and pairs are the ones that it states.
 pub fn search(
     alloc: Global,
     protocol: &Protocol,

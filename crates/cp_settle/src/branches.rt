@@ -1,4 +1,4 @@
-// The branches by an occurrence of the term outside the patterns.
+// Branches for an occurrence of the critical term outside the patterns.
 ghost use Rattle.std.specs.Prelude.{[], ◌∷◌, map, IfOk, OnOk};
 ghost use Rattle.cp_model.specs.Term.{Term as Plain};
 ghost use Rattle.cp_model.specs.Tree.{Pattern as PlainPattern};
@@ -18,14 +18,14 @@ use cp_term::{Pattern, Term};
 use cp_unify::{Subst, compose};
 use std::alloc::{AllocError, Global};
 
-/// The skeleton of what is tried, with new variables for a pattern's locals, and the pattern as a term of it.
+/// A tried skeleton with new variables for a pattern's locals, and the pattern as a term over its variables.
 #[derive(Drop)]
 struct Widened {
     skeleton: Skeleton,
     term: Term,
 }
 
-/// What is tried with new variables for a pattern's locals. The error is that memory ran out.
+/// Adds new variables for a pattern's locals to a tried skeleton.
 fn widen(alloc: Global, tried: &Tried, pattern: &Pattern) -> Result<Widened, AllocError>
     ensures { IfOk result (IsWidened (tried_view tried.now) pattern.now) }
 {
@@ -34,7 +34,7 @@ fn widen(alloc: Global, tried: &Tried, pattern: &Pattern) -> Result<Widened, All
     Ok(Widened { skeleton, term })
 }
 
-/// What is tried under a unifier, with the new variables. The error is that memory ran out.
+/// The tried skeleton under a unifier, with the new variables.
 fn tried_under(
     alloc: Global,
     tried: &Tried,
@@ -51,7 +51,7 @@ fn tried_under(
     })
 }
 
-/// Puts the branch by a unifier behind others. The error is that memory ran out.
+/// Appends the branch for a unifier.
 fn put_under(
     alloc: Global,
     tried: &Tried,
@@ -68,8 +68,7 @@ fn put_under(
     Ok(())
 }
 
-/// Puts the branch behind others in which an encryption is made to equal the pattern's term, if it can be. The error is that
-/// memory ran out.
+/// Appends the branch in which an encryption equals the pattern's term, if the two unify.
 fn put_unified(
     alloc: Global,
     tried: &Tried,
@@ -86,7 +85,7 @@ fn put_unified(
     }
 }
 
-/// Puts the branch behind others in which an encryption is made to match a pattern, if it can be.
+/// Appends the branch in which an encryption matches a pattern, if the two unify.
 fn put_branch(
     alloc: Global,
     tried: &Tried,
@@ -100,7 +99,7 @@ fn put_branch(
     put_unified(alloc, tried, &widened, encryption, next)
 }
 
-/// Puts the branches behind others in which an encryption is made to match each of the patterns, in order.
+/// Appends the branches in which an encryption matches each of the patterns, in order.
 fn put_by_patterns(
     alloc: Global,
     tried: &Tried,
@@ -116,7 +115,7 @@ fn put_by_patterns(
     Ok(())
 }
 
-/// Puts the branches behind others in which each of the encryptions is made to match each of the patterns, in order.
+/// Appends the branches in which each of the encryptions matches each of the patterns, in order.
 pub(crate) fn put_branches(
     alloc: Global,
     tried: &Tried,

@@ -1,4 +1,4 @@
-// What is tried, on the way to what it leads to, and rounds of trying.
+// Candidates for the results of a release, and rounds of trying them.
 ghost use Rattle.std.specs.Prelude.{◌≡◌, ◌↔◌, ◌++◌, map, IsTrue, IfOk, OnOk};
 ghost use Rattle.cp_collapse.specs.Property.{Has};
 ghost use Rattle.cp_settle.specs.Releases.{Release as Plain, IsReleasedInside, IsFirstOutside, MeetsBoth};
@@ -13,7 +13,7 @@ use crate::release::{Release, Tried};
 use cp_normal::{Form, normalise_beside};
 use std::alloc::{AllocError, Global};
 
-/// A skeleton that is tried: one that may not be normal, a normal form, or a normal form for which both conditions hold.
+/// A candidate: a skeleton that may not be normal, a normal form, or a normal form for which both conditions hold.
 #[derive(Drop)]
 pub(crate) enum Candidate {
     OnTheWay(Tried),
@@ -22,7 +22,7 @@ pub(crate) enum Candidate {
 }
 
 impl Candidate {
-    /// What is tried.
+    /// The candidate's skeleton and substitution.
     pub(crate) fn into_tried(self) -> Tried
         ensures { result ≡ tried_of self }
     {
@@ -34,7 +34,7 @@ impl Candidate {
     }
 }
 
-/// Puts the branches by a position behind others.
+/// Appends the branches for a position outside the patterns.
 fn put_by_position(
     alloc: Global,
     release: &Release,
@@ -51,7 +51,7 @@ fn put_by_position(
     put_branches(alloc, tried, &encryptions, release.patterns, next)
 }
 
-/// Puts normal forms behind others, to be tried again.
+/// Appends normal forms, on which the conditions are tried again.
 fn put_normal(forms: Vec<Form>, next: &mut Vec<Candidate>) -> Result<(), AllocError>
     ensures { OnOk result (next.new.items ≡ next.old.items ++ map normal_form forms.items) }
 {
@@ -70,7 +70,7 @@ fn put_normal(forms: Vec<Form>, next: &mut Vec<Candidate>) -> Result<(), AllocEr
     Ok(())
 }
 
-/// Puts the normal forms of a skeleton for which both conditions hold behind others.
+/// Appends the normal forms of a skeleton for which both conditions hold.
 fn normalise_tried(alloc: Global, tried: Tried, next: &mut Vec<Candidate>) -> Result<(), AllocError>
     ensures { OnOk result ((r : Plain) → MeetsBoth r (tried_view tried) → Puts r (variants.OnTheWay tried) next.old.items next.new.items) }
 {
@@ -82,8 +82,7 @@ fn normalise_tried(alloc: Global, tried: Tried, next: &mut Vec<Candidate>) -> Re
     put_normal(forms, next)
 }
 
-/// Whether both conditions hold for a skeleton that is tried. Where one does not, what takes the skeleton's place is put behind
-/// others. The error is that memory ran out.
+/// Whether both conditions hold for a tried skeleton. If one does not, appends what takes the skeleton's place.
 fn branch_unless_met(
     alloc: Global,
     release: &Release,
@@ -104,8 +103,7 @@ fn branch_unless_met(
     }
 }
 
-/// What is tried, if both conditions hold for it. Where one does not, what takes its place is put behind others. The error is
-/// that memory ran out.
+/// The tried skeleton, if both conditions hold for it. If one does not, appends what takes its place.
 fn kept_if_met(
     alloc: Global,
     release: &Release,
@@ -118,7 +116,7 @@ fn kept_if_met(
     Ok(is_met.then_some(tried))
 }
 
-/// Puts what takes the place of a skeleton that may not be normal behind others.
+/// Appends what takes the place of a skeleton that may not be normal.
 fn try_first(
     alloc: Global,
     release: &Release,
@@ -133,7 +131,7 @@ fn try_first(
     }
 }
 
-/// Puts what takes the place of a normal form behind others.
+/// Appends what takes the place of a normal form.
 fn try_again(
     alloc: Global,
     release: &Release,
@@ -151,7 +149,7 @@ fn try_again(
     }
 }
 
-/// Puts what takes the place of a candidate behind others.
+/// Appends what takes the place of a candidate.
 fn advance(
     alloc: Global,
     release: &Release,
@@ -170,7 +168,7 @@ fn advance(
     }
 }
 
-/// Tries each candidate that is not settled once; what it leads to stands in its place.
+/// Tries each candidate that is not settled once. The results take its place in the list.
 pub(crate) fn round(
     alloc: Global,
     release: &Release,

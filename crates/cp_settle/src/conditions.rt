@@ -40,8 +40,8 @@ pub(crate) fn is_released_inside(
     }
 }
 
-/// The first position outside the patterns at which the event at this index of the release's strand carries the term, which
-/// is the release's under the substitution.
+/// The first position outside the patterns at which the event at this index of the release's strand carries the term. `critical`
+/// is the release's term under the substitution.
 fn first_outside_at(
     alloc: Global,
     release: &Release,
@@ -73,8 +73,8 @@ fn first_outside_at(
     }
 }
 
-/// The first position outside the patterns at which an event of the release's strand before its node carries the term, by
-/// event and then by position.
+/// The first position outside the patterns at which an event before the release's node, on its strand, carries the term: by
+/// event, then by position.
 pub(crate) fn first_outside_before(
     alloc: Global,
     release: &Release,

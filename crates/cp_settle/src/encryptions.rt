@@ -5,7 +5,7 @@ ghost use Rattle.cp_guard.specs.Above.{encryptions_above};
 use cp_term::{Path, Shape, Step, Term};
 use std::alloc::{AllocError, Global};
 
-/// The proper enclosing encryptions of a carried position, outermost first. The error is that memory ran out.
+/// The encryptions that properly enclose a carried position, outermost first.
 pub fn encryptions_above(alloc: Global, term: &Term, path: &Path) -> Result<Vec<Term>, AllocError>
     ensures { IfOk result (λ above. above.items ≡ encryptions_above term.now path.now) }
 {

@@ -1,5 +1,6 @@
-//! The two conditions on the release of a critical term, tried until they hold: the position of the release is outside the
-//! patterns, and each earlier event of its strand carries the term inside them alone.
+//! Settles the release of a critical term: tries a skeleton until two conditions hold. First, the position of the release is
+//! outside the patterns; second, each earlier event of its strand carries the term inside them alone. Every call that returns
+//! `AllocError` fails only when memory runs out.
 #![tactic(auto)]
 
 mod branches;

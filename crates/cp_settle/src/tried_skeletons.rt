@@ -1,4 +1,4 @@
-// What a skeleton that is tried leads to.
+// Settles a release.
 ghost use Rattle.std.specs.Prelude.{◌≡◌, map, IfOk};
 ghost use Rattle.cp_settle.specs.Stages.{Settles, on_the_way};
 ghost use Rattle.cp_settle.specs.Views.{release_view, tried_view};
@@ -8,7 +8,7 @@ use crate::candidates::{Candidate, round, some_is_open};
 use crate::release::{Release, Tried};
 use std::alloc::{AllocError, Global};
 
-/// What the candidates are, in their order.
+/// The candidates' skeletons and substitutions, in order.
 fn all_tried(alloc: Global, candidates: Vec<Candidate>) -> Result<Vec<Tried>, AllocError>
     ensures { IfOk result (λ ts. ts.items ≡ map tried_of candidates.items) }
 {
@@ -21,15 +21,16 @@ fn all_tried(alloc: Global, candidates: Vec<Candidate>) -> Result<Vec<Tried>, Al
     Ok(all)
 }
 
-/// What a skeleton that is tried leads to, in order: the normal forms in which both conditions on the release hold. Where the
-/// position of the release is inside the patterns there is nothing. Where an earlier event of its strand carries the term
-/// outside them, the first such occurrence is taken, by event and then by position; each of its proper enclosing encryptions,
-/// outermost first, is unified with each of the patterns, in order, whose locals are new variables of the skeleton each time,
-/// and each unifier gives a branch, in which the conditions are tried again. Where they hold the skeleton is normalised, and
-/// they are tried again on each normal form, until nothing changes. Where the release's node has no event, nothing is
-/// released there inside the patterns.
+/// Settles a release: returns, in order, the normal forms for which both conditions on it hold.
 ///
-/// The error is that memory ran out.
+/// - If the position of the release is inside the patterns, there are none. A position at a node without an event is not inside
+///   them.
+/// - If an earlier event of the strand carries the term outside the patterns, the first such occurrence is taken, by event, then
+///   by position. Each encryption that properly encloses it, outermost first, is unified with each pattern, in order; the
+///   pattern's locals become new variables of the skeleton each time. Each unifier gives a branch, on which the conditions are
+///   tried again.
+/// - If both conditions hold, the skeleton is normalised, and the conditions are tried again on each normal form, until nothing
+///   changes.
 pub fn settle(alloc: Global, release: &Release, tried: Tried) -> Result<Vec<Tried>, AllocError>
     ensures { IfOk result (λ ts. Settles (release_view release.now) on_the_way (tried_view tried) (map tried_view ts.items)) }
 {

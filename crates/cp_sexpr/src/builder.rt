@@ -19,7 +19,7 @@ const MAX_DEPTH: usize = 200;
 /// A number has no more digits than this, and so fits.
 const MAX_DIGITS: usize = 9;
 
-/// A list that is not closed yet: its place, and the forms before it in the list around it.
+/// A list that is not closed yet: its place, and the forms before it in the enclosing list.
 #[derive(Drop)]
 struct OpenList {
     place: Place,
@@ -131,7 +131,7 @@ impl Builder {
         self.add(Form::List(opened, items))
     }
 
-    /// Takes the next piece, which begins at this place. After an error the builder is of no more use.
+    /// Takes the next piece, which begins at this place. After an error the builder must not be used again.
     pub(crate) fn take(
         &mut self,
         alloc: Global,
@@ -152,7 +152,7 @@ impl Builder {
         }
     }
 
-    /// The forms, at the end of the text.
+    /// At the end of the text: its forms. A list that is still open is refused.
     pub(crate) fn finish(self) -> Result<Vec<Form>, ReadError>
         ensures forms { IfOk result (λ v. views v.items ≡ (building_of self).items) }
         ensures closed { IfOk result (λ _. (building_of self).lists ≡ []) }

@@ -8,7 +8,7 @@ pub enum Form {
     Symbol(Place, Text),
     /// A string: the bytes between its quotes.
     String(Place, Text),
-    /// A number, of nine digits at most where it was read.
+    /// A number, of at most nine digits if it was read.
     Number(Place, usize),
     /// A list: its items.
     List(Place, Vec<Form>),

@@ -1,4 +1,6 @@
-//! Forms: their reader, and their writer in normal spelling.
+//! Forms (s-expressions): their reader, and their writer in normal spelling.
+//!
+//! Every call that returns `AllocError` fails only if memory runs out.
 #![tactic(auto)]
 
 mod builder;

@@ -37,7 +37,7 @@ fn is_of_kind(kind: Kind, b: u8) -> bool
     }
 }
 
-/// How many bytes of a kind the bytes begin with.
+/// How many bytes of this kind the bytes begin with.
 fn run_length(kind: Kind, bytes: &[u8]) -> usize
     ensures { IsRun (IsOfKind kind) bytes.now result }
 {
@@ -55,7 +55,7 @@ fn text_of(bytes: &[u8]) -> &str
     str::from_utf8(bytes).unwrap()
 }
 
-/// The place behind the bytes, where they begin at this place.
+/// The place after the bytes, if they begin at this place.
 pub(crate) fn place_after(place: Place, bytes: &[u8]) -> Place
     requires lines { place.line + length bytes.now < 2 ^ 32 }
     requires columns { place.col + length bytes.now < 2 ^ 32 }
@@ -78,7 +78,7 @@ pub(crate) fn place_after(place: Place, bytes: &[u8]) -> Place
     at
 }
 
-/// The string that the bytes begin with, from its opening quote on, and the bytes behind it.
+/// The string that the bytes begin with, from its opening quote on, and the bytes after it.
 fn string_piece(place: Place, bytes: &[u8]) -> Result<(Piece<'_>, &[u8]), Refusal>
     requires lines { place.line + length bytes.now < 2 ^ 32 }
     requires columns { place.col + length bytes.now < 2 ^ 32 }
@@ -111,7 +111,7 @@ fn string_piece(place: Place, bytes: &[u8]) -> Result<(Piece<'_>, &[u8]), Refusa
     }
 }
 
-/// The piece that the bytes begin with, and the bytes behind it, or `None` at the end of the text.
+/// The piece that the bytes begin with, and the bytes after it; `None` at the end of the text.
 pub(crate) fn next_piece(place: Place, bytes: &[u8]) -> Result<Option<(Piece<'_>, &[u8])>, Refusal>
     requires lines { place.line + length bytes.now < 2 ^ 32 }
     requires columns { place.col + length bytes.now < 2 ^ 32 }

@@ -10,13 +10,15 @@ use crate::piece::{next_piece, place_after};
 use cp_base::Place;
 use std::alloc::Global;
 
-/// A text that is read has no more bytes than this.
+/// The greatest length of a text that is read, in bytes.
 pub const MAX_LENGTH: usize = 1_048_576;
 
-/// The forms of the text. The error is the text's first fault from the left: a byte that may not stand there
-/// (`BadByte`), a string that its line leaves open (`OpenString`), a closing parenthesis too many
-/// (`Unbalanced`) or too few (`Unclosed`), a list inside 200 others (`TooDeep`), or a token that begins with a
-/// digit and is not one to nine digits (`BadNumber`); or memory ran out.
+/// Reads the forms of a text. Their places count lines, and bytes within a line, from 1.
+///
+/// A text with a fault is refused for its first fault from the left: a byte that may not stand there (`BadByte`), a
+/// string that its line leaves open (`OpenString`), a closing parenthesis too many (`Unbalanced`) or too few
+/// (`Unclosed`), a list inside 200 others (`TooDeep`), or a token that begins with a digit and is not one to nine
+/// digits (`BadNumber`). The other error is `Memory`.
 pub fn read(alloc: Global, bytes: &[u8]) -> Result<Vec<Form>, ReadError>
     requires { length bytes.now ≤ MAX_LENGTH }
     ensures forms { IfOk result (λ v. IsReading bytes.now (Ok (views v.items))) }

@@ -28,7 +28,7 @@ fn write_number(number: usize, out: &mut Vec<u8>) -> Result<(), AllocError>
     out.extend_from_slice(buffer.format(number).as_bytes())
 }
 
-/// Appends the normal spelling of a form. Where memory runs out, a front of it may have been appended.
+/// Appends the normal spelling of a form. If memory runs out, a prefix of it may have been appended.
 #[cycle(write)]
 pub fn write(form: &Form, out: &mut Vec<u8>) -> Result<(), AllocError>
     ensures ok { OnOk result (out.new.items ≡ out.old.items ++ spelling (view form.now)) }
@@ -42,7 +42,7 @@ pub fn write(form: &Form, out: &mut Vec<u8>) -> Result<(), AllocError>
     }
 }
 
-/// What stands before an item that is not the first, in a top form or in another list.
+/// The bytes before an item that is not the first, in a top form or in another list.
 fn gap(is_top: bool, item: &Form) -> &'static [u8]
     ensures { result.now ≡ gap_before is_top (view item.now) }
 {
@@ -55,7 +55,7 @@ fn gap(is_top: bool, item: &Form) -> &'static [u8]
     }
 }
 
-/// Appends a list, which is a top form or another: its items in parentheses, with what stands between them.
+/// Appends a list, which is a top form or another: its items in parentheses, and the bytes between them.
 #[cycle(write)]
 fn write_list(items: &[Form], is_top: bool, out: &mut Vec<u8>) -> Result<(), AllocError>
     ensures ok { OnOk result (out.new.items ≡ out.old.items ++ list_spelling is_top (views items.now)) }
@@ -88,7 +88,7 @@ fn write_top_text(form: &Form, out: &mut Vec<u8>) -> Result<(), AllocError>
     }
 }
 
-/// Appends the normal spelling of a top form. Where memory runs out, a front of it may have been appended.
+/// Appends the normal spelling of a top form. If memory runs out, a prefix of it may have been appended.
 pub fn write_top(form: &Form, out: &mut Vec<u8>) -> Result<(), AllocError>
     ensures ok { OnOk result (out.new.items ≡ out.old.items ++ top_spelling (view form.now)) }
     ensures err { OnErr result (AppendsFront out.old.items out.new.items (top_spelling (view form.now))) }

@@ -1,4 +1,4 @@
-// Laws on shapes: each stands as the contract of a function that does nothing.
+// Laws about shapes. Each is the contract of a function that does nothing.
 ghost use Rattle.std.specs.Prelude.{◌≡◌, ◌≢◌, ℕ, ◌<◌, List, length, Option};
 ghost use Rattle.cp_lists.specs.Lists.{IsIn};
 ghost use Rattle.cp_model.specs.Strand.{Protocol};
@@ -13,8 +13,8 @@ pub fn shapes_are_apart()
     ensures { (ks : List Skeleton) (n m : ℕ) → IsShapeAt ks n → IsShapeAt ks m → n ≢ m → EmbedsAt ks n m → ⊥ }
 {}
 
-/// Some shape embeds in each candidate, which may be the candidate itself; so what stands through a candidate stands through
-/// a shape.
+/// Some shape, possibly the candidate itself, embeds in each candidate. So a standing that factors through a candidate factors
+/// through a shape.
 pub fn standings_go_through_shapes()
     ensures embeds { (ks : List Skeleton) (marks : List (Option ℕ)) → AreMarksOf ks marks → (m : ℕ) → m < length ks → (n : ℕ) × IsShapeAt ks n × EmbedsAt ks n m }
     ensures stands { (protocol : Protocol) (problem : Skeleton) (ks : List Skeleton) (marks : List (Option ℕ)) (b : Bundle) (h : Standing) → AreMarksOf ks marks → ((k : Skeleton) → IsIn k ks → IsSkeleton protocol k)

@@ -1,4 +1,5 @@
-//! Which candidates for shapes are shapes, and of which shape each of the others is an instance.
+//! Selects the shapes among candidates, and tells of which shape each other candidate is an instance. Every call that returns
+//! `AllocError` fails only when memory runs out.
 #![tactic(auto)]
 
 mod laws;

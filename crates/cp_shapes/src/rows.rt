@@ -1,4 +1,4 @@
-// For each candidate those of which it is an instance.
+// For each candidate, the candidates of which it is an instance.
 ghost use Rattle.std.specs.Prelude.{◌≡◌, ◌↔◌, ◌<◌, length, map, IsTrue, IfOk};
 ghost use Rattle.cp_skel.specs.View.{skeleton_view};
 ghost use Rattle.cp_fingerprint.specs.Fingerprints.{traits_of};
@@ -21,7 +21,8 @@ fn fingerprints(alloc: Global, candidates: &[&Skeleton]) -> Result<Vec<Fingerpri
     Ok(fingerprints)
 }
 
-/// Whether a candidate is an instance of another: this embeds in it, and it does not embed in this or this comes first.
+/// Whether a candidate is an instance of another: `shape` embeds in `instance`, and either `instance` does not embed in `shape`
+/// or `shape` comes first.
 fn is_instance(
     alloc: Global,
     candidates: &[&Skeleton],
@@ -45,7 +46,7 @@ fn is_instance(
     Ok(back.is_none())
 }
 
-/// The candidates of which this one is an instance, in their order.
+/// The candidates of which this one is an instance, in order.
 fn row_of(
     alloc: Global,
     candidates: &[&Skeleton],
@@ -70,7 +71,7 @@ fn row_of(
     Ok(row)
 }
 
-/// For each candidate those of which it is an instance, in their order.
+/// For each candidate, the candidates of which it is an instance, in order.
 pub(crate) fn rows(alloc: Global, candidates: &[&Skeleton]) -> Result<Vec<Vec<usize>>, AllocError>
     ensures { IfOk result (λ rows. AreRowsOf (map (λ k. skeleton_view k.now) candidates.now) (rows_view rows.items)) }
 {

@@ -1,4 +1,4 @@
-// What each candidate is, by those of which it is an instance.
+// Tells shapes from instances.
 ghost use Rattle.std.specs.Prelude.{◌≡◌, ℕ, List, map, IfOk};
 ghost use Rattle.cp_lists.specs.Lists.{item_at};
 ghost use Rattle.cp_model.specs.Skeleton as model;
@@ -10,7 +10,7 @@ use crate::rows::rows;
 use cp_skel::Skeleton;
 use std::alloc::{AllocError, Global};
 
-/// Whether a candidate is an instance of none.
+/// Whether a candidate is an instance of no other.
 fn is_shape(rows: &[Vec<usize>], candidate: usize) -> bool
     ensures { result ≡ is_empty_row (item_at (rows_view rows.now) candidate) }
 {
@@ -20,7 +20,7 @@ fn is_shape(rows: &[Vec<usize>], candidate: usize) -> bool
     }
 }
 
-/// The first shape of a row: the least of which the candidate that has the row is an instance.
+/// The first shape of which the candidate with this row is an instance.
 fn first_shape(rows: &[Vec<usize>], row: &[usize]) -> Option<usize>
     ensures { (ks : List model.Skeleton) (m : ℕ) → AreRowsOf ks (rows_view rows.now) → IsRowOf ks m row.now → FindsShape ks m result }
 {
@@ -32,9 +32,8 @@ fn first_shape(rows: &[Vec<usize>], row: &[usize]) -> Option<usize>
     None
 }
 
-/// For each candidate the first shape of which it is an instance; none exactly where it is a shape itself. One candidate is an
-/// instance of another that embeds in it where it does not embed in that, or that comes first. The error is that memory ran
-/// out.
+/// For each candidate the index of the first shape of which it is an instance; `None` exactly if it is a shape itself. A
+/// candidate is an instance of another that embeds in it, unless it embeds in that one too and comes first.
 pub fn shapes(alloc: Global, candidates: &[&Skeleton]) -> Result<Vec<Option<usize>>, AllocError>
     ensures exact { IfOk result (λ marks. AreMarksOf (map (λ k. skeleton_view k.now) candidates.now) marks.items) }
 {

@@ -7,7 +7,7 @@ use crate::gathered::{add_each, add_once};
 use cp_strand::Atom;
 use std::alloc::AllocError;
 
-/// Puts an atom behind these, if it is not one of them. The error is that memory ran out; they then hold what they held.
+/// Appends an atom, unless it is already in the list. On an error the list is unchanged.
 pub fn add_atom(atoms: &mut Vec<Atom>, atom: Atom) -> Result<(), AllocError>
     ensures added { OnOk result (atoms.new.items ≡ atoms_onto atoms.old.items (atom ∷ [])) }
     ensures unchanged { OnErr result (atoms.new.items ≡ atoms.old.items) }
@@ -15,16 +15,14 @@ pub fn add_atom(atoms: &mut Vec<Atom>, atom: Atom) -> Result<(), AllocError>
     add_once(atoms, atom)
 }
 
-/// Puts copies of these atoms behind others, each that is not there yet. The error is that memory ran out;
-/// a part may then have been added.
+/// Appends copies of these atoms, except those already in the list. On an error some may have been added.
 pub fn add_atoms(atoms: &mut Vec<Atom>, more: &[Atom]) -> Result<(), AllocError>
     ensures { OnOk result (atoms.new.items ≡ atoms_onto atoms.old.items more.now) }
 {
     add_each(atoms, more)
 }
 
-/// Puts a unique value with its origin behind these, if it is not one of them. The error is that memory ran out; they
-/// then hold what they held.
+/// Appends a unique value with its origin, unless it is already in the list. On an error the list is unchanged.
 pub fn add_unique(uniques: &mut Vec<UniqueAt>, unique: UniqueAt) -> Result<(), AllocError>
     ensures added { OnOk result (uniques.new.items ≡ uniques_onto uniques.old.items (unique ∷ [])) }
     ensures unchanged { OnErr result (uniques.new.items ≡ uniques.old.items) }

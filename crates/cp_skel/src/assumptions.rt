@@ -47,7 +47,7 @@ impl UniqueAt {
         self.origin
     }
 
-    /// The same value with the same origin again. The error is that memory ran out.
+    /// The same value with the same origin.
     pub fn copy(&self) -> Result<UniqueAt, AllocError>
         ensures { IfOk result (λ u. u ≡ self.now) }
     {
@@ -79,7 +79,7 @@ pub struct Assumptions {
     uniquely_originating: Vec<UniqueAt>,
 }
 
-// Where one is held it is dropped by one call, so that less is to be proved of who holds it.
+// Its holder drops it by one call, so that less is to be proved about the holder.
 impl Drop for Assumptions {
     fn drop(self) {
         let Assumptions {
@@ -106,8 +106,8 @@ impl Model for Assumptions {
 }
 
 impl Assumptions {
-    /// The assumptions that these values do not originate, that the penetrator does not originate these, and that these
-    /// originate at their recorded origins alone.
+    /// The assumptions that the first values originate nowhere, that the penetrator does not originate the second, and
+    /// that the third originate only at their recorded origins.
     pub fn new(
         non_originating: Vec<Atom>,
         penetrator_non_originating: Vec<Atom>,
@@ -126,28 +126,28 @@ impl Assumptions {
         }
     }
 
-    /// The values that do not originate.
+    /// The values that originate nowhere (`non-orig`).
     pub fn non_originating(&self) -> &[Atom]
         ensures { result.now ≡ self.now.non_originating }
     {
         &self.non_originating
     }
 
-    /// The values that the penetrator does not originate.
+    /// The values that the penetrator does not originate (`pen-non-orig`).
     pub fn penetrator_non_originating(&self) -> &[Atom]
         ensures { result.now ≡ self.now.penetrator_non_originating }
     {
         &self.penetrator_non_originating
     }
 
-    /// The unique values, each with its recorded origin.
+    /// The unique values, each with its recorded origin (`uniq-orig`).
     pub fn uniquely_originating(&self) -> &[UniqueAt]
         ensures { result.now ≡ self.now.uniquely_originating }
     {
         &self.uniquely_originating
     }
 
-    /// The same assumptions again. The error is that memory ran out.
+    /// The same assumptions.
     pub fn copy(&self, alloc: Global) -> Result<Assumptions, AllocError>
         ensures { IfOk result (λ a. a ≡ self.now) }
     {
@@ -158,7 +158,7 @@ impl Assumptions {
         })
     }
 
-    /// Puts others behind its own. The error is that memory ran out; then nothing changes.
+    /// Appends other assumptions to these. On an error nothing has changed.
     pub fn append(&mut self, mut more: Assumptions) -> Result<(), AllocError>
         ensures joined { OnOk result (self.new ≡ joined self.old more) }
         ensures unchanged { OnErr result (self.new ≡ self.old) }

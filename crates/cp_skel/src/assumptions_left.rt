@@ -1,4 +1,4 @@
-// The assumptions that a skeleton has without one of its strands.
+// The assumptions of a skeleton without one of its strands.
 ghost use Rattle.std.specs.Prelude.{◌≡◌, ◌↔◌, ◌⊎◌, ◌++◌, ◌<◌, length, map, IsTrue, IfOk};
 ghost use Rattle.cp_model.specs.Term.{AtomTerm};
 ghost use Rattle.cp_lists.specs.Lists.{IsIn};
@@ -14,7 +14,7 @@ use crate::skeleton::Skeleton;
 use cp_strand::{Atom, Role, Strand, StrandShape, has_atom};
 use std::alloc::{AllocError, Global};
 
-/// The kinds of assumptions that are atoms alone.
+/// The kinds of assumptions that are plain atoms.
 #[derive(Clone, Copy)]
 enum Kind {
     NonOriginating,
@@ -31,7 +31,7 @@ fn stated(kind: Kind, role: &Role) -> &[Atom]
     }
 }
 
-/// What a strand gives of a kind, each once, but for what is given already.
+/// What a strand gives of a kind, each once, except what is already given.
 fn given_by(
     alloc: Global,
     kind: Kind,
@@ -49,7 +49,7 @@ fn given_by(
     }
 }
 
-/// What strands other than one give of a kind.
+/// What strands other than this one give of a kind.
 fn given_elsewhere(
     alloc: Global,
     kind: Kind,
@@ -77,7 +77,7 @@ fn is_in_first_alone(first: &[Atom], second: &[Atom], third: &[Atom], atom: &Ato
     has_atom(first, atom) && !has_atom(second, atom) && !has_atom(third, atom)
 }
 
-/// These atoms without those that are in the first list and in neither of the others.
+/// These atoms, except those that are in the first list and in neither of the others.
 fn atoms_left(
     alloc: Global,
     atoms: &[Atom],
@@ -97,7 +97,7 @@ fn atoms_left(
     Ok(left)
 }
 
-/// The assumptions of a kind that are not forgotten with a strand.
+/// The assumptions of a kind, except those that are forgotten with a strand.
 fn kind_left(
     alloc: Global,
     kind: Kind,

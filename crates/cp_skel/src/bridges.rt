@@ -1,4 +1,4 @@
-// The pairs of a skeleton where a strand is gone.
+// The pairs of a skeleton once a strand is gone.
 ghost use Rattle.std.specs.Prelude.{◌≡◌, ◌++◌, map, IfOk, OnOk};
 ghost use Rattle.cp_skel.specs.Deletion.{pair_renumbered, IsPairOn, LeavesOut};
 ghost use Rattle.cp_skel.specs.Bridges.{is_through, bridge, bridges_from, bridges, IsWithoutStrand};
@@ -7,8 +7,8 @@ use crate::new_numbers::{left_without, node_renumbered};
 use crate::skeleton::OrderPair;
 use std::alloc::{AllocError, Global};
 
-/// Whether the first pair leads to the strand, and the second from there on to a strand other than where the first
-/// began.
+/// Whether the first pair leads to the strand, and the second from there on to a strand other than the one on which the
+/// first begins.
 fn is_through(gone: usize, into: OrderPair, out: OrderPair) -> bool
     ensures { result ≡ is_through gone into out }
 {
@@ -18,7 +18,7 @@ fn is_through(gone: usize, into: OrderPair, out: OrderPair) -> bool
         && into.earlier.strand != out.later.strand
 }
 
-/// From where the first pair begins to where the second ends.
+/// The pair from the node at which the first begins to the node at which the second ends.
 fn bridge(gone: usize, into: OrderPair, out: OrderPair) -> OrderPair
     ensures { result ≡ bridge gone into out }
 {
@@ -28,7 +28,7 @@ fn bridge(gone: usize, into: OrderPair, out: OrderPair) -> OrderPair
     }
 }
 
-/// Puts the pairs through the strand that begin with this one behind others.
+/// Appends the pairs through the strand that begin with this one.
 fn add_bridges_from(
     gone: usize,
     into: OrderPair,
@@ -47,7 +47,7 @@ fn add_bridges_from(
     Ok(())
 }
 
-/// Puts the pairs through the strand behind others.
+/// Appends the pairs through the strand.
 fn add_bridges(
     gone: usize,
     pairs: &[OrderPair],
@@ -62,8 +62,8 @@ fn add_bridges(
     Ok(())
 }
 
-/// The pairs that order the nodes of the other strands as they were: those that have no node on the strand, and one for
-/// each two that lead through it.
+/// Pairs that order the nodes of the other strands as before: those without a node on the strand, and one for each two
+/// that lead through it.
 pub(crate) fn pairs_without(
     alloc: Global,
     gone: usize,

@@ -5,7 +5,7 @@ use crate::skeleton::Skeleton;
 use std::alloc::{AllocError, Global};
 
 impl Skeleton {
-    /// The same skeleton again, which shares its strands. The error is that memory ran out.
+    /// The same skeleton. It shares its strands with this one.
     pub fn copy(&self, alloc: Global) -> Result<Skeleton, AllocError>
         ensures same { IfOk result (λ k. k ≡ self.now) }
     {

@@ -16,7 +16,7 @@ use cp_order::Order;
 use cp_strand::{copy_atoms, copy_terms};
 use std::alloc::{AllocError, Global};
 
-/// The way from the problem where a strand is gone.
+/// The map from the problem once a strand is gone.
 fn from_problem_without(
     alloc: Global,
     from: &FromProblem,
@@ -39,10 +39,11 @@ fn from_problem_without(
 }
 
 impl Skeleton {
-    /// Deletes a strand that is there and is no image of a strand of the problem. The strands above the deleted one
-    /// fall by one. The nodes of the others are ordered as they were, also where the order went through the strand, and
-    /// the order is closed. What its role alone gave is forgotten, unless the problem itself states it. On an error,
-    /// which is that memory ran out, nothing has changed.
+    /// Deletes a strand, which must exist and be the image of no strand of the problem.
+    ///
+    /// The numbers of the strands above it fall by one. The nodes of the others keep their order, also where it went
+    /// through the strand, and the order is closed. What only its role gave is forgotten, unless the problem itself
+    /// states it. On an error nothing has changed.
     pub fn delete_strand(&mut self, alloc: Global, strand: usize) -> Result<(), AllocError>
         requires there_is { strand < length (skeleton_view self.old).strands }
         requires no_image { IsIn strand (skeleton_view self.old).from_problem.strands → ⊥ }

@@ -9,7 +9,7 @@ use crate::skeleton::{Node, Skeleton};
 use cp_strand::{Event, Strand, StrandShape};
 use std::alloc::{AllocError, Global};
 
-/// An event of a skeleton, the node where it stands, and whether a role strand is there and no listener.
+/// An event of a skeleton, its node, and whether its strand is a role strand and no listener.
 #[derive(Drop)]
 pub struct Occurrence {
     pub node: Node,
@@ -34,7 +34,7 @@ fn is_role_strand(strand: &Strand) -> bool
     matches!(strand.shape(), StrandShape::Instance(_))
 }
 
-/// Puts the events of the strand with this number behind others.
+/// Appends the events of the strand with this number.
 fn add_events(
     alloc: Global,
     number: usize,
@@ -61,7 +61,7 @@ fn add_events(
 }
 
 impl Skeleton {
-    /// The events of the skeleton, each with its node, by strand and then by index. The error is that memory ran out.
+    /// The events of the skeleton, each with its node, by strand and then by index.
     pub fn events(&self, alloc: Global) -> Result<Vec<Occurrence>, AllocError>
         ensures listed { IfOk result (λ os. map occurrence_view os.items ≡ events_of (skeleton_view self.now)) }
     {

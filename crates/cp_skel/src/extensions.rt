@@ -13,8 +13,7 @@ use std::alloc::{AllocError, Global};
 use std::rc::Rc;
 
 impl Skeleton {
-    /// Adds a listener behind the strands, and answers its number. The error is that memory ran out; then nothing
-    /// changes.
+    /// Appends a listener to the strands and returns its number. On an error nothing has changed.
     pub fn add_listener(&mut self, alloc: Global, message: Term) -> Result<usize, AllocError>
         ensures number { IfOk result (λ s. s ≡ length (skeleton_view self.old).strands) }
         ensures changed { OnOk result (AddsListener message (skeleton_view self.old) (skeleton_view self.new)) }
@@ -27,10 +26,11 @@ impl Skeleton {
         Ok(number)
     }
 
-    /// Adds an instance of a role behind the strands, and answers its number. The height is at least 1 and at most the
-    /// length of the role's trace. There is a value for each variable of the prefix, of the variable's sort, in the
-    /// order of their declarations. What the role gives the instance is added to the assumptions. The error is that
-    /// memory ran out; then nothing changes.
+    /// Appends an instance of a role to the strands and returns its number.
+    ///
+    /// The height must be from 1 to the length of the role's trace. There must be a value for each variable of the
+    /// prefix, of the variable's sort, in the order of their declarations. What the role gives the instance is added to
+    /// the assumptions. On an error nothing has changed.
     pub fn add_strand(
         &mut self,
         alloc: Global,
@@ -57,10 +57,11 @@ impl Skeleton {
         Ok(number)
     }
 
-    /// Lets an instance grow to a height, which is not less than its own and at most the length of its role's trace.
-    /// There is a value for each variable that the longer prefix adds, of the variable's sort, in the order of their
-    /// declarations. What the role then gives the instance is added to the assumptions. The error is that memory ran
-    /// out; then nothing changes.
+    /// Extends an instance to a height, which must be at least its own and at most the length of its role's trace.
+    ///
+    /// There must be a value for each variable that the longer prefix adds, of the variable's sort, in the order of
+    /// their declarations. What the role then gives the instance is added to the assumptions. On an error nothing has
+    /// changed.
     pub fn extend(
         &mut self,
         alloc: Global,

@@ -1,4 +1,4 @@
-// The way from a problem to a skeleton.
+// The map from a problem to a skeleton.
 ghost use Rattle.std.specs.Prelude.{◌≡◌, map, IfOk};
 
 use crate::assumptions::Assumptions;
@@ -8,7 +8,7 @@ use cp_term::Term;
 use std::alloc::{AllocError, Global};
 use std::marker::Model;
 
-/// The way from a problem: a strand for each strand of the problem, and a term for each of its variables; and the
+/// The map from a problem: a strand for each strand of the problem, and a term for each of its variables; and the
 /// images of the assumptions and the pairs that the problem itself states.
 pub struct FromProblem {
     strands: Vec<usize>,
@@ -17,7 +17,7 @@ pub struct FromProblem {
     pairs: Vec<OrderPair>,
 }
 
-// Where one is held it is dropped by one call, so that less is to be proved of who holds it.
+// Its holder drops it by one call, so that less is to be proved about the holder.
 impl Drop for FromProblem {
     fn drop(self) {
         let FromProblem {
@@ -48,7 +48,7 @@ impl Model for FromProblem {
 }
 
 impl FromProblem {
-    /// The way on which the problem's strands go to these and its variables to these values, and what the problem states
+    /// The map that sends the problem's strands to these and its variables to these values, and what the problem states
     /// itself to these assumptions and pairs.
     pub fn new(
         strands: Vec<usize>,
@@ -94,7 +94,7 @@ impl FromProblem {
         &self.pairs
     }
 
-    /// The same way from a problem again. The error is that memory ran out.
+    /// The same map from a problem.
     pub fn copy(&self, alloc: Global) -> Result<FromProblem, AllocError>
         ensures { IfOk result (λ p. p ≡ self.now) }
     {

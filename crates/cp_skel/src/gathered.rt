@@ -8,19 +8,19 @@ use crate::assumptions::UniqueAt;
 use cp_strand::{Atom, Same, has};
 use std::alloc::{AllocError, Global};
 
-/// What is gathered so that each item stands once.
+/// Items gathered into lists in which each stands once.
 pub(crate) trait Gathered: Same {
     /// Whether an item is one of these.
     ghost among: { List Self → Self → Bool };
 
-    /// The second items behind the first, each that is not there yet.
+    /// The first items, then those of the second that are not there yet.
     ghost onto: { List Self → List Self → List Self };
 
-    /// Another handle to the same. The error is that memory ran out.
+    /// Another handle to the same.
     fn again(&self) -> Result<Self, AllocError>
         ensures { IfOk result (λ x. x ≡ self.now) };
 
-    /// What is put behind others is what is not among them.
+    /// What is appended is what is not among the items.
     ghost gathers: { IsGathering among onto };
 }
 
@@ -48,7 +48,7 @@ impl Gathered for UniqueAt {
     ghost gathers = { uniques };
 }
 
-/// Puts an item behind others, if it is not one of them. The error is that memory ran out; they then are what they were.
+/// Appends an item, unless it is already in the list. On an error the list is unchanged.
 pub(crate) fn add_once<T: Gathered + Drop>(items: &mut Vec<T>, item: T) -> Result<(), AllocError>
     ensures added { OnOk result (items.new.items ≡ T.onto items.old.items (item ∷ [])) }
     ensures unchanged { OnErr result (items.new.items ≡ items.old.items) }
@@ -60,8 +60,7 @@ pub(crate) fn add_once<T: Gathered + Drop>(items: &mut Vec<T>, item: T) -> Resul
     Ok(())
 }
 
-/// Puts copies of these items behind others, each that is not there yet. The error is that memory ran out; a part may then
-/// have been added.
+/// Appends copies of these items, except those already in the list. On an error some may have been added.
 pub(crate) fn add_each<T: Gathered + Drop>(items: &mut Vec<T>, more: &[T]) -> Result<(), AllocError>
     ensures { OnOk result (items.new.items ≡ T.onto items.old.items more.now) }
 {
@@ -72,7 +71,7 @@ pub(crate) fn add_each<T: Gathered + Drop>(items: &mut Vec<T>, more: &[T]) -> Re
     Ok(())
 }
 
-/// Puts an item behind more, if it is neither there nor among the others.
+/// Appends an item to `more`, unless it is already there or in `old`.
 pub(crate) fn push_missing<T: Gathered + Drop>(
     old: &[T],
     more: &mut Vec<T>,
@@ -87,7 +86,7 @@ pub(crate) fn push_missing<T: Gathered + Drop>(
     Ok(())
 }
 
-/// The stated items that are among the old ones, and then the others of these, each once.
+/// The stated items that are among the old ones, then the other old ones, each once.
 pub(crate) fn stated_first<T: Gathered + Drop>(
     alloc: Global,
     stated: &[T],

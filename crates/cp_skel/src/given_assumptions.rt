@@ -9,7 +9,7 @@ use crate::role_assumptions::lacking;
 use cp_strand::{Instance, Strand, StrandShape};
 use std::alloc::{AllocError, Global};
 
-/// Adds what the role of an instance, which is the strand of this number, gives.
+/// Adds what the role of an instance gives. The instance is the strand with this number.
 fn add_given_by(
     alloc: Global,
     strand: usize,
@@ -23,8 +23,8 @@ fn add_given_by(
     assumptions.append(more)
 }
 
-/// Adds what the roles of these strands give, strand by strand, each that is not there yet. The error is that memory
-/// ran out; then a part may have been added.
+/// Adds what the roles of these strands give, strand by strand, except what is already there. On an error some may have
+/// been added.
 pub fn add_given(
     alloc: Global,
     strands: &[Strand],

@@ -1,4 +1,4 @@
-// Laws of the changes to skeletons: each stands as the contract of a function that does nothing.
+// Laws of the changes to skeletons. Each is the contract of a function that does nothing.
 ghost use Rattle.std.specs.Prelude.{◌≡◌, ◌↔◌, ℕ, List, IsTrue};
 ghost use Rattle.std.specs.List.{remove};
 ghost use Rattle.cp_lists.specs.Lists.{IsIn};
@@ -20,8 +20,8 @@ pub fn listener_keeps_skeletons()
     ensures { (protocol : Protocol) (t : Term) (old new : Skeleton) → IsSkeleton protocol old → AddsListener t old new → IsSkeleton protocol new }
 {}
 
-/// A skeleton over a protocol stays one when an instance of a role of the protocol is added, of a height that the role
-/// has.
+/// A skeleton over a protocol stays one when an instance of one of the protocol's roles is added, of a height that the
+/// role has.
 pub fn strand_keeps_skeletons()
     ensures { (protocol : Protocol) (role : Role) (height : ℕ) (values : List Term) (old new : Skeleton) → IsIn role protocol.roles → IsHeight role height
         → IsSkeleton protocol old → AddsStrand role height values old new → IsSkeleton protocol new }
@@ -33,15 +33,15 @@ pub fn extending_keeps_skeletons()
         → IsSkeleton protocol old → Extends s height values old new → IsSkeleton protocol new }
 {}
 
-/// A skeleton over a protocol from which a strand is deleted stays one, where each pair that is left goes from a
-/// transmission to a reception of another strand and its order has no cycle.
+/// A skeleton over a protocol stays one when a strand is deleted, if each pair that is left goes from a transmission to
+/// a reception of another strand and the order has no cycle.
 pub fn deleting_keeps_skeletons()
     ensures { (protocol : Protocol) (d : ℕ) (old new : Skeleton) → IsSkeleton protocol old → new.strands ≡ remove old.strands d
         → ForgetsAssumptions d old new.assumptions → IsOrdered new → IsSkeleton protocol new }
 {}
 
-/// The variables of a prefix are those that are declared and occur in it; those that it adds to an earlier prefix are
-/// those of them that do not occur there.
+/// The variables of a prefix are the declared ones that occur in it. Those that it adds to an earlier prefix are those
+/// of them that do not occur there.
 pub fn variables_of_prefixes()
     ensures whole { (role : Role) (height : ℕ) (x : Variable) → IsIn x (prefix_variables role height)
         ↔ (IsDeclared role.variables x × IsIn x (variables_of_prefix role height)) }
@@ -49,13 +49,13 @@ pub fn variables_of_prefixes()
         ↔ (IsDeclared role.variables x × IsIn x (variables_of_prefix role height) × (IsIn x (variables_of_prefix role before) → ⊥)) }
 {}
 
-/// The test whether a variable is one of a list's is exact.
+/// The test whether a list has a variable is exact.
 pub fn test_of_variables()
     ensures { (xs : List Variable) (x : Variable) → IsTrue (has_variable xs x) ↔ IsIn x xs }
 {}
 
-/// Assumptions in the order of the report are the same: each list has the items that it had, and each once. Listed
-/// again, they stay as they are.
+/// Assumptions in the order of the report are the same: each list has the items that it had, and each once. Listing
+/// them again changes nothing.
 pub fn listed_assumptions_are_the_same()
     ensures non { (k : Skeleton) → HasEachOnce k.assumptions.non_originating (listed k).non_originating }
     ensures penetrator_non { (k : Skeleton) → HasEachOnce k.assumptions.penetrator_non_originating (listed k).penetrator_non_originating }
@@ -63,14 +63,15 @@ pub fn listed_assumptions_are_the_same()
     ensures again { (k : Skeleton) → listed (record k { assumptions = listed k }) ≡ listed k }
 {}
 
-/// The assumptions of a problem, its own and behind them those that its strands give, are in the order of the report.
+/// The assumptions of a problem, first its own (each once) and then those that its strands give, are in the order of
+/// the report.
 pub fn given_behind_own_is_listed()
     ensures atoms { (own given : List AtomTerm) → IsEachOnce own → listed_atoms own given (atoms_onto own given) ≡ atoms_onto own given }
     ensures uniques { (own given : List UniqueAt) → IsEachOnce own → listed_uniques own given (uniques_onto own given) ≡ uniques_onto own given }
 {}
 
-/// Where the roles of a protocol declare the variables of their events, as those of well-formed input do, the role of each
-/// instance of a skeleton over it declares the variables of the instance's prefix.
+/// If the roles of a protocol declare the variables of their events, as those of well-formed input do, then the role of
+/// each instance of a skeleton over it declares the variables of the instance's prefix.
 #[tactic(auto, using(crate::proofs::DeclaredRoles::declared_prefixes))]
 pub fn skeletons_have_declared_prefixes()
     ensures { (protocol : Protocol) (k : Skeleton) → ((role : Role) → IsIn role protocol.roles → (x : Variable) → IsIn x (variables_of_trace role.trace) → IsDeclared role.variables x)

@@ -1,4 +1,6 @@
 //! Skeletons and derivation trees as the program keeps them. Contracts see them as plain data.
+//!
+//! Every call that returns `AllocError` fails only if memory runs out.
 #![tactic(auto)]
 
 mod assumption_lists;

@@ -1,4 +1,4 @@
-// Nodes, pairs and recorded origins where a strand is gone.
+// Nodes, pairs and recorded origins once a strand is gone.
 ghost use Rattle.std.specs.Prelude.{◌≡◌, ◌↔◌, ℕ, map, IsTrue, IfOk};
 ghost use Rattle.cp_skel.specs.Deletion.{renumbered, node_renumbered, pair_renumbered, unique_renumbered, IsPairOn, IsOriginOn, LeavesOut};
 
@@ -6,7 +6,7 @@ use crate::assumptions::UniqueAt;
 use crate::skeleton::{Node, OrderPair};
 use std::alloc::{AllocError, Global};
 
-/// The number of a strand once another is gone: those above it fall by one.
+/// The number of a strand once another is gone: numbers above that one fall by one.
 pub(crate) fn renumbered(gone: usize, strand: usize) -> usize
     ensures { result ≡ renumbered gone strand }
 {
@@ -23,7 +23,7 @@ pub(crate) fn node_renumbered(gone: usize, node: Node) -> Node
     }
 }
 
-/// What stands at nodes: it goes with a strand, or is renumbered once a strand is gone.
+/// What stands at nodes: once a strand is gone, it goes with the strand or is renumbered.
 pub(crate) trait AtNodes {
     /// It stands on the strand.
     ghost goes: { ℕ → Self → Type 0 };
@@ -88,7 +88,7 @@ pub(crate) fn strands_renumbered(
     Ok(left)
 }
 
-/// What does not stand on the strand, once it is gone.
+/// The items that do not stand on the strand, once it is gone.
 pub(crate) fn left_without<T: AtNodes + Drop>(
     alloc: Global,
     gone: usize,

@@ -12,8 +12,8 @@ use cp_order::Leading;
 use std::alloc::{AllocError, Global};
 
 impl Skeleton {
-    /// The skeleton with these pairs in place of its own, with which it has to be sound; where its order was closed, so is
-    /// the new one. The error is that memory ran out.
+    /// The skeleton with these pairs in place of its own. It must be sound with them. If its order was closed, so is
+    /// the new one.
     pub fn with_pairs(
         mut self,
         alloc: Global,
@@ -27,8 +27,10 @@ impl Skeleton {
         Ok(self)
     }
 
-    /// Whether n is before m in the skeleton's order. After `order_close`, and what the calls of this crate and normalising
-    /// and collapsing make of the skeleton then, this is looked up. Both nodes have to be there.
+    /// Whether n is before m in the skeleton's order. Both nodes must exist.
+    ///
+    /// After `order_close` the answer is looked up, also in what the calls of this crate, normalising and collapsing
+    /// then make of the skeleton.
     pub fn before(&self, n: Node, m: Node) -> bool
         requires first { IsNodeOf (skeleton_view self.now).strands n }
         requires second { IsNodeOf (skeleton_view self.now).strands m }
@@ -37,8 +39,8 @@ impl Skeleton {
         n != m && self.order.leads_to(n, m)
     }
 
-    /// Closes the order: what is before what stays the same, and is then looked up. The error is that memory ran out;
-    /// then nothing changes.
+    /// Closes the order: the same nodes are before each other, and this is then looked up. On an error nothing has
+    /// changed.
     pub fn order_close(&mut self, alloc: Global) -> Result<(), AllocError>
         ensures rest { OnOk result (ChangesOrderOnly self.old self.new) }
         ensures before { OnOk result ((x y : PlainNode) → Before (skeleton_view self.new) x y ↔ Before (skeleton_view self.old) x y) }
@@ -48,9 +50,8 @@ impl Skeleton {
         self.order.close(alloc)
     }
 
-    /// Puts n, a transmission, before m, a reception of another strand, and answers true; where m is before n, and the
-    /// pair would close a cycle, it changes nothing and answers false. The error is that memory ran out; then nothing
-    /// changes.
+    /// Puts n, a transmission, before m, a reception of another strand, and returns `true`. If m is before n, so that
+    /// the pair would close a cycle, it changes nothing and returns `false`. On an error nothing has changed.
     pub fn add_order(&mut self, alloc: Global, n: Node, m: Node) -> Result<bool, AllocError>
         requires pair { IsOrderPair (skeleton_view self.old) (record { earlier = n; later = m }) }
         ensures refused { IfOk result (λ added. (added ≡ false) ↔ Before (skeleton_view self.old) m n) }
@@ -70,8 +71,8 @@ impl Skeleton {
     }
 }
 
-/// Whether n is before m in the skeleton's order, by the nodes that lead to m along its pairs, which were gathered. The node m
-/// has to be there.
+/// Whether n is before m in the skeleton's order, decided by the gathered nodes that lead to m along its pairs. The
+/// node m must exist.
 pub fn comes_before(k: &Skeleton, leading: &Leading<'_>, n: Node, m: Node) -> bool
     requires there { IsNodeOf (skeleton_view k.now).strands m }
     requires gathered { leading.now ≡ record { pairs = k.now.order; node = m } }

@@ -10,7 +10,7 @@ use cp_term::Term;
 
 impl Skeleton {
     /// Whether the term originates at the node: the event there is a transmission that carries it, and no earlier event
-    /// of the strand carries it.
+    /// of the strand carries it (CPSA Primer, "Strand Spaces"; TACAS 2007, section 2).
     pub fn originates(&self, n: Node, t: &Term) -> bool
         ensures exact { IsTrue result
             ↔ OriginatesInTerms (skeleton_trace_or_none (item_at (skeleton_view self.now).strands n.strand)) t.now n.index }

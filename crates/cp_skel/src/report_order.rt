@@ -9,8 +9,8 @@ use crate::given_assumptions::add_given;
 use crate::skeleton::Skeleton;
 use std::alloc::{AllocError, Global};
 
-/// The assumptions of a skeleton in the order in which a report lists them: the problem's own first, then those that the
-/// strands' roles give, strand by strand, each once, and at last any others. The error is that memory ran out.
+/// The assumptions of a skeleton in the order in which a report lists them: the problem's own, then those that the
+/// strands' roles give, strand by strand, each once, then any others.
 pub fn listed(alloc: Global, skeleton: &Skeleton) -> Result<Assumptions, AllocError>
     ensures { IfOk result (λ a. a ≡ listed (skeleton_view skeleton.now)) }
 {
@@ -33,9 +33,9 @@ pub fn listed(alloc: Global, skeleton: &Skeleton) -> Result<Assumptions, AllocEr
 }
 
 impl Skeleton {
-    /// Puts the assumptions into the order in which a report lists them: the problem's own first, then those that the
-    /// strands' roles give, strand by strand, each once, and at last any others. What is assumed stays the same. The
-    /// error is that memory ran out; then nothing changes.
+    /// Puts the assumptions into the order in which a report lists them: the problem's own, then those that the
+    /// strands' roles give, strand by strand, each once, then any others. What is assumed stays the same. On an error
+    /// nothing has changed.
     pub fn list_assumptions(&mut self, alloc: Global) -> Result<(), AllocError>
         ensures listed { OnOk result (skeleton_view self.new ≡ record (skeleton_view self.old) { assumptions = listed (skeleton_view self.old) }) }
         ensures unchanged { OnErr result (self.new ≡ self.old) }

@@ -20,7 +20,8 @@ pub fn has_unique(uniques: &[UniqueAt], unique: &UniqueAt) -> bool
     has(uniques, unique)
 }
 
-/// Those of these atoms of its role that apply to an instance, under its terms, and are not among others, each once.
+/// Of these atoms of its role, those that apply to an instance, under its terms, and are not among the old ones, each
+/// once.
 pub(crate) fn missing_atoms(
     alloc: Global,
     instance: &Instance,
@@ -42,8 +43,8 @@ pub(crate) fn missing_atoms(
     Ok(more)
 }
 
-/// Those of these atoms of its role that originate on an instance, which is the strand of this number, under its terms
-/// and with their origins, and that are not among others, each once.
+/// Of these atoms of its role, those that originate on an instance, under its terms and with their origins, and are not
+/// among the old ones, each once. The instance is the strand with this number.
 fn missing_uniques(
     alloc: Global,
     strand: usize,
@@ -69,8 +70,8 @@ fn missing_uniques(
     Ok(more)
 }
 
-/// What an instance, which is the strand of this number, gives and the assumptions lack, in the order in which its role
-/// states it.
+/// What an instance gives and the assumptions lack, in the order in which its role states it. The instance is the
+/// strand with this number.
 pub(crate) fn lacking(
     alloc: Global,
     strand: usize,
@@ -105,8 +106,7 @@ pub(crate) fn lacking(
     ))
 }
 
-/// What an instance, which is the strand of this number, gives and the assumptions lack, each once. The error is that
-/// memory ran out.
+/// What an instance gives and the assumptions lack, each once. The instance is the strand with this number.
 pub fn missing(
     alloc: Global,
     strand: usize,

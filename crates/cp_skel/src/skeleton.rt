@@ -13,12 +13,15 @@ use cp_term::VarTable;
 use std::alloc::{AllocError, Global};
 use std::marker::Model;
 
-/// A skeleton: its variables, those of its problem and those that were made on the way to it; strands, the order of their
-/// nodes beside the order of each strand, assumptions, and the way from the problem. Each is sound: its instances are of
-/// heights of their roles, which declare the variables of their events; its pairs go from a transmission to a reception of
-/// another strand, and its order has no cycle; its recorded origins are ones; and what its strands' roles give is assumed.
-/// Each entry of its map from the problem is one of its strands; and what the problem states itself it keeps: these
-/// assumptions are among its own, and these pairs are in its order.
+/// A skeleton: its variables (those of its problem and those made on the way to it), its strands, the order of their
+/// nodes in addition to the order of each strand, its assumptions, and the map from the problem (CPSA Primer,
+/// "Skeletons"; TACAS 2007, section 3).
+///
+/// Every skeleton is sound. The heights of its instances are heights of their roles, which declare the variables of
+/// their events. Its pairs go from a transmission to a reception of another strand, and its order has no cycle. Its
+/// recorded origins are origins, and what its strands' roles give is assumed. Each entry of the map from the problem is
+/// one of its strands. It keeps what the problem states itself: these assumptions are among its own, and these pairs
+/// are in its order.
 pub struct Skeleton {
     pub(crate) variables: VarTable,
     pub(crate) strands: Vec<Strand>,
@@ -27,7 +30,7 @@ pub struct Skeleton {
     pub(crate) from_problem: FromProblem,
 }
 
-// Where one is held it is dropped by one call, so that less is to be proved of who holds it.
+// Its holder drops it by one call, so that less is to be proved about the holder.
 impl Drop for Skeleton {
     fn drop(self) {
         let Skeleton {
@@ -58,7 +61,7 @@ impl Model for Skeleton {
 }
 
 impl Skeleton {
-    /// The skeleton of these parts, which have to be sound.
+    /// The skeleton of these parts, which must be sound.
     pub fn new(
         variables: VarTable,
         strands: Vec<Strand>,
@@ -113,7 +116,7 @@ impl Skeleton {
         &self.assumptions
     }
 
-    /// The way from its problem.
+    /// The map from its problem.
     pub fn from_problem(&self) -> &FromProblem
         ensures { result.now ≡ self.now.from_problem }
     {

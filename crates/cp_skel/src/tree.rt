@@ -2,7 +2,8 @@
 use crate::skeleton::{Node, Skeleton};
 use cp_term::{Pattern, Term};
 
-/// The greatest number of labels that are expanded, and the bound on the number of strands.
+/// The limits of a search: at most `steps` labels are expanded, and only labels with at most `strands` strands,
+/// listeners included.
 #[derive(Clone, Copy, Debug, PartialEq, Eq)]
 pub struct Limits {
     pub steps: u32,
@@ -16,15 +17,15 @@ pub enum Operation {
     Problem,
     /// The transmission at this node now carries the critical term.
     Contracted(Node),
-    /// The transmission at this node was put before the test's.
+    /// The transmission at this node was put before the test's node.
     Displaced(Node),
     /// A strand of a role was added; it has this number.
     AddedStrand(usize),
     /// A listener was added; it has this number.
     AddedListener(usize),
-    /// Strands of the problem were identified: for each of them, the lowest that it is identified with.
+    /// Strands of the problem were identified: for each strand, the lowest with which it is identified.
     Collapsed(Vec<usize>),
-    /// A realised label was made more general.
+    /// A realised label was generalised.
     Generalised,
 }
 
@@ -35,7 +36,7 @@ pub enum Mark {
     Dead,
     /// Isomorphic to this earlier label.
     Seen(usize),
-    /// This shape embeds in it.
+    /// The shape with this number embeds in it.
     InstanceOf(usize),
     LimitSteps,
     LimitStrands,
@@ -49,7 +50,8 @@ pub enum Outcome {
     LimitStrands,
 }
 
-/// An authentication test: a reception, and the component of its message that cannot be derived.
+/// An authentication test: a reception, and the component of its message that cannot be derived (Doghmi, Guttman and
+/// Thayer, TACAS 2007).
 #[derive(Drop)]
 pub struct Test {
     pub node: Node,
@@ -68,7 +70,7 @@ pub struct TreeNode {
     pub mark: Option<Mark>,
 }
 
-// Where one is held it is dropped by one call, so that less is to be proved of who holds it.
+// Its holder drops it by one call, so that less is to be proved about the holder.
 impl Drop for TreeNode {
     fn drop(self) {
         let TreeNode {

@@ -6,8 +6,8 @@ use cp_term::{Sort, VarId};
 use std::alloc::AllocError;
 
 impl Skeleton {
-    /// Makes a variable of this sort, later than all others, that is named after this identifier. The error is that memory
-    /// ran out; then nothing changes.
+    /// Makes a variable of this sort, later than all others, that is named after this identifier. On an error nothing
+    /// has changed.
     pub fn declare(&mut self, root: &str, sort: Sort) -> Result<VarId, AllocError>
         ensures later { IfOk result (λ v. v ≡ length self.old.variables) }
         ensures declared { OnOk result (self.new ≡ record self.old { variables = self.old.variables ++ record { root = root.now; sort = sort } ∷ [] }) }

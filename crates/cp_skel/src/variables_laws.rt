@@ -1,4 +1,4 @@
-// Laws on the variables of skeletons that are changed: each stands as the contract of a function that does nothing.
+// Laws on the variables of skeletons that change. Each is the contract of a function that does nothing.
 ghost use Rattle.std.specs.Prelude.{ℕ, List, ◌++◌};
 ghost use Rattle.cp_lists.specs.Lists.{IsIn};
 ghost use Rattle.cp_model.specs.Term.{Variable, Term, variables_of};
@@ -10,9 +10,9 @@ ghost use Rattle.cp_model.specs.PointOfView.{HasDeclaredVariables};
 ghost use Rattle.cp_skel.specs.Extensions.{AddsListener, IsClosedPrefix, AddsStrand, Extends};
 ghost use Rattle.cp_skel.specs.Ordered.{ordered_by};
 
-/// A skeleton all of whose variables are declared stays one when a listener is added on a term of declared variables; when
-/// an instance is added, or one grows, whose role declares the variables of its prefix, and for whose variables there are
-/// terms of declared variables; when more variables are declared; and when its order changes.
+/// A skeleton all of whose variables are declared stays one under these changes: a listener is added on a term of
+/// declared variables; an instance is added or grows whose role declares the variables of its prefix, and the terms for
+/// its variables have declared variables; more variables are declared; the order changes.
 pub fn changes_keep_declared_variables()
     ensures listener { (variables : List Declaration) (t : Term) (old new : Skeleton) → AddsListener t old new
         → ((x : Variable) → IsIn x (variables_of t) → IsDeclared variables x) → HasDeclaredVariables variables old → HasDeclaredVariables variables new }

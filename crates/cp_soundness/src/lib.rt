@@ -1,4 +1,5 @@
-//! The law that a skeleton all of whose receptions are derivable is realised, and an example that meets its premises.
+//! The soundness law: a skeleton whose receptions are all derivable is realised. With it comes an example that meets the
+//! premises.
 #![tactic(auto)]
 
 ghost use Rattle.cp_model.specs.Realisation.{AllDerivable, KeepsAssumptions};
@@ -8,15 +9,14 @@ ghost use Rattle.cp_model.specs.Standing.{IsRealised};
 ghost use Rattle.cp_model.specs.Strand.{Protocol};
 ghost use Rattle.cp_soundness.specs.Heard.{heard_skeleton};
 
-/// The law that a skeleton over a protocol is realised, where its assumptions are true of its role strands, and each
-/// of its receptions has a message that is derivable there.
+/// A skeleton over a protocol is realised if its assumptions are true of its role strands and the message of each of its
+/// receptions is derivable there.
 #[tactic(auto, using(crate::proofs::Realised::realised))]
 pub fn derivable_skeleton_is_realised()
     ensures { (protocol : Protocol) (k : Skeleton) → IsSkeleton protocol k → KeepsAssumptions k → AllDerivable k → IsRealised protocol k }
 {}
 
-/// The law that a skeleton with a reception meets the premises of the law above: an instance of a role, and a listener
-/// that hears its message.
+/// An example that meets the premises of the law above: an instance of a role, and a listener that hears its message.
 #[tactic(auto, using(crate::proofs::Example::is_skeleton, crate::proofs::Example::keeps_assumptions, crate::proofs::Example::all_derivable))]
 pub fn derivable_skeleton_example()
     ensures skeleton { IsSkeleton example_protocol heard_skeleton }

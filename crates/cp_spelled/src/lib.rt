@@ -1,5 +1,8 @@
 //! Terms, patterns and maplets of a report read back: the first place at which their forms do not fit, and what they
 //! denote.
+//!
+//! Every public call that returns `AllocError` fails only if memory runs out. A call that takes a `FirstMisfit` notes
+//! in it the first place at which forms do not meet what its comment asks of them.
 #![tactic(auto)]
 
 mod maplets;

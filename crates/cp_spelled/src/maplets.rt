@@ -25,7 +25,7 @@ use cp_term::Term;
 use cp_variables::{FirstMisfit, Variables, identifier_of, no_more, second};
 use std::alloc::{AllocError, Global};
 
-/// The identifier of a wanted variable that was not mapped before has to stand here.
+/// The form must be the identifier of a wanted variable that was not mapped before.
 fn identifier_misfits(wanted: &Variables, before: &Taken, form: &Form, first: &mut FirstMisfit)
     ensures { first.new ≡ first_onto first.old
         (symbol_misfits (λ t. is_known (variable_named (map declaration_view wanted.now) t) && not (is_one_of t before.now)) (view form.now)) }
@@ -40,7 +40,7 @@ fn identifier_misfits(wanted: &Variables, before: &Taken, form: &Form, first: &m
     );
 }
 
-/// One term, of the sort of the variable if there is one, has to stand in a list at this place.
+/// The items of the list at this place must be one term, of the sort of the variable if there is one.
 fn one_value_misfits(
     scope: Scope<'_>,
     variable: Option<Variable>,
@@ -59,7 +59,7 @@ fn one_value_misfits(
     no_more(rest, first);
 }
 
-/// The identifier of a wanted variable and a term of its sort have to stand in a list at this place.
+/// The items of the list at this place must be the identifier of a wanted variable and a term of its sort.
 fn maplet_entries_misfits(
     scope: Scope<'_>,
     wanted: &Variables,
@@ -80,7 +80,7 @@ fn maplet_entries_misfits(
     one_value_misfits(scope, variable, place, rest, first);
 }
 
-/// A list that is a maplet of a wanted variable has to stand here.
+/// The form must be a list that is a maplet of a wanted variable.
 fn maplet_misfits(
     scope: Scope<'_>,
     wanted: &Variables,
@@ -98,7 +98,7 @@ fn maplet_misfits(
     maplet_entries_misfits(scope, wanted, before, *place, items.as_slice(), first);
 }
 
-/// Maplets of wanted variables, each once, have to stand here; the identifiers in front of them.
+/// The forms must be maplets of wanted variables, each mapped once. Returns the identifiers at their start.
 fn maplets_misfits(
     alloc: Global,
     scope: Scope<'_>,
@@ -131,8 +131,7 @@ fn are_mapped(wanted: &[Declaration], mapped: &Taken) -> bool
     true
 }
 
-/// Each of the wanted variables has to be mapped once by the maplets of a list at this place, and no other. The error is
-/// that memory ran out.
+/// The maplets of a list at this place must map each of the wanted variables once, and no other.
 pub fn mapping_misfits(
     alloc: Global,
     scope: Scope<'_>,
@@ -151,7 +150,7 @@ pub fn mapping_misfits(
     Ok(())
 }
 
-/// The identifiers in front of maplets.
+/// The identifiers at the start of maplets.
 fn identifiers_of(alloc: Global, maplets: &[Form]) -> Result<Taken, AllocError>
     ensures { IfOk result (λ names. names ≡ map identifier_of (map view maplets.now)) }
 {
@@ -163,7 +162,7 @@ fn identifiers_of(alloc: Global, maplets: &[Form]) -> Result<Taken, AllocError>
     Ok(identifiers)
 }
 
-/// The term of a maplet, if there is one.
+/// The term of a maplet, or a placeholder if there is no maplet.
 fn item_value(alloc: Global, scope: Scope<'_>, maplet: Option<&Form>) -> Result<Term, AllocError>
     ensures { IfOk result (λ t. t ≡ value_of_item (scope_view scope.entry) (option_map (λ f. view f.now) maplet.entry)) }
 {
@@ -173,7 +172,7 @@ fn item_value(alloc: Global, scope: Scope<'_>, maplet: Option<&Form>) -> Result<
     }
 }
 
-/// The term that maplets with these identifiers give one of them.
+/// The term that maplets with these identifiers give to one of them.
 fn value_mapped(
     alloc: Global,
     scope: Scope<'_>,
@@ -190,7 +189,7 @@ fn value_mapped(
     item_value(alloc, scope, item_at(maplets, place))
 }
 
-/// The terms that maplets give these variables, in their order. The error is that memory ran out.
+/// The terms that maplets give to these variables, in the order of the variables.
 pub fn values_mapped(
     alloc: Global,
     scope: Scope<'_>,

@@ -28,14 +28,14 @@ use cp_sexpr::Form;
 use cp_term::Sort;
 use cp_variables::{FirstMisfit, has_head, lacking, local_misfits, no_more};
 
-/// A term has to have this sort.
+/// The term must have this sort.
 pub(crate) fn sort_misfits(scope: Scope<'_>, sort: Sort, form: &Form, first: &mut FirstMisfit)
     ensures { first.new ≡ first_onto first.old (sort_misfits (scope_view scope.entry) (sort_view sort) (view form.now)) }
 {
     first.note_unless(has_sort(scope, sort, form), place_of(form));
 }
 
-/// Where a form is headed as a local and one may stand there, it has to be one.
+/// Where a local may stand, a form with the head of a local must be one.
 fn stated_local_misfits(scope: Scope<'_>, form: &Form, first: &mut FirstMisfit)
     ensures { first.new ≡ first_onto first.old
         (if is_local (scope_view scope.entry) (view form.now) then local_misfits (place_of (view form.now)) (entries_of (view form.now)) else []) }
@@ -45,7 +45,7 @@ fn stated_local_misfits(scope: Scope<'_>, form: &Form, first: &mut FirstMisfit)
     }
 }
 
-/// A variable of this sort has to stand here.
+/// The form must be a variable of this sort.
 fn variable_misfits(scope: Scope<'_>, sort: Sort, form: &Form, first: &mut FirstMisfit)
     ensures { first.new ≡ first_onto first.old (variable_misfits (scope_view scope.entry) (sort_view sort) (view form.now)) }
 {
@@ -55,7 +55,7 @@ fn variable_misfits(scope: Scope<'_>, sort: Sort, form: &Form, first: &mut First
     first.merge(inner);
 }
 
-/// One variable of this sort has to stand in a list at this place.
+/// The items of the list at this place must be one variable of this sort.
 fn one_variable_misfits(
     scope: Scope<'_>,
     sort: Sort,
@@ -73,7 +73,7 @@ fn one_variable_misfits(
     no_more(rest, first);
 }
 
-/// Two variables of sort name have to stand in a list at this place.
+/// The items of the list at this place must be two variables of sort name.
 fn two_names_misfits(scope: Scope<'_>, place: Place, items: &[Form], first: &mut FirstMisfit)
     ensures { first.new ≡ first_onto first.old (variables_misfits (scope_view scope.entry) (name_sort ∷ name_sort ∷ []) place (map view items.now)) }
 {
@@ -92,7 +92,7 @@ fn is_purpose(items: &[Form]) -> bool
     matches!(items.first(), Some(Form::String(..)))
 }
 
-/// The entries behind a purpose, if one stands first.
+/// The entries after the purpose, if one comes first.
 fn behind_purpose(items: &[Form]) -> &[Form]
     ensures { map view result.now ≡ behind_purpose (map view items.now) }
 {
@@ -103,14 +103,14 @@ fn behind_purpose(items: &[Form]) -> &[Form]
     }
 }
 
-/// The name of a public or private key has to stand in a list at this place, behind its purpose if it has one.
+/// The items of the list at this place must be the name of a public or private key, after its purpose if it has one.
 fn name_misfits(scope: Scope<'_>, place: Place, items: &[Form], first: &mut FirstMisfit)
     ensures { first.new ≡ first_onto first.old (name_misfits (scope_view scope.entry) place (map view items.now)) }
 {
     one_variable_misfits(scope, Sort::Name, place, behind_purpose(items), first);
 }
 
-/// No `cat` may stand here.
+/// The form, if there is one, must be no `cat`.
 fn spread_misfits(form: Option<&Form>, first: &mut FirstMisfit)
     ensures { first.new ≡ first_onto first.old (spread_misfits (option_map (λ f. view f.now) form.entry)) }
 {
@@ -119,7 +119,7 @@ fn spread_misfits(form: Option<&Form>, first: &mut FirstMisfit)
     }
 }
 
-/// A key has to stand here.
+/// The form, if there is one, must be a key.
 fn last_key_misfits(scope: Scope<'_>, form: Option<&Form>, first: &mut FirstMisfit)
     ensures { first.new ≡ first_onto first.old (last_key_misfits (scope_view scope.entry) (option_map (λ f. view f.now) form.entry)) }
 {
@@ -128,7 +128,7 @@ fn last_key_misfits(scope: Scope<'_>, form: Option<&Form>, first: &mut FirstMisf
     }
 }
 
-/// The entries of a `cat` but for what is inside each.
+/// Notes where the entries of a `cat` do not fit, except inside the entries.
 fn pairing_misfits(place: Place, items: &[Form], first: &mut FirstMisfit)
     ensures { first.new ≡ first_onto first.old (lacking 2 place (map view items.now) ++ spread_misfits (last_form (map view items.now))) }
 {
@@ -136,7 +136,7 @@ fn pairing_misfits(place: Place, items: &[Form], first: &mut FirstMisfit)
     spread_misfits(last_item(items), first);
 }
 
-/// The entries of an encryption but for what is inside each.
+/// Notes where the entries of an encryption do not fit, except inside the entries.
 fn encryption_misfits(scope: Scope<'_>, place: Place, items: &[Form], first: &mut FirstMisfit)
     ensures { first.new ≡ first_onto first.old (own_misfits (scope_view scope.entry) place encrypt (map view items.now)) }
 {
@@ -145,7 +145,7 @@ fn encryption_misfits(scope: Scope<'_>, place: Place, items: &[Form], first: &mu
     last_key_misfits(scope, last_item(items), first);
 }
 
-/// Where a list in a term does not fit but for what is inside its items; the items that have to be terms.
+/// Notes where a list in a term does not fit, except inside its items. Returns the items that must be terms.
 fn own_misfits<'a>(scope: Scope<'_>, list: HeadedList<'a>, first: &mut FirstMisfit) -> &'a [Form]
     ensures judged { map view result.now ≡ judged (term_head list.entry.head.now) (map view list.entry.items.now) }
     ensures misfits { first.new ≡ first_onto first.old
@@ -181,8 +181,8 @@ fn own_misfits<'a>(scope: Scope<'_>, list: HeadedList<'a>, first: &mut FirstMisf
     }
 }
 
-/// Where a list in a term does not fit but for what is inside its items, also where it is headed as a local; the items that
-/// have to be terms.
+/// Notes where a list in a term, possibly with the head of a local, does not fit, except inside its items. Returns the
+/// items that must be terms.
 fn headed_misfits<'a>(scope: Scope<'_>, list: HeadedList<'a>, first: &mut FirstMisfit) -> &'a [Form]
     ensures judged { map view result.now ≡ headed_judged (scope_view scope.entry) list.entry.head.now (map view list.entry.items.now) }
     ensures misfits { first.new ≡ first_onto first.old
@@ -196,7 +196,7 @@ fn headed_misfits<'a>(scope: Scope<'_>, list: HeadedList<'a>, first: &mut FirstM
     }
 }
 
-/// Where a form that is no list with a head is no term.
+/// Notes where a form that is no list with a head is no term.
 fn leaf_misfits(scope: Scope<'_>, form: &Form, first: &mut FirstMisfit)
     ensures { headed (view form.now) ≡ None
         → first.new ≡ first_onto first.old (term_misfits (scope_view scope.entry) (view form.now)) }
@@ -211,7 +211,7 @@ fn leaf_misfits(scope: Scope<'_>, form: &Form, first: &mut FirstMisfit)
     }
 }
 
-/// Where a form is no term in the spelling of a report: the least forms that do not fit.
+/// Notes where a form is no term in the spelling of a report: the innermost forms that do not fit.
 pub fn term_misfits(scope: Scope<'_>, form: &Form, first: &mut FirstMisfit)
     ensures { first.new ≡ first_onto first.old (term_misfits (scope_view scope.entry) (view form.now)) }
 {
@@ -224,7 +224,7 @@ pub fn term_misfits(scope: Scope<'_>, form: &Form, first: &mut FirstMisfit)
     }
 }
 
-/// A term has to have the sort of the variable, if there is one.
+/// The term must have the sort of the variable, if there is one.
 fn wanted_sort_misfits(
     scope: Scope<'_>,
     variable: Option<Variable>,
@@ -238,7 +238,7 @@ fn wanted_sort_misfits(
     }
 }
 
-/// A term has to stand here, of the sort of the variable if there is one.
+/// The form must be a term, of the sort of the variable if there is one.
 pub fn value_misfits(
     scope: Scope<'_>,
     variable: Option<Variable>,
@@ -251,7 +251,7 @@ pub fn value_misfits(
     term_misfits(scope, form, first);
 }
 
-/// A term of the sort of an atom has to stand here.
+/// The form must be a term of an atom sort.
 pub fn atom_misfits(scope: Scope<'_>, form: &Form, first: &mut FirstMisfit)
     ensures { first.new ≡ first_onto first.old (atom_misfits (scope_view scope.entry) (view form.now)) }
 {

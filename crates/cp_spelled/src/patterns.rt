@@ -15,7 +15,7 @@ use cp_term::{Locals as Numbers, Pattern, VarId};
 use cp_variables::{FirstMisfit, Local, Locals, Variables, has_head, locals_in, locals_of};
 use std::alloc::{AllocError, Global};
 
-/// Where a form is no pattern; its locals.
+/// Notes where a form is no pattern. Returns its locals.
 fn misfits_and_locals(
     alloc: Global,
     variables: &Variables,
@@ -37,7 +37,7 @@ fn misfits_and_locals(
     Ok(locals)
 }
 
-/// Where a form is no pattern. The error is that memory ran out.
+/// Notes where a form is no pattern.
 pub fn pattern_misfits(
     alloc: Global,
     variables: &Variables,
@@ -50,7 +50,7 @@ pub fn pattern_misfits(
     Ok(())
 }
 
-/// The numbers of locals behind as many variables as there are.
+/// The numbers of the locals, which follow those of so many variables.
 fn numbers_of(alloc: Global, count: usize, locals: &[Local]) -> Result<Numbers, AllocError>
     ensures { IfOk result (λ numbers. numbers ≡ map (λ x. x.number) (variables_of_locals count (map local_view locals.now))) }
 {
@@ -62,7 +62,7 @@ fn numbers_of(alloc: Global, count: usize, locals: &[Local]) -> Result<Numbers, 
     Ok(numbers)
 }
 
-/// The pattern that a form is, which fits and has these locals.
+/// The pattern that a form is. The form must be a pattern and have these locals.
 fn pattern_with(
     alloc: Global,
     variables: &Variables,
@@ -83,7 +83,7 @@ fn pattern_with(
     Ok(Pattern::new(term, numbers))
 }
 
-/// The pattern that a form is, where it fits. The error is that memory ran out.
+/// The pattern that a form is, or `None` if it is none.
 pub fn pattern_of(
     alloc: Global,
     variables: &Variables,

@@ -1,4 +1,4 @@
-// What may stand where a variable may, and the sorts of terms.
+// What may stand for a variable, and the sorts of terms.
 ghost use Rattle.std.specs.Prelude.{◌≡◌, ◌&&◌, ◌||◌, option_map, None, codes, if◌then◌else◌};
 ghost use Rattle.cp_model.specs.Term.{skey_sort, akey_sort};
 ghost use Rattle.cp_model.specs.Same.{same_text};
@@ -19,7 +19,7 @@ use cp_sexpr::Form;
 use cp_term::Sort;
 use cp_variables::{Local, Locals, Variables, is_any, is_same_sort, local_by};
 
-/// What may stand where a variable may: the variables of a label form by their identifiers, and in a pattern its locals.
+/// What may stand for a variable: the variables of a label form by their identifiers, and in a pattern its locals.
 #[derive(Clone, Copy)]
 pub struct Scope<'a> {
     pub variables: &'a Variables,
@@ -27,14 +27,14 @@ pub struct Scope<'a> {
     pub locals: &'a Locals,
 }
 
-/// Whether a form is headed as a local where one may stand.
+/// Whether a form has the head of a local, where a local may stand.
 pub(crate) fn is_local(scope: Scope<'_>, form: &Form) -> bool
     ensures { result ≡ is_local (scope_view scope.entry) (view form.now) }
 {
     is_any(form) && scope.in_pattern
 }
 
-/// Whether a list with this head is a local where it stands.
+/// Whether a list with this head is a local here.
 pub(crate) fn is_local_head(scope: Scope<'_>, head: &[u8]) -> bool
     ensures { result ≡ (same_text head.now (codes "any") && scope.entry.in_pattern) }
 {
@@ -125,7 +125,7 @@ fn sort_by_shape(form: &Form) -> Option<TermSort>
     }
 }
 
-/// The sort of a term, by its head alone; none where it cannot be known.
+/// The sort of a term, decided by its head alone; `None` if it cannot be known.
 fn sort_in(scope: Scope<'_>, form: &Form) -> Option<TermSort>
     ensures { option_map term_sort_view result ≡ sort_in (scope_view scope.entry) (view form.now) }
 {
@@ -135,7 +135,7 @@ fn sort_in(scope: Scope<'_>, form: &Form) -> Option<TermSort>
     }
 }
 
-/// Whether a term has this sort; where its sort cannot be known it passes.
+/// Whether a term has this sort; also `true` if its sort cannot be known.
 pub(crate) fn has_sort(scope: Scope<'_>, sort: Sort, form: &Form) -> bool
     ensures { result ≡ is_sort (sort_view sort) (sort_in (scope_view scope.entry) (view form.now)) }
 {
@@ -146,7 +146,7 @@ pub(crate) fn has_sort(scope: Scope<'_>, sort: Sort, form: &Form) -> bool
     }
 }
 
-/// Whether a term has a sort of keys; where its sort cannot be known it passes.
+/// Whether a term has a sort of keys; also `true` if its sort cannot be known.
 pub(crate) fn has_key_sort(scope: Scope<'_>, form: &Form) -> bool
     ensures { result ≡ (is_sort skey_sort (sort_in (scope_view scope.entry) (view form.now))
         || is_sort akey_sort (sort_in (scope_view scope.entry) (view form.now))) }
@@ -154,7 +154,7 @@ pub(crate) fn has_key_sort(scope: Scope<'_>, form: &Form) -> bool
     has_sort(scope, Sort::Skey, form) || has_sort(scope, Sort::Akey, form)
 }
 
-/// Whether a term has the sort of an atom; where its sort cannot be known it passes.
+/// Whether a term has an atom sort; also `true` if its sort cannot be known.
 pub(crate) fn has_atom_sort(scope: Scope<'_>, form: &Form) -> bool
     ensures { result ≡ is_atom (sort_in (scope_view scope.entry) (view form.now)) }
 {

@@ -17,7 +17,7 @@ use cp_term::{Term, tag};
 use cp_variables::local_by;
 use std::alloc::{AllocError, Global};
 
-/// The number that stands this many places behind another. The error is that there is no such number.
+/// The number that is this many places after another. The error is that there is no such number.
 pub(crate) fn number_behind(number: usize, places: usize) -> Result<usize, AllocError>
     ensures { IfOk result (λ n. n ≡ number + places) }
 {
@@ -27,7 +27,7 @@ pub(crate) fn number_behind(number: usize, places: usize) -> Result<usize, Alloc
     }
 }
 
-/// What the entries behind the head of a local stand for.
+/// What the entries after the head of a local stand for.
 fn local_term(alloc: Global, scope: Scope<'_>, items: &[Form]) -> Result<Term, AllocError>
     ensures { IfOk result (λ t. t ≡ term_of_variable (variable_of_local (scope_view scope.entry) (local_by (map view items.now)))) }
 {
@@ -65,7 +65,7 @@ fn leaf_term(alloc: Global, scope: Scope<'_>, form: &Form) -> Result<Term, Alloc
     }
 }
 
-/// What a list with a head stands for, whose items stand for these terms; as a local it does not depend on them.
+/// What a list with a head stands for, if its items stand for these terms. A local does not depend on them.
 fn headed_term(
     alloc: Global,
     scope: Scope<'_>,
@@ -81,7 +81,7 @@ fn headed_term(
     }
 }
 
-/// What a term stands for. The error is that memory ran out.
+/// What a term stands for.
 pub fn term_in(alloc: Global, scope: Scope<'_>, form: &Form) -> Result<Term, AllocError>
     ensures { IfOk result (λ t. t ≡ term_in (scope_view scope.entry) (view form.now)) }
 {
@@ -96,8 +96,7 @@ pub fn term_in(alloc: Global, scope: Scope<'_>, form: &Form) -> Result<Term, All
     headed_term(alloc, scope, list, terms)
 }
 
-/// What a form stands for, if there is one; what stands where there is none has no meaning. The error is
-/// that memory ran out.
+/// What a form stands for, if there is one. Without a form the result has no meaning.
 pub fn term_or_tag(alloc: Global, scope: Scope<'_>, form: Option<&Form>) -> Result<Term, AllocError>
     ensures { IfOk result (λ t. t ≡ term_or_tag (scope_view scope.entry) (option_map (λ f. view f.now) form.entry)) }
 {
@@ -107,7 +106,7 @@ pub fn term_or_tag(alloc: Global, scope: Scope<'_>, form: Option<&Form>) -> Resu
     }
 }
 
-/// The atom that a form stands for. The error is that memory ran out.
+/// The atom that a form stands for.
 pub fn atom_in(alloc: Global, scope: Scope<'_>, form: &Form) -> Result<Atom, AllocError>
     ensures { IfOk result (λ a. a ≡ atom_in (scope_view scope.entry) (view form.now)) }
 {

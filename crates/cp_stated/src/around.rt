@@ -1,4 +1,4 @@
-// The items of a label form behind its strands that state its skeleton: where they do not fit.
+// The items of a label form after its strands that state its skeleton: where they do not fit.
 ghost use Rattle.std.specs.Prelude.{◌≡◌, map, IfOk, OnOk};
 ghost use Rattle.cp_model.specs.Given.{with_given};
 ghost use Rattle.cp_sexpr.specs.View.{view};
@@ -30,9 +30,9 @@ fn given_by(alloc: Global, strands: &[Strand]) -> Result<Assumptions, AllocError
     Ok(given)
 }
 
-/// Where the order, the assumptions and the map among the items of a label form, which stands at this place, do not fit.
-/// The names are those of the problem's variables in a report; the scope is that of the label's variables, and the strands
-/// are those that its items state. The error is that memory ran out.
+/// Notes where the order, the assumptions and the map among the items of a label form do not fit. The form stands at
+/// this place. The names are those of the problem's variables in a report; the scope has the label's variables; the
+/// strands are those that the items state.
 pub fn around_strands_misfits(
     alloc: Global,
     problem: &Draft,

@@ -8,7 +8,7 @@ use cp_forms::place_of;
 use cp_sexpr::Form;
 use cp_variables::has_head;
 
-/// Whether a form is headed as an instance or as a listener.
+/// Whether a form has the head of an instance or of a listener.
 pub(crate) fn is_strand(form: &Form) -> bool
     ensures { result ≡ has_head strand_heads (view form.now) }
 {
@@ -30,7 +30,7 @@ pub fn item_with<'a>(items: &'a [Form], word: &[u8]) -> Option<&'a Form>
     None
 }
 
-/// The place of an item, or where it is not there this one.
+/// The place of an item, or this place if there is none.
 pub(crate) fn place_or(place: Place, item: Option<&Form>) -> Place
     ensures { result ≡ place_or place (option_map (λ f. view f.now) item.entry) }
 {

@@ -25,7 +25,7 @@ use cp_variables::{FirstMisfit, Variables, any_number_misfits, has_head, no_more
 use std::alloc::{AllocError, Global};
 use std::rc::Rc;
 
-/// A form has to be the name of one of these roles.
+/// The form must be the name of one of these roles.
 fn role_name_misfits(roles: &[Rc<Role>], form: &Form, first: &mut FirstMisfit)
     ensures { first.new ≡ first_onto first.old (symbol_misfits (λ t. is_known (role_named (shared_roles_view roles.now) t)) (view form.now)) }
 {
@@ -44,7 +44,7 @@ fn is_height(role: &Role, height: usize) -> bool
     0 < height && height <= role.trace().len()
 }
 
-/// A form has to be a height of a role, if that is known.
+/// The form must be a height of the role, if the role is known.
 fn height_misfits(role: Option<&Rc<Role>>, form: &Form, first: &mut FirstMisfit)
     ensures { first.new ≡ first_onto first.old (height_misfits (option_map (λ r. r.now.value) role.entry) (view form.now)) }
 {
@@ -58,7 +58,7 @@ fn height_misfits(role: Option<&Rc<Role>>, form: &Form, first: &mut FirstMisfit)
     }
 }
 
-/// Those variables of a role that occur in these events.
+/// The variables of a role that occur in these events.
 fn declared_in_prefix(
     alloc: Global,
     prefix: &[Event],
@@ -79,7 +79,7 @@ fn declared_in_prefix(
     Ok(declared)
 }
 
-/// Maplets have to map the variables of a prefix of a role, if that is known.
+/// The maplets must map the variables of a prefix of the role, if the role is known.
 fn prefix_misfits(
     alloc: Global,
     scope: Scope<'_>,
@@ -98,7 +98,7 @@ fn prefix_misfits(
     mapping_misfits(alloc, scope, &wanted, place, maplets, first)
 }
 
-/// What stands behind the head of an instance has to be a role, a height of it, and maplets for its prefix.
+/// The head of an instance must be followed by a role, a height of it, and maplets for its prefix.
 fn instance_misfits(
     alloc: Global,
     roles: &[Rc<Role>],
@@ -125,7 +125,7 @@ fn instance_misfits(
     Ok(())
 }
 
-/// One term has to stand in a list at this place.
+/// The items of the list at this place must be one term.
 pub fn one_term_misfits(scope: Scope<'_>, place: Place, items: &[Form], first: &mut FirstMisfit)
     ensures { first.new ≡ first_onto first.old (entries_misfits (term_misfits (scope_view scope.entry) ∷ []) place (map view items.now)) }
 {
@@ -137,7 +137,7 @@ pub fn one_term_misfits(scope: Scope<'_>, place: Place, items: &[Form], first: &
     no_more(rest, first);
 }
 
-/// A form that is headed as a strand has to be one.
+/// A form with the head of a strand must be one.
 fn strand_misfits(
     alloc: Global,
     roles: &[Rc<Role>],
@@ -156,8 +156,8 @@ fn strand_misfits(
     Ok(())
 }
 
-/// Where the strands among the items of a label form do not fit: each is an instance of one of these roles or a listener.
-/// The error is that memory ran out.
+/// Notes where the strands among the items of a label form do not fit. Each must be an instance of one of these roles
+/// or a listener.
 pub fn strands_misfits(
     alloc: Global,
     roles: &[Rc<Role>],

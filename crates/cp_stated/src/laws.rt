@@ -1,4 +1,4 @@
-// What the skeletons that fitting items state are.
+// The skeletons that fitting items state.
 ghost use Rattle.std.specs.Prelude.{◌≡◌, List, []};
 ghost use Rattle.cp_base.specs.declared.place.Place.{Place};
 ghost use Rattle.cp_lists.specs.Lists.{IsIn};
@@ -10,8 +10,8 @@ ghost use Rattle.cp_skel.specs.Sound.{IsSound};
 ghost use Rattle.cp_strand.specs.Declares.{DeclaresItsVariables};
 ghost use Rattle.cp_report.specs.Skeletons.{strands_misfits, around_strands_misfits, skeleton_stated};
 
-/// Where the items of a label form that state its skeleton fit, this is a skeleton over the protocol of the problem; and
-/// it is sound where the roles of that protocol declare the variables of their events.
+/// If the items of a label form that state its skeleton fit, it is a skeleton over the protocol of the problem. It is
+/// sound if the roles of that protocol declare the variables of their events.
 pub fn fitting_items_state_sound_skeletons()
     ensures skeleton { (p : Problem) (at : Place) (items : List Form) → strands_misfits p items ≡ [] → around_strands_misfits p at items ≡ []
         → IsSkeleton p.protocol (skeleton_stated p items) }

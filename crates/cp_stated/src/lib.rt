@@ -1,4 +1,8 @@
-//! The items of a label form that state its skeleton, read back: where they do not fit, and the skeleton that they state.
+//! The items of a label form that state its skeleton, read back: where they do not fit, and the skeleton that they
+//! state.
+//!
+//! Every call that returns `AllocError` fails only if memory runs out. A call that takes a `FirstMisfit` notes in it
+//! the first place at which forms do not meet what its comment asks of them.
 #![tactic(auto)]
 
 mod around;

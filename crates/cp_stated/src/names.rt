@@ -13,7 +13,7 @@ use cp_term::{VarId, VarTable};
 use cp_variables::Variables;
 use std::alloc::{AllocError, Global};
 
-/// Whether the table has a variable of this number.
+/// Whether the table has a variable with this number.
 fn has_variable(table: &VarTable, number: usize) -> bool
     ensures { result ≡ nat_lt number (length table.now) }
 {
@@ -41,7 +41,7 @@ fn named_declarations(
     Ok(variables)
 }
 
-/// The variables of a problem under their names in a report. The error is that memory ran out.
+/// The variables of a problem under their names in a report.
 pub fn problem_variables(alloc: Global, problem: &Draft) -> Result<Variables, AllocError>
     ensures { IfOk result (λ v. map declaration_view v ≡ problem_variables (draft_view problem.now)) }
 {

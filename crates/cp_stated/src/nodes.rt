@@ -15,7 +15,7 @@ use cp_sexpr::Form;
 use cp_skel::{Node, Strand};
 use cp_variables::{FirstMisfit, any_number_misfits, no_more, one_number_misfits};
 
-/// Two numbers have to stand in a list at this place.
+/// The items of the list at this place must be two numbers.
 pub fn two_numbers_misfits(place: Place, items: &[Form], first: &mut FirstMisfit)
     ensures { first.new ≡ first_onto first.old (entries_misfits (any_number_misfits ∷ any_number_misfits ∷ []) place (map view items.now)) }
 {
@@ -27,7 +27,7 @@ pub fn two_numbers_misfits(place: Place, items: &[Form], first: &mut FirstMisfit
     one_number_misfits(place, rest, first);
 }
 
-/// A form has to be a list of two numbers.
+/// The form must be a list of two numbers.
 fn numbers_misfits(form: &Form, first: &mut FirstMisfit)
     ensures { first.new ≡ first_onto first.old (list_misfits (entries_misfits (any_number_misfits ∷ any_number_misfits ∷ [])) (view form.now)) }
 {
@@ -45,7 +45,7 @@ pub fn is_there(strands: &[Strand], node: Node) -> bool
     node_direction(strands, node).is_some()
 }
 
-/// A node that a form names has to be there.
+/// If a form names a node, the node must exist.
 fn there_misfits(strands: &[Strand], place: Place, node: Option<Node>, first: &mut FirstMisfit)
     ensures { first.new ≡ first_onto first.old (there_misfits (map strand_view strands.now) place node) }
 {
@@ -54,7 +54,7 @@ fn there_misfits(strands: &[Strand], place: Place, node: Option<Node>, first: &m
     }
 }
 
-/// A form has to be a node that is there.
+/// The form must be a node that exists.
 pub fn node_misfits(strands: &[Strand], form: &Form, first: &mut FirstMisfit)
     ensures { first.new ≡ first_onto first.old (node_misfits (map strand_view strands.now) (view form.now)) }
 {
@@ -62,7 +62,7 @@ pub fn node_misfits(strands: &[Strand], form: &Form, first: &mut FirstMisfit)
     there_misfits(strands, place_of(form), node_of(form), first);
 }
 
-/// One node that is there has to stand in what is left of a list at this place.
+/// The remaining items of the list at this place must be one node that exists.
 pub(crate) fn one_node_misfits(
     strands: &[Strand],
     place: Place,
@@ -79,7 +79,7 @@ pub(crate) fn one_node_misfits(
     no_more(rest, first);
 }
 
-/// The node that a form states; where there is none the first node.
+/// The node that a form states, or the first node if it states none.
 pub fn node_or_first(form: Option<&Form>) -> Node
     ensures { result ≡ node_or_first (option_node (option_map (λ f. view f.now) form.entry)) }
 {

@@ -23,7 +23,7 @@ use cp_skel::{Node, OrderPair, Strand};
 use cp_variables::{FirstMisfit, entries_under, lacking};
 use std::alloc::{AllocError, Global};
 
-/// Whether the two nodes are one.
+/// Whether the two nodes are the same.
 fn is_same_node(node: Node, other: Node) -> bool
     ensures { result ≡ same_node node other }
 {
@@ -42,7 +42,7 @@ fn has_pair(pairs: &[OrderPair], pair: OrderPair) -> bool
     false
 }
 
-/// The strands of a label, and pairs that stand before another; and whether these are said to have no cycle with it.
+/// The strands of a label and the pairs before another pair, and whether these are said to have no cycle with it.
 #[derive(Clone, Copy)]
 struct Before<'a> {
     strands: &'a [Strand],
@@ -50,7 +50,8 @@ struct Before<'a> {
     acyclic: bool,
 }
 
-/// Whether a pair goes from a transmission to a reception of another strand, stands not before, and closes no cycle.
+/// Whether a pair goes from a transmission to a reception of another strand, is not among those before it, and closes
+/// no cycle.
 fn is_further(alloc: Global, before: Before<'_>, pair: OrderPair) -> Result<bool, AllocError>
     requires { IsAcyclicIf before.acyclic (before.pairs.now ++ between_strands (Some pair)) }
     ensures { IfOk result (λ b. b ≡ is_further_pair (map strand_view before.entry.strands.now) before.entry.pairs.now (Some pair)) }
@@ -71,7 +72,7 @@ fn is_further(alloc: Global, before: Before<'_>, pair: OrderPair) -> Result<bool
     Ok(!closes)
 }
 
-/// The pair that a form states, if it does.
+/// The pair that a form states, if it states one.
 fn pair_stated(form: &Form) -> Option<OrderPair>
     ensures { result ≡ pair_stated (view form.now) }
 {
@@ -82,7 +83,7 @@ fn pair_stated(form: &Form) -> Option<OrderPair>
     )
 }
 
-/// Whether a pair may follow those before it, if it is there.
+/// Whether a pair may follow those before it; `true` if there is no pair.
 fn may_follow(
     alloc: Global,
     before: Before<'_>,
@@ -97,7 +98,7 @@ fn may_follow(
     }
 }
 
-/// Two nodes have to stand in a list at this place.
+/// The items of the list at this place must be two nodes.
 fn two_nodes_misfits(strands: &[Strand], place: Place, items: &[Form], first: &mut FirstMisfit)
     ensures { first.new ≡ first_onto first.old (entries_misfits (node_misfits (map strand_view strands.now) ∷ node_misfits (map strand_view strands.now) ∷ []) place (map view items.now)) }
 {
@@ -109,7 +110,7 @@ fn two_nodes_misfits(strands: &[Strand], place: Place, items: &[Form], first: &m
     one_node_misfits(strands, place, rest, first);
 }
 
-/// A form has to be a list of two nodes.
+/// The form must be a list of two nodes.
 fn nodes_misfits(strands: &[Strand], form: &Form, first: &mut FirstMisfit)
     ensures { first.new ≡ first_onto first.old (list_misfits (entries_misfits (node_misfits (map strand_view strands.now) ∷ node_misfits (map strand_view strands.now) ∷ [])) (view form.now)) }
 {
@@ -120,8 +121,8 @@ fn nodes_misfits(strands: &[Strand], form: &Form, first: &mut FirstMisfit)
     two_nodes_misfits(strands, *place, items.as_slice(), first);
 }
 
-/// The first misfit of a form that has to be a pair that may follow those before it. Where these are said to have no cycle
-/// with it, they have none.
+/// The first misfit of a form, which must be a pair that may follow those before it. If `before.acyclic`, those and
+/// this pair must have no cycle.
 fn pair_misfits(alloc: Global, before: Before<'_>, form: &Form) -> Result<FirstMisfit, AllocError>
     requires { IsAcyclicIf before.acyclic (before.pairs.now ++ pair_of (view form.now)) }
     ensures { IfOk result (λ inside. inside ≡ first_onto None (pair_misfits (map strand_view before.entry.strands.now) before.entry.pairs.now (view form.now))) }
@@ -133,7 +134,7 @@ fn pair_misfits(alloc: Global, before: Before<'_>, form: &Form) -> Result<FirstM
     Ok(inside)
 }
 
-/// Forms have to be pairs, each of which may follow those before it.
+/// The forms must be pairs, each of which may follow those before it.
 fn pairs_misfits(
     alloc: Global,
     strands: &[Strand],
@@ -159,7 +160,7 @@ fn pairs_misfits(
     Ok(())
 }
 
-/// The entries of an order have to be pairs, at least one.
+/// The entries of an order must be pairs, at least one.
 fn precedes_misfits(
     alloc: Global,
     strands: &[Strand],
@@ -173,7 +174,7 @@ fn precedes_misfits(
     pairs_misfits(alloc, strands, items, first)
 }
 
-/// Where the order among these items of a label form does not fit, if it is there.
+/// Notes where the order among these items of a label form, if there is one, does not fit.
 pub(crate) fn order_misfits(
     alloc: Global,
     strands: &[Strand],

@@ -20,14 +20,14 @@ use cp_term::Term;
 use cp_variables::{FirstMisfit, Variables};
 use std::alloc::{AllocError, Global};
 
-/// Whether there are more strands than this number says.
+/// Whether there is a strand with this number.
 fn has_strand(strands: &[Strand], number: usize) -> bool
     ensures { result ≡ nat_lt number (length strands.now) }
 {
     number < strands.len()
 }
 
-/// A form has to be the number of one of these strands.
+/// The form must be the number of one of these strands.
 pub fn strand_number_misfits(strands: &[Strand], form: &Form, first: &mut FirstMisfit)
     ensures { first.new ≡ first_onto first.old (strand_number_misfits (map strand_view strands.now) (view form.now)) }
 {
@@ -37,7 +37,7 @@ pub fn strand_number_misfits(strands: &[Strand], form: &Form, first: &mut FirstM
     }
 }
 
-/// Numbers of strands have to stand in a list at this place, one for each of the problem's.
+/// The items of the list at this place must be numbers of strands, one for each of the problem's.
 fn strand_numbers_misfits(
     problem: &[Strand],
     strands: &[Strand],
@@ -57,7 +57,7 @@ fn strand_numbers_misfits(
     first.note_unless(!has_strand(problem, items.len()), place);
 }
 
-/// A form has to be a list of numbers of strands, one for each of the problem's.
+/// The form must be a list of numbers of strands, one for each of the problem's.
 fn strands_mapped_misfits(
     problem: &[Strand],
     strands: &[Strand],
@@ -73,8 +73,8 @@ fn strands_mapped_misfits(
     strand_numbers_misfits(problem, strands, *place, items.as_slice(), first);
 }
 
-/// What a map goes from and to: the problem's strands and its variables under their names in a report, and the strands of
-/// the label, whose terms are read in this scope.
+/// The ends of a map: the problem's strands, its variables under their names in a report, and the strands of the label,
+/// with the scope in which terms are read.
 #[derive(Clone, Copy)]
 pub(crate) struct Ends<'a> {
     pub(crate) problem: &'a [Strand],
@@ -83,8 +83,7 @@ pub(crate) struct Ends<'a> {
     pub(crate) scope: Scope<'a>,
 }
 
-/// What stands behind the head of a map has to be a strand for each of the problem's, and a maplet for each of its
-/// variables.
+/// The head of a map must be followed by a strand for each of the problem's, and a maplet for each of its variables.
 fn map_entries_misfits(
     alloc: Global,
     ends: Ends<'_>,
@@ -103,7 +102,7 @@ fn map_entries_misfits(
     mapping_misfits(alloc, ends.scope, ends.names, place, maplets, first)
 }
 
-/// Where the map among these items of a label form does not fit, if it is there.
+/// Notes where the map among these items of a label form, if there is one, does not fit.
 pub(crate) fn map_misfits(
     alloc: Global,
     ends: Ends<'_>,
@@ -134,7 +133,7 @@ pub(crate) fn strands_mapped(alloc: Global, entries: &[Form]) -> Result<Vec<usiz
     Ok(numbers)
 }
 
-/// The terms that the entries of a map give the problem's variables, which have these names in a report.
+/// The terms that the entries of a map give to the problem's variables, which have these names in a report.
 pub(crate) fn values_of_map(
     alloc: Global,
     names: &Variables,

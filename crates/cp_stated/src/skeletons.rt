@@ -38,8 +38,8 @@ fn assumptions_under(
     Ok(Assumptions::new(non, penetrator_non, uniques))
 }
 
-/// The way from a problem, from which this is the way to its own skeleton, to these strands, pairs and assumptions, on which
-/// its strands go to these numbers and its variables to these values.
+/// The map from a problem to these strands, pairs and assumptions that sends its strands to these numbers and its
+/// variables to these values. `own` is the map from the problem to its own skeleton.
 fn from_problem_by(
     alloc: Global,
     own: &FromProblem,
@@ -56,9 +56,8 @@ fn from_problem_by(
     Ok(FromProblem::new(to_strands, values, images, ordered))
 }
 
-/// The skeleton that the items of a label form state, where they fit. The names are those of the problem's variables in a
-/// report; the scope is that of the label's variables, and the strands are those that its items state. The error is that
-/// memory ran out.
+/// The skeleton that the items of a label form state. They must fit. The names are those of the problem's variables in
+/// a report; the scope has the label's variables; the strands are those that the items state.
 pub fn skeleton_stated(
     alloc: Global,
     problem: &Draft,

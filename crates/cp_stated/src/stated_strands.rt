@@ -21,7 +21,7 @@ use cp_variables::has_head;
 use std::alloc::{AllocError, Global};
 use std::rc::Rc;
 
-/// The number that a form is; of any other form 0.
+/// The number that a form is, or 0 if it is none.
 pub fn number_of(form: &Form) -> usize
     ensures { result ≡ number_of (view form.now) }
 {
@@ -31,14 +31,14 @@ pub fn number_of(form: &Form) -> usize
     }
 }
 
-/// What stands where there is no strand.
+/// Placeholder for a strand that does not fit.
 fn no_strand(alloc: Global) -> Result<Strand, AllocError>
     ensures { IfOk result (λ s. strand_view s ≡ listener (tag_term [])) }
 {
     Strand::listener(alloc, tag(alloc, "")?)
 }
 
-/// The instance of a role, if that is known, with this height and these maplets.
+/// The instance of a role at this height with these maplets; a placeholder if the role is not known.
 fn instance_with(
     alloc: Global,
     scope: Scope<'_>,
@@ -56,7 +56,7 @@ fn instance_with(
     Strand::instance(alloc, Instance::new(role, height, values))
 }
 
-/// The instance with these items behind its head.
+/// The instance with these items after its head.
 fn instance_of(
     alloc: Global,
     roles: &[Rc<Role>],
@@ -89,8 +89,8 @@ fn strand_of(
     Strand::listener(alloc, message)
 }
 
-/// The strands that the items of a label form state, in order. What stands for one that does not fit has no meaning. The
-/// error is that memory ran out.
+/// The strands that the items of a label form state, in order. What stands for a strand that does not fit has no
+/// meaning.
 pub fn strands_of(
     alloc: Global,
     roles: &[Rc<Role>],

@@ -39,7 +39,7 @@ pub(crate) fn has_unique(uniques: &[UniqueAt], unique: &UniqueAt) -> bool
     cp_skel::has_unique(uniques, unique)
 }
 
-/// Whether all of the second are among the first.
+/// Whether all of `wanted` are among the others.
 fn has_uniques(uniques: &[UniqueAt], wanted: &[UniqueAt]) -> bool
     ensures { result ≡ has_uniques uniques.now wanted.now }
 {
@@ -51,14 +51,14 @@ fn has_uniques(uniques: &[UniqueAt], wanted: &[UniqueAt]) -> bool
     true
 }
 
-/// The event at a place, counted from 0.
+/// The event at an index, from 0.
 fn event_at(events: &[Event], index: usize) -> Option<&Event>
     ensures { option_map (λ e. event_view e.now) result ≡ item_at (map event_view events.now) index }
 {
     events.get(index)
 }
 
-/// Whether a role's event is under the terms of an instance a transmission that carries a value.
+/// Whether a role's event, under the terms of an instance, is a transmission that carries a value.
 fn is_sent_by(values: &[Term], event: &Event, value: &Atom) -> bool
     ensures { result ≡ carries_value value.now (Some (event_map (apply_to (substitution_by values.now)) (event_view event.now))) }
 {
@@ -68,7 +68,7 @@ fn is_sent_by(values: &[Term], event: &Event, value: &Atom) -> bool
     }
 }
 
-/// Whether the event at a place of an instance is a transmission that carries a value.
+/// Whether the event at an index of an instance is a transmission that carries a value.
 fn is_sent_on(instance: &Instance, value: &Atom, index: usize) -> bool
     ensures { result ≡ carries_value value.now (item_at (skeleton_trace (instance_view instance.now)) index) }
 {
@@ -78,7 +78,7 @@ fn is_sent_on(instance: &Instance, value: &Atom, index: usize) -> bool
     }
 }
 
-/// Whether a strand is an instance with a transmission at this place that carries a value.
+/// Whether a strand is an instance with a transmission at this index that carries a value.
 fn may_be_origin_on(strand: &Strand, value: &Atom, index: usize) -> bool
     ensures { result ≡ may_be_origin_on (strand_view strand.now) value.now index }
 {
@@ -98,7 +98,7 @@ fn may_be_origin(strands: &[Strand], value: &Atom, node: Node) -> bool
     }
 }
 
-/// The value that a form states, if it is there.
+/// The value that a form states, if there is a form.
 fn atom_if_there(alloc: Global, scope: Scope<'_>, form: Option<&Form>) -> Result<Atom, AllocError>
     ensures { IfOk result (λ a. a ≡ as_atom (term_or_tag (scope_view scope.entry) (option_map (λ f. view f.now) form.entry))) }
 {
@@ -117,7 +117,7 @@ fn unique_of(alloc: Global, scope: Scope<'_>, form: &Form) -> Result<UniqueAt, A
     Ok(UniqueAt::new(value, node_or_first(item_at(items, 1))))
 }
 
-/// The place of the second entry of a list; of a form without one its own.
+/// The place of the second entry of a list; of a form without one its own place.
 fn second_place(form: &Form) -> Place
     ensures { result ≡ second_place (view form.now) (second_form (list_items (view form.now))) }
 {
@@ -127,7 +127,7 @@ fn second_place(form: &Form) -> Place
     }
 }
 
-/// A value and a node have to stand in a list at this place.
+/// The items of the list at this place must be a value and a node.
 fn value_and_node_misfits(
     scope: Scope<'_>,
     strands: &[Strand],
@@ -145,7 +145,7 @@ fn value_and_node_misfits(
     one_node_misfits(strands, place, rest, first);
 }
 
-/// A form has to be a list of a value and a node.
+/// The form must be a list of a value and a node.
 fn entry_misfits(scope: Scope<'_>, strands: &[Strand], form: &Form, first: &mut FirstMisfit)
     ensures { first.new ≡ first_onto first.old (list_misfits (entries_misfits (atom_misfits (scope_view scope.entry) ∷ node_misfits (map strand_view strands.now) ∷ [])) (view form.now)) }
 {
@@ -156,7 +156,7 @@ fn entry_misfits(scope: Scope<'_>, strands: &[Strand], form: &Form, first: &mut 
     value_and_node_misfits(scope, strands, *place, items.as_slice(), first);
 }
 
-/// A form has to be this value with its recorded origin, and none of those before it.
+/// The form must be this value with its recorded origin, and none of those before it.
 fn unique_misfits(
     scope: Scope<'_>,
     strands: &[Strand],
@@ -176,7 +176,7 @@ fn unique_misfits(
     first.merge(inside);
 }
 
-/// Forms have to be values with their recorded origins, none of them twice; what they are.
+/// The forms must be values with their recorded origins, none of them twice. Returns them.
 fn uniques_misfits(
     alloc: Global,
     scope: Scope<'_>,
@@ -196,8 +196,8 @@ fn uniques_misfits(
     Ok(uniques)
 }
 
-/// The entries of the unique values, if they are there, have to be values with their recorded origins, at least one, and
-/// none of them twice; what they are.
+/// The entries of the unique values, if there are any, must be values with their recorded origins, at least one, and
+/// none of them twice. Returns them.
 fn optional_uniques_misfits(
     alloc: Global,
     scope: Scope<'_>,
@@ -217,8 +217,8 @@ fn optional_uniques_misfits(
     uniques_misfits(alloc, scope, strands, entries, first)
 }
 
-/// Where the unique values among the items of a label form, which stands at this place, do not fit, of which the roles of
-/// its strands give these.
+/// Notes where the unique values among the items of a label form at this place do not fit. `given` are those that the
+/// roles of its strands give.
 pub(crate) fn all_uniques_misfits(
     alloc: Global,
     scope: Scope<'_>,

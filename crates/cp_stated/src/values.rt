@@ -1,4 +1,4 @@
-// The values that a label form assumes: those that do not originate, and those that the penetrator does not originate.
+// The values that a label form assumes: those that originate nowhere, and those that the penetrator does not originate.
 ghost use Rattle.std.specs.Prelude.{◌≡◌, ◌++◌, [], map, option_map, IfOk, OnOk};
 ghost use Rattle.cp_model.specs.Given.{has_atom};
 ghost use Rattle.cp_sexpr.specs.View.{view};
@@ -26,7 +26,7 @@ pub(crate) fn has_atom(values: &[Atom], value: &Atom) -> bool
     cp_skel::has_atom(values, value)
 }
 
-/// Whether all of the second values are among the first.
+/// Whether all of `wanted` are among the others.
 fn has_atoms(values: &[Atom], wanted: &[Atom]) -> bool
     ensures { result ≡ has_atoms values.now wanted.now }
 {
@@ -38,7 +38,7 @@ fn has_atoms(values: &[Atom], wanted: &[Atom]) -> bool
     true
 }
 
-/// A form has to be this value, and none of those before it.
+/// The form must be this value, and none of those before it.
 fn atom_entry_misfits(
     scope: Scope<'_>,
     before: &[Atom],
@@ -55,7 +55,7 @@ fn atom_entry_misfits(
     first.merge(inside);
 }
 
-/// Forms have to be values, none of them twice; the values that they are.
+/// The forms must be values, none of them twice. Returns them.
 fn atoms_misfits(
     alloc: Global,
     scope: Scope<'_>,
@@ -74,8 +74,7 @@ fn atoms_misfits(
     Ok(values)
 }
 
-/// The entries of an assumption, if it is there, have to be values, at least one, and none of them twice; the values that
-/// they are.
+/// The entries of an assumption, if there is one, must be values, at least one, and none of them twice. Returns them.
 fn optional_atoms_misfits(
     alloc: Global,
     scope: Scope<'_>,
@@ -94,8 +93,8 @@ fn optional_atoms_misfits(
     atoms_misfits(alloc, scope, entries, first)
 }
 
-/// Where the assumption with this head among the items of a label form, which stands at this place, does not fit, of which
-/// the roles of its strands give these values.
+/// Notes where the assumption with this head among the items of a label form at this place does not fit. `given` are
+/// the values that the roles of its strands give.
 pub(crate) fn values_misfits(
     alloc: Global,
     scope: Scope<'_>,

@@ -1,4 +1,4 @@
-// Atoms: terms of the sorts of atoms.
+// Atoms: terms of the atom sorts.
 ghost use Rattle.std.specs.Prelude.{◌≡◌, ◌↔◌, IfOk, IfSome, IfNone, IsTrue};
 ghost use Rattle.cp_lists.specs.Lists.{IsIn};
 ghost use Rattle.cp_model.specs.Term.{AtomTerm, atom_term};
@@ -9,7 +9,7 @@ use cp_term::{Shape, Term};
 use std::alloc::AllocError;
 use std::marker::Model;
 
-/// A term of a sort of atoms.
+/// A term of an atom sort.
 #[derive(Drop)]
 pub struct Atom {
     term: Term,
@@ -65,7 +65,7 @@ impl Atom {
         self.as_term().same(other.as_term())
     }
 
-    /// Another handle to the same atom. The error is that memory ran out.
+    /// Another handle to the same atom.
     pub fn copy(&self) -> Result<Atom, AllocError>
         ensures { IfOk result (λ a. a ≡ self.now) }
     {

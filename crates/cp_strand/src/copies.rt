@@ -5,7 +5,7 @@ use crate::atom::Atom;
 use cp_term::Term;
 use std::alloc::{AllocError, Global};
 
-/// The same terms again. The error is that memory ran out.
+/// Copies of these terms.
 pub fn copy_terms(alloc: Global, terms: &[Term]) -> Result<Vec<Term>, AllocError>
     ensures { IfOk result (λ v. v.items ≡ terms.now) }
 {
@@ -16,7 +16,7 @@ pub fn copy_terms(alloc: Global, terms: &[Term]) -> Result<Vec<Term>, AllocError
     Ok(copies)
 }
 
-/// The same atoms again. The error is that memory ran out.
+/// Copies of these atoms.
 pub fn copy_atoms(alloc: Global, atoms: &[Atom]) -> Result<Vec<Atom>, AllocError>
     ensures { IfOk result (λ v. v.items ≡ atoms.now) }
 {

@@ -15,15 +15,15 @@ use crate::values::ByNumber;
 use cp_term::{Term, substituted};
 use std::alloc::{AllocError, Global};
 
-/// A role's term under the terms of an instance: variable number i becomes the i-th of these, where that is of its sort.
-/// The error is that memory ran out.
+/// A role's term under the terms of an instance: variable number i is replaced by the term number i, if that is of its
+/// sort.
 pub fn applied(alloc: Global, values: &[Term], term: &Term) -> Result<Term, AllocError>
     ensures { IfOk result (λ t. t ≡ apply_to (substitution_by values.now) term.now) }
 {
     substituted(alloc, &ByNumber { terms: values }, term)
 }
 
-/// An atom of a role under the terms of an instance. The error is that memory ran out.
+/// An atom of a role under the terms of an instance.
 pub fn applied_atom(alloc: Global, values: &[Term], atom: &Atom) -> Result<Atom, AllocError>
     ensures { IfOk result (λ a. a ≡ apply_to_atom (substitution_by values.now) atom.now) }
 {
@@ -43,14 +43,14 @@ fn applied_event(alloc: Global, values: &[Term], event: &Event) -> Result<Event,
     }
 }
 
-/// The event at a place, counted from 0.
+/// The event at an index, from 0.
 pub(crate) fn event_at(events: &[Event], place: usize) -> Option<&Event>
     ensures { option_map (λ e. event_view e.now) result ≡ item_at (map event_view events.now) place }
 {
     events.get(place)
 }
 
-/// The event at a place of an instance, counted from 0.
+/// The event at an index of an instance, from 0.
 fn instance_event(
     alloc: Global,
     instance: &Instance,
@@ -79,8 +79,8 @@ fn instance_events(alloc: Global, instance: &Instance) -> Result<Vec<Event>, All
     Ok(applied)
 }
 
-/// The events of an instance that a strand holds: all of them where its role is small, and else none, since those of many
-/// strands could take much memory.
+/// The events that a strand keeps for an instance: all of them if its role is small, otherwise none, since the events
+/// of many strands could take much memory.
 pub(crate) fn held_events(
     alloc: Global,
     instance: &Instance,
@@ -93,7 +93,7 @@ pub(crate) fn held_events(
     Ok(Some(instance_events(alloc, instance)?))
 }
 
-/// The same event again.
+/// A copy of the event.
 fn copy_of(event: &Event) -> Result<Event, AllocError>
     ensures { IfOk result (λ e. event_view e ≡ event_view event.now) }
 {
@@ -103,7 +103,7 @@ fn copy_of(event: &Event) -> Result<Event, AllocError>
     }
 }
 
-/// The event at a place among these, counted from 0.
+/// A copy of the event at an index, from 0.
 fn copy_at(events: &[Event], index: usize) -> Result<Option<Event>, AllocError>
     ensures { IfOk result (λ e. option_map event_view e ≡ item_at (map event_view events.now) index) }
 {
@@ -113,7 +113,7 @@ fn copy_at(events: &[Event], index: usize) -> Result<Option<Event>, AllocError>
     }
 }
 
-/// The event at a place of a listener, counted from 0.
+/// The event at an index of a listener, from 0.
 fn listener_event(message: &Term, index: usize) -> Result<Option<Event>, AllocError>
     ensures { IfOk result (λ e. option_map event_view e ≡ item_at (skeleton_trace (listener message.now)) index) }
 {
@@ -125,7 +125,7 @@ fn listener_event(message: &Term, index: usize) -> Result<Option<Event>, AllocEr
 }
 
 impl Strand {
-    /// The events of the strand, where it holds them.
+    /// The events of the strand, if it keeps them.
     pub fn held(&self) -> Option<&[Event]>
         ensures { IfSome result (λ es. map event_view es.now ≡ skeleton_trace (strand_view self.now)) }
     {
@@ -135,7 +135,7 @@ impl Strand {
         }
     }
 
-    /// The event at a place of the strand, counted from 0. The error is that memory ran out.
+    /// The event at an index of the strand, from 0.
     pub fn event(&self, alloc: Global, index: usize) -> Result<Option<Event>, AllocError>
         ensures { IfOk result (λ e. option_map event_view e ≡ item_at (skeleton_trace (strand_view self.now)) index) }
     {

@@ -14,7 +14,7 @@ use cp_term::{Sort, Term, VarId, var};
 use std::alloc::{AllocError, Global};
 use std::rc::Rc;
 
-/// A copy of a term, or else the variable itself.
+/// A copy of a term, or the variable itself if there is none.
 fn term_or_variable(
     alloc: Global,
     term: Option<&Term>,
@@ -29,8 +29,8 @@ fn term_or_variable(
     }
 }
 
-/// The terms of a role's variables: those that occur in the prefix and not in the earlier one take the values in their
-/// order, the others keep their old terms.
+/// The terms of a role's variables: those that occur in the prefix and not in the earlier one take the values in order;
+/// the others keep their old terms.
 fn terms_of(
     alloc: Global,
     role: &Role,
@@ -59,8 +59,8 @@ fn terms_of(
     Ok(terms)
 }
 
-/// An instance of a role at a height: of the variables of its prefix those that do not occur in the earlier one become
-/// the values, in the order of their declarations, and the others keep their old terms. The error is that memory ran out.
+/// An instance of a role at a height. The variables of its prefix that do not occur in the earlier one become the
+/// values, in the order of their declarations; the others keep their old terms.
 pub fn instance_of(
     alloc: Global,
     role: &Rc<Role>,

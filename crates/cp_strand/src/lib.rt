@@ -1,4 +1,7 @@
-//! Roles, protocols, and strands of skeletons as the program keeps them. Contracts see them as plain data.
+//! Roles, protocols, and strands of skeletons (CPSA Primer, "Strand Spaces") as the program keeps them. Contracts see
+//! them as plain data.
+//!
+//! Every call that returns `AllocError` fails only if memory runs out.
 #![tactic(auto)]
 
 mod atom;

@@ -10,7 +10,7 @@ use crate::atom::Atom;
 use crate::protocol::{Event, Role};
 use cp_term::{Shape, Sort, Term, VarId};
 
-/// The first events of a role, as many as the height says.
+/// The first `height` events of a role.
 pub fn prefix_of(role: &Role, height: usize) -> &[Event]
     ensures { map event_view result.now ≡ prefix_of role.now height }
 {

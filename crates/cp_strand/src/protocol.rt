@@ -10,8 +10,7 @@ use cp_term::{Shape, Sort, Term};
 use std::marker::Model;
 use std::rc::Rc;
 
-/// A declared variable. Its number is its place in the list of declarations, counted from 0. The sort is one of
-/// atoms.
+/// A declared variable, of an atom sort. Its number is its place in the list of declarations, from 0.
 #[derive(Drop)]
 pub struct Declaration {
     pub identifier: Text,
@@ -37,8 +36,8 @@ impl Event {
     }
 }
 
-/// A role: its name, its variables, its events, and its assumptions. It declares the variables of its events. Beside these it is
-/// kept whether it is small; contracts see nothing of that.
+/// A role: its name, its variables, its events and its assumptions. It declares the variables of its events. It also
+/// keeps whether it is small, which contracts do not see.
 pub struct Role {
     name: Text,
     variables: Vec<Declaration>,
@@ -49,7 +48,7 @@ pub struct Role {
     is_small: bool,
 }
 
-// Where one is held it is dropped by one call, so that less is to be proved of who holds it.
+// Its holder drops it by one call, so that less is to be proved about the holder.
 impl Drop for Role {
     fn drop(self) {
         let Role {
@@ -67,7 +66,7 @@ impl Drop for Role {
 /// The messages of a small role have fewer parts than this.
 const PARTS: usize = 64;
 
-/// What is left of so many parts when those of a message are taken away, down to 0; the key of an encryption is not counted.
+/// What remains of so many parts without those of a message, at least 0. The key of an encryption is not counted.
 fn left_over(parts: usize, message: &Term) -> usize
     ensures { result ≤ parts }
 {
@@ -89,7 +88,7 @@ fn left_over(parts: usize, message: &Term) -> usize
     }
 }
 
-/// Whether the messages of all these events have few parts together.
+/// Whether the messages of all these events together have few parts.
 fn are_small(events: &[Event]) -> bool {
     let mut left = PARTS;
     for event in events {
@@ -116,9 +115,9 @@ impl Model for Role {
 }
 
 impl Role {
-    /// The role with this name, these variables, whose numbers are their places, these events, and what it assumes of the
-    /// values that do not originate, that the penetrator does not originate, and that originate once. It has to declare the
-    /// variables of its events.
+    /// The role with this name, these variables, numbered by their places, these events, and these assumptions: the
+    /// values that originate nowhere, those that the penetrator does not originate, and those that originate uniquely.
+    /// It must declare the variables of its events.
     pub fn new(
         name: Text,
         variables: Vec<Declaration>,
@@ -163,7 +162,7 @@ impl Role {
         let _ = &self.variables;
     }
 
-    /// Whether the messages of its events have few parts together, so that strands may hold their events.
+    /// Whether the messages of its events together have few parts, so that strands may keep its events.
     pub(crate) fn is_small(&self) -> bool {
         self.is_small
     }
@@ -189,21 +188,21 @@ impl Role {
         &self.trace
     }
 
-    /// The values that do not originate.
+    /// The values that originate nowhere (`non-orig`).
     pub fn non_originating(&self) -> &[Atom]
         ensures { result.now ≡ self.now.non_originating }
     {
         &self.non_originating
     }
 
-    /// The values that the penetrator does not originate.
+    /// The values that the penetrator does not originate (`pen-non-orig`).
     pub fn penetrator_non_originating(&self) -> &[Atom]
         ensures { result.now ≡ self.now.penetrator_non_originating }
     {
         &self.penetrator_non_originating
     }
 
-    /// The values that originate once.
+    /// The values that originate uniquely (`uniq-orig`).
     pub fn uniquely_originating(&self) -> &[Atom]
         ensures { result.now ≡ self.now.uniquely_originating }
     {
@@ -211,7 +210,8 @@ impl Role {
     }
 }
 
-/// A protocol: its name, and its roles, each of which the strands of skeletons share, and declares the variables of its events.
+/// A protocol: its name and its roles. The strands of skeletons share the roles, and each role declares the variables
+/// of its events.
 #[derive(Drop)]
 pub struct Protocol {
     name: Text,
@@ -236,7 +236,7 @@ impl Model for Protocol {
 }
 
 impl Protocol {
-    /// The protocol with this name and these roles, which have to declare the variables of their events.
+    /// The protocol with this name and these roles. Each role must declare the variables of its events.
     pub fn new(name: Text, roles: Vec<Rc<Role>>) -> Protocol
         requires { HasDeclaringRoles (record { name = name; roles = map (λ r. r.value) roles.items }) }
         ensures { result ≡ record { name = name; roles = map (λ r. r.value) roles.items } }
@@ -244,7 +244,7 @@ impl Protocol {
         Protocol { name, roles }
     }
 
-    /// Each role of every protocol declares the variables of its events.
+    /// Every role of a protocol declares the variables of its events.
     pub fn is_sound(&self)
         ensures { HasDeclaringRoles self.now }
     {

@@ -1,8 +1,8 @@
-// Items that are told apart, and lists of them.
+// Equality of items, and of lists of them.
 ghost use Rattle.std.specs.Prelude.{◌≡◌, ◌↔◌, IsTrue};
 ghost use Rattle.cp_lists.specs.Lists.{IsIn};
 
-/// What can be told apart.
+/// What can be tested for equality.
 pub trait Same {
     /// Whether the two are the same.
     fn is_same(&self, other: &Self) -> bool

@@ -12,8 +12,8 @@ use std::alloc::{AllocError, Global};
 use std::marker::Model;
 use std::rc::Rc;
 
-/// An instance of a role, of some height, with terms for the role's variables by their numbers. A variable whose term is
-/// missing or of another sort stays itself; a term of a variable outside the prefix has no meaning.
+/// An instance of a role at a height, with terms for the role's variables by their numbers. A variable whose term is
+/// missing or of another sort stays itself. A term for a variable outside the prefix has no meaning.
 #[derive(Drop)]
 pub struct Instance {
     role: Rc<Role>,
@@ -33,7 +33,7 @@ impl Model for Instance {
 }
 
 impl Instance {
-    /// The instance of this role, of this height, with these terms of the role's variables.
+    /// The instance of this role at this height, with these terms for the role's variables.
     pub fn new(role: Rc<Role>, height: usize, values: Vec<Term>) -> Instance
         ensures { result ≡ record { role = role.value; height = height; values = values.items } }
     {
@@ -66,15 +66,15 @@ impl Instance {
     }
 }
 
-/// What a strand is: an instance of a role, with its events where they are held; or a listener, which receives a message and
-/// sends it on.
+/// What a strand is: an instance of a role, with its events if they are kept; or a listener, which receives a message
+/// and sends it on.
 #[derive(Drop)]
 pub(crate) enum Body {
     Instance(Instance, Option<Vec<Event>>),
     Listener(Term),
 }
 
-/// A strand of a skeleton. It never changes, and its copies share it.
+/// A strand of a skeleton. It never changes, and copies share it.
 #[derive(Drop)]
 pub struct Strand {
     body: Rc<Body>,
@@ -97,7 +97,7 @@ impl Model for Strand {
     ghost invariant = { λ s. HasItsEvents s.body.value };
 }
 
-/// What a strand is made of: an instance of a role; or a listener, of whose message this is the term.
+/// What a strand is: an instance of a role, or a listener, given by the term of its message.
 #[derive(Clone, Copy)]
 pub enum StrandShape<'a> {
     Instance(&'a Instance),
@@ -105,7 +105,7 @@ pub enum StrandShape<'a> {
 }
 
 impl Strand {
-    /// The strand that is this instance. The error is that memory ran out.
+    /// The strand that is this instance.
     pub fn instance(alloc: Global, instance: Instance) -> Result<Strand, AllocError>
         ensures { IfOk result (λ s. s ≡ instance_as_data instance) }
     {
@@ -113,9 +113,8 @@ impl Strand {
         Ok(Strand { body })
     }
 
-    /// The strand that is this instance, which holds its events from now on where the messages of its role are small, so that
-    /// they need not be made each time: for strands that a search adds, and what becomes of them. The error is that memory ran
-    /// out.
+    /// The strand that is this instance. If its role is small, the strand keeps its events, so that they need not be
+    /// made each time. Meant for strands that a search adds, and for what they become.
     pub fn with_events(alloc: Global, instance: Instance) -> Result<Strand, AllocError>
         ensures { IfOk result (λ s. s ≡ instance_as_data instance) }
     {
@@ -124,7 +123,7 @@ impl Strand {
         Ok(Strand { body })
     }
 
-    /// The listener to a message. The error is that memory ran out.
+    /// The listener to a message.
     pub fn listener(alloc: Global, message: Term) -> Result<Strand, AllocError>
         ensures { IfOk result (λ s. s ≡ listener_data message) }
     {
@@ -132,7 +131,7 @@ impl Strand {
         Ok(Strand { body })
     }
 
-    /// What the strand is made of.
+    /// What the strand is.
     pub fn shape(&self) -> StrandShape<'_>
         ensures { strand_of_shape result ≡ self.now }
     {
@@ -142,7 +141,7 @@ impl Strand {
         }
     }
 
-    /// What the strand is, with the events that it holds.
+    /// What the strand is, with the events that it keeps.
     pub(crate) fn body(&self) -> &Body
         ensures view { strand_of_body result.now ≡ self.now }
         ensures events { HasItsEvents result.now }
@@ -150,7 +149,7 @@ impl Strand {
         &self.body
     }
 
-    /// Another handle to the same strand. The error is that memory ran out.
+    /// Another handle to the same strand.
     pub fn copy(&self) -> Result<Strand, AllocError>
         ensures { IfOk result (λ s. s ≡ self.now) }
     {

@@ -12,7 +12,7 @@ use crate::strand::{Instance, Strand, StrandShape};
 use crate::terms_under::carries_under;
 use cp_term::{Term, carries};
 
-/// The place among events at which a term originates, if it does.
+/// The index among events at which a term originates, if it does.
 pub fn origin(events: &[Event], value: &Term) -> Option<usize>
     ensures some { IfSome result (λ i. OriginatesInTerms (map event_view events.now) value.now i) }
     ensures none { IfNone result ((i : ℕ) → OriginatesInTerms (map event_view events.now) value.now i → ⊥) }
@@ -28,7 +28,7 @@ pub fn origin(events: &[Event], value: &Term) -> Option<usize>
     None
 }
 
-/// Whether one of a role's events becomes one that carries the term.
+/// Whether one of a role's events, under the terms, carries the term.
 fn is_carried_by_one(values: &[Term], events: &[Event], t: &Term) -> bool
     ensures { IsTrue result ↔ IsCarriedByOne (substitution_by values.now) (map event_view events.now) t.now }
 {
@@ -40,7 +40,7 @@ fn is_carried_by_one(values: &[Term], events: &[Event], t: &Term) -> bool
     false
 }
 
-/// Whether the term originates at a place of a role's events as they become, counted from 0.
+/// Whether the term originates at an index, from 0, of a role's events under the terms.
 fn originates_under(values: &[Term], events: &[Event], index: usize, t: &Term) -> bool
     ensures { IsTrue result ↔ OriginatesUnder (substitution_by values.now) (map event_view events.now) t.now index }
 {
@@ -56,7 +56,7 @@ fn originates_under(values: &[Term], events: &[Event], index: usize, t: &Term) -
 }
 
 impl Instance {
-    /// Whether the term originates at a place of the instance, counted from 0.
+    /// Whether the term originates at an index of the instance, from 0.
     pub fn originates(&self, index: usize, t: &Term) -> bool
         ensures { IsTrue result ↔ OriginatesInTerms (skeleton_trace (instance_view self.now)) t.now index }
     {
@@ -65,7 +65,7 @@ impl Instance {
 }
 
 impl Strand {
-    /// Whether the term originates at a place of the strand, counted from 0: on a listener nothing does.
+    /// Whether the term originates at an index of the strand, from 0. Nothing originates on a listener.
     pub fn originates(&self, index: usize, t: &Term) -> bool
         ensures { IsTrue result ↔ OriginatesInTerms (skeleton_trace (strand_view self.now)) t.now index }
     {

@@ -1,4 +1,4 @@
-// Roles' terms under the terms of an instance, compared with others and never made.
+// Roles' terms under the terms of an instance, compared with others without being built.
 ghost use Rattle.std.specs.Prelude.{◌≡◌, ◌↔◌, Bool, not, IsTrue};
 ghost use Rattle.std.specs.Option.{option_map};
 ghost use Rattle.cp_model.specs.Term.{PairTerm, akey_variable, pubk_term, ltk_term, symmetric_term, asymmetric_term, IsCarriedByTerm, apply_to};
@@ -30,7 +30,7 @@ fn is_ltk(term: &Term, a: VarId, b: VarId) -> bool
     }
 }
 
-/// Whether a term is the public key of this name for this purpose, or the private one where the flag is set.
+/// Whether a term is the public key of this name for this purpose, or the private one if the flag is set.
 fn is_pubk(term: &Term, flag: bool, purpose: Option<&str>, a: VarId) -> bool
     ensures { IsTrue result
         ↔ (key_as_term (asymmetric_term flag (pubk_term (option_map (λ text. text.now) purpose.entry) a)) ≡ term.now) }
@@ -41,7 +41,7 @@ fn is_pubk(term: &Term, flag: bool, purpose: Option<&str>, a: VarId) -> bool
     }
 }
 
-/// Whether a term is this variable of sort akey, or its inverse where the flag is set.
+/// Whether a term is this variable of sort akey, or its inverse if the flag is set.
 fn is_akey(term: &Term, flag: bool, a: VarId) -> bool
     ensures { IsTrue result ↔ (key_as_term (asymmetric_term flag (akey_variable a)) ≡ term.now) }
 {
@@ -65,7 +65,7 @@ fn is_inverse(key: &Term, term: &Term) -> bool
     }
 }
 
-/// Whether a tag or a term of an atom sort becomes this term.
+/// Whether a tag or a term of an atom sort, under the values, is this term.
 fn same_leaf_under(values: &[Term], leaf: &Term, term: &Term) -> bool
     requires { ¬ HasTail leaf.now }
     ensures { IsTrue result ↔ (apply_to (substitution_by values.now) leaf.now ≡ term.now) }
@@ -86,7 +86,7 @@ fn same_leaf_under(values: &[Term], leaf: &Term, term: &Term) -> bool
     }
 }
 
-/// Whether a role's term becomes this term. The right spine is walked by a loop, since it may be long.
+/// Whether a role's term, under the values, is this term. The right spine is walked by a loop, since it may be long.
 pub(crate) fn same_under(values: &[Term], whole: &Term, term: &Term) -> bool
     ensures { IsTrue result ↔ (apply_to (substitution_by values.now) whole.now ≡ term.now) }
 {
@@ -119,7 +119,8 @@ pub(crate) fn same_under(values: &[Term], whole: &Term, term: &Term) -> bool
     }
 }
 
-/// Whether what a role's term becomes carries the part. The right spine is walked by a loop, since it may be long.
+/// Whether a role's term, under the values, carries the part. The right spine is walked by a loop, since it may be
+/// long.
 pub fn carries_under(values: &[Term], whole: &Term, part: &Term) -> bool
     ensures { IsTrue result ↔ IsCarriedByTerm part.now (apply_to (substitution_by values.now) whole.now) }
 {

@@ -9,14 +9,14 @@ ghost use Rattle.cp_term.specs.Variables.{variable_term};
 use cp_term::{Sort, Term, Valuation, VarId, is_of_sort, var};
 use std::alloc::{AllocError, Global};
 
-/// The term at a place, counted from 0.
+/// The term at an index, from 0.
 pub(crate) fn value_at(values: &[Term], place: usize) -> Option<&Term>
     ensures { option_map (λ t. t.now) result ≡ item_at values.now place }
 {
     values.get(place)
 }
 
-/// The term that a variable of this sort becomes, if it becomes one.
+/// The term that replaces a variable of this sort, if any.
 pub(crate) fn value_of<'a>(values: &'a [Term], sort: Sort, variable: VarId) -> Option<&'a Term>
     ensures { MatchOption result
         (apply_to (substitution_by values.now) (variable_term sort variable) ≡ variable_term sort variable)
@@ -30,8 +30,8 @@ pub(crate) fn value_of<'a>(values: &'a [Term], sort: Sort, variable: VarId) -> O
     }
 }
 
-/// What a variable of a role becomes under the terms of an instance: the term with its number, where that is of its sort, and
-/// otherwise itself. The error is that memory ran out.
+/// A role's variable under the terms of an instance: the term with its number, if that is of its sort, otherwise the
+/// variable itself.
 pub fn value_of_variable(
     alloc: Global,
     values: &[Term],
@@ -46,7 +46,7 @@ pub fn value_of_variable(
     }
 }
 
-/// A list of terms as what variables become: variable number i becomes the i-th, where that is of its sort.
+/// A list of terms as a substitution: variable number i is replaced by the term number i, if that is of its sort.
 #[derive(Clone, Copy)]
 pub(crate) struct ByNumber<'a> {
     pub(crate) terms: &'a [Term],

@@ -1,4 +1,4 @@
-//! Searches bring in no strings: labels have those of their problem and of the protocol's roles.
+//! Searches add no strings: labels have only those of their problem and of the protocol's roles.
 #![tactic(auto)]
 
 mod laws;

@@ -1,4 +1,4 @@
-//! Laws of the definitions: each stands as the contract of a function that does nothing.
+//! Laws of the definitions. Each is the contract of a function that does nothing.
 ghost use Rattle.std.specs.Prelude.{◌≡◌, ◌↔◌, Bool, true, List, Some, IsTrue};
 ghost use Rattle.cp_lists.specs.Lists.{IsIn};
 ghost use Rattle.cp_model.specs.Term.{Term, IsCarriedByTerm};
@@ -7,13 +7,13 @@ ghost use Rattle.cp_term.specs.Preorder.{AreInPreorder};
 ghost use Rattle.cp_model.specs.Same.{same_term};
 ghost use Rattle.cp_term.specs.declared.path.Step.{Step};
 
-/// What a term carries stands at a position of it, and what stands at a position it carries.
+/// A term carries exactly what stands at some position of it.
 #[tactic(auto, using(crate::proofs::PositionLaws::carried_position))]
 pub fn carried_at_a_position()
     ensures { (whole part : Term) → IsCarriedByTerm part whole ↔ ((path : List Step) × (term_at whole path ≡ Some part)) }
 {}
 
-/// The positions of the terms that pass a test are those at which a term stands that passes it, each once and in
+/// The positions of the terms that pass a test are exactly those at which such a term stands, each once and in
 /// preorder.
 #[tactic(auto, using(crate::proofs::PositionLaws::positions_found, crate::proofs::PositionLaws::positions_ordered))]
 pub fn positions_are_those_found()

@@ -1,4 +1,7 @@
-//! Variables and terms: sharing handles, which contracts see as plain terms.
+//! Variables and terms of the basic crypto algebra (CPSA Primer, "Algebra"): handles to shared nodes. Contracts see
+//! them as plain terms.
+//!
+//! Every call that returns `AllocError` fails only if memory runs out.
 #![tactic(auto)]
 
 mod laws;

@@ -47,7 +47,7 @@ fn name_in(term: &Term) -> VarId
     }
 }
 
-/// The long-term key of two names, which are variables of that sort.
+/// The long-term key of two names. Both must be variables of sort name.
 pub fn ltk(alloc: Global, a: Term, b: Term) -> Result<Term, AllocError>
     requires first { IsName a }
     requires second { IsName b }
@@ -61,7 +61,7 @@ pub fn ltk(alloc: Global, a: Term, b: Term) -> Result<Term, AllocError>
     Term::made(alloc, Node::Ltk(name_in(&a), name_in(&b)))
 }
 
-/// The public key of a name, which is a variable of that sort, for a purpose or for none.
+/// The public key of a name, with a purpose or without one. The name must be a variable of sort name.
 pub fn pubk(alloc: Global, purpose: Option<&str>, name: Term) -> Result<Term, AllocError>
     requires { IsName name }
     ensures plain { IfOk result (λ t. (n : ℕ) → name ≡ name_of n
@@ -90,7 +90,7 @@ pub fn pair(alloc: Global, left: Term, right: Term) -> Result<Term, AllocError>
     Term::made(alloc, Node::Pair(left, right))
 }
 
-/// The encryption of a term under a key, which is a term of sort skey or akey.
+/// The encryption of a term under a key, which must have sort skey or akey.
 pub fn enc(alloc: Global, body: Term, key: Term) -> Result<Term, AllocError>
     requires { IsKey key }
     ensures plain { IfOk result (λ t. (k : KeyTerm) → key ≡ key_as_term k → t ≡ enc_term body k) }
@@ -100,7 +100,7 @@ pub fn enc(alloc: Global, body: Term, key: Term) -> Result<Term, AllocError>
     Term::made(alloc, Node::Encryption(body, key))
 }
 
-/// The inverse of a key, which is a term of sort skey or akey: a symmetric key is its own.
+/// The inverse of a key, which must have sort skey or akey. A symmetric key is its own inverse.
 pub fn invert(alloc: Global, key: &Term) -> Result<Term, AllocError>
     requires { IsKey key.now }
     ensures plain { IfOk result (λ t. (k : KeyTerm) → key.now ≡ key_as_term k → t ≡ key_as_term (inverse_term k)) }

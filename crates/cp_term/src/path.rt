@@ -28,7 +28,7 @@ impl Model for Path {
     ghost view = { λ p. p.steps.items };
 }
 
-// A function of its own, so that what drops a path is short.
+// A function of its own, so that whatever drops a path stays short.
 impl Drop for Path {
     #[inline(never)]
     fn drop(self) {
@@ -38,7 +38,7 @@ impl Drop for Path {
 }
 
 impl Path {
-    /// The path of no step.
+    /// The empty path.
     pub fn new(alloc: Global) -> Path
         ensures { result ≡ [] }
     {
@@ -69,7 +69,7 @@ impl Path {
         self.steps.len()
     }
 
-    /// Adds a step at the end. Where memory runs out the path stays as it was.
+    /// Appends a step. On an error the path is unchanged.
     pub fn push(&mut self, step: Step) -> Result<(), AllocError>
         ensures ok { OnOk result (self.new ≡ self.old ++ step ∷ []) }
         ensures err { OnErr result (self.new ≡ self.old) }
@@ -78,14 +78,14 @@ impl Path {
         Ok(())
     }
 
-    /// Keeps the first steps, as many as this.
+    /// Keeps the first `len` steps.
     pub fn truncate(&mut self, len: usize)
         ensures { self.new ≡ take len self.old }
     {
         self.steps.truncate(len);
     }
 
-    /// The same path again.
+    /// The same path.
     pub fn copy(&self) -> Result<Path, AllocError>
         ensures { IfOk result (λ p. p ≡ self.now) }
     {

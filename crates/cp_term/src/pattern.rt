@@ -34,7 +34,7 @@ impl Locals {
         }
     }
 
-    /// Adds a variable at the end. Where memory runs out nothing is added.
+    /// Appends a variable. On an error nothing is added.
     pub fn push(&mut self, id: VarId) -> Result<(), AllocError>
         ensures ok { OnOk result (self.new ≡ self.old ++ id ∷ []) }
         ensures err { OnErr result (self.new ≡ self.old) }
@@ -50,7 +50,7 @@ impl Locals {
         self.ids.as_slice()
     }
 
-    /// The same variables again.
+    /// The same variables.
     pub fn copy(&self) -> Result<Locals, AllocError>
         ensures { IfOk result (λ l. l ≡ self.now) }
     {
@@ -83,8 +83,8 @@ impl Model for Pattern {
 }
 
 impl Pattern {
-    /// The pattern of this term, whose variables with these numbers are local. That it is one, so that each number is that
-    /// of a variable of the term, is the caller's condition.
+    /// The pattern of this term in which the variables with these numbers are local. The term must be an encryption in
+    /// which variables of different sorts have different numbers, and each local must be one of its variables.
     pub fn new(term: Term, locals: Locals) -> Pattern
         requires { IsPattern (pattern_by term locals) }
         ensures { result ≡ pattern_by term locals }
@@ -109,7 +109,7 @@ impl Pattern {
         self.locals.as_slice()
     }
 
-    /// The same pattern again.
+    /// The same pattern.
     pub fn copy(&self) -> Result<Pattern, AllocError>
         ensures { IfOk result (λ p. p ≡ self.now) }
     {

@@ -12,7 +12,7 @@ use crate::path::{Path, Step};
 use crate::term::{Node, Term};
 use std::alloc::{AllocError, Global};
 
-/// Whether the whole carries the part: is it, or has a part of its pair or a plaintext that carries it.
+/// Whether the whole carries the part: it is the part, or a part of its pair or its plaintext carries it.
 pub fn carries(whole: &Term, part: &Term) -> bool
     ensures { IsTrue result ↔ IsCarriedByTerm part.now whole.now }
 {
@@ -34,7 +34,7 @@ pub fn carries(whole: &Term, part: &Term) -> bool
     }
 }
 
-/// The term at a path, or none where the path is no carried position.
+/// The term at a path; `None` if the path is no carried position.
 pub fn at<'a>(whole: &'a Term, path: &Path) -> Option<&'a Term>
     ensures { option_copied result ≡ term_at whole.now path.now }
 {
@@ -50,7 +50,7 @@ pub fn at<'a>(whole: &'a Term, path: &Path) -> Option<&'a Term>
     Some(rest)
 }
 
-/// Adds this path, where the term is the part.
+/// Appends this path if the term is the part.
 fn add_here(term: &Term, part: &Term, here: &Path, found: &mut Vec<Path>) -> Result<(), AllocError>
     ensures { OnOk result (found.new.items
         ≡ found.old.items ++ behind here.now (here_if (same_term part.now term.now))) }
@@ -62,7 +62,7 @@ fn add_here(term: &Term, part: &Term, here: &Path, found: &mut Vec<Path>) -> Res
     Ok(())
 }
 
-/// Adds the paths, behind the steps to here, at which the whole carries the part.
+/// Appends the paths at which the whole carries the part, each after the steps to here.
 fn add_paths(
     whole: &Term,
     part: &Term,
@@ -111,8 +111,7 @@ pub fn paths_of(alloc: Global, whole: &Term, part: &Term) -> Result<Vec<Path>, A
     Ok(found)
 }
 
-/// The depth: 1 of a tag and of an atom, else one more than the greatest depth of the parts, but at most the
-/// greatest number of the type.
+/// The depth: 1 for a tag or an atom, otherwise one more than the greatest depth of the parts, but at most `u32::MAX`.
 #[tactic(auto, using(crate::proofs::Depths::depth_positive))]
 pub fn depth(term: &Term) -> u32
     ensures { result ≡ min (depth_of term.now) u32.MAX }

@@ -8,7 +8,7 @@ use crate::variable::VarId;
 use cp_base::Text;
 use cp_model::Sort;
 
-/// What a term is made of, one level deep.
+/// What a term consists of, one level deep.
 #[derive(Clone, Copy)]
 pub enum Shape<'a> {
     Tag(&'a str),
@@ -18,7 +18,7 @@ pub enum Shape<'a> {
     Inverse(VarId),
     /// The long-term key of two names.
     Ltk(VarId, VarId),
-    /// The public key of a name, for a purpose or for none; where the flag is set the private key.
+    /// The public key of a name, with a purpose or without one; the private key if the flag is set.
     Pubk(bool, Option<&'a str>, VarId),
     Pair(&'a Term, &'a Term),
     /// The encryption of a term under a key.
@@ -26,7 +26,7 @@ pub enum Shape<'a> {
 }
 
 impl Term {
-    /// What the term is made of.
+    /// What the term consists of.
     pub fn shape(&self) -> Shape<'_>
         ensures { IsShapeOf result self.now }
     {
@@ -51,7 +51,7 @@ impl Term {
     }
 }
 
-/// Whether the term is of this sort of atoms.
+/// Whether the term is an atom of this sort.
 pub fn is_of_sort(term: &Term, sort: Sort) -> bool
     ensures { result ≡ is_of_sort sort term.now }
 {

@@ -1,4 +1,4 @@
-// Terms under what gives variables terms. What does not change is shared.
+// Terms under substitutions. Unchanged parts are shared.
 ghost use Rattle.std.specs.Prelude.{◌≡◌, unwrap_or, MatchOption, IfOk};
 ghost use Rattle.std.specs.Option.{option_map};
 ghost use Rattle.cp_model.specs.Term.{Term as Plain, Substitution, KeyTerm, ltk_term, pubk_term, symmetric_term, asymmetric_term, pair_term, enc_term, apply_to};
@@ -13,19 +13,19 @@ use crate::variable::VarId;
 use cp_model::Sort;
 use std::alloc::{AllocError, Global};
 
-/// What gives variables terms of their sorts.
+/// Gives variables terms of their sorts.
 pub trait Valuation {
-    /// The substitution that puts these terms in place of the variables.
+    /// The substitution that replaces the variables by these terms.
     ghost substitution: { Self → Substitution };
 
-    /// The term that a variable of this sort becomes, if it becomes one.
+    /// The term that replaces a variable of this sort, if any.
     fn term_for(&self, sort: Sort, variable: VarId) -> Option<&Term>
         ensures { MatchOption result
             (apply_to (substitution self.now) (variable_term sort variable) ≡ variable_term sort variable)
             (λ t. apply_to (substitution self.now) (variable_term sort variable) ≡ t.now) };
 }
 
-/// The name that a name becomes.
+/// The name that replaces a name.
 pub fn name_for<V: Valuation>(values: &V, name: VarId) -> VarId
     ensures { result ≡ (V.substitution values.now).names name }
 {
@@ -38,7 +38,7 @@ pub fn name_for<V: Valuation>(values: &V, name: VarId) -> VarId
     }
 }
 
-/// A new long-term key, or none where the names do not change.
+/// A new long-term key, or `None` if the names do not change.
 fn ltk_under<V: Valuation>(
     alloc: Global,
     values: &V,
@@ -59,7 +59,7 @@ fn ltk_under<V: Valuation>(
     Ok(Some(key))
 }
 
-/// A new key of a name, or none where the name does not change.
+/// A new key of a name, or `None` if the name does not change.
 fn pubk_under<V: Valuation>(
     alloc: Global,
     values: &V,
@@ -85,7 +85,7 @@ fn pubk_under<V: Valuation>(
     }
 }
 
-/// A new term of a tag or of a term of an atom sort, or none where it does not change.
+/// A new tag or term of an atom sort, or `None` if it does not change.
 fn leaf_under<V: Valuation>(
     alloc: Global,
     values: &V,
@@ -115,7 +115,7 @@ fn leaf_under<V: Valuation>(
     }
 }
 
-/// What is new, or else a copy of the term.
+/// The new term, or else a copy of the old one.
 fn or_copy(changed: Option<Term>, term: &Term) -> Result<Term, AllocError>
     ensures { IfOk result (λ t. t ≡ unwrap_or changed term.now) }
 {
@@ -125,7 +125,7 @@ fn or_copy(changed: Option<Term>, term: &Term) -> Result<Term, AllocError>
     }
 }
 
-/// What two parts have become, or none where neither is new.
+/// What two parts become, or `None` if neither is new.
 fn new_parts(
     first: &Term,
     second: &Term,
@@ -144,7 +144,7 @@ fn new_parts(
     Ok(Some((first, second)))
 }
 
-/// A new pair of what is new of its parts, or none where neither is.
+/// A new pair, of new parts if there are any, or `None` if neither part is new.
 fn pair_of(
     alloc: Global,
     left: &Term,
@@ -161,7 +161,7 @@ fn pair_of(
     }
 }
 
-/// A new encryption of what is new of its parts, or none where neither is.
+/// A new encryption, of new parts if there are any, or `None` if neither part is new.
 fn encryption_of(
     alloc: Global,
     body: &Term,
@@ -179,7 +179,7 @@ fn encryption_of(
     }
 }
 
-/// A new term of one on a spine, where its tail has become another or stayed, or none where it does not change.
+/// The new term of one on a spine, whose tail became another or stayed; `None` if it does not change.
 #[cycle(under)]
 fn above_under<V: Valuation>(
     alloc: Global,
@@ -204,7 +204,7 @@ fn above_under<V: Valuation>(
     }
 }
 
-/// The new term, or none where it does not change. The right spine is walked by loops, since it may be long.
+/// The new term, or `None` if it does not change. The right spine is walked by loops, since it may be long.
 #[cycle(under)]
 fn under<V: Valuation>(alloc: Global, values: &V, term: &Term) -> Result<Option<Term>, AllocError>
     ensures { IfOk result (λ changed. unwrap_or changed term.now ≡ apply_to (V.substitution values.now) term.now) }
@@ -231,8 +231,7 @@ fn under<V: Valuation>(alloc: Global, values: &V, term: &Term) -> Result<Option<
     Ok(changed)
 }
 
-/// The term in which each variable has become what it is given. It shares with the term what does not change. The error is
-/// that memory ran out.
+/// The term with each variable replaced by what it is given. Unchanged parts are shared.
 pub fn substituted<V: Valuation>(alloc: Global, values: &V, term: &Term) -> Result<Term, AllocError>
     ensures { IfOk result (λ t. t ≡ apply_to (V.substitution values.now) term.now) }
 {

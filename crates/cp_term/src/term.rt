@@ -14,8 +14,8 @@ pub struct Term {
     node: Rc<Node>,
 }
 
-/// One node of a term. The flag of an asymmetric key says whether it is the inverse; of a name's keys that is
-/// the private one.
+/// One node of a term. The flag of an asymmetric key says whether it is an inverse; the inverse of a name's key is its
+/// private key.
 #[cycle(term)]
 #[derive(Drop)]
 pub(crate) enum Node {

@@ -41,7 +41,7 @@ impl VarId {
     }
 }
 
-/// What is kept of a variable: the identifier that it is named after, which copies of the table share, and its sort.
+/// What is kept for a variable: the identifier that it is named after, which copies of the table share, and its sort.
 #[derive(Drop)]
 struct Entry {
     root: Rc<Text>,
@@ -105,8 +105,8 @@ impl VarTable {
         self.entries.len()
     }
 
-    /// Makes a variable of this sort, later than all others, that is named after this identifier.
-    /// Where memory runs out the table stays as it was.
+    /// Makes a variable of this sort, later than all others, that is named after this identifier. On an error the table
+    /// is unchanged.
     pub fn fresh(&mut self, root: &str, sort: Sort) -> Result<VarId, AllocError>
         ensures later { IfOk result (λ v. v ≡ length self.old) }
         ensures added { OnOk result (self.new ≡ self.old ++ record { root = root.now; sort = sort } ∷ []) }
@@ -120,7 +120,7 @@ impl VarTable {
         Ok(VarId { number })
     }
 
-    /// The same variables again. The two tables share the identifiers.
+    /// The same variables. The two tables share the identifiers.
     pub fn copy(&self) -> Result<VarTable, AllocError>
         ensures { IfOk result (λ t. t ≡ self.now) }
     {

@@ -1,4 +1,0 @@
-pub mod ExampleRole
-pub mod Nodes
-pub mod OtherParts
-pub mod Patterned

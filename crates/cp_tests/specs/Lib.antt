@@ -1,3 +1,0 @@
-pub mod Example
-pub mod Rebuilt
-pub mod Patterns

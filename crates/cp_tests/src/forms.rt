@@ -1,4 +1,4 @@
-// Which of several faults is answered.
+// Which of two faults is answered.
 use cp_base::{Code, Place, Refusal};
 use cp_forms::FirstFault;
 
@@ -20,7 +20,6 @@ fn first_faults(rt: HostRuntime) {
     ] {
         let mut found = FirstFault::new();
         found.note(held.place, held.code);
-        assert!(rt; found.stands_before(other.place, other.code) == (first == held));
         assert!(rt; found.first_with(other) == first);
     }
 }

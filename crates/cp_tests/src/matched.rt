@@ -1,54 +1,55 @@
-// Which terms a pattern matches, where its key is as a substitution says.
-use crate::stated::terms_of;
-use crate::terms::pattern;
+// Which terms a pattern matches, where a substitution gives its key.
+use crate::terms::{pattern, sealed, variable};
+use crate::unifiers::shared;
 use cp_match::matches;
-use cp_term::Term;
+use cp_term::{Sort, Term, enc};
 use cp_unify::{Subst, unify};
 use std::alloc::{AllocError, Global};
 use std::test::Fail;
 
-const VARIABLES: &str = "(n text) (k skey) (m text) (a name)";
-
-// A term, whether the pattern of any text under k matches it, and whether it does where k is a long-term key.
-const ROWS: &[(&str, bool, bool)] = &[
-    ("(enc n k)", true, false),
-    ("(enc m k)", true, false),
-    ("(enc m (ltk a a))", false, true),
-    ("(enc a k)", false, false),
-    ("(enc n m k)", false, false),
-    ("m", false, false),
-];
-
-/// Whether any text under k matches the term, where k is as the substitution says.
-fn is_matched(alloc: Global, from: &Subst, term: &Term) -> Result<bool, AllocError> {
-    matches(alloc, &pattern(alloc)?, from, term)
+/// A text under a long-term key.
+fn sealed_between_names(alloc: Global) -> Result<Term, AllocError> {
+    let text = variable(alloc, Sort::Text, 0)?;
+    enc(alloc, text, shared(alloc, 0, 0)?)
 }
 
-/// Whether it is as said of the third of these terms, also where the first, k, is the second.
+/// The substitution that makes the key 1 that long-term key.
+fn bound(alloc: Global) -> Result<Option<Subst>, AllocError> {
+    let key = variable(alloc, Sort::Skey, 1)?;
+    unify(alloc, &key, &shared(alloc, 0, 0)?, &Subst::new(alloc))
+}
+
+/// Whether the pattern of any text under the key 1 matches the term, where the substitution gives the key, as wanted.
 fn is_right(
     alloc: Global,
-    terms: &[Term],
-    as_it_is: bool,
-    as_said: bool,
+    from: &Subst,
+    term: Result<Term, AllocError>,
+    wanted: bool,
 ) -> Result<bool, AllocError> {
-    let [key, other, term] = terms else {
-        return Ok(false);
-    };
-    let nothing = Subst::new(alloc);
-    match unify(alloc, key, other, &nothing)? {
-        Some(from) => Ok(
-            is_matched(alloc, &nothing, term)? == as_it_is
-                && is_matched(alloc, &from, term)? == as_said,
-        ),
+    Ok(matches(alloc, &pattern(alloc)?, from, &term?)? == wanted)
+}
+
+/// Whether texts under the key alone match, or texts under the long-term key alone.
+fn are_right(alloc: Global, from: &Subst, is_itself: bool) -> Result<bool, AllocError> {
+    Ok(
+        is_right(alloc, from, sealed(alloc, 0), is_itself)?
+            && is_right(alloc, from, sealed(alloc, 3), is_itself)?
+            && is_right(alloc, from, sealed_between_names(alloc), !is_itself)?
+            && is_right(alloc, from, variable(alloc, Sort::Text, 0), false)?,
+    )
+}
+
+/// Whether texts under the long-term key match where the key is that one.
+fn are_right_where_bound(alloc: Global) -> Result<bool, AllocError> {
+    match bound(alloc)? {
+        Some(from) => are_right(alloc, &from, false),
         None => Ok(false),
     }
 }
 
 #[test]
-fn matches_where_the_key_is_as_said(rt: HostRuntime) -> Result<(), Fail> {
-    for &(term, as_it_is, as_said) in ROWS {
-        let terms = terms_of(rt.alloc(), VARIABLES, &["k", "(ltk a a)", term])?;
-        assert!(rt; is_right(rt.alloc(), &terms, as_it_is, as_said)?, "{term}");
-    }
+fn where_the_key_is_as_said(rt: HostRuntime) -> Result<(), Fail> {
+    assert!(rt; are_right(rt.alloc(), &Subst::new(rt.alloc()), true)?);
+    assert!(rt; are_right_where_bound(rt.alloc())?);
     Ok(())
 }

@@ -7,176 +7,163 @@ const fn node(strand: usize, index: usize) -> Node {
     Node { strand, index }
 }
 
-fn strand(alloc: Global, events: [Event; 1]) -> Result<Strand, AllocError> {
-    Ok(Strand {
-        events: Vec::from_array(alloc, events)?,
-    })
-}
-
-/// A text and a name, encrypted under the public key of another name.
+/// A text and a name, encrypted under a symmetric key.
 fn sealed(alloc: Global) -> Result<Msg, AllocError> {
     let content = Msg::pair(alloc, Msg::text(alloc, 0)?, Msg::name(alloc, 0)?)?;
-    Msg::enc(alloc, content, Key::pubk(alloc, None, 1)?)
+    Msg::enc(alloc, content, Key::skey(0))
 }
 
-/// Whether the message carries the text and the name that are encrypted.
-fn carries_content(alloc: Global, sealed: &Msg) -> Result<bool, AllocError> {
-    Ok(sealed.carries(&Msg::text(alloc, 0)?) && sealed.carries(&Msg::name(alloc, 0)?))
+/// Whether `carries` answers as wanted for this part.
+fn is_carried(whole: &Msg, part: Result<Msg, AllocError>, wanted: bool) -> bool {
+    match part {
+        Ok(part) => whole.carries(&part) == wanted,
+        Err(_) => false,
+    }
 }
 
-/// Whether the message carries a datum, or the name of its key.
-fn carries_others(alloc: Global, sealed: &Msg) -> Result<bool, AllocError> {
-    Ok(sealed.carries(&Msg::datum(alloc, 0)?) || sealed.carries(&Msg::name(alloc, 1)?))
+/// Whether the encryption carries itself, its text and its name, and neither other atoms nor its key.
+fn carries_content(alloc: Global, sealed: &Msg) -> bool {
+    is_carried(sealed, sealed.copy(), true)
+        && is_carried(sealed, Msg::text(alloc, 0), true)
+        && is_carried(sealed, Msg::name(alloc, 0), true)
+        && is_carried(sealed, Msg::name(alloc, 1), false)
+        && is_carried(sealed, Msg::datum(alloc, 0), false)
+        && is_carried(sealed, Msg::key(alloc, Key::skey(0)), false)
 }
 
-/// Whether the key of the message carries itself, and is neither carried by the message nor the same.
-fn is_apart(alloc: Global, sealed: &Msg) -> Result<bool, AllocError> {
-    let key = Msg::key(alloc, Key::pubk(alloc, None, 1)?)?;
-    Ok(key.carries(&key) && !sealed.carries(&key) && !sealed.same(&key))
-}
-
-// A key is carried by the message that it is, and not by what is encrypted under it.
 #[test]
 fn carried(rt: HostRuntime) -> Result<(), Fail> {
     let sealed = sealed(rt.alloc())?;
-    assert!(rt; carries_content(rt.alloc(), &sealed)? && !carries_others(rt.alloc(), &sealed)?);
-    assert!(rt; is_apart(rt.alloc(), &sealed)? && sealed.same(&sealed.copy()?));
+    assert!(rt; carries_content(rt.alloc(), &sealed));
     Ok(())
 }
 
-/// Whether the inverse of the key's inverse is the key, and its inverse is the key itself where that is said.
+/// Whether the first key is the inverse of the second.
+fn is_inverse(inverse: &Key, key: &Key) -> Result<bool, AllocError> {
+    let back = inverse.inverse()?;
+    Ok(back.same(key))
+}
+
+/// Whether inverting twice gives the key again, and inverting once gives it exactly if `is_own`.
 fn inverts(key: &Key, is_own: bool) -> Result<bool, AllocError> {
     let inverse = key.inverse()?;
-    let back = inverse.inverse()?;
-    Ok(back.same(key) && inverse.same(key) == is_own)
+    Ok(inverse.same(key) == is_own && is_inverse(&inverse, key)?)
+}
+
+/// The same for a copy of the key.
+fn copy_inverts(key: Key, is_own: bool) -> Result<bool, AllocError> {
+    inverts(&key.copy()?, is_own)
+}
+
+/// The same for a public key for signing.
+fn public_inverts(alloc: Global) -> Result<bool, AllocError> {
+    copy_inverts(Key::pubk(alloc, Some("sign"), 2)?, false)
 }
 
 #[test]
 fn inverses(rt: HostRuntime) -> Result<(), Fail> {
-    let public = Key::pubk(rt.alloc(), Some("sign"), 2)?;
-    assert!(rt; inverts(&public, false)?);
-    for (key, is_own) in [
-        (&Key::ltk(0, 1), true),
-        (&Key::skey(0), true),
-        (&Key::akey(0), false),
+    for is_right in [
+        public_inverts(rt.alloc()),
+        copy_inverts(Key::akey(0), false),
+        copy_inverts(Key::skey(0), true),
+        copy_inverts(Key::ltk(0, 1), true),
     ] {
-        assert!(rt; inverts(key, is_own)?);
+        assert!(rt; is_right?);
     }
     Ok(())
 }
 
-#[test]
-fn keys(rt: HostRuntime) -> Result<(), Fail> {
-    let public = Key::pubk(rt.alloc(), Some("sign"), 2)?;
-    let plain = Key::pubk(rt.alloc(), None, 2)?;
-    let again = public.copy()?;
-    assert!(rt; public.same(&again) && !public.same(&plain));
-    assert!(rt; !Key::ltk(0, 1).same(&Key::ltk(1, 0)));
-    Ok(())
+/// The message that is sent and received: a text and a tag.
+fn said(alloc: Global) -> Result<Msg, AllocError> {
+    Msg::pair(alloc, Msg::text(alloc, 7)?, Msg::tag(alloc, "said")?)
 }
 
-/// A run of one strand that sends one message.
+/// A strand of one event.
+fn strand(alloc: Global, event: Event) -> Result<Strand, AllocError> {
+    Ok(Strand {
+        events: Vec::from_array(alloc, [event])?,
+    })
+}
+
+/// The run of one strand that sends the message.
 fn one_event(alloc: Global) -> Result<Run, AllocError> {
-    let strand = strand(alloc, [Event::Send(sealed(alloc)?)])?;
+    let sender = strand(alloc, Event::Send(said(alloc)?))?;
     Ok(Run {
-        strands: Vec::from_array(alloc, [strand])?,
+        strands: Vec::from_array(alloc, [sender])?,
         events: Vec::from_array(alloc, [node(0, 0)])?,
     })
 }
 
-/// Whether the copy of an event has its message.
-fn is_copied(alloc: Global) -> Result<bool, AllocError> {
-    let copied = Event::Send(sealed(alloc)?).copy()?;
-    Ok(copied.message().same(&sealed(alloc)?))
-}
-
-// The run of one event is a bundle of one strand without links, and back the same run.
-#[test]
-fn one_event_and_back(rt: HostRuntime) -> Result<(), Fail> {
-    assert!(rt; is_copied(rt.alloc())?);
-    let bundle = bundle_of(rt.alloc(), &one_event(rt.alloc())?)?;
-    assert!(rt; bundle.strands.len() == 1 && bundle.sender(node(0, 0)).is_none());
-    let run = run_of(rt.alloc(), &bundle)?;
-    assert!(rt; run.strands.len() == 1 && run.events.as_slice() == [node(0, 0)].as_slice());
+/// Adds a strand that receives the message.
+fn receive(alloc: Global, run: &mut Run) -> Result<(), AllocError> {
+    let receiver = strand(alloc, Event::Receive(said(alloc)?))?;
+    run.strands.push(receiver)?;
+    run.events.push(node(1, 0))?;
     Ok(())
 }
 
-/// A text, alone or with a tag behind it.
-fn marked(alloc: Global, is_marked: bool) -> Result<Msg, AllocError> {
-    let text = Msg::text(alloc, 7)?;
-    if is_marked {
-        Msg::pair(alloc, text, Msg::tag(alloc, "seen")?)
-    } else {
-        Ok(text)
+/// Whether the first event and a copy of it have this message.
+fn has_first(strand: &Strand, message: &Msg) -> bool {
+    let Some(event) = strand.events.first() else {
+        return false;
+    };
+    match event.copy() {
+        Ok(copy) => event.message().same(message) && copy.message().same(message),
+        Err(_) => false,
     }
 }
 
-/// A strand that receives a text and sends it on with a tag.
-fn forwarding(alloc: Global) -> Result<Strand, AllocError> {
-    let events = [
-        Event::Receive(marked(alloc, false)?),
-        Event::Send(marked(alloc, true)?),
-    ];
-    Ok(Strand {
-        events: Vec::from_array(alloc, events)?,
-    })
+/// The same for a copy of each strand.
+fn all_have_first(alloc: Global, strands: &[Strand], message: &Msg) -> Result<bool, AllocError> {
+    for strand in strands {
+        if !has_first(&strand.copy(alloc)?, message) {
+            return Ok(false);
+        }
+    }
+    Ok(true)
 }
 
-/// A run in which two strands send the same text, a third sends it on with a tag, and a fourth receives that.
-fn forwarded(alloc: Global) -> Result<Run, AllocError> {
-    let strands = [
-        strand(alloc, [Event::Send(marked(alloc, false)?)])?,
-        strand(alloc, [Event::Send(marked(alloc, false)?)])?,
-        forwarding(alloc)?,
-        strand(alloc, [Event::Receive(marked(alloc, true)?)])?,
-    ];
-    let events = [node(1, 0), node(0, 0), node(2, 0), node(2, 1), node(3, 0)];
-    Ok(Run {
-        strands: Vec::from_array(alloc, strands)?,
-        events: Vec::from_array(alloc, events)?,
-    })
+/// Whether `run_of` turns the bundle into the run again.
+fn leads_back(alloc: Global, bundle: &Bundle, run: &Run) -> Result<bool, AllocError> {
+    let back = run_of(alloc, bundle)?;
+    Ok(
+        back.strands.len() == run.strands.len()
+            && back.events.as_slice() == run.events.as_slice()
+            && all_have_first(alloc, &back.strands, &said(alloc)?)?,
+    )
 }
 
-/// Whether the text is linked to the strand that sent it first, and the pair to the strand that sent it on.
-fn is_linked(bundle: &Bundle) -> bool {
-    bundle.sender(node(2, 0)) == Some(node(1, 0)) && bundle.sender(node(3, 0)) == Some(node(2, 1))
+/// Whether the bundle of the run links the node to this sender, has the origin of the message at the first node, and turns
+/// into the run again.
+fn is_bundled(
+    alloc: Global,
+    run: &Run,
+    node_at: Node,
+    sender: Option<Node>,
+) -> Result<bool, AllocError> {
+    let bundle = bundle_of(alloc, run)?;
+    let text = said(alloc)?;
+    Ok(
+        bundle.sender(node_at) == sender
+            && origin_before(&bundle, node_at, &text) == node(0, 0)
+            && leads_back(alloc, &bundle, run)?,
+    )
 }
 
-// Of two events that send the text the first is linked.
+// The bundle of one event has one strand and no links.
 #[test]
-fn linked_to_the_first(rt: HostRuntime) -> Result<(), Fail> {
-    let run = forwarded(rt.alloc())?;
-    let bundle = bundle_of(rt.alloc(), &run)?;
-    assert!(rt; is_linked(&bundle) && bundle.order.as_slice() == run.events.as_slice());
-    let back = run_of(rt.alloc(), &bundle)?;
-    assert!(rt; back.strands.len() == 4 && back.events.as_slice() == run.events.as_slice());
+fn one_event_and_back(rt: HostRuntime) -> Result<(), Fail> {
+    let run = one_event(rt.alloc())?;
+    assert!(rt; is_bundled(rt.alloc(), &run, node(0, 0), None)?);
     Ok(())
 }
 
-/// Whether the text comes from where it was first sent, and where another strand sends it from there.
-fn finds_text(alloc: Global, bundle: &Bundle) -> Result<bool, AllocError> {
-    let text = marked(alloc, false)?;
-    Ok(
-        origin_before(bundle, node(3, 0), &text) == node(1, 0)
-            && origin_before(bundle, node(0, 0), &text) == node(0, 0),
-    )
-}
-
-/// Whether the pair and the tag come from the strand that sends the text on.
-fn finds_pair_and_tag(alloc: Global, bundle: &Bundle) -> Result<bool, AllocError> {
-    let pair = marked(alloc, true)?;
-    let tag = Msg::tag(alloc, "seen")?;
-    Ok(
-        origin_before(bundle, node(3, 0), &pair) == node(2, 1)
-            && origin_before(bundle, node(2, 1), &tag) == node(2, 1),
-    )
-}
-
+// A reception is linked to the event that sends its message.
 #[test]
-fn origins(rt: HostRuntime) -> Result<(), Fail> {
-    let bundle = bundle_of(rt.alloc(), &forwarded(rt.alloc())?)?;
-    assert!(rt; finds_text(rt.alloc(), &bundle)?);
-    assert!(rt; finds_pair_and_tag(rt.alloc(), &bundle)?);
+fn linked_to_the_sender(rt: HostRuntime) -> Result<(), Fail> {
+    let mut run = one_event(rt.alloc())?;
+    receive(rt.alloc(), &mut run)?;
+    assert!(rt; is_bundled(rt.alloc(), &run, node(1, 0), Some(node(0, 0)))?);
     Ok(())
 }
 
@@ -194,6 +181,6 @@ fn chain(alloc: Global, len: u32) -> Result<Msg, AllocError> {
 #[test]
 fn long_chain(rt: HostRuntime) -> Result<(), Fail> {
     let chain = chain(rt.alloc(), 300_000)?;
-    assert!(rt; chain.same(&chain) && !chain.carries(&Msg::datum(rt.alloc(), 0)?));
+    assert!(rt; chain.same(&chain) && is_carried(&chain, Msg::datum(rt.alloc(), 0), false));
     Ok(())
 }

@@ -7,10 +7,10 @@ ghost use Rattle.cp_roots.specs.Sound.{AreSound};
 ghost use Rattle.cp_tree.specs.Searched.{IsTreeFrom};
 ghost use Rattle.cp_tree.specs.Example.{heard_root, heard_tree, one_step_limits};
 
-/// An encryption is heard, under a key that does not originate; one role sends such encryptions. The problem is its one root,
-/// and the search makes two labels: the root, whose one reception cannot be derived and whose test has one child, under no
-/// patterns; and that child, a shape, in which a strand of the role has sent the encryption before. It meets what the law of
-/// trees asks for, so that the tree is true of the problem: wherever the encryption is heard, a strand of the role has sent it.
+/// An encryption is heard, under a non-originating key, and one role sends such encryptions. The problem is its only root. The
+/// search makes two labels: the root, whose one reception is not derivable and whose test has one child, under no patterns; and
+/// that child, a shape, in which a strand of the role has sent the encryption before. The tree meets the premises of the law of
+/// trees, so it is true of the problem: wherever the encryption is heard, a strand of the role has sent it.
 #[tactic(auto, using(crate::proofs::ExampleRoot::heard_own, crate::proofs::ExampleRoot::heard_sound, crate::proofs::ExampleTree::is_tree))]
 pub fn heard_encryption_has_a_tree()
     ensures problem { IsPointOfView locker.variables heard }

@@ -1,4 +1,5 @@
-//! Derivation trees: what a search makes, and that it is true of the problem.
+//! Derivation trees: which trees a search makes, and the laws that such trees are true of their problem, lawful, ordered and
+//! within their limits.
 #![tactic(auto)]
 
 mod examples;

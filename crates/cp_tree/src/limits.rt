@@ -1,11 +1,11 @@
-// The law of limits: it stands as the contract of a function that does nothing.
+// The law of limits. It is the contract of a function that does nothing.
 ghost use Rattle.std.specs.Prelude.{◌≡◌, ◌↔◌, List};
 ghost use Rattle.cp_model.specs.Strand.{Declaration, Protocol};
 ghost use Rattle.cp_model.specs.Tree.{at_step_limit, at_strand_limit, Tree, Limits, ReachedSteps, ReachedStrands};
 ghost use Rattle.cp_roots.specs.Roots.{Root};
 ghost use Rattle.cp_tree.specs.Searched.{IsTreeFrom};
 
-/// The outcome of a tree is at the step limit exactly where that was reached, and at the bound on strands exactly where that was.
+/// The outcome of a tree is the step limit exactly if that was reached, and the strand limit exactly if that was.
 pub fn limits_are_exact()
     ensures steps { (protocol : Protocol) (variables : List Declaration) (limits : Limits) (roots : List Root) (tree : Tree) → IsTreeFrom protocol variables limits roots tree → ((tree.outcome ≡ at_step_limit) ↔ ReachedSteps limits tree) }
     ensures strands { (protocol : Protocol) (variables : List Declaration) (limits : Limits) (roots : List Root) (tree : Tree) → IsTreeFrom protocol variables limits roots tree → ((tree.outcome ≡ at_strand_limit) ↔ ReachedStrands limits tree) }

@@ -1,4 +1,4 @@
-// The law of marks: it stands as the contract of a function that does nothing.
+// The law of marks. It is the contract of a function that does nothing.
 ghost use Rattle.std.specs.Prelude.{◌≡◌, ◌⊎◌, ◌<◌, ◌≤◌, ℕ, List, [], length, map, Some, None};
 ghost use Rattle.cp_lists.specs.Lists.{item_at};
 ghost use Rattle.cp_model.specs.Strand.{Declaration, Protocol};
@@ -12,12 +12,17 @@ ghost use Rattle.cp_tree.specs.Searched.{IsTreeFrom};
 ghost use Rattle.cp_tree.specs.Edges.{IsLeaf};
 ghost use Rattle.cp_tree.specs.Marked.{IsShapeAmong, IsDeadRoot, IsSeenInLeast, IsGeneralised};
 
-/// Each mark has its cause. A shape is realised, its own generalisation, a leaf, and an instance of no other candidate. A label
-/// that is dead has no child, and was expanded, or is a root that is dead from the start. A label is seen only in the least label
-/// to which it may point, and is a leaf; each that may point to some label is seen so, unless it is a root that is dead from the
-/// start. A label is an instance of one that is a shape and embeds in it. At the bound on strands a label is unrealised, with more
-/// strands; at the step limit it is unrealised, within that bound, and as many labels were expanded as the limit says. A label
-/// that has no mark and was not expanded is realised, and its one child is what it generalises to.
+/// Each mark has its cause:
+///
+/// - a shape is realised, its own generalisation, a leaf, and an instance of no other candidate;
+/// - a dead label has no child, and was expanded, or is a root that is dead from the start;
+/// - a label is seen only in the least label to which it may point, and is then a leaf; each label that may point to some label
+///   is seen, unless it is a root that is dead from the start;
+/// - a label is an instance only of a shape that embeds in it;
+/// - a label at the strand limit is unrealised, and has more strands than the bound;
+/// - a label at the step limit is unrealised and within the strand bound, and as many labels were expanded as the step limit
+///   says;
+/// - a label that has no mark and was not expanded is realised, and its one child is its generalisation.
 pub fn marks_have_causes()
     ensures shape { (protocol : Protocol) (variables : List Declaration) (limits : Limits) (roots : List Root) (tree : Tree) → IsTreeFrom protocol variables limits roots tree
         → (i : ℕ) (l : Label) → item_at tree.labels i ≡ Some l → l.mark ≡ Some shape → IsShapeAmong tree.labels i l }

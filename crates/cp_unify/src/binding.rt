@@ -51,7 +51,7 @@ impl Binding {
         &self.term
     }
 
-    /// The sort of the variable and of the term.
+    /// The sort of the variable and of its term.
     pub fn sort(&self) -> Sort
         ensures sort { (n : ℕ) → variable_term result n
             ≡ atom_term (atom_of_variable (record { sort = sort_of self.now.term; number = n })) }

@@ -1,4 +1,4 @@
-// Substitutions one after the other.
+// Composition of substitutions.
 ghost use Rattle.std.specs.Prelude.{◌≡◌, ◌++◌, IfOk};
 ghost use Rattle.cp_model.specs.Term.{Term as Plain, Assignment, after, value_of, apply_to};
 ghost use Rattle.cp_unify.specs.Bindings.{as_substitution, variables_of_bindings};
@@ -10,7 +10,7 @@ use crate::subst::Subst;
 use crate::terms_under::apply;
 use std::alloc::{AllocError, Global};
 
-/// The bindings of the first with their terms under the second, and those of the second.
+/// The bindings of the first, with their terms under the second, followed by those of the second.
 pub(crate) fn join(alloc: Global, first: &Subst, second: &Subst) -> Result<Subst, AllocError>
     ensures { IfOk result (λ s. s ≡ joined first.now second.now) }
 {
@@ -26,7 +26,7 @@ pub(crate) fn join(alloc: Global, first: &Subst, second: &Subst) -> Result<Subst
     Subst::made(alloc, bindings)
 }
 
-/// The substitution that does what the first does, and then what the second does.
+/// The substitution that does what the first does, then what the second does.
 pub fn compose(alloc: Global, first: &Subst, second: &Subst) -> Result<Subst, AllocError>
     ensures plain { IfOk result (λ s. (t : Plain)
         → apply_to (as_substitution s) t ≡ apply_to (as_substitution second.now) (apply_to (as_substitution first.now) t)) }

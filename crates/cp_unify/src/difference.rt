@@ -14,8 +14,8 @@ use crate::sides::{Sides, beside};
 use cp_term::{Shape, Sort, Term, VarId, invert, var};
 use std::alloc::{AllocError, Global};
 
-/// How two terms differ: not at all; so that nothing makes them equal; or so that all that makes them equal meets
-/// this binding.
+/// How two terms differ: not at all; so that nothing makes them equal; or so that whatever makes them equal meets this
+/// binding.
 #[derive(Drop)]
 pub(crate) enum Difference {
     Same,
@@ -23,7 +23,7 @@ pub(crate) enum Difference {
     Bind(Binding),
 }
 
-/// Binds the later of two variables, x to b or y to a.
+/// Binds the later of two variables: x to b, or y to a.
 fn bind_later(x: VarId, a: &Term, y: VarId, b: &Term) -> Result<Difference, AllocError>
     requires first { IsAtom a.now }
     requires second { IsAtom b.now }
@@ -41,7 +41,7 @@ fn bind_later(x: VarId, a: &Term, y: VarId, b: &Term) -> Result<Difference, Allo
     }
 }
 
-/// Of two variables of this sort that stand for the same.
+/// The difference of two variables of this sort that must be equal.
 fn alike_difference(alloc: Global, sort: Sort, x: VarId, y: VarId) -> Result<Difference, AllocError>
     ensures { IfOk result (λ d. d ≡ between x (atom_of (variable_term sort x)) y (atom_of (variable_term sort y))) }
 {
@@ -62,7 +62,7 @@ fn inverse_of(alloc: Global, x: VarId) -> Result<Term, AllocError>
     Ok(inverse)
 }
 
-/// Of two variables of sort akey that stand for inverses of each other. No key is its own.
+/// The difference of two variables of sort akey that must be inverses of each other. No key is its own inverse.
 fn opposite_difference(alloc: Global, x: VarId, y: VarId) -> Result<Difference, AllocError>
     ensures { IfOk result (λ d. d ≡ between_opposites x y) }
 {
@@ -108,7 +108,7 @@ fn bind(x: VarId, term: &Term) -> Result<Difference, AllocError>
     Ok(Difference::Bind(Binding::new(x, copy)))
 }
 
-/// A variable of sort akey whose inverse stands for a key of a name.
+/// Binds a variable of sort akey whose inverse must be a key of a name.
 fn bind_inverse(alloc: Global, x: VarId, key: &Term) -> Result<Difference, AllocError>
     requires { IsKey key.now }
     ensures { IfOk result (λ d. (k : KeyTerm) → key.now ≡ key_as_term k
@@ -118,7 +118,7 @@ fn bind_inverse(alloc: Global, x: VarId, key: &Term) -> Result<Difference, Alloc
     Ok(Difference::Bind(Binding::new(x, inverse)))
 }
 
-/// Of a tag and a term.
+/// The difference of a tag and a term.
 fn tag_difference(x: &str, b: &Term) -> Difference
     ensures { result ≡ difference_of (tag_term x.now) b.now }
 {
@@ -134,7 +134,7 @@ fn tag_difference(x: &str, b: &Term) -> Difference
     }
 }
 
-/// Of a variable a, and a term.
+/// The difference of a variable a and a term.
 fn variable_difference(
     alloc: Global,
     x: VarId,
@@ -178,7 +178,7 @@ fn variable_difference(
     }
 }
 
-/// Of the inverse of a variable of sort akey, and a term.
+/// The difference of the inverse of a variable of sort akey, and a term.
 fn inverse_difference(alloc: Global, x: VarId, b: &Term) -> Result<Difference, AllocError>
     ensures { IfOk result (λ d. d ≡ difference_of (atom_term (akey_atom true x)) b.now) }
 {
@@ -196,7 +196,7 @@ fn inverse_difference(alloc: Global, x: VarId, b: &Term) -> Result<Difference, A
     }
 }
 
-/// Of a long-term key a of two names, and a term.
+/// The difference of a long-term key a of two names, and a term.
 fn ltk_difference(
     alloc: Global,
     m: VarId,
@@ -220,7 +220,7 @@ fn ltk_difference(
     }
 }
 
-/// Of a key a of a name, and a term.
+/// The difference of a key a of a name, and a term.
 fn pubk_difference(
     alloc: Global,
     flag: bool,
@@ -252,7 +252,7 @@ fn pubk_difference(
     }
 }
 
-/// Of two terms, the first a tag or of an atom sort.
+/// The difference of two terms, the first a tag or of an atom sort.
 fn leaf_difference(alloc: Global, a: &Term, b: &Term) -> Result<Difference, AllocError>
     requires { ¬ HasTail a.now }
     ensures { IfOk result (λ d. d ≡ difference_of a.now b.now) }

@@ -1,4 +1,4 @@
-// Matches of which bindings tell beforehand how they end: of variables, long-term keys and keys of names.
+// Matches whose outcome the bindings already decide: those of variables, long-term keys and keys of names.
 ghost use Rattle.std.specs.Prelude.{◌≡◌, true, false, Some, None, if◌then◌else◌, IfSome};
 ghost use Rattle.std.specs.Option.{option_map};
 ghost use Rattle.cp_model.specs.Term.{ltk_term, pubk_term, symmetric_term, asymmetric_term};
@@ -12,7 +12,7 @@ use crate::matcher::{is_bound_to, is_variable};
 use crate::subst::Subst;
 use cp_term::{Shape, Sort, Term, VarId, is_of_sort};
 
-/// Whether a variable of this sort is bound to the term; none where it is not bound and has the term's sort.
+/// Whether a variable of this sort is bound to the term; `None` if it is not bound and has the term's sort.
 fn known_variable(variable: VarId, sort: Sort, term: &Term, given: &Subst) -> Option<bool>
     ensures { IfSome result (λ same. matched (is_listed None) (variable_term sort variable) term.now given.now ≡ (if same then Some given.now else None)) }
 {
@@ -22,7 +22,7 @@ fn known_variable(variable: VarId, sort: Sort, term: &Term, given: &Subst) -> Op
     is_bound_to(given, sort, variable, term)
 }
 
-/// Whether a name is bound to a name; none where it is not bound.
+/// Whether a name is bound to a name; `None` if it is not bound.
 fn known_name(a: VarId, b: VarId, given: &Subst) -> Option<bool>
     ensures { IfSome result (λ same. matched_names (is_listed None) a b given.now ≡ (if same then Some given.now else None)) }
 {
@@ -30,7 +30,7 @@ fn known_name(a: VarId, b: VarId, given: &Subst) -> Option<bool>
     Some(is_variable(found, Sort::Name, b))
 }
 
-/// Whether a long-term key of two names is made the term; none where that hangs on a name that is not bound.
+/// Whether the bindings make a long-term key of two names the term; `None` if that depends on a name that is not bound.
 fn known_ltk(a: VarId, b: VarId, term: &Term, given: &Subst) -> Option<bool>
     ensures { IfSome result (λ same. matched (is_listed None) (key_as_term (symmetric_term (ltk_term a b))) term.now given.now ≡ (if same then Some given.now else None)) }
 {
@@ -44,7 +44,7 @@ fn known_ltk(a: VarId, b: VarId, term: &Term, given: &Subst) -> Option<bool>
     }
 }
 
-/// Whether a key of a name is made the term; none where that hangs on the name, and it is not bound.
+/// Whether the bindings make a key of a name the term; `None` if that depends on the name, and it is not bound.
 fn known_pubk(
     flag: bool,
     purpose: Option<&str>,
@@ -65,7 +65,7 @@ fn known_pubk(
     }
 }
 
-/// What is known of a match without binding more.
+/// The outcome of a match, if no more bindings are needed to know it.
 fn known(pattern: &Term, term: &Term, given: &Subst) -> Option<bool>
     ensures { IfSome result (λ same. matched (is_listed None) pattern.now term.now given.now ≡ (if same then Some given.now else None)) }
 {
@@ -77,9 +77,9 @@ fn known(pattern: &Term, term: &Term, given: &Subst) -> Option<bool>
     }
 }
 
-/// How a match beside these bindings ends, where they tell it: true where they make the pattern the term already, false where no
-/// substitution that agrees with them does. None where it hangs on a variable that is not bound, and for all patterns but
-/// variables, long-term keys and keys of names.
+/// The outcome of a match beside these bindings, if they decide it: `true` only if they make the pattern the term
+/// already, `false` only if no substitution that agrees with them does. `None` if it depends on a variable that is not
+/// bound, and for all patterns except variables, long-term keys and keys of names.
 pub fn known_match(pattern: &Term, term: &Term, given: &Subst) -> Option<bool>
     ensures same { result ≡ Some true → MatchesBeside pattern.now term.now given.now given.now }
     ensures never { result ≡ Some false → NeverMatchesBeside pattern.now term.now given.now }

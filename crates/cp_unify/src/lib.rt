@@ -1,4 +1,6 @@
-//! Unification of terms, and substitutions.
+//! Unification and matching of terms, and substitutions.
+//!
+//! Every call that returns `AllocError` fails only if memory runs out.
 #![tactic(auto)]
 
 mod binding;

@@ -19,7 +19,7 @@ use crate::subst::Subst;
 use cp_term::{Shape, Sort, Term, VarId, invert, is_of_sort, var};
 use std::alloc::{AllocError, Global};
 
-/// Whether a variable is one of the locals; where there is no list, each is.
+/// Whether a variable is one of the locals; without a list, every variable is.
 fn is_local(locals: Option<&[VarId]>, variable: VarId) -> bool
     ensures { result ≡ is_listed (option_map (λ ns. ns.now) locals.entry) variable }
 {
@@ -223,8 +223,8 @@ fn match_beside(
     }
 }
 
-/// Values of the locals that make the pattern the term; none exactly where none do. The locals are all variables of the
-/// pattern that have the numbers listed.
+/// Values of the locals that make the pattern the term; `None` exactly if none do. The locals are all variables of the
+/// pattern with the listed numbers.
 pub fn matching(
     alloc: Global,
     pattern: &Term,
@@ -237,9 +237,10 @@ pub fn matching(
     match_beside(alloc, pattern, term, Some(locals), Subst::new(alloc))
 }
 
-/// Values of the pattern's variables that make it the term, beside those that are given; none exactly where none do. All
-/// variables of the pattern may have values, and they stand apart from those of the term. Where the given bindings
-/// contradict each other no substitution agrees with them, and either answer meets both clauses.
+/// Values of the pattern's variables that make it the term, beside those that are given; `None` exactly if none do.
+///
+/// Every variable of the pattern may get a value; the pattern's variables are kept apart from those of the term. If the
+/// given bindings contradict each other, no substitution agrees with them, and either answer meets both clauses.
 pub fn matching_beside(
     alloc: Global,
     pattern: &Term,

@@ -1,4 +1,4 @@
-// A table that tells by a variable's number where its bindings begin.
+// A table that gives for a variable's number where its bindings begin.
 ghost use Rattle.std.specs.Prelude.{◌≡◌, ◌==◌, ℕ, List, ◌∷◌, get_or, if◌then◌else◌, IfOk, OnOk};
 ghost use Rattle.cp_unify.specs.Bindings.{Binding as Plain};
 ghost use Rattle.cp_unify.specs.Places.{ArePlaces, ArePlacesIfAny};
@@ -6,10 +6,10 @@ ghost use Rattle.cp_unify.specs.Places.{ArePlaces, ArePlacesIfAny};
 use crate::binding::Binding;
 use std::alloc::{AllocError, Global};
 
-/// Up to so many bindings are walked over.
+/// Up to this many bindings are searched one by one.
 const FEW: usize = 16;
 
-/// A table is kept where it has at most so many entries for each binding.
+/// A table is kept if it has at most this many entries for each binding.
 const ENTRIES: usize = 32;
 
 /// The count of a number; 0 past the end of the table.
@@ -22,7 +22,7 @@ pub(crate) fn count_at(places: &[usize], number: usize) -> usize
     }
 }
 
-/// Gives a number its count.
+/// Sets the count of a number.
 fn put(places: &mut Vec<usize>, number: usize, count: usize) -> Result<(), AllocError>
     ensures { OnOk result ((n : ℕ) → get_or places.new.items n 0
         ≡ (if n == number then count else get_or places.old.items n 0)) }
@@ -62,7 +62,7 @@ fn greatest(bindings: &[Binding]) -> usize {
     greatest
 }
 
-/// The table of bindings, or an empty one where it is not worth its memory.
+/// The table of bindings, or an empty one if it is not worth its memory.
 pub(crate) fn worthy_places(alloc: Global, bindings: &[Binding]) -> Result<Vec<usize>, AllocError>
     ensures { IfOk result (λ places. ArePlacesIfAny places.items bindings.now) }
 {
@@ -72,8 +72,8 @@ pub(crate) fn worthy_places(alloc: Global, bindings: &[Binding]) -> Result<Vec<u
     places_of(alloc, bindings)
 }
 
-/// The table of bindings of which the first is new and of this number, from that of the others. Where that one is empty,
-/// whether a table has become worth its memory is asked once for some bindings.
+/// The table of bindings, made from that of the others: the first binding is new and has this number. If that table is
+/// empty, whether one has become worth its memory is tested only once every `FEW` bindings.
 pub(crate) fn places_with(
     alloc: Global,
     places: Vec<usize>,

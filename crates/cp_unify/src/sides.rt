@@ -3,8 +3,9 @@ ghost use Rattle.cp_unify.specs.Sides.{AreSides};
 
 use cp_term::{Shape, Term};
 
-/// How two terms stand side by side: both are pairs, with their left parts first, or both are encryptions, with their keys
-/// first, and the other two parts last; or the first is a tag or of an atom sort; or no parts stand beside its parts.
+/// How two terms compare one level deep: both are pairs, with their left parts first, or both are encryptions, with
+/// their keys first, and the other two parts last; or the first is a tag or of an atom sort; or the parts of the first
+/// have no counterparts.
 #[derive(Clone, Copy)]
 pub(crate) enum Sides<'a> {
     Parts(&'a Term, &'a Term, &'a Term, &'a Term),
@@ -12,7 +13,7 @@ pub(crate) enum Sides<'a> {
     Apart,
 }
 
-/// How two terms stand side by side.
+/// How two terms compare one level deep.
 pub(crate) fn beside<'a>(first: &'a Term, second: &'a Term) -> Sides<'a>
     ensures { AreSides result first.now second.now }
 {

@@ -8,16 +8,16 @@ use crate::places::{count_at, places_with, worthy_places};
 use std::alloc::{AllocError, Global};
 use std::marker::Model;
 
-/// A substitution: bindings of variables, of which the first counts where a variable has several.
+/// A substitution: bindings of variables. If a variable has several, the first counts.
 pub struct Subst {
     bindings: Vec<Binding>,
-    /// Set where the bindings are known to be solved, so that unifying beside them need not solve them again.
+    /// Set if the bindings are known to be solved, so that unifying beside them need not solve them again.
     is_solved: bool,
-    /// Where the bindings of each number begin; empty where they are few, or where numbers are great.
+    /// Where the bindings of each number begin; empty if they are few or if numbers are great.
     places: Vec<usize>,
 }
 
-// Where one is held it is dropped by one call, so that less is to be proved of who holds it.
+// Its holder drops it by one call, so that less is to be proved about the holder.
 impl Drop for Subst {
     fn drop(self) {
         let Subst {
@@ -76,7 +76,7 @@ impl Subst {
         self.bindings.as_slice()
     }
 
-    /// The bindings from the first of this number on, or from an earlier one on.
+    /// The bindings from the first with this number on, or from an earlier one on.
     pub(crate) fn from_number(&self, number: usize) -> &[Binding]
         ensures { IsBehind number result.now self.now }
     {
@@ -90,7 +90,7 @@ impl Subst {
         &bindings[start..]
     }
 
-    /// The substitution with a further binding before the others, which counts in place of an earlier one of the same
+    /// The substitution with another binding before the others. It counts in place of an earlier one of the same
     /// variable.
     pub fn with(self, binding: Binding) -> Result<Subst, AllocError>
         ensures { IfOk result (λ s. s ≡ binding ∷ self) }
@@ -111,7 +111,7 @@ impl Subst {
         })
     }
 
-    /// The same substitution again.
+    /// The same substitution.
     pub fn copy(&self, alloc: Global) -> Result<Subst, AllocError>
         ensures { IfOk result (λ s. s ≡ self.now) }
     {
@@ -146,7 +146,7 @@ impl Subst {
         self.is_solved
     }
 
-    /// The same substitution, which is solved.
+    /// The same substitution, marked as solved. It must be solved.
     pub(crate) fn into_solved(self) -> Subst
         requires { IsSolved self }
         ensures { result ≡ self }

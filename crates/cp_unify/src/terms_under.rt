@@ -1,4 +1,4 @@
-// Terms under substitutions. What does not change is shared.
+// Terms under substitutions. Unchanged parts are shared.
 ghost use Rattle.std.specs.Prelude.{◌≡◌, MatchOption, IfOk};
 ghost use Rattle.std.specs.Option.{option_map};
 ghost use Rattle.cp_model.specs.Term.{Assignment, after, apply_to, value_of, atom_term};
@@ -11,7 +11,7 @@ use crate::subst::Subst;
 use cp_term::{Sort, Term, Valuation, VarId, substituted};
 use std::alloc::{AllocError, Global};
 
-/// The term that a variable of this sort is bound to by the first of these bindings that is of it.
+/// The term to which these bindings bind a variable of this sort, by the first binding of it.
 fn first_bound<'a>(bindings: &'a [Binding], sort: Sort, variable: VarId) -> Option<&'a Term>
     ensures applied { MatchOption result
         (apply_to (as_substitution bindings.now) (variable_term sort variable) ≡ variable_term sort variable)
@@ -28,7 +28,7 @@ fn first_bound<'a>(bindings: &'a [Binding], sort: Sort, variable: VarId) -> Opti
 }
 
 impl Subst {
-    /// The term that a variable of this sort is bound to.
+    /// The term to which a variable of this sort is bound.
     pub(crate) fn bound(&self, sort: Sort, variable: VarId) -> Option<&Term>
         ensures applied { MatchOption result
             (apply_to (as_substitution self.now) (variable_term sort variable) ≡ variable_term sort variable)
@@ -48,7 +48,7 @@ impl Valuation for Subst {
     }
 }
 
-/// The term under a substitution. It shares with the term what does not change.
+/// The term under a substitution. Unchanged parts are shared.
 pub fn apply(alloc: Global, s: &Subst, term: &Term) -> Result<Term, AllocError>
     ensures plain { IfOk result (λ t. t ≡ apply_to (as_substitution s.now) term.now) }
     ensures value { IfOk result (λ t. (g : Assignment) → value_of g t ≡ value_of (after g (as_substitution s.now)) term.now) }

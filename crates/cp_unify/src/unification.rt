@@ -11,8 +11,8 @@ use crate::terms_under::apply;
 use cp_term::Term;
 use std::alloc::{AllocError, Global};
 
-/// Solves the equation of two terms beside solved bindings: as long as the terms under the bindings differ, and their
-/// first difference can be mended by a binding, that one is added.
+/// Solves the equation of two terms beside solved bindings: while the terms under the bindings differ and a binding can
+/// remove their first difference, that binding is added.
 fn solve(alloc: Global, a: &Term, b: &Term, given: Subst) -> Result<Option<Subst>, AllocError>
     requires { IsSolved given }
     ensures { IfOk result (λ answer. MatchOption answer
@@ -35,7 +35,7 @@ fn solve(alloc: Global, a: &Term, b: &Term, given: Subst) -> Result<Option<Subst
     }
 }
 
-/// Solved bindings that are met where those of a substitution are; none where no assignment meets these.
+/// Solved bindings that are met if those of a substitution are; `None` if no assignment meets these.
 fn solved_form(alloc: Global, s: &Subst) -> Result<Option<Subst>, AllocError>
     ensures { IfOk result (λ found. MatchOption found
         ((a b : Plain) → HasNoUnifier a b s.now) (λ r. AreSolvedBut s.now [] r)) }
@@ -55,8 +55,8 @@ fn solved_form(alloc: Global, s: &Subst) -> Result<Option<Subst>, AllocError>
     Ok(Some(solved))
 }
 
-/// A most general unifier of two terms beside a substitution, whose bindings are solved along with them as equations;
-/// none exactly where there is no unifier.
+/// A most general unifier of two terms beside a substitution, whose bindings are solved along with them as equations.
+/// `None` exactly if there is no unifier.
 pub fn unify(alloc: Global, a: &Term, b: &Term, s: &Subst) -> Result<Option<Subst>, AllocError>
     ensures some { IfOk result (λ answer. IfSome answer (λ r. IsMostGeneral a.now b.now s.now r)) }
     ensures none { IfOk result (λ answer. IfNone answer (HasNoUnifier a.now b.now s.now)) }

@@ -26,7 +26,7 @@ pub fn has_head(form: &Form, word: &[u8]) -> bool
     }
 }
 
-/// The entries of the first of the items with this head; none where it is not there.
+/// The entries of the first item with this head; none if there is no such item.
 pub fn entries_under<'a>(items: &'a [Form], word: &[u8]) -> &'a [Form]
     ensures { map view result.now ≡ entries_under word.now (map view items.now) }
 {
@@ -38,14 +38,14 @@ pub fn entries_under<'a>(items: &'a [Form], word: &[u8]) -> &'a [Form]
     &[]
 }
 
-/// A list at this place that has too few entries lacks one.
+/// Notes a misfit at this place, that of a list, if the list has fewer than `count` entries.
 pub fn lacking(count: usize, place: Place, items: &[Form], first: &mut FirstMisfit)
     ensures { first.new ≡ first_onto first.old (lacking count place (map view items.now)) }
 {
     first.note_unless(count <= items.len(), place);
 }
 
-/// What stands behind as many entries as a list may have: the first of it is one too many.
+/// Notes a misfit at the first of these entries, which follow as many as a list may have.
 pub fn no_more(items: &[Form], first: &mut FirstMisfit)
     ensures { (at : Where) → first.new ≡ first_onto first.old (entries_misfits [] at (map view items.now)) }
 {
@@ -55,7 +55,7 @@ pub fn no_more(items: &[Form], first: &mut FirstMisfit)
     }
 }
 
-/// A number has to stand here.
+/// The form must be a number.
 pub fn any_number_misfits(form: &Form, first: &mut FirstMisfit)
     ensures { first.new ≡ first_onto first.old (any_number_misfits (view form.now)) }
 {
@@ -67,7 +67,7 @@ pub fn any_number_misfits(form: &Form, first: &mut FirstMisfit)
     }
 }
 
-/// The sort of atoms that a word names, if it names one.
+/// The atom sort that a word names, if it names one.
 pub(crate) fn sort_or_none(word: SortWord) -> Option<Sort>
     ensures { option_map sort_view result ≡ sort_or_none (sort_word_view word) }
 {
@@ -77,21 +77,21 @@ pub(crate) fn sort_or_none(word: SortWord) -> Option<Sort>
     }
 }
 
-/// Whether a word is that of a sort of atoms.
+/// Whether a word names an atom sort.
 fn is_sort(word: SortWord) -> bool
     ensures { result ≡ is_known (sort_or_none (sort_word_view word)) }
 {
     matches!(word, SortWord::Atoms(_))
 }
 
-/// Whether a word names one of the five sorts.
+/// Whether a word names one of the five atom sorts.
 fn names_sort(word: &[u8]) -> bool
     ensures { result ≡ names_sort word.now }
 {
     is_sort(sort_word(word))
 }
 
-/// A symbol that names a sort has to stand here.
+/// The form must be a symbol that names a sort.
 pub(crate) fn sort_symbol_misfits(form: &Form, first: &mut FirstMisfit)
     ensures { first.new ≡ first_onto first.old (symbol_misfits names_sort (view form.now)) }
 {
@@ -102,7 +102,7 @@ pub(crate) fn sort_symbol_misfits(form: &Form, first: &mut FirstMisfit)
     first.note_unless(names_sort(word.as_bytes()), *place);
 }
 
-/// One symbol that names a sort has to stand in a list at this place.
+/// The items of the list at this place must be one symbol that names a sort.
 pub(crate) fn one_sort_misfits(place: Place, items: &[Form], first: &mut FirstMisfit)
     ensures { first.new ≡ first_onto first.old (entries_misfits (symbol_misfits names_sort ∷ []) place (map view items.now)) }
 {
@@ -114,7 +114,7 @@ pub(crate) fn one_sort_misfits(place: Place, items: &[Form], first: &mut FirstMi
     no_more(rest, first);
 }
 
-/// One number has to stand in a list at this place.
+/// The items of the list at this place must be one number.
 pub fn one_number_misfits(place: Place, items: &[Form], first: &mut FirstMisfit)
     ensures { first.new ≡ first_onto first.old (entries_misfits (any_number_misfits ∷ []) place (map view items.now)) }
 {

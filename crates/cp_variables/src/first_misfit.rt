@@ -6,7 +6,7 @@ ghost use Rattle.cp_variables.specs.FirstMisfit.{first_onto, merged, onto_none};
 use cp_base::Place;
 use std::marker::Model;
 
-/// The first of the misfits met so far, or none.
+/// The first of the misfits noted so far, if any.
 #[derive(Drop)]
 pub struct FirstMisfit {
     found: Option<Place>,
@@ -32,7 +32,7 @@ fn stands_before(first: Place, second: Place) -> bool
 }
 
 impl FirstMisfit {
-    /// No misfit was met yet.
+    /// No misfit so far.
     pub fn new() -> FirstMisfit
         ensures { result ≡ None }
     {
@@ -53,7 +53,7 @@ impl FirstMisfit {
         self.found.is_none()
     }
 
-    /// Takes notice of a misfit.
+    /// Notes a misfit.
     pub fn note(&mut self, place: Place)
         ensures { self.new ≡ first_onto self.old (misfit place) }
     {
@@ -63,7 +63,7 @@ impl FirstMisfit {
         }
     }
 
-    /// Takes notice of a misfit where the test fails.
+    /// Notes a misfit if the test fails.
     pub fn note_unless(&mut self, holds: bool, place: Place)
         ensures { self.new ≡ first_onto self.old (misfit_unless holds place) }
     {
@@ -72,7 +72,7 @@ impl FirstMisfit {
         }
     }
 
-    /// Takes notice of a misfit where the test fails, if there was no misfit yet.
+    /// Notes a misfit if the test fails and there was no misfit yet.
     pub fn note_unless_misfit(&mut self, holds: bool, place: Place)
         ensures { self.new ≡ onto_none self.old (misfit_unless holds place) }
     {
@@ -81,7 +81,7 @@ impl FirstMisfit {
         }
     }
 
-    /// Takes notice of the first misfit of others.
+    /// Notes the first misfit of others.
     pub fn merge(&mut self, others: FirstMisfit)
         ensures { self.new ≡ merged self.old others }
     {

@@ -1,5 +1,9 @@
-//! The variables of a label in a report, and the locals of its patterns: the first place at which the forms that declare
-//! them do not fit, and what they declare; entries of lists, lists by their heads, and the first misfit of any forms.
+//! The variables of a label in a report, and the locals of its patterns: the first place at which the forms that
+//! declare them do not fit, and what they declare; entries of lists, lists by their heads, and the first misfit of any
+//! forms.
+//!
+//! Every call that returns `AllocError` fails only if memory runs out. A call that takes a `FirstMisfit` notes in it
+//! the first place at which forms do not meet what its comment asks of them.
 #![tactic(auto)]
 
 mod entries;

@@ -42,7 +42,7 @@ pub fn is_same_sort(first: Sort, second: Sort) -> bool
     first == second
 }
 
-/// A sort and a number have to stand behind the head of a local.
+/// A sort and a number must follow the head of a local.
 pub fn local_misfits(place: Place, items: &[Form], first: &mut FirstMisfit)
     ensures { first.new ≡ first_onto first.old (local_misfits place (map view items.now)) }
 {
@@ -80,7 +80,7 @@ fn local_with(sort: Option<Sort>, form: &Form) -> Option<Local>
     }
 }
 
-/// The local of this sort whose number stands alone in a list, if there is one.
+/// The local of this sort, if the list is its number alone.
 fn local_alone(sort: Option<Sort>, items: &[Form]) -> Option<Local>
     ensures { option_map local_view result ≡ local_alone (option_map sort_view sort) (map view items.now) }
 {
@@ -91,7 +91,7 @@ fn local_alone(sort: Option<Sort>, items: &[Form]) -> Option<Local>
     }
 }
 
-/// The local that the entries behind a head state, if they state one.
+/// The local that the entries after a head state, if they state one.
 pub fn local_by(items: &[Form]) -> Option<Local>
     ensures { option_map local_view result ≡ local_by (map view items.now) }
 {
@@ -101,7 +101,7 @@ pub fn local_by(items: &[Form]) -> Option<Local>
     }
 }
 
-/// Whether a form is headed as a local.
+/// Whether a form has the head of a local.
 pub fn is_any(form: &Form) -> bool
     ensures { result ≡ is_any (view form.now) }
 {
@@ -145,7 +145,7 @@ fn add_locals(form: &Form, out: &mut Vec<LocalAt>) -> Result<(), AllocError>
     Ok(())
 }
 
-/// The locals of a form in the order of the text, each as often as it stands. The error is that memory ran out.
+/// The locals of a form in the order of the text, each as often as it stands.
 pub fn locals_in(alloc: Global, form: &Form) -> Result<Vec<LocalAt>, AllocError>
     ensures { IfOk result (λ v. map local_at_view v.items ≡ locals_in (view form.now)) }
 {
@@ -154,7 +154,7 @@ pub fn locals_in(alloc: Global, form: &Form) -> Result<Vec<LocalAt>, AllocError>
     Ok(found)
 }
 
-/// Locals in order, no two with the same number, each of which is found by its number.
+/// Locals in order, no two with the same number. Each is found by its number.
 #[derive(Drop)]
 pub struct Locals {
     locals: Vec<Local>,
@@ -192,7 +192,7 @@ impl Locals {
         self.locals.as_slice()
     }
 
-    /// The first of them with this number: its sort, and its place, counted from 0.
+    /// The first local with this number: its sort, and its place, from 0.
     fn found(&self, number: usize) -> Option<Variable>
         ensures { option_map variable_view result ≡ local_from 0 (map local_view self.now) number }
     {
@@ -202,7 +202,7 @@ impl Locals {
         }
     }
 
-    /// The place of the local with this number; where there is none, the place behind all.
+    /// The place of the local with this number, from 0; if there is none, the number of locals.
     pub fn place_of(&self, number: usize) -> usize
         ensures { result ≡ place_of_local (map local_view self.now) number }
     {
@@ -222,7 +222,7 @@ impl Locals {
         }
     }
 
-    /// Puts a local behind the others, where there is none with its number. The error is that memory ran out.
+    /// Appends a local, unless there is one with its number.
     pub fn add(&mut self, local: Local) -> Result<(), AllocError>
         ensures { OnOk result (self.new ≡ (if has_local (map local_view self.old) local.number then self.old else self.old ++ local ∷ [])) }
     {
@@ -243,8 +243,7 @@ impl Locals {
     }
 }
 
-/// The locals among these, and where one has another sort than the first with its number. The error is that memory ran
-/// out.
+/// The locals among these. Notes where one has another sort than the first with its number.
 pub fn locals_of(
     alloc: Global,
     found: &[LocalAt],

@@ -23,7 +23,7 @@ use std::alloc::{AllocError, Global};
 use std::collections::HashMap;
 use std::marker::Model;
 
-/// Variables, each of which is found by its identifier. Its number is its place, counted from 0.
+/// Variables, found by their identifiers. The number of a variable is its place, from 0.
 #[derive(Drop)]
 pub struct Variables {
     declarations: Vec<Declaration>,
@@ -95,7 +95,7 @@ impl Variables {
         self.has(identifier)
     }
 
-    /// Declares a variable behind the others. The error is that memory ran out.
+    /// Declares a variable after the others.
     pub fn push(&mut self, alloc: Global, declaration: Declaration) -> Result<(), AllocError>
         ensures { OnOk result (self.new ≡ self.old ++ declaration ∷ []) }
     {
@@ -118,7 +118,7 @@ impl Variables {
     }
 }
 
-/// An identifier that is none of those before it has to stand here.
+/// The form must be an identifier that is none of those before it.
 fn identifier_misfits(before: &Variables, form: &Form, first: &mut FirstMisfit)
     ensures { first.new ≡ first_onto first.old
         (symbol_misfits (λ t. not (is_one_of t (identifiers_in (map declaration_view before.now)))) (view form.now)) }
@@ -130,7 +130,7 @@ fn identifier_misfits(before: &Variables, form: &Form, first: &mut FirstMisfit)
     first.note_unless(!before.declares(identifier.as_bytes()), *place);
 }
 
-/// An identifier and a sort have to stand in a list at this place.
+/// The items of the list at this place must be an identifier, none of those before it, and a sort.
 fn declaration_entries_misfits(
     before: &Variables,
     place: Place,
@@ -149,7 +149,7 @@ fn declaration_entries_misfits(
     one_sort_misfits(place, rest, first);
 }
 
-/// A list of an identifier that is none of those before it, and a sort, has to stand here.
+/// The form must be a list of an identifier, none of those before it, and a sort.
 fn declaration_misfits(before: &Variables, form: &Form, first: &mut FirstMisfit)
     ensures { first.new ≡ first_onto first.old (list_misfits (entries_misfits
         (symbol_misfits (λ t. not (is_one_of t (identifiers_in (map declaration_view before.now)))) ∷ symbol_misfits names_sort ∷ [])) (view form.now)) }
@@ -161,7 +161,7 @@ fn declaration_misfits(before: &Variables, form: &Form, first: &mut FirstMisfit)
     declaration_entries_misfits(before, *place, items.as_slice(), first);
 }
 
-/// The name that stands first, and of anything else the empty text.
+/// The name that comes first; empty if none does.
 fn name_in_front(alloc: Global, items: &[Form]) -> Result<Text, AllocError>
     ensures { IfOk result (λ t. t ≡ name_in_front (map view items.now)) }
 {
@@ -171,15 +171,14 @@ fn name_in_front(alloc: Global, items: &[Form]) -> Result<Text, AllocError>
     }
 }
 
-/// The identifier in front of an entry that is a list; where there is none the empty text. The error is that memory ran
-/// out.
+/// The identifier at the start of an entry that is a list; empty if there is none.
 pub fn identifier_of(alloc: Global, form: &Form) -> Result<Text, AllocError>
     ensures { IfOk result (λ t. t ≡ identifier_of (view form.now)) }
 {
     name_in_front(alloc, list_items(form))
 }
 
-/// The entry that stands second, if there is one.
+/// The second entry, if there is one.
 pub fn second(items: &[Form]) -> Option<&Form>
     ensures { option_map (λ f. view f.now) result ≡ second_form (map view items.now) }
 {
@@ -189,7 +188,7 @@ pub fn second(items: &[Form]) -> Option<&Form>
     }
 }
 
-/// The declaration that an entry states. What an entry with a misfit states says nothing.
+/// The declaration that an entry states. For an entry with a misfit it has no meaning.
 fn declaration_of(alloc: Global, form: &Form) -> Result<Declaration, AllocError>
     ensures { IfOk result (λ d. declaration_view d ≡ declaration_of (view form.now)) }
 {
@@ -198,7 +197,7 @@ fn declaration_of(alloc: Global, form: &Form) -> Result<Declaration, AllocError>
     Ok(Declaration { identifier, sort })
 }
 
-/// The variables that entries of a label form declare, and where these do not fit. The error is that memory ran out.
+/// The variables that entries of a label form declare. Notes where the entries do not fit.
 pub fn variables_of(
     alloc: Global,
     items: &[Form],
@@ -216,7 +215,7 @@ pub fn variables_of(
     Ok(variables)
 }
 
-/// The variables of a label form with these items. The error is that memory ran out.
+/// The variables of a label form with these items.
 pub fn declarations_of_label(alloc: Global, items: &[Form]) -> Result<Variables, AllocError>
     ensures { IfOk result (λ v. map declaration_view v ≡ declarations_of_label (map view items.now)) }
 {

@@ -1,5 +1,6 @@
 //! Laws of well-formed input: its problems are skeletons over their protocols and map to themselves, and the roles of
-//! these protocols are well formed. They hold for all of the language.
+//! these protocols are well formed. They hold for the whole language. Each law is the contract of a function that does
+//! nothing.
 #![tactic(auto)]
 
 ghost use Rattle.std.specs.Prelude.{◌≡◌, ◌<◌, ℕ, List, [], Some};
@@ -17,38 +18,38 @@ ghost use Rattle.cp_sexpr.specs.Syntax.{Form, Forms};
 ghost use Rattle.cp_wellformed.specs.Example.{example_input};
 ghost use Rattle.cp_wellformed.specs.Role.{IsWellFormedRole};
 
-/// The laws that each problem that well-formed input states is a skeleton over its protocol, and that it maps to itself:
-/// each of its strands and of its variables to itself, and all variables that occur in it are among its own.
+/// Each problem of well-formed input is a skeleton over its protocol. It maps to itself: each strand and each variable
+/// goes to itself, and all variables that occur in it are its own.
 #[tactic(auto, using(crate::proofs::Problems::are_skeletons))]
 pub fn problems_of_input_are_skeletons()
     ensures skeletons { (fs : Forms) (e : Entry) (p : Problem) → faults_of fs ≡ [] → IsIn e (input_of fs) → e.problem ≡ Some p → IsSkeleton p.protocol p.skeleton }
     ensures own { (fs : Forms) (e : Entry) (p : Problem) → faults_of fs ≡ [] → IsIn e (input_of fs) → e.problem ≡ Some p → IsPointOfView p.variables p.skeleton }
 {}
 
-/// The law that the roles of the protocols of these problems are well formed: each identifier names its own variable, all
-/// variables that occur are declared, and unique values originate in the trace.
+/// The roles of the protocols of these problems are well formed: each identifier names its own variable, all variables
+/// that occur are declared, and unique values originate in the trace.
 #[tactic(auto, using(crate::proofs::Problems::roles_are_well_formed))]
 pub fn roles_of_input_are_well_formed()
     ensures { (fs : Forms) (e : Entry) (p : Problem) (r : Role) → faults_of fs ≡ [] → IsIn e (input_of fs) → e.problem ≡ Some p → IsIn r p.protocol.roles → IsWellFormedRole r }
 {}
 
-/// The law that each role that forms state declares the variables of its events, whatever faults the forms have: the message of
-/// an event with faults is none.
+/// Each role that forms state declares the variables of its events, whatever faults the forms have: the message of an
+/// event with faults has no variables.
 pub fn roles_declare_their_variables()
     ensures role { (items : List Form) (x : Variable) → IsIn x (variables_of_trace (role_of items).trace) → IsDeclared (role_of items).variables x }
     ensures protocol { (items : List Form) (r : Role) → IsIn r (protocol_of items).roles → (x : Variable) → IsIn x (variables_of_trace r.trace) → IsDeclared r.variables x }
 {}
 
-/// The law that a name in well-formed input is of one thing: a role's name of one role of its protocol, and an identifier
-/// that a problem declares of one of the problem's variables.
+/// A name in well-formed input names one thing: a role's name names one role of its protocol, and an identifier that a
+/// problem declares names one of the problem's variables.
 #[tactic(auto, using(crate::proofs::Problems::roles_found, crate::proofs::Problems::variables_found))]
 pub fn names_of_input_are_their_own()
     ensures roles { (fs : Forms) (e : Entry) (p : Problem) (r : Role) → faults_of fs ≡ [] → IsIn e (input_of fs) → e.problem ≡ Some p → IsIn r p.protocol.roles → role_named p.protocol.roles r.name ≡ Some r }
     ensures variables { (fs : Forms) (e : Entry) (p : Problem) (n : ℕ) (d : Declaration) → faults_of fs ≡ [] → IsIn e (input_of fs) → e.problem ≡ Some p → n < p.declared → item_at p.variables n ≡ Some d → variable_named p.variables d.identifier ≡ Some (record { sort = d.sort; number = n }) }
 {}
 
-/// The law that an input meets the premises of the laws above: it is well formed and states a problem, of two instances,
-/// a listener, assumptions of each kind, and a pair.
+/// Some input meets the premises of the laws above: it is well formed and states a problem with two instances, a
+/// listener, assumptions of each kind, and a pair.
 #[tactic(auto, using(crate::proofs::Example::is_well_formed))]
 pub fn well_formed_example()
     ensures well_formed { faults_of example_input ≡ [] }

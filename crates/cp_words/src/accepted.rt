@@ -7,12 +7,12 @@ ghost use Rattle.cp_skel.specs.Trees.{limits_view};
 use crate::{Command, CommandName};
 use cp_skel::Limits;
 
-/// The step limit where the words give none, and the greatest that they may give.
+/// The step limit if the words give none, and the greatest that they may give.
 const DEFAULT_LIMIT: u32 = 2_000;
 
 const GREATEST_LIMIT: u32 = 100_000;
 
-/// The bound on the number of strands where the words give none.
+/// The bound on the number of strands if the words give none.
 const DEFAULT_BOUND: u32 = 8;
 
 /// An option, with its value.
@@ -48,7 +48,7 @@ fn name_and_value(word: &str) -> Option<(&str, &str)>
     word.split_once('=')
 }
 
-/// The option that the words begin with, in one word or in two, and the words behind it.
+/// The option that the words begin with, in one word or in two, and the words after it.
 fn first_setting(words: &[String]) -> Option<(Setting, &[String])>
     ensures { option_map (λ x. (setting_view x.0, map string_bytes x.1.now)) result ≡ first_setting (map string_bytes words.now) }
 {
@@ -60,7 +60,7 @@ fn first_setting(words: &[String]) -> Option<(Setting, &[String])>
     Some((setting_of(word.as_str(), value.as_str())?, rest))
 }
 
-/// The limits of these numbers, where the command may have them.
+/// The limits with these numbers, if a command may have them.
 fn limits_of(steps: u32, strands: u32) -> Option<Limits>
     ensures { option_map limits_view result ≡ limits_of steps strands }
 {
@@ -80,7 +80,7 @@ fn limits_set(first: Setting, second: Option<Setting>) -> Option<Limits>
     }
 }
 
-/// The limits that the options set, of which this is the first.
+/// The limits that the options set: this option and those in the words after it.
 fn limits_behind(first: Setting, rest: &[String]) -> Option<Limits>
     ensures { option_map limits_view result ≡ limits_behind (setting_view first, map string_bytes rest.now) }
 {
@@ -118,7 +118,7 @@ pub(crate) fn command_named(word: &str) -> Option<CommandName>
 }
 
 /// The command that the words are: a name for the program, the name of the command, and its options, each at most once:
-/// `--limit` with a number of at most 100,000, and `--bound` with a number of 1 to 32; `None` of any other words.
+/// `--limit` with a number of at most 100,000, and `--bound` with a number from 1 to 32. `None` for any other words.
 fn command_of(words: &[String]) -> Option<Command>
     ensures { option_map command_view result ≡ command_of (map string_bytes words.now) }
 {

@@ -29,9 +29,9 @@ pub struct Command {
 /// The command that words are.
 ///
 /// The words are a name for the program, `analyse` or `shapes`, and its options, each at most once and in any order:
-/// `--limit` with a number of at most 100,000, which is 2,000 where it does not stand, and `--bound` with a number of 1 to
-/// 32, which is 8. `Usage` says that the words are no such command, and `Memory` that they are one, and a growth in memory
-/// was refused.
+/// `--limit` with a number of at most 100,000 (default 2,000), and `--bound` with a number from 1 to 32 (default 8).
+/// The error is `Usage` exactly if the words are no such command. `Memory` means that they are one, but a growth in
+/// memory was refused.
 pub fn read_command(alloc: Global, words: &[String]) -> Result<Command, WordsError>
     ensures command { IfOk result (λ command. command_of (map string_bytes words.now) ≡ Some (command_view command)) }
     ensures usage { IfErr result (λ cause. (cause ≡ Usage) ↔ (command_of (map string_bytes words.now) ≡ None)) }

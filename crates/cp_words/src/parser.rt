@@ -35,7 +35,7 @@ fn description<'a>(alloc: Global) -> Result<clap::Command<'a>, AllocError>
         .subcommand(shapes)
 }
 
-// What the parser makes of the words.
+// What the parser finds in the words.
 fn matches_in<'a>(alloc: Global, words: &'a [String]) -> Result<ArgMatches<'a>, WordsError>
     ensures matches { IfOk result (HasMatchesOf described (map string_bytes words.now)) }
     ensures memory { IfErr result (λ e. takes described (map string_bytes words.now) ≡ true → e ≡ Memory) }

@@ -1,4 +1,4 @@
-// The program: the words of the command line and the standard streams, for the call that does the work.
+// The program: passes the words of the command line and the standard streams to `cp_app::run`.
 #![tactic(auto)]
 
 use cp_app::run;
@@ -9,7 +9,7 @@ use std::io::ErrorKind;
 use std::process::ExitCode;
 use std::rt::Env;
 
-// The words of the command line, or none where they can't be had, as where one of them is no UTF-8.
+// The words of the command line; none if they cannot be had, for example because one of them is not UTF-8.
 fn words(rt: &(impl Env + Alloc<A = Global>)) -> Result<Vec<String>, AllocError> {
     match env::args(rt) {
         Ok(words) => words.collect(rt.alloc()),

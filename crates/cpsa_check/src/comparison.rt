@@ -1,4 +1,4 @@
-// Trees that were read beside those that were found.
+// Compares the trees that were read with those that were found.
 use crate::operations::is_same_operation;
 use crate::strands::have_same_shapes;
 use crate::terms::have_same_terms;
@@ -13,7 +13,7 @@ fn tested(label: &TreeNode) -> Option<Node> {
     label.test.as_ref().map(|test| test.node)
 }
 
-/// Whether there are as many patterns, each with as many locals.
+/// Whether both have equally many patterns, each with equally many locals.
 fn have_as_many_locals(ones: &[Pattern], others: &[Pattern]) -> bool {
     ones.len() == others.len()
         && ones
@@ -22,7 +22,7 @@ fn have_as_many_locals(ones: &[Pattern], others: &[Pattern]) -> bool {
             .all(|(one, other)| one.locals().len() == other.locals().len())
 }
 
-/// Whether two labels agree in all but their terms, orders and assumptions.
+/// Whether two labels agree in all except their terms, orders and assumptions.
 fn agree(one: &TreeNode, other: &TreeNode) -> bool {
     one.parent == other.parent
         && is_same_operation(&one.operation, &other.operation)
@@ -34,8 +34,8 @@ fn agree(one: &TreeNode, other: &TreeNode) -> bool {
         && have_same_shapes(one.skeleton.strands(), other.skeleton.strands())
 }
 
-/// Whether two labels are the same up to the names of their variables: they agree, their terms are the same place by place, and
-/// their skeletons are isomorphic over the problem, by which their orders and assumptions are judged too.
+/// Whether two labels are the same up to the names of their variables: they agree, their terms are the same place by
+/// place, and their skeletons are isomorphic over the problem. The last also judges their orders and assumptions.
 fn is_same_label(alloc: Global, one: &TreeNode, other: &TreeNode) -> Result<bool, AllocError> {
     if !agree(one, other) || !have_same_terms(alloc, one, other)? {
         return Ok(false);
@@ -43,7 +43,7 @@ fn is_same_label(alloc: Global, one: &TreeNode, other: &TreeNode) -> Result<bool
     isomorphic(alloc, &one.skeleton, &other.skeleton)
 }
 
-/// The number of the first label that is another.
+/// The number of the first label that differs.
 fn first_other(
     alloc: Global,
     read: &[TreeNode],
@@ -65,7 +65,7 @@ fn count_labels(trees: &[Tree]) -> usize {
     )
 }
 
-/// The verdict on trees that were read, beside those that were found.
+/// The verdict on trees that were read, compared with those that were found.
 pub(crate) fn compared(
     alloc: Global,
     read: &[Tree],

@@ -19,7 +19,7 @@ fn limits_in(alloc: Global, words: &[String]) -> Result<Limits, Stopped> {
     }
 }
 
-/// The verdict on a report, over its text.
+/// The verdict on the report with this text.
 fn verdict_on_text(alloc: Global, limits: Limits, text: &[u8]) -> Result<Verdict, Stopped> {
     let forms = forms_in(alloc, text)?;
     let report = read_back(alloc, &forms)?;
@@ -29,7 +29,7 @@ fn verdict_on_text(alloc: Global, limits: Limits, text: &[u8]) -> Result<Verdict
     Ok(compared(alloc, &report.trees, &found)?)
 }
 
-/// The verdict on the report that is read, which these words are said to have made.
+/// The verdict on the report that is read. The words are those with which it is said to have been made.
 pub(crate) fn verdict_on<R: Read + Drop>(
     alloc: Global,
     words: &[String],

@@ -7,7 +7,7 @@ use std::io::Read;
 /// How many bytes are read: one more than a text may have.
 const MOST_BYTES: u64 = MAX_LENGTH as u64 + 1;
 
-/// What is read to the end, or to one byte more than a text may have.
+/// What is read to the end, or at most to one byte more than a text may have.
 pub(crate) fn read_all<R: Read + Drop>(alloc: Global, input: R) -> Result<Vec<u8>, Stopped> {
     let mut text = Vec::new(alloc);
     match input.take(MOST_BYTES).read_to_end(&mut text) {

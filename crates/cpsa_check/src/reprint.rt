@@ -8,7 +8,7 @@ use cp_readback::read_back;
 use std::alloc::Global;
 use std::io::Read;
 
-/// The report whose text this is, printed of the trees that were read, over the input that its forms state.
+/// The report with this text, printed again from the trees that were read, over the input that its forms state.
 fn printed(alloc: Global, text: &[u8]) -> Result<Vec<u8>, Stopped> {
     let forms = forms_in(alloc, text)?;
     let report = read_back(alloc, &forms)?;

@@ -25,7 +25,7 @@ pub(crate) enum Stopped {
 }
 
 impl Stopped {
-    /// Want of memory, where that is the error, and else this.
+    /// `Memory` if the error is want of memory, otherwise the other reason.
     pub(crate) fn memory_or(error: io::Error, other: Stopped) -> Stopped {
         match error.kind() {
             ErrorKind::OutOfMemory => Stopped::Memory,

@@ -1,7 +1,7 @@
-// Whether strands are alike but for their terms.
+// Whether strands are alike except for their terms.
 use cp_skel::{Strand, StrandShape};
 
-/// Whether two strands are instances of a role of one name, of one height, or are both listeners.
+/// Whether two strands are instances of roles with one name, of one height, or are both listeners.
 fn is_same_shape(one: &Strand, other: &Strand) -> bool {
     match (one.shape(), other.shape()) {
         (StrandShape::Instance(a), StrandShape::Instance(b)) => {
@@ -12,7 +12,7 @@ fn is_same_shape(one: &Strand, other: &Strand) -> bool {
     }
 }
 
-/// Whether there are as many strands, each alike but for its terms.
+/// Whether both have equally many strands, each alike except for its terms.
 pub(crate) fn have_same_shapes(ones: &[Strand], others: &[Strand]) -> bool {
     ones.len() == others.len()
         && ones

@@ -4,7 +4,7 @@ use cp_term::{Pattern, Term};
 use cp_unify::{Subst, matching_beside};
 use std::alloc::{AllocError, Global};
 
-/// Puts the messages at the nodes of a skeleton behind other terms.
+/// Appends the messages at the nodes of a skeleton.
 fn add_messages(occurrences: &[Occurrence], terms: &mut Vec<Term>) -> Result<(), AllocError> {
     for occurrence in occurrences {
         match &occurrence.event {
@@ -14,7 +14,7 @@ fn add_messages(occurrences: &[Occurrence], terms: &mut Vec<Term>) -> Result<(),
     Ok(())
 }
 
-/// Puts the terms of patterns behind others.
+/// Appends the terms of patterns.
 fn add_patterns(patterns: &[Pattern], terms: &mut Vec<Term>) -> Result<(), AllocError> {
     for pattern in patterns {
         terms.push(pattern.term().copy()?)?;
@@ -33,7 +33,7 @@ fn terms_of(alloc: Global, label: &TreeNode) -> Result<Vec<Term>, AllocError> {
     Ok(terms)
 }
 
-/// Whether variables of the first terms have values under which these are the others, each the one at its place.
+/// Whether variables of the first terms have values under which these terms are the others, place by place.
 fn can_become(alloc: Global, terms: &[Term], others: &[Term]) -> Result<bool, AllocError> {
     let mut values = Subst::new(alloc);
     for (term, other) in terms.iter().zip(others) {
@@ -45,8 +45,8 @@ fn can_become(alloc: Global, terms: &[Term], others: &[Term]) -> Result<bool, Al
     Ok(true)
 }
 
-/// Whether the terms of two labels are the same, place by place, up to the names of variables: there are as many, and each
-/// can become the others.
+/// Whether the terms of two labels are the same, place by place, up to the names of variables: there are equally many,
+/// and each list can become the other.
 pub(crate) fn have_same_terms(
     alloc: Global,
     one: &TreeNode,

@@ -6,9 +6,9 @@ use std::fmt;
 pub(crate) enum Verdict {
     /// It is, with this many labels in all trees.
     AsSearched(usize),
-    /// The tree of this problem has another outcome or another number of labels, or stands for no problem, or is missing.
+    /// The tree of this problem has another outcome or another number of labels, belongs to no problem, or is missing.
     ProblemDiffers(usize),
-    /// This label in the tree of this problem is another.
+    /// This label in the tree of this problem differs.
     LabelDiffers { problem: usize, label: usize },
 }
 
