@@ -8,22 +8,24 @@ use Rattle.cp_base.specs.declared.place.Refusal.{Refusal}
 use Rattle.cp_base.specs.declared.status.Status.{Status}
 use Rattle.cp_base.specs.declared.status.Status.TheVariants.{Done, Limit, Usage, Refused, ReadFault, WriteFault, Memory, TooLong}
 use Rattle.cp_lists.specs.Lists.{IsIn}
-use Rattle.cp_lists.proofs.Members.{none_in_empty}
 use Rattle.cp_model.specs.Tree.{Label, Tree, IsTrueOf}
 use Rattle.cp_sexpr.specs.Syntax.{Forms}
 use Rattle.cp_sexpr.specs.Reading.{IsReading}
 use Rattle.cp_sexpr.proofs.Unique.{one_reading_of}
-use Rattle.cp_language.proofs.OneAnswer.{one_first}
 use Rattle.cp_words.specs.Command.{Command}
-use Rattle.cp_app.specs.Headline.{text_by, most_bytes, IsAccepted, HaveTrees, SaysOutcomes, IsAnalysed, HasReported}
+use Rattle.cp_app.specs.Headline.{most_bytes, HaveTrees, IsAccepted, SaysOutcomes}
+use Rattle.cp_app.specs.Commands.{Accepts, Answers}
+use Rattle.cp_app.specs.Details.{AnswersInDetail, IsReportedInDetail}
+use Rattle.cp_app.specs.Answered.{IsWhole, HasAnswered, HasBrokenOff}
 use Rattle.cp_app.specs.Endings.{IsRefusedFor, HasRefused, WasTooLong, TookAtMost}
-use Rattle.cp_app.specs.Searched.{AreSearched, HasReportedSearch, HasBrokenOffSearch}
+use Rattle.cp_app.specs.Reported.{text_by}
 use Rattle.cp_report.specs.FittingTrees.{TreeFits}
-use Rattle.cp_app.specs.ReadBack.{IsReadBackAs, HasReportedReadBack}
 use Rattle.cp_app.specs.Steps.{IsCauseFor, HasStopped, outcomes_status, cause_of_load, IsWholeReport, HasWritten, HasWrittenPart, HasEnded, HasExecuted}
+use Rattle.cp_app.proofs.CommandCases.{accepts_well_formed, refuses_faulty, accepts_or_refuses, one_fault, reported_answers, detail_answers}
 use Rattle.cp_app.specs.Analysis.{IsAnalysisOf}
 use Rattle.cp_app.proofs.Trees.{zip_onto}
-use Rattle.cp_language.specs.Input.{Entry, faults_of, input_of}
+use Rattle.cp_legible.proofs.DenotedTrees.{report_true}
+use Rattle.cp_language.specs.Input.{Entry, input_of}
 use Rattle.cp_language.specs.StatedInput.{IsInput}
 use Rattle.cp_language.specs.Report.{HasItsVariables}
 use Rattle.cp_load.specs.declared.error.LoadError.{LoadError}
@@ -41,20 +43,20 @@ same_error : (r s : Refusal) (a b : Result Forms Refusal) → a ≡ Err r → b 
 same_error r s a b is also e = cc
 
 -- an input that is accepted is not refused
-pub accepted_or_refused : (input : List ℕ) (fs : Forms) (r : Refusal) → IsAccepted input fs → IsRefusedFor input r → ⊥
-accepted_or_refused input fs r accepted (inl reading) = let e = one_reading_of input (Ok fs) (Err r) accepted.read reading in cc
-accepted_or_refused input fs r accepted (inr (gs, reading, first)) =
+pub accepted_or_refused : (command : Command) (input : List ℕ) (fs : Forms) (r : Refusal) → IsAccepted (Accepts command) input fs → IsRefusedFor command input r → ⊥
+accepted_or_refused command input fs r accepted (inl reading) = let e = one_reading_of input (Ok fs) (Err r) accepted.read reading in cc
+accepted_or_refused command input fs r accepted (inr (gs, reading, refuses)) =
     let e : fs ≡ gs = same_reading input fs gs accepted.read reading in
-    none_in_empty (ap faults_of (sym e) ∙ accepted.well_formed) first.listed
+    accepts_or_refuses command.name gs r (subst (Accepts command) e accepted.accepts) refuses
 
 -- an input is refused for one fault
-pub one_refusal : (input : List ℕ) (r s : Refusal) → IsRefusedFor input r → IsRefusedFor input s → r ≡ s
-one_refusal input r s (inl reading) (inl again) = same_error r s (Err r) (Err s) refl refl (one_reading_of input (Err r) (Err s) reading again)
-one_refusal input r s (inl reading) (inr (gs, again, first)) = let e = one_reading_of input (Err r) (Ok gs) reading again in absurd (cc)
-one_refusal input r s (inr (fs, reading, first)) (inl again) = let e = one_reading_of input (Ok fs) (Err s) reading again in absurd (cc)
-one_refusal input r s (inr (fs, reading, first)) (inr (gs, again, other)) =
+pub one_refusal : (command : Command) (input : List ℕ) (r s : Refusal) → IsRefusedFor command input r → IsRefusedFor command input s → r ≡ s
+one_refusal command input r s (inl reading) (inl again) = same_error r s (Err r) (Err s) refl refl (one_reading_of input (Err r) (Err s) reading again)
+one_refusal command input r s (inl reading) (inr (gs, again, refuses)) = let e = one_reading_of input (Err r) (Ok gs) reading again in absurd (cc)
+one_refusal command input r s (inr (fs, reading, refuses)) (inl again) = let e = one_reading_of input (Ok fs) (Err s) reading again in absurd (cc)
+one_refusal command input r s (inr (fs, reading, refuses)) (inr (gs, again, other)) =
     let e : fs ≡ gs = same_reading input fs gs reading again in
-    one_first (faults_of gs) r s (rw e at first) other
+    one_fault command.name gs r s (rw e at refuses) other
 
 -- ---- what was written
 
@@ -63,12 +65,12 @@ took_all input left_new short at_end = (length input, omega arith, at_end ∙ ap
 
 module _ (command : Command) (input : List ℕ) (left_new held_old held_new : Option (List ℕ)) where
   pub ended_took_at_most : (status : Status) → HasEnded command input left_new held_old held_new status → TookAtMost input left_new
-  ended_took_at_most Done ended = took_all input left_new ended.report.report.accepted.short ended.at_end
-  ended_took_at_most Limit ended = took_all input left_new ended.report.report.accepted.short ended.at_end
+  ended_took_at_most Done ended = took_all input left_new ended.report.accepted.short ended.at_end
+  ended_took_at_most Limit ended = took_all input left_new ended.report.accepted.short ended.at_end
   ended_took_at_most Usage ended = absurd ended
   ended_took_at_most (Refused r) ended = took_all input left_new ended.short ended.at_end
   ended_took_at_most ReadFault ended = ended
-  ended_took_at_most WriteFault (complete, ended) = took_all input left_new ended.report.report.accepted.short ended.at_end
+  ended_took_at_most WriteFault (complete, ended) = took_all input left_new ended.report.accepted.short ended.at_end
   ended_took_at_most Memory ended = ended
   ended_took_at_most TooLong ended = (most_bytes + 1, omega arith, ended.left)
 
@@ -76,58 +78,72 @@ module _ (command : Command) (input : List ℕ) (left_new held_old held_new : Op
   abbrev Ended : Status → Type 0
   Ended status = HasEnded command input left_new held_old held_new status
 
-  -- A report was put, its trees are those of the search, and it is read back as these.
-  abbrev Reported : List ℕ → Status → Type 0
-  Reported before status =
-      (reported : HasReported command input before left_new held_new status) × AreSearched command.limits reported.report.forms reported.trees
-      × IsReadBackAs command.name reported.text reported.report.forms reported.trees
+  written_answered : (before : List ℕ) (b : Bool) → held_old ≡ Some before → HasWritten command input left_new held_old held_new b (Ok tt) → HasAnswered (AnswersInDetail command) command input before left_new held_new (outcomes_status b)
+  written_answered before b is written = record { text = written.text; at_end = λ reading. written.at_end; held = written.put before is; answer = written.report.answer }
 
-  written_reported : (before : List ℕ) (b : Bool) → held_old ≡ Some before → HasWritten command input left_new held_old held_new b (Ok tt) → Reported before (outcomes_status b)
-  written_reported before b is written = (
-    record { text = written.text; trees = written.report.trees; at_end = written.at_end; held = written.put before is; report = written.report.report; outcomes = written.report.outcomes },
-    written.report.searched,
-    written.report.read_back,
-  )
+  pub ended_in_detail : (before : List ℕ) (status : Status) → held_old ≡ Some before → IsWhole status → HasEnded command input left_new held_old held_new status → HasAnswered (AnswersInDetail command) command input before left_new held_new status
+  ended_in_detail before status is (inl e) ended = subst (HasAnswered (AnswersInDetail command) command input before left_new held_new) (sym e) (written_answered before true is (subst Ended e ended))
+  ended_in_detail before status is (inr e) ended = subst (HasAnswered (AnswersInDetail command) command input before left_new held_new) (sym e) (written_answered before false is (subst Ended e ended))
 
-  ended_reported : (before : List ℕ) (status : Status) → held_old ≡ Some before → IsAnalysed status → HasEnded command input left_new held_old held_new status → Reported before status
-  ended_reported before status is (inl e) ended = subst (Reported before) (sym e) (written_reported before true is (subst Ended e ended))
-  ended_reported before status is (inr e) ended = subst (Reported before) (sym e) (written_reported before false is (subst Ended e ended))
+  pub answered_by_detail : (before : List ℕ) (status : Status) → HasAnswered (AnswersInDetail command) command input before left_new held_new status → HasAnswered (Answers command) command input before left_new held_new status
+  answered_by_detail before status answered = record {
+    text = answered.text;
+    at_end = answered.at_end;
+    held = answered.held;
+    answer = detail_answers command.name command.limits input answered.text status answered.answer;
+  }
 
-  pub ended_searched : (before : List ℕ) (status : Status) → held_old ≡ Some before → IsAnalysed status → HasEnded command input left_new held_old held_new status → HasReportedSearch command input before left_new held_new status
-  ended_searched before status is analysed ended = let r = ended_reported before status is analysed ended in record { reported = r.0; searched = r.1 }
+  outcomes_are_whole : (b : Bool) → IsWhole (outcomes_status b)
+  outcomes_are_whole true = inl refl
+  outcomes_are_whole false = inr refl
 
-  pub ended_read_back : (before : List ℕ) (status : Status) → held_old ≡ Some before → IsAnalysed status → HasEnded command input left_new held_old held_new status → HasReportedReadBack command input before left_new held_new status
-  ended_read_back before status is analysed ended = let r = ended_reported before status is analysed ended in record { searched = record { reported = r.0; searched = r.1 }; read_back = r.2 }
-
-  pub ended_broken_off : (before : List ℕ) (status : Status) → held_old ≡ Some before → status ≡ WriteFault → HasEnded command input left_new held_old held_new status → HasBrokenOffSearch command input before left_new held_new
+  pub ended_broken_off : (before : List ℕ) (status : Status) → held_old ≡ Some before → status ≡ WriteFault → HasEnded command input left_new held_old held_new status → HasBrokenOff (AnswersInDetail command) command input before left_new held_new
   ended_broken_off before status is broken ended =
       let whole : HasWrittenPart command input left_new held_old held_new = subst Ended broken ended in
       let part = whole.1 in
       let put = part.put before is in
       record {
-        broken_off = record { text = part.text; trees = part.report.trees; put = put.0; shorter = put.1; at_end = part.at_end; held = put.2; report = part.report.report };
-        searched = part.report.searched;
+        text = part.text;
+        status = outcomes_status whole.0;
+        put = put.0;
+        whole = outcomes_are_whole whole.0;
+        shorter = put.1;
+        at_end = λ reading. part.at_end;
+        held = put.2;
+        answer = part.report.answer;
       }
 
-  pub ended_accepted : (status : Status) → HasEnded command input left_new held_old held_new status → (IsAnalysed status ⊎ (status ≡ WriteFault)) → (left_new ≡ Some []) × ((fs : Forms) × IsAccepted input fs)
-  ended_accepted status ended (inl (inl e)) = let done : HasWritten command input left_new held_old held_new true (Ok tt) = subst Ended e ended in (done.at_end, (done.report.report.forms, done.report.report.accepted))
-  ended_accepted status ended (inl (inr e)) = let at_limit : HasWritten command input left_new held_old held_new false (Ok tt) = subst Ended e ended in (at_limit.at_end, (at_limit.report.report.forms, at_limit.report.report.accepted))
+  pub broken_off_by_detail : (before : List ℕ) → HasBrokenOff (AnswersInDetail command) command input before left_new held_new → HasBrokenOff (Answers command) command input before left_new held_new
+  broken_off_by_detail before broken = record {
+    text = broken.text;
+    status = broken.status;
+    put = broken.put;
+    whole = broken.whole;
+    shorter = broken.shorter;
+    at_end = broken.at_end;
+    held = broken.held;
+    answer = detail_answers command.name command.limits input broken.text broken.status broken.answer;
+  }
+
+  pub ended_accepted : (status : Status) → HasEnded command input left_new held_old held_new status → (IsWhole status ⊎ (status ≡ WriteFault)) → (left_new ≡ Some []) × ((fs : Forms) × IsAccepted (Accepts command) input fs)
+  ended_accepted status ended (inl (inl e)) = let done : HasWritten command input left_new held_old held_new true (Ok tt) = subst Ended e ended in (done.at_end, (done.report.forms, done.report.accepted))
+  ended_accepted status ended (inl (inr e)) = let at_limit : HasWritten command input left_new held_old held_new false (Ok tt) = subst Ended e ended in (at_limit.at_end, (at_limit.report.forms, at_limit.report.accepted))
   ended_accepted status ended (inr e) =
       let whole : HasWrittenPart command input left_new held_old held_new = subst Ended e ended in
       let part = whole.1 in
-      (part.at_end, (part.report.report.forms, part.report.report.accepted))
+      (part.at_end, (part.report.forms, part.report.accepted))
 
-  pub ended_refused : (status : Status) (r : Refusal) → HasEnded command input left_new held_old held_new status → status ≡ Refused r → HasRefused input left_new r
+  pub ended_refused : (status : Status) (r : Refusal) → HasEnded command input left_new held_old held_new status → status ≡ Refused r → HasRefused command input left_new r
   ended_refused status r ended is = subst Ended is ended
 
-  pub ended_only_refused : (status : Status) (r : Refusal) → HasEnded command input left_new held_old held_new status → length input ≤ most_bytes → IsRefusedFor input r
+  pub ended_only_refused : (status : Status) (r : Refusal) → HasEnded command input left_new held_old held_new status → length input ≤ most_bytes → IsRefusedFor command input r
       → (status ≡ Refused r) ⊎ ((status ≡ ReadFault) ⊎ (status ≡ Memory))
-  ended_only_refused Done r ended short refused = absurd (accepted_or_refused input ended.report.report.forms r ended.report.report.accepted refused)
-  ended_only_refused Limit r ended short refused = absurd (accepted_or_refused input ended.report.report.forms r ended.report.report.accepted refused)
+  ended_only_refused Done r ended short refused = absurd (accepted_or_refused command input ended.report.forms r ended.report.accepted refused)
+  ended_only_refused Limit r ended short refused = absurd (accepted_or_refused command input ended.report.forms r ended.report.accepted refused)
   ended_only_refused Usage r ended short refused = absurd ended
-  ended_only_refused (Refused s) r ended short refused = inl (ap (λ x. Refused x) (one_refusal input s r ended.cause refused))
+  ended_only_refused (Refused s) r ended short refused = inl (ap (λ x. Refused x) (one_refusal command input s r ended.cause refused))
   ended_only_refused ReadFault r ended short refused = inr (inl refl)
-  ended_only_refused WriteFault r (complete, ended) short refused = absurd (accepted_or_refused input ended.report.report.forms r ended.report.report.accepted refused)
+  ended_only_refused WriteFault r (complete, ended) short refused = absurd (accepted_or_refused command input ended.report.forms r ended.report.accepted refused)
   ended_only_refused Memory r ended short refused = inr (inr refl)
   ended_only_refused TooLong r ended short refused = let long = ended.long in absurd (omega arith)
 
@@ -135,21 +151,21 @@ module _ (command : Command) (input : List ℕ) (left_new held_old held_new : Op
   ended_too_long status ended is = subst Ended is ended
 
   pub ended_only_too_long : (status : Status) → HasEnded command input left_new held_old held_new status → most_bytes < length input → (status ≡ TooLong) ⊎ ((status ≡ ReadFault) ⊎ (status ≡ Memory))
-  ended_only_too_long Done ended long = let short = ended.report.report.accepted.short in absurd (omega arith)
-  ended_only_too_long Limit ended long = let short = ended.report.report.accepted.short in absurd (omega arith)
+  ended_only_too_long Done ended long = let short = ended.report.accepted.short in absurd (omega arith)
+  ended_only_too_long Limit ended long = let short = ended.report.accepted.short in absurd (omega arith)
   ended_only_too_long Usage ended long = absurd ended
   ended_only_too_long (Refused r) ended long = let short = ended.short in absurd (omega arith)
   ended_only_too_long ReadFault ended long = inr (inl refl)
-  ended_only_too_long WriteFault (complete, ended) long = let short = ended.report.report.accepted.short in absurd (omega arith)
+  ended_only_too_long WriteFault (complete, ended) long = let short = ended.report.accepted.short in absurd (omega arith)
   ended_only_too_long Memory ended long = inr (inr refl)
   ended_only_too_long TooLong ended long = inl refl
 
   pub ended_completes : (status : Status) (fs : Forms) (read written : Type 0) → HasEnded command input left_new held_old held_new status → (status ≡ ReadFault → read) → (status ≡ WriteFault → written)
-      → IsAccepted input fs → (read → ⊥) → (written → ⊥) → IsAnalysed status ⊎ (status ≡ Memory)
+      → IsAccepted (Accepts command) input fs → (read → ⊥) → (written → ⊥) → IsWhole status ⊎ (status ≡ Memory)
   ended_completes Done fs read written ended reading writing accepted not_read not_written = inl (inl refl)
   ended_completes Limit fs read written ended reading writing accepted not_read not_written = inl (inr refl)
   ended_completes Usage fs read written ended reading writing accepted not_read not_written = absurd ended
-  ended_completes (Refused r) fs read written ended reading writing accepted not_read not_written = absurd (accepted_or_refused input fs r accepted ended.cause)
+  ended_completes (Refused r) fs read written ended reading writing accepted not_read not_written = absurd (accepted_or_refused command input fs r accepted ended.cause)
   ended_completes ReadFault fs read written ended reading writing accepted not_read not_written = absurd (not_read (reading refl))
   ended_completes WriteFault fs read written ended reading writing accepted not_read not_written = absurd (not_written (writing refl))
   ended_completes Memory fs read written ended reading writing accepted not_read not_written = inr refl
@@ -157,13 +173,13 @@ module _ (command : Command) (input : List ℕ) (left_new held_old held_new : Op
 
 -- ---- stopped behind the end of the input
 
-pub stopped_behind_end : {A : Type 0} (result : Result A Stopped) (bytes input : List ℕ) (left_new : Option (List ℕ)) → IfErr result (IsCauseFor bytes) → length bytes ≤ most_bytes → (bytes ≡ input) × (left_new ≡ Some [])
-    → IfErr result (HasStopped input left_new)
-stopped_behind_end (Ok x) bytes input left_new cause short read = tt
-stopped_behind_end (Err (stopped.Refused r)) bytes input left_new cause short read = record { at_end = read.1; short = rw read.0 at short; cause = rw read.0 at cause }
-stopped_behind_end (Err stopped.ReadFault) bytes input left_new cause short read = absurd cause
-stopped_behind_end (Err stopped.TooLong) bytes input left_new cause short read = absurd cause
-stopped_behind_end (Err stopped.Memory) bytes input left_new cause short read = took_all input left_new (rw read.0 at short) read.1
+pub stopped_behind_end : {A : Type 0} (command : Command) (result : Result A Stopped) (bytes input : List ℕ) (left_new : Option (List ℕ)) → IfErr result (IsCauseFor command bytes) → length bytes ≤ most_bytes → (bytes ≡ input) × (left_new ≡ Some [])
+    → IfErr result (HasStopped command input left_new)
+stopped_behind_end command (Ok x) bytes input left_new cause short read = tt
+stopped_behind_end command (Err (stopped.Refused r)) bytes input left_new cause short read = record { at_end = read.1; short = rw read.0 at short; cause = rw read.0 at cause }
+stopped_behind_end command (Err stopped.ReadFault) bytes input left_new cause short read = absurd cause
+stopped_behind_end command (Err stopped.TooLong) bytes input left_new cause short read = absurd cause
+stopped_behind_end command (Err stopped.Memory) bytes input left_new cause short read = took_all input left_new (rw read.0 at short) read.1
 
 -- ---- reports
 
@@ -173,27 +189,37 @@ whole_report command bytes text fs entries trees b short reading loaded analysed
     let problems = filter_map (λ e. e.problem) (input_of fs) in
     let all : HaveTrees (IsAnalysisOf command.limits) (input_of fs) trees = subst (λ es. HaveTrees (IsAnalysisOf command.limits) es trees) loaded.1 analysed in
     let prints : text ≡ text_by command.name (input_of fs) trees = printed ∙ ap (λ es. text_by command.name es trees) loaded.1 in
-    record {
-      trees = trees;
-      report = record {
-        forms = fs;
-        accepted = record { short = short; read = reading; well_formed = loaded.0 };
-        true_trees = zip_onto (IsAnalysisOf command.limits) (λ p t. IsTrueOf p.protocol p.skeleton command.limits t) (λ p t h. h.truth) problems trees all;
-        variables = zip_onto (IsAnalysisOf command.limits) (λ p t. (l : Label) → IsIn l t.labels → HasItsVariables p l) (λ p t h. h.variables) problems trees all;
-        printed = prints;
+    let true_trees : HaveTrees (λ p t. IsTrueOf p.protocol p.skeleton command.limits t) (input_of fs) trees =
+    zip_onto (IsAnalysisOf command.limits) (λ p t. IsTrueOf p.protocol p.skeleton command.limits t) (λ p t h. h.truth) problems trees all in
+    let reported : IsReportedInDetail command.name (text_by command.name) command.limits bytes text (outcomes_status b) = record {
+      reported = record {
+        trees = trees;
+        report = record {
+          forms = fs;
+          accepted = record { short = short; read = reading; accepts = loaded.0 };
+          true_trees = true_trees;
+          variables = zip_onto (IsAnalysisOf command.limits) (λ p t. (l : Label) → IsIn l t.labels → HasItsVariables p l) (λ p t h. h.variables) problems trees all;
+          printed = prints;
+        };
+        outcomes = says;
       };
       searched = zip_onto (IsAnalysisOf command.limits) (λ p t. IsTreeOf p.protocol p.skeleton p.variables command.limits t) (λ p t h. h.searched) problems trees all;
       read_back = read_back_as command.name text fs trees prints loaded.0 (zip_onto (IsAnalysisOf command.limits) TreeFits (λ p t h. h.fits) problems trees all)
           (analyses_are_proper command.limits fs trees (read_is_proper bytes fs reading).0 loaded.0 all);
-      outcomes = says;
+      denoted = λ gs is. report_true fs trees command.limits gs loaded.0 is true_trees;
+    } in
+    record {
+      forms = fs;
+      accepted = record { short = short; read = reading; accepts = accepts_well_formed command.name fs loaded.0 };
+      answer = reported_answers command.name command.limits bytes text (outcomes_status b) reported;
     }
 
 -- what the loader refuses, the input is refused for
-pub load_cause : {A : Type 0} (input : List ℕ) (fs : Forms) (e : LoadError) (result : Result A Stopped) → IsErrAnd result (λ cause. cause ≡ cause_of_load e) → IsReading input (Ok fs)
-    → ((r : Refusal) → e ≡ loading.Refused r → IsInput fs (Err r)) → IfErr result (IsCauseFor input)
-load_cause input fs e (Ok x) is reading refused = tt
-load_cause input fs (loading.Refused r) (Err cause) is reading refused = subst (IsCauseFor input) (sym is) (inr (fs, reading, refused r refl))
-load_cause input fs loading.Memory (Err cause) is reading refused = subst (IsCauseFor input) (sym is) tt
+pub load_cause : {A : Type 0} (command : Command) (input : List ℕ) (fs : Forms) (e : LoadError) (result : Result A Stopped) → IsErrAnd result (λ cause. cause ≡ cause_of_load e) → IsReading input (Ok fs)
+    → ((r : Refusal) → e ≡ loading.Refused r → IsInput fs (Err r)) → IfErr result (IsCauseFor command input)
+load_cause command input fs e (Ok x) is reading refused = tt
+load_cause command input fs (loading.Refused r) (Err cause) is reading refused = subst (IsCauseFor command input) (sym is) (inr (fs, reading, refuses_faulty command.name fs r (refused r refl)))
+load_cause command input fs loading.Memory (Err cause) is reading refused = subst (IsCauseFor command input) (sym is) tt
 
 pub ended_ok : (command : Command) (input : List ℕ) (left_new held_old held_new : Option (List ℕ)) (b : Bool) (s : Status) → s ≡ outcomes_status b → HasWritten command input left_new held_old held_new b (Ok tt)
     → HasEnded command input left_new held_old held_new s
@@ -203,19 +229,23 @@ ended_ok command input left_new held_old held_new false s is written = subst (Ha
 -- ---- runs
 
 module _ (o : Option Command) (input : List ℕ) (left_new held_old held_new : Option (List ℕ)) where
-  pub executed_searched : (command : Command) (before : List ℕ) (s : Status) → HasExecuted o input left_new held_old held_new s → o ≡ Some command → held_old ≡ Some before → IsAnalysed s → HasReportedSearch command input before left_new held_new s
-  executed_searched command before s executed is held analysed =
-      ended_searched command input left_new held_old held_new before s held analysed (subst (λ p. HasExecuted p input left_new held_old held_new s) is executed)
+  pub executed_in_detail : (command : Command) (before : List ℕ) (s : Status) → HasExecuted o input left_new held_old held_new s → o ≡ Some command → held_old ≡ Some before → IsWhole s → HasAnswered (AnswersInDetail command) command input before left_new held_new s
+  executed_in_detail command before s executed is held whole =
+      ended_in_detail command input left_new held_old held_new before s held whole (subst (λ p. HasExecuted p input left_new held_old held_new s) is executed)
 
-  pub executed_read_back : (command : Command) (before : List ℕ) (s : Status) → HasExecuted o input left_new held_old held_new s → o ≡ Some command → held_old ≡ Some before → IsAnalysed s → HasReportedReadBack command input before left_new held_new s
-  executed_read_back command before s executed is held analysed =
-      ended_read_back command input left_new held_old held_new before s held analysed (subst (λ p. HasExecuted p input left_new held_old held_new s) is executed)
-
-  pub executed_broken_off : (command : Command) (before : List ℕ) (s : Status) → HasExecuted o input left_new held_old held_new s → o ≡ Some command → held_old ≡ Some before → s ≡ WriteFault → HasBrokenOffSearch command input before left_new held_new
+  pub executed_broken_off : (command : Command) (before : List ℕ) (s : Status) → HasExecuted o input left_new held_old held_new s → o ≡ Some command → held_old ≡ Some before → s ≡ WriteFault → HasBrokenOff (AnswersInDetail command) command input before left_new held_new
   executed_broken_off command before s executed is held broken =
       ended_broken_off command input left_new held_old held_new before s held broken (subst (λ p. HasExecuted p input left_new held_old held_new s) is executed)
 
-  pub executed_only_refused : (command : Command) (r : Refusal) (s : Status) → HasExecuted o input left_new held_old held_new s → o ≡ Some command → length input ≤ most_bytes → IsRefusedFor input r
+  pub executed_accepted : (command : Command) (s : Status) → HasExecuted o input left_new held_old held_new s → o ≡ Some command → (IsWhole s ⊎ (s ≡ WriteFault)) → (left_new ≡ Some []) × ((fs : Forms) × IsAccepted (Accepts command) input fs)
+  executed_accepted command s executed is ends =
+      ended_accepted command input left_new held_old held_new s (subst (λ p. HasExecuted p input left_new held_old held_new s) is executed) ends
+
+  pub executed_refused : (command : Command) (s : Status) (r : Refusal) → HasExecuted o input left_new held_old held_new s → o ≡ Some command → s ≡ Refused r → HasRefused command input left_new r
+  executed_refused command s r executed is refused =
+      ended_refused command input left_new held_old held_new s r (subst (λ p. HasExecuted p input left_new held_old held_new s) is executed) refused
+
+  pub executed_only_refused : (command : Command) (r : Refusal) (s : Status) → HasExecuted o input left_new held_old held_new s → o ≡ Some command → length input ≤ most_bytes → IsRefusedFor command input r
       → (s ≡ Refused r) ⊎ ((s ≡ ReadFault) ⊎ (s ≡ Memory))
   executed_only_refused command r s executed is short refused =
       ended_only_refused command input left_new held_old held_new s r (subst (λ p. HasExecuted p input left_new held_old held_new s) is executed) short refused
@@ -225,22 +255,9 @@ module _ (o : Option Command) (input : List ℕ) (left_new held_old held_new : O
       ended_only_too_long command input left_new held_old held_new s (subst (λ p. HasExecuted p input left_new held_old held_new s) is executed) long
 
   pub executed_completes : (command : Command) (s : Status) (fs : Forms) (read written : Type 0) → HasExecuted o input left_new held_old held_new s → o ≡ Some command → (s ≡ ReadFault → read) → (s ≡ WriteFault → written)
-      → IsAccepted input fs → (read → ⊥) → (written → ⊥) → IsAnalysed s ⊎ (s ≡ Memory)
+      → IsAccepted (Accepts command) input fs → (read → ⊥) → (written → ⊥) → IsWhole s ⊎ (s ≡ Memory)
   executed_completes command s fs read written executed is reading writing accepted not_read not_written =
       ended_completes command input left_new held_old held_new s fs read written (subst (λ p. HasExecuted p input left_new held_old held_new s) is executed) reading writing accepted not_read not_written
-
-not_usage_accepted : (s : Status) → s ≡ Usage → (IsAnalysed s ⊎ (s ≡ WriteFault)) → ⊥
-not_usage_accepted s usage (inl (inl e)) = cc
-not_usage_accepted s usage (inl (inr e)) = cc
-not_usage_accepted s usage (inr e) = cc
-
-pub executed_accepted : (o : Option Command) (input : List ℕ) (left_new held_old held_new : Option (List ℕ)) (s : Status) → HasExecuted o input left_new held_old held_new s → (IsAnalysed s ⊎ (s ≡ WriteFault)) → (left_new ≡ Some []) × ((fs : Forms) × IsAccepted input fs)
-executed_accepted None input left_new held_old held_new s executed is = absurd (not_usage_accepted s executed.0 is)
-executed_accepted (Some command) input left_new held_old held_new s executed is = ended_accepted command input left_new held_old held_new s executed is
-
-pub executed_refused : (o : Option Command) (input : List ℕ) (left_new held_old held_new : Option (List ℕ)) (s : Status) (r : Refusal) → HasExecuted o input left_new held_old held_new s → s ≡ Refused r → HasRefused input left_new r
-executed_refused None input left_new held_old held_new s r executed is = let e = executed.0 in absurd (cc)
-executed_refused (Some command) input left_new held_old held_new s r executed is = ended_refused command input left_new held_old held_new s r executed is
 
 pub executed_too_long : (o : Option Command) (input : List ℕ) (left_new held_old held_new : Option (List ℕ)) (s : Status) → HasExecuted o input left_new held_old held_new s → s ≡ TooLong → WasTooLong input left_new
 executed_too_long None input left_new held_old held_new s executed is = let e = executed.0 in absurd (cc)

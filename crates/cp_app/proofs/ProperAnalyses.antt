@@ -1,7 +1,7 @@
 -- What is printed of an input and of the analyses of its problems is proper.
 use Rattle.std.proofs.Common.{◌≡◌, List, []}
 use Rattle.std.specs.List.{filter_map}
-use Rattle.cp_lists.specs.Lists.{IsIn, here, there}
+use Rattle.cp_lists.specs.Lists.{IsIn}
 use Rattle.cp_lists.proofs.Members.{zip_listed}
 use Rattle.cp_model.specs.Strand.{Role}
 use Rattle.cp_model.specs.Skeleton.{IsSkeleton}

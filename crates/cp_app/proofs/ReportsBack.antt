@@ -19,7 +19,8 @@ use Rattle.cp_proper.specs.Proper.{AreProper}
 use Rattle.cp_proper.proofs.ReadTexts.{read_as_they_are, can_be_read}
 use Rattle.cp_words.specs.declared.command.CommandName.{CommandName}
 use Rattle.cp_words.specs.declared.command.CommandName.TheVariants.{Analyse}
-use Rattle.cp_app.specs.Headline.{HaveTrees, text_by}
+use Rattle.cp_app.specs.Headline.{HaveTrees}
+use Rattle.cp_app.specs.Reported.{text_by}
 use Rattle.cp_app.specs.ReadBack.{AreReadBack, IsReadBackAs}
 
 -- ---- problems with their trees

@@ -8,7 +8,7 @@ use Rattle.cp_base.specs.declared.status.Failed.{Failed}
 use Rattle.cp_base.specs.Outside.{Moved, Takes}
 use Rattle.cp_app.specs.Headline.{most_bytes}
 use Rattle.cp_app.specs.Endings.{TookAtMost, WasTooLong}
-use Rattle.cp_app.specs.Steps.{HasStopped}
+use Rattle.cp_app.specs.Steps.{HasStoppedReading}
 use Rattle.cp_app.specs.declared.stopped.Stopped.{Stopped}
 use Rattle.cp_app.specs.declared.stopped.Stopped.TheVariants.{Memory}
 
@@ -82,7 +82,7 @@ TookFrom-extended bytes extended buf_old buf_new others n left_old left_middle l
     rw same at (TookFrom-more bytes buf_old buf_new n left_old left_middle left_new took takes)
 
 -- memory may run out at any time
-pub HasStopped-memory : {A : Type 0} (result : Result A Stopped) (input : List ℕ) (left_new : Option (List ℕ)) → IsErrAnd result (λ cause. cause ≡ Memory) → TookAtMost input left_new → IfErr result (HasStopped input left_new)
+pub HasStopped-memory : {A : Type 0} (result : Result A Stopped) (input : List ℕ) (left_new : Option (List ℕ)) → IsErrAnd result (λ cause. cause ≡ Memory) → TookAtMost input left_new → IfErr result (HasStoppedReading input left_new)
 HasStopped-memory (Ok x) input left_new memory took = absurd memory
 HasStopped-memory (Err cause) input left_new memory took = rw memory took
 

@@ -1,4 +1,4 @@
--- What `run` promises where it reports nothing: what refuses an input, how much was taken, and the lines of statuses.
+-- What a call of `run` leaves where it answers nothing: what refuses an input, how much was taken, and the lines of statuses.
 use Rattle.std.specs.Prelude.{◌≡◌, ℕ, ◌+◌, ◌<◌, ◌≤◌, ◌⊎◌, List, [], ◌∷◌, ◌++◌, length, take, drop, Bool, true, false, codes, decimal, Option, Some, Ok, Err}
 use Rattle.cp_base.specs.Codes.{code_text}
 use Rattle.cp_base.specs.Outside.{Rose}
@@ -7,32 +7,32 @@ use Rattle.cp_base.specs.declared.status.Status.{Status}
 use Rattle.cp_base.specs.declared.status.Status.TheVariants.{Done, Limit, Usage, Refused, ReadFault, WriteFault, Memory, TooLong}
 use Rattle.cp_sexpr.specs.Syntax.{Forms}
 use Rattle.cp_sexpr.specs.Reading.{IsReading}
-use Rattle.cp_language.specs.FirstFault.{IsFirstFault}
-use Rattle.cp_language.specs.Input.{faults_of}
+use Rattle.cp_words.specs.Command.{Command}
 use Rattle.cp_app.specs.Headline.{most_bytes}
+use Rattle.cp_app.specs.Commands.{Refuses}
 
--- ---- inputs that are not reported
+-- ---- inputs that are refused or too long
 
--- The whole input is refused so: the reader refuses it, or this is the first fault of its forms.
-abbrev pub IsRefusedFor : List ℕ → Refusal → Type 0
-IsRefusedFor input r = IsReading input (Err r) ⊎ ((fs : Forms) × IsReading input (Ok fs) × IsFirstFault (faults_of fs) r)
+-- The command refuses the whole input so: the reader refuses it, or the command refuses its forms.
+abbrev pub IsRefusedFor : Command → List ℕ → Refusal → Type 0
+IsRefusedFor command input r = IsReading input (Err r) ⊎ ((fs : Forms) × IsReading input (Ok fs) × Refuses command fs r)
 
 -- A refused input was read to its end, and is refused so.
-pub record HasRefused (input : List ℕ) (left_new : Option (List ℕ)) (r : Refusal) : Type 0 where
+pub record HasRefused (command : Command) (input : List ℕ) (left_new : Option (List ℕ)) (r : Refusal) : Type 0 where
   pub at_end : left_new ≡ Some []
   pub short : length input ≤ most_bytes
-  pub cause : IsRefusedFor input r
+  pub cause : IsRefusedFor command input r
 
 -- Of too long an input one byte more than the most was taken.
 pub record WasTooLong (input : List ℕ) (left_new : Option (List ℕ)) : Type 0 where
   pub long : most_bytes < length input
   pub left : left_new ≡ Some (drop (most_bytes + 1) input)
 
--- At most so many bytes were taken.
+-- At most one byte more than an input may have was taken.
 abbrev pub TookAtMost : List ℕ → Option (List ℕ) → Type 0
 TookAtMost input left_new = (n : ℕ) × (n ≤ most_bytes + 1) × (left_new ≡ Some (drop n input))
 
--- The line was put, or a front of it where the count of faults rose.
+-- The line was put, or a prefix of it if the count of faults rose.
 abbrev pub HasLine : List ℕ → List ℕ → Option (List ℕ) → ℕ → ℕ → Type 0
 HasLine text before held_new faults_old faults_new =
     (held_new ≡ Some (before ++ text)) ⊎ ((n : ℕ) × (held_new ≡ Some (before ++ take n text)) × Rose faults_old faults_new)

@@ -1,6 +1,11 @@
 pub mod Headline
-pub mod Endings
 pub mod Searched
 pub mod ReadBack
+pub mod Shapes
+pub mod Commands
+pub mod Details
+pub mod Answered
+pub mod Endings
+pub mod Reported
 pub mod Steps
 pub mod Analysis

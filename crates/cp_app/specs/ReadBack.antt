@@ -1,6 +1,5 @@
--- That whoever reads back what was put gets the trees of the report.
-use Rattle.std.specs.Prelude.{◌≡◌, ℕ, List, Option, Ok}
-use Rattle.cp_base.specs.declared.status.Status.{Status}
+-- That the forms of a report, and the text that `analyse` puts, are read back as its trees.
+use Rattle.std.specs.Prelude.{◌≡◌, ℕ, List, Ok}
 use Rattle.cp_model.specs.Tree.{Tree}
 use Rattle.cp_sexpr.specs.Syntax.{Forms, forms_of}
 use Rattle.cp_sexpr.specs.Reading.{IsReading}
@@ -10,10 +9,8 @@ use Rattle.cp_report.specs.Laws.{ArePrinted}
 use Rattle.cp_report.specs.ReadBack.{Report}
 use Rattle.cp_report.specs.UpToNames.{IsReport}
 use Rattle.cp_proper.specs.Proper.{AreProper, AreWithinBounds}
-use Rattle.cp_words.specs.Command.{Command}
 use Rattle.cp_words.specs.declared.command.CommandName.{CommandName}
 use Rattle.cp_words.specs.declared.command.CommandName.TheVariants.{Analyse}
-use Rattle.cp_app.specs.Searched.{HasReportedSearch}
 
 -- The forms of an input, each with the problem that it states, and the trees of these problems.
 abbrev pub report_over : Forms → List Tree → Report
@@ -32,9 +29,3 @@ pub record IsReadBackAs (name : CommandName) (text : List ℕ) (input : Forms) (
   pub proper : AreProper (forms_of (report_forms (input_of input) trees))
   pub report : name ≡ Analyse → (fs : Forms) → IsReading text (Ok fs) → IsReport fs (report_over input trees)
   pub readable : name ≡ Analyse → AreWithinBounds (forms_of (report_forms (input_of input) trees)) → (fs : Forms) × IsReading text (Ok fs)
-
--- A report was put, whose trees are those of the search; its forms are read back as the input and these very trees, and so is the
--- text that `analyse` put.
-pub record HasReportedReadBack (command : Command) (input before : List ℕ) (left_new held_new : Option (List ℕ)) (status : Status) : Type 0 where
-  pub searched : HasReportedSearch command input before left_new held_new status
-  pub read_back : IsReadBackAs command.name searched.reported.text searched.reported.report.forms searched.reported.trees

@@ -3,16 +3,17 @@ use Rattle.std.specs.Prelude.{◌≡◌, ℕ, ◌<◌, List, [], ◌++◌, lengt
 use Rattle.cp_base.specs.declared.status.Failed.{Failed}
 use Rattle.cp_base.specs.declared.status.Status.{Status}
 use Rattle.cp_base.specs.declared.status.Status.TheVariants as status
-use Rattle.cp_model.specs.Tree.{Outcome, complete, Tree}
+use Rattle.cp_model.specs.Tree.{Outcome, complete}
+use Rattle.cp_sexpr.specs.Syntax.{Forms}
 use Rattle.cp_sexpr.specs.declared.error.ReadError.{ReadError}
 use Rattle.cp_sexpr.specs.declared.error.ReadError.TheVariants as reading
 use Rattle.cp_load.specs.declared.error.LoadError.{LoadError}
 use Rattle.cp_load.specs.declared.error.LoadError.TheVariants as loading
 use Rattle.cp_words.specs.Command.{Command}
-use Rattle.cp_app.specs.Headline.{IsReportOf, SaysOutcomes}
+use Rattle.cp_app.specs.Headline.{IsAccepted}
+use Rattle.cp_app.specs.Commands.{Accepts}
+use Rattle.cp_app.specs.Details.{AnswersInDetail}
 use Rattle.cp_app.specs.Endings.{IsRefusedFor, HasRefused, WasTooLong, TookAtMost}
-use Rattle.cp_app.specs.Searched.{AreSearched}
-use Rattle.cp_app.specs.ReadBack.{IsReadBackAs}
 use Rattle.cp_app.specs.declared.stopped.Stopped.{Stopped}
 use Rattle.cp_app.specs.declared.stopped.Stopped.TheVariants.{Refused, ReadFault, Memory, TooLong}
 
@@ -36,18 +37,25 @@ cause_of_load (loading.Refused r) = Refused r
 cause_of_load loading.Memory = Memory
 
 -- The cause holds of an input that was read.
-abbrev pub IsCauseFor : List ℕ → Stopped → Type 0
-IsCauseFor input (Refused r) = IsRefusedFor input r
-IsCauseFor input Memory = Unit {0}
-IsCauseFor input ReadFault = ⊥
-IsCauseFor input TooLong = ⊥
+abbrev pub IsCauseFor : Command → List ℕ → Stopped → Type 0
+IsCauseFor command input (Refused r) = IsRefusedFor command input r
+IsCauseFor command input Memory = Unit {0}
+IsCauseFor command input ReadFault = ⊥
+IsCauseFor command input TooLong = ⊥
+
+-- Reading stopped for this cause and leaves this of its source.
+abbrev pub HasStoppedReading : List ℕ → Option (List ℕ) → Stopped → Type 0
+HasStoppedReading input left_new (Refused r) = ⊥
+HasStoppedReading input left_new TooLong = WasTooLong input left_new
+HasStoppedReading input left_new ReadFault = TookAtMost input left_new
+HasStoppedReading input left_new Memory = TookAtMost input left_new
 
 -- A run that stopped for this cause leaves this of its source: a refused input was read to its end.
-abbrev pub HasStopped : List ℕ → Option (List ℕ) → Stopped → Type 0
-HasStopped input left_new (Refused r) = HasRefused input left_new r
-HasStopped input left_new TooLong = WasTooLong input left_new
-HasStopped input left_new ReadFault = TookAtMost input left_new
-HasStopped input left_new Memory = TookAtMost input left_new
+abbrev pub HasStopped : Command → List ℕ → Option (List ℕ) → Stopped → Type 0
+HasStopped command input left_new (Refused r) = HasRefused command input left_new r
+HasStopped command input left_new TooLong = WasTooLong input left_new
+HasStopped command input left_new ReadFault = TookAtMost input left_new
+HasStopped command input left_new Memory = TookAtMost input left_new
 
 -- ---- the output
 
@@ -61,16 +69,13 @@ abbrev pub outcomes_status : Bool → Status
 outcomes_status true = status.Done
 outcomes_status false = status.Limit
 
--- The text is what the command prints of a report of the input, whose trees are those of the search, and as which it is read
--- back; and whether every outcome in it is complete.
+-- The text is the command's answer to an accepted input, and whether every outcome in it is complete.
 pub record IsWholeReport (command : Command) (input text : List ℕ) (complete : Bool) : Type 0 where
-  pub trees : List Tree
-  pub report : IsReportOf command input text trees
-  pub searched : AreSearched command.limits report.forms trees
-  pub read_back : IsReadBackAs command.name text report.forms trees
-  pub outcomes : SaysOutcomes (outcomes_status complete) trees
+  pub forms : Forms
+  pub accepted : IsAccepted (Accepts command) input forms
+  pub answer : AnswersInDetail command input text (outcomes_status complete)
 
--- The text was put, and at a fault a front that is shorter.
+-- The text was put, and at a fault a proper prefix of it.
 abbrev pub HasPut : List ℕ → List ℕ → Option (List ℕ) → Result (Unit {0}) Failed → Type 0
 HasPut before text held_new (Ok u) = held_new ≡ Some (before ++ text)
 HasPut before text held_new (Err failed) = (n : ℕ) × (n < length text) × (held_new ≡ Some (before ++ take n text))
@@ -91,7 +96,7 @@ abbrev pub HasEnded : Command → List ℕ → Option (List ℕ) → Option (Lis
 HasEnded command input left_new held_old held_new status.Done = HasWritten command input left_new held_old held_new true (Ok tt)
 HasEnded command input left_new held_old held_new status.Limit = HasWritten command input left_new held_old held_new false (Ok tt)
 HasEnded command input left_new held_old held_new status.WriteFault = HasWrittenPart command input left_new held_old held_new
-HasEnded command input left_new held_old held_new (status.Refused r) = HasRefused input left_new r
+HasEnded command input left_new held_old held_new (status.Refused r) = HasRefused command input left_new r
 HasEnded command input left_new held_old held_new status.TooLong = WasTooLong input left_new
 HasEnded command input left_new held_old held_new status.ReadFault = TookAtMost input left_new
 HasEnded command input left_new held_old held_new status.Memory = TookAtMost input left_new

@@ -1,7 +1,7 @@
 // Reads the whole input from a source.
 ghost use Rattle.std.specs.Prelude.{◌≡◌, ◌≤◌, ℕ, List, [], length, Some, IfOk, IfErr};
 ghost use Rattle.cp_app.specs.Headline.{most_bytes};
-ghost use Rattle.cp_app.specs.Steps.{HasStopped};
+ghost use Rattle.cp_app.specs.Steps.{HasStoppedReading};
 ghost use Rattle.cp_app.specs.declared.stopped.Stopped.TheVariants.{ReadFault};
 ghost use Rattle.cp_base.specs.Outside.{Rose};
 
@@ -20,7 +20,7 @@ pub(crate) fn read_all<S: Source>(alloc: Global, source: &mut S) -> Result<Vec<u
     ensures whole { (input : List ℕ) → S.left source.old ≡ Some input
         → IfOk result (λ bytes. (bytes.items ≡ input) × (S.left source.new ≡ Some [])) }
     ensures stopped { (input : List ℕ) → S.left source.old ≡ Some input
-        → IfErr result (HasStopped input (S.left source.new)) }
+        → IfErr result (HasStoppedReading input (S.left source.new)) }
     ensures read_fault { IfErr result (λ cause. cause ≡ ReadFault
         → Rose (S.faults source.old) (S.faults source.new)) }
 {

@@ -3,8 +3,10 @@
 
 mod analysis;
 mod input;
+mod laws;
 mod output;
 mod stopped;
 mod top_call;
 
+pub use laws::{answers_are_reports, well_formed_input_is_accepted};
 pub use top_call::run;

@@ -1,9 +1,11 @@
 // The top call.
-ghost use Rattle.std.specs.Prelude.{◌≡◌, ◌≢◌, ◌≤◌, ◌<◌, ◌++◌, ◌⊎◌, ◌↔◌, ℕ, List, [], length, map, string_bytes, true, None, Some, IfOk, IfErr, OnOk, OnErr};
-ghost use Rattle.cp_app.specs.Headline.{most_bytes, IsAccepted, IsAnalysed, text_by, WheneverGiven, HasReported, HasBrokenOff};
+ghost use Rattle.std.specs.Prelude.{◌≡◌, ◌≢◌, ◌≤◌, ◌<◌, ◌++◌, ◌⊎◌, ◌↔◌, ℕ, List, [], length, map, string_bytes, true, false, None, Some, IfOk, IfErr, OnOk, OnErr};
+ghost use Rattle.cp_app.specs.Headline.{most_bytes, IsAccepted};
+ghost use Rattle.cp_app.specs.Commands.{reads, Accepts, Answers};
+ghost use Rattle.cp_app.specs.Details.{AnswersInDetail};
+ghost use Rattle.cp_app.specs.Answered.{IsWhole, WheneverGiven, HasAnswered, HasBrokenOff};
 ghost use Rattle.cp_app.specs.Endings.{IsRefusedFor, puts_nothing, status_line, HasRefused, WasTooLong, TookAtMost, HasLine};
-ghost use Rattle.cp_app.specs.Searched.{HasReportedSearch, HasBrokenOffSearch};
-ghost use Rattle.cp_app.specs.ReadBack.{HasReportedReadBack};
+ghost use Rattle.cp_app.specs.Reported.{text_by};
 ghost use Rattle.cp_app.specs.Steps.{IsCauseFor, HasStopped, IsWholeReport, outcomes_status, HasPut, HasEnded, HasExecuted};
 ghost use Rattle.cp_app.specs.declared.stopped.Stopped.TheVariants as stopped;
 ghost use Rattle.cp_base.specs.Outside.{Rose};
@@ -69,7 +71,7 @@ fn print_by(
 fn report_of(alloc: Global, command: Command, input: &[u8]) -> Result<Report, Stopped>
     requires short { length input.now ≤ most_bytes }
     ensures report { IfOk result (λ report. IsWholeReport (command_view command) input.now report.text.items report.complete) }
-    ensures cause { IfErr result (IsCauseFor input.now) }
+    ensures cause { IfErr result (IsCauseFor (command_view command) input.now) }
 {
     let forms = read(alloc, input)?;
     let loaded = load(alloc, &forms)?;
@@ -94,7 +96,7 @@ fn make_report<S: Source>(
     ensures report { (input : List ℕ) → S.left source.old ≡ Some input
         → IfOk result (λ report. IsWholeReport (command_view command) input report.text.items report.complete × (S.left source.new ≡ Some [])) }
     ensures stopped { (input : List ℕ) → S.left source.old ≡ Some input
-        → IfErr result (HasStopped input (S.left source.new)) }
+        → IfErr result (HasStopped (command_view command) input (S.left source.new)) }
     ensures read_fault { IfErr result (λ cause. cause ≡ stopped.ReadFault
         → Rose (S.faults source.old) (S.faults source.new)) }
 {
@@ -187,7 +189,8 @@ fn execute<S: Source, O: Sink>(
 ///
 /// Reading the forms of the report back gives the same trees, each label with its skeleton and its map from the problem, up to
 /// the names of variables, the places of forms, and the pairs that generate an order. The same holds for the text that `analyse`
-/// puts, if that text can be read; it can if its numbers have at most nine digits and its lists are nested at most 200 deep.
+/// puts, if that text can be read; it can if its numbers have at most nine digits and its lists are nested at most 200 deep. The
+/// trees that these forms denote are true of their problems too.
 ///
 /// At `WriteFault` a proper prefix of such a text was put. At every other status except `Done` and `Limit`, nothing was put on
 /// `out`. Each status except `Done` and `Limit` has a line on the sink for errors, or a prefix of it if that sink fails. What is
@@ -203,42 +206,42 @@ pub fn run<S: Source, O: Sink, E: Sink>(
     ensures usage { (result ≡ Usage) ↔ (command_of (map string_bytes words.now) ≡ None) }
     ensures usage_reads_nothing { result ≡ Usage → source.new ≡ source.old }
 
-    // What was put is what the command prints of a report on the whole input, with trees that are true of its problems; at a
-    // write fault, a proper prefix of that.
-    ensures reported { WheneverGiven (command_of (map string_bytes words.now)) (S.left source.old) (O.held out.old) (λ command input before. IsAnalysed result → HasReported command input before (S.left source.new) (O.held out.new) result) }
-    ensures broken_off { WheneverGiven (command_of (map string_bytes words.now)) (S.left source.old) (O.held out.old) (λ command input before. result ≡ WriteFault → HasBrokenOff command input before (S.left source.new) (O.held out.new)) }
+    // What was put is the command's answer to the whole input; at a write fault, a proper prefix of an answer.
+    ensures answered { WheneverGiven (command_of (map string_bytes words.now)) (S.left source.old) (O.held out.old) (λ command input before. IsWhole result → HasAnswered (Answers command) command input before (S.left source.new) (O.held out.new) result) }
+    ensures broken_off { WheneverGiven (command_of (map string_bytes words.now)) (S.left source.old) (O.held out.old) (λ command input before. result ≡ WriteFault → HasBrokenOff (Answers command) command input before (S.left source.new) (O.held out.new)) }
 
-    // The same, and the trees of this report are exactly those of the search.
-    ensures searched { WheneverGiven (command_of (map string_bytes words.now)) (S.left source.old) (O.held out.old) (λ command input before. IsAnalysed result → HasReportedSearch command input before (S.left source.new) (O.held out.new) result) }
-    ensures searched_before_fault { WheneverGiven (command_of (map string_bytes words.now)) (S.left source.old) (O.held out.old) (λ command input before. result ≡ WriteFault → HasBrokenOffSearch command input before (S.left source.new) (O.held out.new)) }
+    // The same, with what is promised of answers beyond the headline.
+    ensures answered_in_detail { WheneverGiven (command_of (map string_bytes words.now)) (S.left source.old) (O.held out.old) (λ command input before. IsWhole result → HasAnswered (AnswersInDetail command) command input before (S.left source.new) (O.held out.new) result) }
+    ensures broken_off_in_detail { WheneverGiven (command_of (map string_bytes words.now)) (S.left source.old) (O.held out.old) (λ command input before. result ≡ WriteFault → HasBrokenOff (AnswersInDetail command) command input before (S.left source.new) (O.held out.new)) }
 
-    // Reading back the forms of the report, or what `analyse` put, gives the trees of the report.
-    ensures read_back { WheneverGiven (command_of (map string_bytes words.now)) (S.left source.old) (O.held out.old) (λ command input before. IsAnalysed result → HasReportedReadBack command input before (S.left source.new) (O.held out.new) result) }
+    // A command that reads answers only input that it accepts, read to its end; one that does not takes nothing.
+    ensures accepted { (command : CommandData) (input : List ℕ)
+        → command_of (map string_bytes words.now) ≡ Some command → reads command.name ≡ true
+        → S.left source.old ≡ Some input → (IsWhole result ⊎ (result ≡ WriteFault))
+        → (S.left source.new ≡ Some []) × ((fs : Forms) × IsAccepted (Accepts command) input fs) }
+    ensures reads_nothing { (command : CommandData) → command_of (map string_bytes words.now) ≡ Some command
+        → reads command.name ≡ false → source.new ≡ source.old }
 
-    // Only accepted input is analysed, and it is read to its end.
-    ensures accepted { (input : List ℕ) → S.left source.old ≡ Some input
-        → (IsAnalysed result ⊎ (result ≡ WriteFault))
-        → (S.left source.new ≡ Some []) × ((fs : Forms) × IsAccepted input fs) }
-
-    // Input that is not accepted, and no other, is refused, for its first fault.
-    ensures refused { (r : RefusalData) (input : List ℕ) → result ≡ Refused r
-        → S.left source.old ≡ Some input → HasRefused input (S.left source.new) r }
+    // Input that the command refuses, and no other, is refused, with the place and code that the command gives.
+    ensures refused { (command : CommandData) (r : RefusalData) (input : List ℕ)
+        → command_of (map string_bytes words.now) ≡ Some command → result ≡ Refused r
+        → S.left source.old ≡ Some input → HasRefused command input (S.left source.new) r }
     ensures only_refused { (command : CommandData) (r : RefusalData) (input : List ℕ)
-        → command_of (map string_bytes words.now) ≡ Some command
-        → S.left source.old ≡ Some input → length input ≤ most_bytes → IsRefusedFor input r
+        → command_of (map string_bytes words.now) ≡ Some command → reads command.name ≡ true
+        → S.left source.old ≡ Some input → length input ≤ most_bytes → IsRefusedFor command input r
         → (result ≡ Refused r) ⊎ ((result ≡ ReadFault) ⊎ (result ≡ Memory)) }
 
     // Input longer than `most_bytes`, and no other, is too long.
     ensures too_long { (input : List ℕ) → S.left source.old ≡ Some input → result ≡ TooLong
         → WasTooLong input (S.left source.new) }
     ensures only_too_long { (command : CommandData) (input : List ℕ)
-        → command_of (map string_bytes words.now) ≡ Some command
+        → command_of (map string_bytes words.now) ≡ Some command → reads command.name ≡ true
         → S.left source.old ≡ Some input → most_bytes < length input
         → (result ≡ TooLong) ⊎ ((result ≡ ReadFault) ⊎ (result ≡ Memory)) }
     ensures took_at_most { (input : List ℕ) → S.left source.old ≡ Some input
         → TookAtMost input (S.left source.new) }
 
-    // A fault is reported only if the source or the sink counted one.
+    // A fault is reported only if the source or the sink counted one, or its count is at its greatest.
     ensures read_fault { result ≡ ReadFault → Rose (S.faults source.old) (S.faults source.new) }
     ensures write_fault { result ≡ WriteFault → Rose (O.faults out.old) (O.faults out.new) }
     ensures nothing_put { puts_nothing result ≡ true → out.new ≡ out.old }
@@ -247,13 +250,13 @@ pub fn run<S: Source, O: Sink, E: Sink>(
     ensures error_line { (before : List ℕ) → E.held errs.old ≡ Some before
         → HasLine (status_line result) before (E.held errs.new)
         (E.faults errs.old) (E.faults errs.new) }
-    ensures no_line { IsAnalysed result → errs.new ≡ errs.old }
+    ensures no_line { IsWhole result → errs.new ≡ errs.old }
 
-    // Accepted input is analysed, unless a fault is counted or memory runs out.
-    ensures completes { (command : CommandData) (input : List ℕ) (fs : Forms)
-        → command_of (map string_bytes words.now) ≡ Some command → S.left source.old ≡ Some input
-        → IsAccepted input fs → (Rose (S.faults source.old) (S.faults source.new) → ⊥)
-        → (Rose (O.faults out.old) (O.faults out.new) → ⊥) → IsAnalysed result ⊎ (result ≡ Memory) }
+    // Accepted input is answered, unless a fault is counted or the status is `Memory`.
+    ensures completes { (command : CommandData) → command_of (map string_bytes words.now) ≡ Some command
+        → (reads command.name ≡ true → (input : List ℕ) × (fs : Forms) × (S.left source.old ≡ Some input) × IsAccepted (Accepts command) input fs)
+        → (Rose (S.faults source.old) (S.faults source.new) → ⊥)
+        → (Rose (O.faults out.old) (O.faults out.new) → ⊥) → IsWhole result ⊎ (result ≡ Memory) }
 {
     let status = execute(alloc, words, source, out);
     put_line(errs, status);

@@ -7,3 +7,13 @@ mod LabelFields
 mod StatedTrees
 mod ExampleRoots
 mod ExampleVariables
+mod BackRenamings
+mod SameStrands
+pub mod SameMaps
+mod SameRealised
+mod SameStated
+mod SameUnrealised
+mod SameTrees
+mod FittingPairs
+pub mod DenotedTrees
+mod ExamplePairs

@@ -1,1 +1,3 @@
 pub mod Example
+pub mod PairedTree
+pub mod TrueTrees

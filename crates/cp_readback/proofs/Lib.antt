@@ -2,3 +2,17 @@ pub mod Sectioned
 pub mod FaultPlaces
 pub mod InSections
 pub mod Reported
+mod FittingItems
+mod FittingNumbers
+mod FittingOperations
+mod FittingTests
+mod PlainTerms
+mod FittingMaps
+mod FittingVariables
+mod FittingImages
+mod AcceptedForms
+mod AcceptedTrees
+mod ExampleReports
+mod ShiftedSkeletons
+mod ShiftedLabels
+mod RestatedTrees

@@ -1,2 +1,4 @@
 pub mod Sections
 pub mod Reports
+pub mod AcceptedLabels
+pub mod SmallReports

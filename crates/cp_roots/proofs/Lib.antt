@@ -7,6 +7,7 @@ pub mod PutForms
 pub mod EachCollapse
 pub mod RootsSoFar
 pub mod SoundRoots
+pub mod RootsAreSound
 pub mod AllRoots
 pub mod Over
 pub mod FewInstances

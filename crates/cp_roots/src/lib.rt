@@ -4,11 +4,11 @@
 
 mod gathered_roots;
 mod instances;
+mod laws;
 mod partition;
 mod problem_roots;
 mod root;
-mod variables_law;
 
+pub use laws::{roots_are_sound, roots_have_declared_variables};
 pub use problem_roots::roots;
 pub use root::Root;
-pub use variables_law::roots_have_declared_variables;

@@ -24,7 +24,7 @@ use Rattle.cp_strings.proofs.Roots.{roots_spelled}
 use Rattle.cp_strings.proofs.Generalised.{generalised_spelled}
 use Rattle.cp_strings.proofs.Expansions.{IsSpelledExpansion, expansion_spelled}
 use Rattle.cp_strings.proofs.OwnVariables.{own_roots_declared}
-use Rattle.cp_strings.proofs.SoundRoots.{roots_sound}
+use Rattle.cp_roots.proofs.RootsAreSound.{roots_sound}
 
 -- What was made so has admitted strings and identifiers.
 record IsSpelledMade (S I : List ℕ → Type 0) (m : Made) : Type 0 where

@@ -13,5 +13,4 @@ pub mod Children
 pub mod Enclosed
 pub mod Expansions
 pub mod Labels
-pub mod SoundRoots
 pub mod OwnVariables

@@ -3,14 +3,14 @@ use Rattle.cp_sexpr.specs.View.{views}
 use Rattle.cp_load.specs.Inputs.{entries_of}
 use Rattle.cp_skel.specs.Trees.{limits_view, tree_view}
 use Rattle.cp_words.specs.Settings.{command_view}
-use Rattle.cp_app.specs.Headline.{text_by}
+use Rattle.cp_app.specs.Reported.{text_by}
 use Rattle.cp_app.proofs.Trees.{analysable_problems, all_analysed}
 use Rattle.cp_app.proofs.Endings.{whole_report, load_cause}
 use Rattle.cp_app.proofs.top_call.report_of.Goals as goal
 
 pub returns-in_err-loaded-clause-cause : goal.returns-in_err-loaded-clause-cause
 returns-in_err-loaded-clause-cause c =
-    load_cause c.args.input.now (views c.in_ok-forms.forms.items) c.in_err-loaded.field-0.0 c.from_residual-in_err-loaded.result c.from_residual-in_err-loaded.ensures.1 c.in_ok-forms.ensures.forms
+    load_cause (command_view c.args.command) c.args.input.now (views c.in_ok-forms.forms.items) c.in_err-loaded.field-0.0 c.from_residual-in_err-loaded.result c.from_residual-in_err-loaded.ensures.1 c.in_ok-forms.ensures.forms
     (rw c.deref.ensures.value at c.in_err-loaded.ensures.refused)
 
 pub trees_of-requires : goal.trees_of-requires

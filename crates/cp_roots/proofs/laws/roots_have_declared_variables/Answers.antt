@@ -1,5 +1,5 @@
 use Rattle.cp_roots.proofs.VariablesOfRoots.{roots_declared}
-use Rattle.cp_roots.proofs.variables_law.roots_have_declared_variables.Goals as goal
+use Rattle.cp_roots.proofs.laws.roots_have_declared_variables.Goals as goal
 
 pub returns : goal.returns
 returns c = roots_declared

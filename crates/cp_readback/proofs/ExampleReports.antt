@@ -1,0 +1,99 @@
+-- The small reports have no misfit; the label of the first is whole, and those of the others do not fit.
+use Rattle.std.proofs.Common.{◌≡◌, List, [], ◌∷◌, Bool, true, false, refl, ap, arith}
+use Rattle.std.specs.Prelude.{codes, None}
+use Rattle.std.specs.Fmt.{digits}
+use Rattle.cp_lists.specs.Lists.{IsIn, here}
+use Rattle.cp_lists.proofs.Members.{of_each}
+use Rattle.cp_model.specs.Term.{AtomTerm, name_variable, key_term, asymmetric_term, pubk_term, atom_term, apply_to_atom}
+use Rattle.cp_model.specs.Homomorphism.{substitution_by}
+use Rattle.cp_model.specs.Strand.{Declaration}
+use Rattle.cp_model.specs.Senders.{ArePaired}
+use Rattle.cp_model.specs.Same.{same_text}
+use Rattle.cp_model.specs.Tree.{Label, complete}
+use Rattle.cp_language.specs.Problems.{Problem}
+use Rattle.cp_report.specs.FittingTrees.{TreeFits, problems_in}
+use Rattle.cp_report.specs.ReadBack.{misfits, report_of}
+use Rattle.cp_readback.specs.AcceptedLabels.{IsWholeLabel, HasWholeLabels, IsCompleteLabel, HasCompleteLabels}
+use Rattle.cp_readback.specs.SmallReports.{listed_report, renamed_report, unlisted_report}
+
+-- The first report has no misfit,
+pub listed_accepted : misfits listed_report ≡ []
+unfolding digits
+listed_accepted = refl
+
+-- the second has none,
+pub renamed_accepted : misfits renamed_report ≡ []
+unfolding digits
+renamed_accepted = refl
+
+-- and the third has none.
+pub unlisted_accepted : misfits unlisted_report ≡ []
+unfolding digits
+unlisted_accepted = refl
+
+-- The private key of the name.
+abbrev private_key : AtomTerm
+private_key = key_term (asymmetric_term true (pubk_term None 0))
+
+-- A tree of one label has whole labels if it is whole.
+single_whole : (p : Problem) (l : Label) → IsWholeLabel p l → HasWholeLabels p (record { labels = l ∷ []; outcome = complete })
+single_whole p l whole m i = of_each (IsWholeLabel p) whole (λ j. elim j [ ]) i
+
+-- The label of the first has the problem's variable and its assumption.
+pub listed_whole : ArePaired HasWholeLabels (problems_in (report_of listed_report).entries) (report_of listed_report).trees
+unfolding digits
+listed_whole = (
+  single_whole _ _ (record {
+    later = [];
+    variables = refl;
+    few = omega arith;
+    stated = record {
+      non = λ v i. of_each (λ w. IsIn (apply_to_atom (substitution_by (atom_term (name_variable 0) ∷ [])) w) (private_key ∷ [])) here (λ j. elim j [ ]) i;
+      penetrator_non = λ v i. elim i [ ];
+      unique = λ u i. elim i [ ];
+      pairs = λ q one apart. absurd (let i = one.listed in elim i [ ]);
+    };
+  }),
+  tt,
+)
+
+-- A tree of one label has complete labels if it is complete.
+single_complete : (p : Problem) (l : Label) → IsCompleteLabel p l → HasCompleteLabels p (record { labels = l ∷ []; outcome = complete })
+single_complete p l whole m i = of_each (IsCompleteLabel p) whole (λ j. elim j [ ]) i
+
+-- The label of the second has the problem's assumption.
+pub renamed_complete : ArePaired HasCompleteLabels (problems_in (report_of renamed_report).entries) (report_of renamed_report).trees
+unfolding digits
+renamed_complete = (
+  single_complete _ _ (record {
+    few = omega arith;
+    stated = record {
+      non = λ v i. of_each (λ w. IsIn (apply_to_atom (substitution_by (atom_term (name_variable 0) ∷ [])) w) (private_key ∷ [])) here (λ j. elim j [ ]) i;
+      penetrator_non = λ v i. elim i [ ];
+      unique = λ u i. elim i [ ];
+      pairs = λ q one apart. absurd (let i = one.listed in elim i [ ]);
+    };
+  }),
+  tt,
+)
+
+-- The first variable has the identifier of the problem's.
+abbrev begins_with_a : List Declaration → Bool
+begins_with_a [] = false
+begins_with_a (d ∷ ds) = same_text d.identifier (codes "a")
+
+-- The label of the second begins with another variable.
+pub renamed_unfit : ArePaired TreeFits (problems_in (report_of renamed_report).entries) (report_of renamed_report).trees → ⊥
+unfolding digits
+renamed_unfit h =
+    let fit = h.0 0 _ refl in
+    let e : false ≡ true = ap begins_with_a fit.variables.variables in
+    cc
+
+-- The label of the third does not have the image of the assumption.
+pub unlisted_unfit : ArePaired TreeFits (problems_in (report_of unlisted_report).entries) (report_of unlisted_report).trees → ⊥
+unfolding digits
+unlisted_unfit h =
+    let fit = h.0 0 _ refl in
+    let i : IsIn private_key [] = (fit.stated.non private_key).1 (record { item = private_key; listed = here; image = refl }) in
+    elim i [ ]
