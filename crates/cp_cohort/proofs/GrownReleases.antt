@@ -40,7 +40,8 @@ use Rattle.cp_settle.specs.Views.{tried_view}
 use Rattle.cp_settle.specs.declared.release.Tried as program
 use Rattle.cp_covering.specs.GatheredLists.{EachGives, nothing_given, then_given}
 use Rattle.cp_covering.specs.Children.{Child, child, declarations_of, HasGrown}
-use Rattle.cp_covering.specs.Cohort.{Question, positions, cyclic, never_equal, unified, release_at, DisplacesAt, DisplacesEvent, is_displaced, AddsAt, AddsEvent, is_added}
+use Rattle.cp_covering.specs.Cohort.{Question, positions, cyclic, never_equal, unified, release_at, DisplacesEvent, is_displaced, AddsAt, AddsEvent, is_added}
+use Rattle.cp_covering.proofs.GrownEvents.{Sends, grown_sends}
 use Rattle.cp_cohort.specs.Children.{ReleasesAt, ReleasesEach, ReleasesPut}
 use Rattle.cp_cohort.specs.Views.{settled_child}
 use Rattle.cp_cohort.proofs.ChildLists.{each_nothing}
@@ -106,30 +107,12 @@ event_stays old new n e keeps at = by_strand (item_at old n.strand) refl
     by_strand (Some x) is =
         ap (λ (p : Option SkeletonStrand). item_at (skeleton_trace_or_none p) n.index) (keeps x is ∙ sym is) ∙ at
 
--- What a grown strand sends at its event.
-pub record Sends (k : Skeleton) (m : Node) (t : Term) : Type 0 where
-  pub terms : Substitution
-  pub there : term_event_at k.strands m ≡ Some (send (apply_to terms t))
-
 -- ---- displaced
 
 module _ (q : Question) (s : ℕ) (role : Role) (height j : ℕ) (terms : Substitution) (t : Term) (on : item_at q.skeleton.strands s ≡ Some (instance role height terms)) (sent : item_at role.trace j ≡ Some (send t)) where
   module _ (vs : List Declaration) (grown : Skeleton) (grows : HasGrown s role height j q.variables q.skeleton vs grown) where
-    extended_sends : Extends s (suc j) (fresh_terms (length q.variables) (added_variables role height (suc j))) q.skeleton grown → Sends grown (node_at s j) t
-    extended_sends x =
-        let both : Some (instance role height terms) ≡ Some (instance x.role x.before x.old_terms) = sym on ∙ x.was_instance in
-        let same : x.role ≡ role = cc in
-        let is : item_at grown.strands s ≡ Some (instance role (suc j) x.terms) = x.on_instance ∙ ap (λ (r : Role). Some (instance r (suc j) x.terms)) same in
-        record { terms = x.terms; there = event_of_higher grown.strands s j role (suc j) x.terms (send t) is (omega arith) sent }
-
-    pub grown_sends : Sends grown (node_at s j) t
-    grown_sends = elim grows.how [
-      | inl h ↦ record {
-        terms = terms;
-        there = ap (λ (k : Skeleton). term_event_at k.strands (node_at s j)) h.2 ∙ event_of_higher q.skeleton.strands s j role height terms (send t) on h.0 sent;
-      }
-      | inr h ↦ extended_sends h.2
-    ]
+    abbrev sends_there : Sends grown (node_at s j) t
+    sends_there = grown_sends q.variables q.skeleton s role height j terms t on sent vs grown grows
 
     keeps_others : (n : ℕ) → s ≢ n → (x : SkeletonStrand) → item_at q.skeleton.strands n ≡ Some x → item_at grown.strands n ≡ Some x
     keeps_others n other x at = elim grows.how [
@@ -139,18 +122,16 @@ module _ (q : Question) (s : ℕ) (role : Role) (height j : ℕ) (terms : Substi
 
     pub grown_pair : s ≢ q.node.strand → IsTest q.skeleton q.node q.critical → IsOrderPair grown (record { earlier = node_at s j; later = q.node })
     grown_pair other test = record {
-      sent = apply_to grown_sends.terms t;
+      sent = apply_to sends_there.terms t;
       received = test.message;
-      transmission = grown_sends.there;
+      transmission = sends_there.there;
       reception = event_stays q.skeleton.strands grown.strands q.node (recv test.message) (keeps_others q.node.strand other) test.reception;
       between_strands = other;
     }
 
     pub displaced_each : (Before q.skeleton (node_at s j) q.node → ⊥) → (cs : List Child) → ReleasesEach q vs (by_displacement (node_at s j)) (node_at s j) grown cs → DisplacesEvent q s role height j cs
     displaced_each not_before cs r =
-        is_displaced sent not_before (each_other (ReleasesAt q vs (by_displacement (node_at s j)) (node_at s j) grown) (DisplacesAt q s role height j) (λ path ys h. record { variables = vs; grown = grown; grows = grows; releases = h })
-        (positions t) cs
-        (subst (λ ps. EachGives (ReleasesAt q vs (by_displacement (node_at s j)) (node_at s j) grown) ps cs) (positions_under grown_sends.terms t) (r (apply_to grown_sends.terms t) grown_sends.there)))
+        is_displaced sent not_before grows sends_there.there (r (apply_to sends_there.terms t) sends_there.there)
 
 -- ---- added
 

@@ -4,7 +4,7 @@ use Rattle.std.specs.Prelude.{◌≢◌}
 use Rattle.cp_lists.specs.Lists.{item_at, IsIn, here}
 use Rattle.cp_lists.proofs.Items.{item_below}
 use Rattle.cp_lists.proofs.Members.{in_append_left, in_append_right, into_map}
-use Rattle.cp_model.specs.Term.{Variable, KeyTerm, key_term, inverse_term, Term, atom_term, enc_term, variables_of, Assignment, value_of, Substitution}
+use Rattle.cp_model.specs.Term.{Variable, KeyTerm, key_term, inverse_term, Term, atom_term, enc_term, variables_of, Assignment, value_of, Substitution, apply_to}
 use Rattle.cp_model.specs.Identity.{unchanged}
 use Rattle.cp_model.specs.Strand.{send, recv, Declaration, Role, Protocol, IsHeight}
 use Rattle.cp_model.specs.Bundle.{node_at}
@@ -13,7 +13,7 @@ use Rattle.cp_model.specs.Skeleton.{SkeletonStrand, instance, listener, skeleton
 use Rattle.cp_model.specs.Derivable.{IsOnInstance}
 use Rattle.cp_model.specs.Problem.{numbers_from, IsDeclared}
 use Rattle.cp_model.specs.PointOfView.{HasDeclaredVariables}
-use Rattle.cp_model.specs.Tree.{Operation, Pattern}
+use Rattle.cp_model.specs.Tree.{Operation, by_displacement, Pattern}
 use Rattle.cp_model.proofs.StrandParts.{same_instance}
 use Rattle.cp_model.proofs.LawPrefixes.{in_front_of_trace}
 use Rattle.cp_model.proofs.DeclaredVariables.{still_declared}
@@ -40,16 +40,17 @@ use Rattle.cp_guard.specs.Guards.{Guards}
 use Rattle.cp_answers.specs.Fresh.{fresh_terms}
 use Rattle.cp_answers.specs.Covering.{put_before, IsContracted, IsTried, IsDisplaced, IsAdded, IsListenedTo, IsHighEnough, trial_at, IsCovering}
 use Rattle.cp_answers.specs.Covering as covering
-use Rattle.cp_answers.proofs.Places.{position_variables}
+use Rattle.cp_answers.proofs.Places.{term_at_under, position_variables}
 use Rattle.cp_match.specs.Unifiers.{UnifiesMostGenerally}
 use Rattle.cp_covering.specs.GatheredLists.{EachGives}
-use Rattle.cp_covering.specs.Children.{Child, declarations_of}
-use Rattle.cp_covering.specs.Cohort.{Question, positions, Contracts, AreContracted, release_at, DisplacesAt, DisplacesEvent, DisplacesStrand, AddsAt, AddsEvent, FreesCritical, by_key, by_body, by_nothing, OpensPattern, Listens, AreListeners, IsCohort, is_before, is_displaced, is_added, of_listener, of_node, of_role, is_inside, is_critical, cyclic}
+use Rattle.cp_covering.specs.Children.{Child, declarations_of, HasGrown}
+use Rattle.cp_covering.specs.Cohort.{Question, positions, Contracts, AreContracted, release_at, DisplacesEvent, DisplacesStrand, AddsAt, AddsEvent, FreesCritical, by_key, by_body, by_nothing, OpensPattern, Listens, AreListeners, IsCohort, is_before, is_displaced, is_added, of_listener, of_node, of_role, is_inside, is_critical, cyclic}
 use Rattle.cp_covering.specs.Cohort as cohort
 use Rattle.cp_covering.specs.Way.{IsOnTheWay}
 use Rattle.cp_covering.proofs.Alike.{alike_tried, alike_comes_down, forms_come_down}
 use Rattle.cp_covering.proofs.OnTheWay.{unifier_keeps, instance_under, at_index}
 use Rattle.cp_covering.proofs.Settled.{event_declared, used_below, settles_tried}
+use Rattle.cp_covering.proofs.GrownEvents.{Sends, grown_sends}
 use Rattle.cp_covering.proofs.Listed.{giver, with_it, number_listed, terms_listed}
 use Rattle.cp_covering.proofs.EventsBefore.{put_is_skeleton, listening_is_skeleton, fresh_fit, fresh_declared}
 
@@ -220,27 +221,29 @@ module _ (protocol : Protocol) (q : Question) (sk : IsSkeleton protocol q.skelet
     displaced_grown variables grown (inl r) = subst (λ (ds : List Declaration). IsGrown ds s grown) (sym r.1) (subst (IsGrown q.variables s) (sym r.2) high_grown)
     displaced_grown variables grown (inr r) = subst (λ (ds : List Declaration). IsGrown ds s grown) (sym r.1) (extended_grown r.0 grown r.2)
 
-    displaced_at : (ks : List Skeleton) (path : List Step) (children : List Child) → DisplacesAt q s role height j path children → AreListed ks children → IsDisplaced (trial_at protocol k q.patterns q.critical s j path) ks q.node role height
-    displaced_at ks path children d listed = record {
-      grown = d.grown;
+    displaced_at : (variables : List Declaration) (grown : Skeleton) → HasGrown s role height j q.variables k variables grown → (ks : List Skeleton) (path : List Step) (children : List Child) →
+        cohort.Releases q variables (by_displacement (node_at s j)) (release_at q s j path) grown children → AreListed ks children → IsDisplaced (trial_at protocol k q.patterns q.critical s j path) ks q.node role height
+    displaced_at variables grown grows ks path children releases listed = record {
+      grown = grown;
       grows = record {
         count = length q.variables;
         below = used_below q.variables k declared;
         closed = closed_prefix role (suc j) in_roles;
-        how = ⊎_elim (λ r. inl (r.0, r.2)) (λ r. inr (r.0, r.2)) d.grows.how;
+        how = ⊎_elim (λ r. inl (r.0, r.2)) (λ r. inr (r.0, r.2)) grows.how;
       };
-      releases = releases_cover d.variables s j path d.grown (displaced_grown d.variables d.grown d.grows.how) ks _ children d.releases listed;
+      releases = releases_cover variables s j path grown (displaced_grown variables grown grows.how) ks _ children releases listed;
     }
 
     displaced_event : (ks : List Skeleton) (u : Term) (path : List Step) (children : List Child) → DisplacesEvent q s role height j children → AreListed ks children → term_at t path ≡ Some u →
         Before k (node_at s j) q.node ⊎ IsDisplaced (trial_at protocol k q.patterns q.critical s j path) ks q.node role height
     displaced_event ks u path children (cohort.is_reception {t = t'} there_is) listed at = let both : Some (send t) ≡ Some (recv t') = sym sent ∙ there_is in absurd (cc)
     displaced_event ks u path children (is_before before) listed at = inl before
-    displaced_event ks u path children (is_displaced {t = t'} there_is none each) listed at =
-        let both : Some (send t') ≡ Some (send t) = sym there_is ∙ sent in
-        let same : t' ≡ t = cc in
-        let one = giver each path (at_position t' path u (ap (λ (v : Term). term_at v path) same ∙ at)) in
-        inr (displaced_at ks path one.given one.gives_it (λ d i. listed d (one.among d i)))
+    displaced_event ks u path children (is_displaced {sent = message} {variables = variables} {grown = grown} there_is none grows sends each) listed at =
+        let is : Sends grown (node_at s j) t = grown_sends q.variables k s role height j terms t on sent variables grown grows in
+        let both : Some (send message) ≡ Some (send (apply_to is.terms t)) = sym sends ∙ is.there in
+        let same : message ≡ apply_to is.terms t = cc in
+        let one = giver each path (at_position message path (apply_to is.terms u) (ap (λ (v : Term). term_at v path) same ∙ term_at_under is.terms t path u at)) in
+        inr (displaced_at variables grown grows ks path one.given one.gives_it (λ d i. listed d (one.among d i)))
 
     displaced_strand : (ks : List Skeleton) (u : Term) (path : List Step) (children : List Child) → DisplacesStrand q s children → AreListed ks children → term_at t path ≡ Some u →
         Before k (node_at s j) q.node ⊎ IsDisplaced (trial_at protocol k q.patterns q.critical s j path) ks q.node role height

@@ -7,7 +7,7 @@ use Rattle.cp_model.specs.Strand.{send, payload, Declaration, Role, Protocol}
 use Rattle.cp_model.specs.Bundle.{node_at}
 use Rattle.cp_model.specs.declared.node.Node.{Node}
 use Rattle.cp_model.specs.Skeleton.{instance, term_event_at, Skeleton, Before}
-use Rattle.cp_model.specs.Tree.{Operation, by_contraction, by_added_listener, Pattern}
+use Rattle.cp_model.specs.Tree.{Operation, by_contraction, by_displacement, by_added_listener, Pattern}
 use Rattle.cp_term.specs.declared.path.Step.{Step}
 use Rattle.cp_term.specs.Positions.{term_at}
 use Rattle.cp_completeness.specs.Normal.{skeleton_under}
@@ -20,8 +20,8 @@ use Rattle.cp_match.specs.Unifiers.{UnifiesMostGenerally}
 use Rattle.cp_settle.specs.Releases.{Release, Tried}
 use Rattle.cp_settle.specs.Stages.{Settles, on_the_way}
 use Rattle.cp_covering.specs.GatheredLists.{terms_onto}
-use Rattle.cp_covering.specs.Children.{Child, child, IsSentBefore}
-use Rattle.cp_covering.specs.Cohort.{Question, Contracts, AreContracted, DisplacesAt, DisplacesEvent, DisplacesStrand, AddsAt, AddsEvent, FreesCritical, by_key, by_body, by_nothing, OpensPattern, Listens, AreListeners, IsCohort, is_before, is_displaced, is_added, of_listener, of_node, of_role, is_inside, is_critical, cyclic}
+use Rattle.cp_covering.specs.Children.{Child, child, IsSentBefore, HasGrown}
+use Rattle.cp_covering.specs.Cohort.{Question, Contracts, AreContracted, release_at, DisplacesEvent, DisplacesStrand, AddsAt, AddsEvent, FreesCritical, by_key, by_body, by_nothing, OpensPattern, Listens, AreListeners, IsCohort, is_before, is_displaced, is_added, of_listener, of_node, of_role, is_inside, is_critical, cyclic}
 use Rattle.cp_covering.specs.Cohort as cohort
 use Rattle.cp_covering.specs.Released.{SetsFree, critical_key, critical_body, pattern_key}
 use Rattle.cp_covering.proofs.Listed.{given, those_have, of_terms_onto}
@@ -70,6 +70,13 @@ pub record ComesOfReleasing (q : Question) (variables : List Declaration) (relea
   pub same : SaysTheSame (skeleton_under unifier (put_before (node_at release.strand release.index) q.node grown)) under
   pub settles : Settles release on_the_way (record { variables = variables; substitution = unifier; skeleton = under }) settled
   pub listed : IsIn x settled
+
+-- What a position of event j gives, where strand s is made high enough to have the event.
+pub record DisplacesAt (q : Question) (s : ℕ) (role : Role) (height j : ℕ) (path : List Step) (children : List Child) : Type 0 where
+  pub variables : List Declaration
+  pub grown : Skeleton
+  pub grows : HasGrown s role height j q.variables q.skeleton variables grown
+  pub releases : cohort.Releases q variables (by_displacement (node_at s j)) (release_at q s j path) grown children
 
 -- The skeleton is a normal form of the question's with a listener, put before the node.
 pub record ComesOfListening (q : Question) (t : Term) (r : Skeleton) : Type 0 where
@@ -128,8 +135,9 @@ module _ (protocol : Protocol) (q : Question) (P : Child → Type 0) where
         → (d : Child) → IsIn d children → P d
     displaced_event s role height terms on apart j children (cohort.is_reception there_is) d i = absurd (not_in_none i)
     displaced_event s role height terms on apart j children (is_before before) d i = absurd (not_in_none i)
-    displaced_event s role height terms on apart j children (is_displaced {t = t} there_is none each) d i =
-        let one = given each d i in holds.displaced s role height terms on apart j t there_is none one.giver one.given one.gives_it d one.among
+    displaced_event s role height terms on apart j children (is_displaced {t = t} {variables = variables} {grown = grown} there_is none grows sends each) d i =
+        let one = given each d i in
+        holds.displaced s role height terms on apart j t there_is none one.giver one.given (record { variables = variables; grown = grown; grows = grows; releases = one.gives_it }) d one.among
 
     displaced_strand : (s : ℕ) (children : List Child) → DisplacesStrand q s children → (d : Child) → IsIn d children → P d
     displaced_strand s children (of_listener there_is) d i = absurd (not_in_none i)

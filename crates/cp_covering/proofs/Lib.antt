@@ -5,6 +5,7 @@ pub mod EachSettled
 pub mod Settled
 pub mod Listed
 pub mod EventsBefore
+pub mod GrownEvents
 pub mod CohortCovers
 pub mod Problems
 pub mod EachChild

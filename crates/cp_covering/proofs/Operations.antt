@@ -30,10 +30,10 @@ use Rattle.cp_answers.proofs.Places.{term_at_under}
 use Rattle.cp_match.specs.Unifiers.{UnifiesMostGenerally}
 use Rattle.cp_settle.specs.Releases.{Tried, MeetsBoth}
 use Rattle.cp_covering.specs.Children.{Child, child, IsSentBefore, HasGrown}
-use Rattle.cp_covering.specs.Cohort.{Question, release_at, DisplacesAt, AddsAt, IsCohort}
+use Rattle.cp_covering.specs.Cohort.{Question, release_at, AddsAt, IsCohort}
 use Rattle.cp_covering.specs.Cohort as cohort
 use Rattle.cp_covering.specs.Released.{ComesFrom, ReleasesCritical, ReleasesFromElsewhere, EndsByReleasing, SetsFree, Says, IsAsSaid}
-use Rattle.cp_covering.proofs.EachChild.{of_contracted, of_released, of_listened, each_child}
+use Rattle.cp_covering.proofs.EachChild.{DisplacesAt, of_contracted, of_released, of_listened, each_child}
 use Rattle.cp_covering.proofs.SkeletonSteps.{Leads, IsStep, step_alike, step_form, step_event, step_instance, step_listener, step_before, step_leads, more_leads, first_then, more_then}
 use Rattle.cp_covering.proofs.SentOnTheWay.{IsSending, settles_sending}
 

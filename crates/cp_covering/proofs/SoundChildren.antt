@@ -35,14 +35,14 @@ use Rattle.cp_answers.specs.Fresh.{fresh_terms}
 use Rattle.cp_answers.proofs.Places.{position_variables}
 use Rattle.cp_settle.specs.Releases.{Tried}
 use Rattle.cp_covering.specs.Children.{Child, child, declarations_of}
-use Rattle.cp_covering.specs.Cohort.{Question, release_at, DisplacesAt, AddsAt, IsCohort}
+use Rattle.cp_covering.specs.Cohort.{Question, release_at, AddsAt, IsCohort}
 use Rattle.cp_covering.specs.Cohort as cohort
 use Rattle.cp_covering.specs.Released.{SetsFree, critical_key, critical_body, pattern_key}
 use Rattle.cp_covering.specs.Way.{DeclaresMore}
 use Rattle.cp_covering.specs.Sound.{KeepsProblems, IsSoundChild}
 use Rattle.cp_covering.proofs.OnTheWay.{unifier_keeps}
 use Rattle.cp_covering.proofs.Settled.{event_declared, settles_later}
-use Rattle.cp_covering.proofs.EachChild.{ComesOfContracting, ComesOfReleasing, ComesOfListening, of_contracted, of_released, of_listened, each_child}
+use Rattle.cp_covering.proofs.EachChild.{DisplacesAt, ComesOfContracting, ComesOfReleasing, ComesOfListening, of_contracted, of_released, of_listened, each_child}
 use Rattle.cp_covering.proofs.EventsBefore.{listening_is_skeleton}
 use Rattle.cp_covering.proofs.CohortCovers.{IsGrown, put_on_the_way, displaced_grown, added_grown}
 use Rattle.cp_covering.proofs.Problems.{keeps_itself, keeps_then, keeps_under, keeps_alike, keeps_forms, keeps_more, keeps_put, settles_keeps}

@@ -74,20 +74,14 @@ pub data Releases (q : Question) (variables : List Declaration) (operation : Ope
 abbrev pub release_at : Question → ℕ → ℕ → List Step → Release
 release_at q s j path = record { patterns = q.patterns; critical = q.critical; strand = s; index = j; path = path }
 
--- What a position of event j of a strand that is there gives: the strand is made high enough.
-pub record DisplacesAt (q : Question) (s : ℕ) (role : Role) (height j : ℕ) (path : List Step) (children : List Child) : Type 0 where
-  pub variables : List Declaration
-  pub grown : Skeleton
-  pub grows : HasGrown s role height j q.variables q.skeleton variables grown
-  pub releases : Releases q variables (by_displacement (node_at s j)) (release_at q s j path) grown children
-
--- What event j of the role of strand s gives: nothing where it is a reception, or before the node already; else what each of
--- its carried positions does.
+-- What event j of the role of strand s gives: nothing where it is a reception, or before the node already; else, with the
+-- strand made high enough to have the event, what each carried position of the message sent there does.
 pub data DisplacesEvent (q : Question) (s : ℕ) (role : Role) (height j : ℕ) : List Child → Type 0 where
   is_reception : {t : Term} → item_at role.trace j ≡ Some (recv t) → DisplacesEvent q s role height j []
   is_before : Before q.skeleton (node_at s j) q.node → DisplacesEvent q s role height j []
-  is_displaced : {t : Term} {children : List Child} → item_at role.trace j ≡ Some (send t) → (Before q.skeleton (node_at s j) q.node → ⊥)
-      → EachGives (DisplacesAt q s role height j) (positions t) children → DisplacesEvent q s role height j children
+  is_displaced : {t sent : Term} {variables : List Declaration} {grown : Skeleton} {children : List Child} → item_at role.trace j ≡ Some (send t) → (Before q.skeleton (node_at s j) q.node → ⊥)
+      → HasGrown s role height j q.variables q.skeleton variables grown → term_event_at grown.strands (node_at s j) ≡ Some (send sent)
+      → EachGives (λ path. Releases q variables (by_displacement (node_at s j)) (release_at q s j path) grown) (positions sent) children → DisplacesEvent q s role height j children
 
 -- What strand s gives: nothing where it is a listener or the node's own; else what each event of its role does.
 pub data DisplacesStrand (q : Question) (s : ℕ) : List Child → Type 0 where

@@ -15,9 +15,9 @@ use Rattle.cp_skel.proofs.EventLists.{listed_event}
 use Rattle.cp_answers.specs.Covering.{put_before}
 use Rattle.cp_settle.specs.Releases.{Release}
 use Rattle.cp_covering.specs.Children.{Child, child}
-use Rattle.cp_covering.specs.Cohort.{Question, release_at, DisplacesAt, AddsAt, IsCohort}
+use Rattle.cp_covering.specs.Cohort.{Question, release_at, AddsAt, IsCohort}
 use Rattle.cp_covering.specs.Cohort as cohort
-use Rattle.cp_covering.proofs.EachChild.{ComesOfContracting, ComesOfListening, of_contracted, of_released, of_listened, each_child}
+use Rattle.cp_covering.proofs.EachChild.{DisplacesAt, ComesOfContracting, ComesOfListening, of_contracted, of_released, of_listened, each_child}
 use Rattle.cp_legible.proofs.KeptNodes.{nodes_like_under, nodes_forms, nodes_settle}
 
 -- The operation is a step that a test allows, and the node or strand that it names is one of the skeleton.

@@ -22,7 +22,7 @@ use Rattle.cp_answers.specs.Covering.{put_before}
 use Rattle.cp_answers.specs.Fresh.{fresh_terms}
 use Rattle.cp_settle.specs.Releases.{Tried}
 use Rattle.cp_covering.specs.Children.{Child, child, declaration_onto, declarations_of}
-use Rattle.cp_covering.specs.Cohort.{Question, release_at, DisplacesAt, AddsAt, IsCohort}
+use Rattle.cp_covering.specs.Cohort.{Question, release_at, AddsAt, IsCohort}
 use Rattle.cp_covering.specs.Cohort as cohort
 use Rattle.cp_covering.specs.Released.{SetsFree, critical_key, critical_body, pattern_key}
 use Rattle.cp_proper.specs.Strings.{strings_of_key, strings_of}
@@ -33,7 +33,7 @@ use Rattle.cp_strings.proofs.Forms.{forms_spelled}
 use Rattle.cp_strings.proofs.Changes.{listener_spelled, strand_spelled, extended_spelled, put_spelled}
 use Rattle.cp_strings.proofs.OpenedPatterns.{AreNamed, still_named, both_declared}
 use Rattle.cp_strings.proofs.Settled.{IsSpelledTried, settles_spelled}
-use Rattle.cp_covering.proofs.EachChild.{ComesOfContracting, ComesOfReleasing, ComesOfListening, of_contracted, of_released, of_listened, each_child}
+use Rattle.cp_covering.proofs.EachChild.{DisplacesAt, ComesOfContracting, ComesOfReleasing, ComesOfListening, of_contracted, of_released, of_listened, each_child}
 
 -- What is asked has admitted strings and identifiers, and so has what names the locals of its patterns as new variables.
 pub record IsSpelledQuestion (S I : List ℕ → Type 0) (q : Question) : Type 0 where

@@ -15,7 +15,7 @@ use Rattle.cp_normal.proofs.FormsOf.{are_normal_forms}
 use Rattle.cp_settle.specs.Releases.{Release, Tried}
 use Rattle.cp_settle.specs.Stages.{Choice, form_of, Stage, on_the_way, normal, Settles, released_inside, branching, normalising, settled, Branches, no_choices, never_matches, matches_by, EachSettles, no_forms, next_form}
 use Rattle.cp_covering.specs.Children.{Child, child}
-use Rattle.cp_covering.specs.Cohort.{Question, Contracts, AreContracted, DisplacesAt, DisplacesEvent, DisplacesStrand, AddsAt, AddsEvent, Listens, AreListeners, IsCohort, is_before, is_displaced, is_added, of_listener, of_node, of_role, is_inside, is_critical, cyclic}
+use Rattle.cp_covering.specs.Cohort.{Question, Contracts, AreContracted, DisplacesEvent, DisplacesStrand, AddsAt, AddsEvent, Listens, AreListeners, IsCohort, is_before, is_displaced, is_added, of_listener, of_node, of_role, is_inside, is_critical, cyclic}
 use Rattle.cp_covering.specs.Cohort as cohort
 use Rattle.cp_covering.proofs.Listed.{given}
 
@@ -71,14 +71,11 @@ module _ (q : Question) where
       let o = from_map (λ (x : Tried). child x.variables operation r.path x.skeleton) ends i in
       subst (λ (c : Child). IsNormal c.skeleton) o.2 (settles_normal r settles tt o.0 o.1)
 
-  displaced_at : (s : ℕ) (role : Role) (height j : ℕ) (path : List Step) (children : List Child) → DisplacesAt q s role height j path children → (d : Child) → IsIn d children → IsNormal d.skeleton
-  displaced_at s role height j path children a d i = releases_normal a.variables _ _ a.grown children a.releases d i
-
   displaced_event : (s : ℕ) (role : Role) (height j : ℕ) (children : List Child) → DisplacesEvent q s role height j children → (d : Child) → IsIn d children → IsNormal d.skeleton
   displaced_event s role height j children (cohort.is_reception there_is) d i = absurd (not_in_none i)
   displaced_event s role height j children (is_before before) d i = absurd (not_in_none i)
-  displaced_event s role height j children (is_displaced there_is none each) d i =
-      let one = given each d i in displaced_at s role height j one.giver one.given one.gives_it d one.among
+  displaced_event s role height j children (is_displaced {variables = variables} {grown = grown} there_is none grows sends each) d i =
+      let one = given each d i in releases_normal variables _ _ grown one.given one.gives_it d one.among
 
   displaced_strand : (s : ℕ) (children : List Child) → DisplacesStrand q s children → (d : Child) → IsIn d children → IsNormal d.skeleton
   displaced_strand s children (of_listener there_is) d i = absurd (not_in_none i)
